@@ -1,0 +1,166 @@
+//! A digest: made, verified, printed, compared.
+ghost use Rattle.std.specs.Prelude.{◌≡◌, ◌↔◌, ◌++◌, codes, Some, IsTrue, IsOk, IfOk, IsErrOf, is_ok, string_bytes};
+ghost use Rattle.oci_digest.specs.Digest.{digest_of, sha256_text, IsDigest, is_digest, Verifies};
+ghost use Rattle.oci_digest.specs.Refusals.{IsBadForm, HasUnknownAlgorithm, HasBadEncoding};
+
+use crate::fault::{DigestFault, NoMemory};
+use crate::parse::parsed;
+use sha2::{Digest as _, Sha256};
+use std::alloc::Global;
+use std::cmp::Ordering;
+use std::marker::Model;
+use std::{fmt, str};
+
+/// The digest of some content. A contract sees it as its text.
+#[derive(Clone, Copy)]
+pub struct Digest {
+    bytes: [u8; 32],
+}
+
+impl Model for Digest {
+    ghost use Rattle.std.specs.Prelude.{List, ℕ};
+    ghost use Rattle.std.proofs.Common.{ap};
+    ghost use Rattle.oci_digest.specs.Digest.{sha256_text, bytes_of_text, IsSha256};
+    ghost use Rattle.oci_digest.specs.DigestLaws.{bytes_of_text-sha256_text};
+
+    ghost Value = { List ℕ };
+
+    ghost view = { λ d. sha256_text d.bytes };
+
+    ghost invariant = { λ d. IsSha256 d.bytes };
+
+    ghost inverse = { λ text. record { bytes = bytes_of_text text } };
+
+    ghost inverse_ok = { λ d h. ap (λ (b : List ℕ). record { bytes = b }) (bytes_of_text-sha256_text d.bytes h.are_bytes) };
+}
+
+impl Digest {
+    /// The digest of `content`: its SHA-256 (FIPS 180-4).
+    pub fn of(content: &[u8]) -> Digest
+        ensures { result ≡ digest_of content.now }
+    {
+        Digest::from_sha256(Sha256::digest(content))
+    }
+
+    /// The digest with these 32 bytes of SHA-256.
+    pub(crate) fn from_sha256(bytes: [u8; 32]) -> Digest
+        ensures { result ≡ sha256_text bytes }
+    {
+        Digest { bytes }
+    }
+
+    /// The digest with this text.
+    ///
+    /// Any text may be given, also one that is no ASCII, and no memory is taken. [`DigestFault`] says when
+    /// each refusal comes (descriptor.md, "Digests"); no text meets two of them.
+    pub fn parse(text: &str) -> Result<Digest, DigestFault>
+        ensures digest { IfOk result (λ digest. digest ≡ text.now) }
+        ensures ok { IsOk result ↔ IsDigest text.now }
+        ensures bad_form { IsErrOf result DigestFault.BadForm ↔ IsBadForm text.now }
+        ensures unknown_algorithm { IsErrOf result DigestFault.UnknownAlgorithm
+            ↔ HasUnknownAlgorithm text.now }
+        ensures bad_encoding { IsErrOf result DigestFault.BadEncoding ↔ HasBadEncoding text.now }
+
+        // The same as `ok`, for callers whose own definitions are tests.
+        ensures accepts { is_ok result ≡ is_digest text.now }
+    {
+        parsed(text)
+    }
+
+    /// Whether this is the digest of `content`, by the digest's own algorithm (descriptor.md,
+    /// "Verification").
+    pub fn matches(&self, content: &[u8]) -> bool
+        ensures { IsTrue result ↔ Verifies self.now content.now }
+    {
+        *self == Digest::of(content)
+    }
+
+    /// The digest's text, which [`Digest::parse`] reads back as this digest.
+    pub fn text(&self, alloc: Global) -> Result<String, NoMemory>
+        ensures text { IfOk result (λ text. string_bytes text ≡ self.now) }
+        ensures parses { IsDigest self.now }
+    {
+        // A look at a field tells the proof what every digest keeps, which `parses` hands on.
+        let _ = &self.bytes;
+        Ok(format!(in alloc; "{self}")?)
+    }
+}
+
+/// Prints the digest's text. It takes no memory.
+impl fmt::Display for Digest {
+    ghost output = { λ d. Some d };
+
+    fn fmt<W: fmt::Write>(&self, f: &mut fmt::Formatter<W>) -> fmt::Result {
+        let mut digits = [0u8; 64];
+        let Ok(()) = hex::encode_to_slice(self.bytes, &mut digits) else {
+            unreachable!();
+        };
+        let Ok(digits) = str::from_utf8(&digits) else {
+            unreachable!();
+        };
+        write!(f, "sha256:{digits}")
+    }
+}
+
+impl fmt::Debug for Digest {
+    ghost debug_output = { λ d. Some (codes "Digest(" ++ d ++ codes ")") };
+
+    fn fmt<W: fmt::Write>(&self, f: &mut fmt::Formatter<W>) -> fmt::Result {
+        write!(f, "Digest({self})")
+    }
+}
+
+impl PartialEq for Digest {
+    ghost use Rattle.std.specs.Str.{bytes_eq};
+    ghost use Rattle.std.proofs.Common.{rules};
+
+    ghost eq = { bytes_eq };
+
+    ghost laws = { Prim.search rules };
+
+    fn eq(&self, other: &Digest) -> bool {
+        self.bytes == other.bytes
+    }
+}
+
+impl Eq for Digest {
+    ghost use Rattle.std.proofs.Common.{rules};
+
+    ghost laws = { Prim.search rules };
+}
+
+/// The order of the texts, byte by byte.
+impl Ord for Digest {
+    ghost use Rattle.std.proofs.Common.{rules};
+    ghost use Rattle.std.specs.Cmp.Lexicographic.{slice_cmp};
+    ghost use Rattle.std.specs.Cmp.Rules.{comparing};
+    ghost use Rattle.std.specs.Ordering.{nat_cmp};
+
+    ghost cmp = { slice_cmp nat_cmp };
+
+    ghost total = { Prim.search (comparing, rules) };
+
+    ghost matches_partial_cmp = { Prim.search (comparing, rules) };
+
+    ghost matches_eq = { Prim.search (comparing, rules) };
+
+    fn cmp(&self, other: &Digest) -> Ordering {
+        self.bytes.cmp(&other.bytes)
+    }
+}
+
+impl PartialOrd for Digest {
+    ghost use Rattle.std.proofs.Common.{rules};
+    ghost use Rattle.std.specs.Cmp.{partial_order_from_own_ties};
+    ghost use Rattle.std.specs.Cmp.Lexicographic.{slice_cmp};
+    ghost use Rattle.std.specs.Cmp.Rules.{comparing};
+    ghost use Rattle.std.specs.Ordering.{nat_cmp, as_partial_cmp};
+
+    ghost partial_cmp = { as_partial_cmp (slice_cmp nat_cmp) };
+
+    ghost laws = { partial_order_from_own_ties (Prim.search (comparing, rules)) (Prim.search (comparing, rules)) };
+
+    fn partial_cmp(&self, other: &Digest) -> Option<Ordering> {
+        Some(self.cmp(other))
+    }
+}

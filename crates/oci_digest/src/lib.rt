@@ -1,0 +1,36 @@
+//! Content digests, as the OCI Image Specification 1.1 writes them (descriptor.md, "Digests").
+//!
+//! A digest is a text `algorithm:encoded`. The one algorithm that is known here is `sha256`, whose
+//! encoded part is the SHA-256 of the content (FIPS 180-4) in 64 lower-case hexadecimal digits:
+//!
+//! ```text
+//! sha256:ba7816bf8f01cfea414140de5dae2223b00361a396177a9cb410ff61f20015ad
+//! ```
+//!
+//! | Call | What it does |
+//! |---|---|
+//! | [`Digest::of`] | computes the digest of some bytes |
+//! | [`Digest::parse`] | reads the text of a digest, or says why it is none: a [`DigestFault`] |
+//! | [`Digest::matches`] | verifies bytes against a digest (descriptor.md, "Verification") |
+//! | [`Digest::text`], `Display` | the text of a digest |
+//!
+//! A contract sees a digest as its text, a list of bytes. So two digests are equal where their texts
+//! are, and they are in the order of their texts, byte by byte. A `Digest` is `Copy`, and only
+//! [`Digest::text`] takes memory: its one fault is [`NoMemory`], which the crates above share.
+//!
+//! ```rust
+//! let digest = Digest::parse(text)?;
+//! if !digest.matches(content) {
+//!     return Err(Corrupt);
+//! }
+//! ```
+#![tactic(auto)]
+
+mod digest;
+mod fault;
+mod parse;
+#[cfg(test)]
+mod tests;
+
+pub use digest::Digest;
+pub use fault::{DigestFault, NoMemory};

@@ -1,0 +1,81 @@
+//! The grammar of digest texts (OCI image specification 1.1, descriptor.md, "Digests").
+ghost use Rattle.std.specs.Prelude.{◌≡◌, ◌↔◌, IsTrue};
+ghost use Rattle.oci_digest.specs.Grammar.{is_component_char, is_separator, IsAlgorithm, IsEncoded, IsSha256Encoded};
+ghost use Rattle.oci_digest.specs.Refusals.{Parses};
+
+use crate::digest::Digest;
+use crate::fault::DigestFault;
+use hex::FromHex;
+
+/// The digest with this text.
+pub(crate) fn parsed(text: &str) -> Result<Digest, DigestFault>
+    ensures { Parses text.now result }
+{
+    // No algorithm holds a colon, so the first one ends it.
+    let Some((algorithm, encoded)) = text.split_once(':') else {
+        return Err(DigestFault::BadForm);
+    };
+    if !is_algorithm(algorithm) || !is_encoded(encoded) {
+        return Err(DigestFault::BadForm);
+    }
+    if algorithm != "sha256" {
+        return Err(DigestFault::UnknownAlgorithm);
+    }
+    if !is_sha256_encoded(encoded) {
+        return Err(DigestFault::BadEncoding);
+    }
+    match <[u8; 32] as FromHex>::from_hex(encoded) {
+        Ok(bytes) => Ok(Digest::from_sha256(bytes)),
+        Err(_) => unreachable!(),
+    }
+}
+
+/// Whether a text is components joined by single separators.
+fn is_algorithm(text: &str) -> bool
+    ensures { IsTrue result ↔ IsAlgorithm text.now }
+{
+    let bytes = text.as_bytes();
+    let mut after_component = false;
+    for byte in bytes {
+        if is_component_byte(*byte) {
+            after_component = true;
+        } else if after_component && is_separator_byte(*byte) {
+            after_component = false;
+        } else {
+            return false;
+        }
+    }
+    after_component
+}
+
+fn is_component_byte(byte: u8) -> bool
+    ensures { result ≡ is_component_char byte }
+{
+    byte.is_ascii_lowercase() || byte.is_ascii_digit()
+}
+
+fn is_separator_byte(byte: u8) -> bool
+    ensures { result ≡ is_separator byte }
+{
+    matches!(byte, b'+' | b'.' | b'_' | b'-')
+}
+
+/// Whether a text is one or more characters of `[a-zA-Z0-9=_-]`.
+fn is_encoded(text: &str) -> bool
+    ensures { IsTrue result ↔ IsEncoded text.now }
+{
+    !text.is_empty()
+        && text.as_bytes().iter().all(|byte| byte.is_ascii_alphanumeric()
+            || matches!(byte, b'=' | b'_' | b'-'))
+}
+
+/// Whether a text is 64 characters of `[a-f0-9]`.
+fn is_sha256_encoded(text: &str) -> bool
+    ensures { IsTrue result ↔ IsSha256Encoded text.now }
+{
+    text.len() == 64
+        && text
+            .as_bytes()
+            .iter()
+            .all(|byte| matches!(byte, b'a'..=b'f' | b'0'..=b'9'))
+}
