@@ -1,0 +1,7 @@
+pub mod Chains
+pub mod Keys
+pub mod Seen
+pub mod Steps
+pub mod Descriptors
+pub mod Members
+pub mod Laws

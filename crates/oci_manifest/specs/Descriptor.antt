@@ -1,0 +1,25 @@
+-- Descriptors, which name contents (OCI image-spec 1.1, descriptor.md, "Properties").
+use Rattle.std.specs.Prelude.{ℕ, Bool, ◌&&◌, ◌==◌, List, ◌++◌, codes}
+use Rattle.std.specs.declared.cmp.Ordering.{Ordering}
+use Rattle.std.specs.Str.{bytes_eq}
+use Rattle.std.specs.Fmt.{decimal}
+use Rattle.std.specs.Ordering.{nat_cmp, on, then_cmp}
+use Rattle.std.specs.Cmp.Lexicographic.{slice_cmp}
+
+-- a content's media type and digest text, as bytes, and its size (descriptor.md, `mediaType`, `digest` and `size`)
+pub record Descriptor : Type 0 where
+  pub media_type : List ℕ
+  pub digest : List ℕ
+  pub size : ℕ
+
+-- whether two descriptors have one media type, one digest and one size
+abbrev pub same_key : Descriptor → Descriptor → Bool
+same_key a b = bytes_eq a.media_type b.media_type && bytes_eq a.digest b.digest && a.size == b.size
+
+-- the order of descriptors: by the bytes of the media type, then by those of the digest text, then by size
+abbrev pub key_cmp : Descriptor → Descriptor → Ordering
+key_cmp = then_cmp (on (λ k. k.media_type) (slice_cmp nat_cmp)) (then_cmp (on (λ k. k.digest) (slice_cmp nat_cmp)) (on (λ k. k.size) nat_cmp))
+
+-- how a descriptor prints: its digest text, its size in decimal and its media type, with a space between
+abbrev pub key_text : Descriptor → List ℕ
+key_text k = k.digest ++ codes " " ++ decimal k.size ++ codes " " ++ k.media_type

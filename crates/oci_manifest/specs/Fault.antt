@@ -1,0 +1,60 @@
+-- Why parts make no key and why a manifest is refused, and how an answer of the code goes with a definition's.
+use Rattle.std.specs.Prelude.{◌≡◌, ℕ, List, Result, Ok, Err}
+use Rattle.oci_manifest.specs.declared.fault.KeyFault.{KeyFault}
+use Rattle.oci_manifest.specs.declared.fault.KeyFault.TheVariants as key
+use Rattle.oci_manifest.specs.declared.fault.ManifestFault.{ManifestFault}
+use Rattle.oci_manifest.specs.declared.fault.ManifestFault.TheVariants as code
+
+-- the rule that a manifest breaks, with the bytes of the member's name and the position where it has them; want of
+-- memory is no such rule
+pub data Fault : Type 0 where
+  not_json : Fault
+  not_object : Fault
+  no_config : Fault
+  bad_list : List ℕ → Fault
+  bad_descriptor : List ℕ → ℕ → Fault
+
+-- a fact of the rule that the code's fault tells, which asks nothing at want of memory
+abbrev pub Refuses : ManifestFault → (Fault → Type 0) → Type 0
+Refuses code.NotJson P = P not_json
+Refuses code.NotObject P = P not_object
+Refuses code.NoConfig P = P no_config
+Refuses (code.BadList member) P = P (bad_list member.now)
+Refuses (code.BadDescriptor member position) P = P (bad_descriptor member.now position)
+Refuses code.Memory P = Unit {0}
+
+-- the code's fault tells the rule that the definition says is broken, or memory was wanting
+abbrev pub Fails : {Y : Type 0} → ManifestFault → Result Y Fault → Type 0
+Fails code.NotJson r = r ≡ Err not_json
+Fails code.NotObject r = r ≡ Err not_object
+Fails code.NoConfig r = r ≡ Err no_config
+Fails (code.BadList member) r = r ≡ Err (bad_list member.now)
+Fails (code.BadDescriptor member position) r = r ≡ Err (bad_descriptor member.now position)
+Fails code.Memory r = Unit {0}
+
+-- the code answers what the definition gives, seen through a view, or memory was wanting
+abbrev pub Gives : {X Y : Type 0} → (X → Y) → Result X ManifestFault → Result Y Fault → Type 0
+Gives view (Ok x) r = r ≡ Ok (view x)
+Gives view (Err e) r = Fails e r
+
+-- the code's fault tells this rule, and is no want of memory
+abbrev pub IsFault : ManifestFault → Fault → Type 0
+IsFault code.NotJson f = f ≡ not_json
+IsFault code.NotObject f = f ≡ not_object
+IsFault code.NoConfig f = f ≡ no_config
+IsFault (code.BadList member) f = f ≡ bad_list member.now
+IsFault (code.BadDescriptor member position) f = f ≡ bad_descriptor member.now position
+IsFault code.Memory f = ⊥
+
+-- the number of a fault of a manifest
+abbrev pub number_of : ManifestFault → ℕ
+number_of code.NotJson = 10
+number_of code.NotObject = 11
+number_of code.NoConfig = 12
+number_of (code.BadList member) = 13
+number_of (code.BadDescriptor member position) = 14
+number_of code.Memory = 15
+
+-- the number of a fault of a key
+abbrev pub key_number_of : KeyFault → ℕ
+key_number_of key.BadSize = 4

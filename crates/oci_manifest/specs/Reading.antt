@@ -1,0 +1,142 @@
+-- What `Manifest` says by relations, as functions, which compute: the crates above reason with `successors_of`.
+use Rattle.std.specs.Prelude.{◌≡◌, ℕ, Bool, ◌+◌, ◌^◌, ◌&&◌, nat_lt, not, List, [], ◌∷◌, ◌++◌, codes, Option, Some, None, option_and_then, Result, Ok, Err, if◌then◌else◌}
+use Rattle.serde_json.specs.Data.{Data, Items, no_items, item}
+use Rattle.serde_json.specs.Find.{get, as_str, as_number, as_u64, as_array, as_object}
+use Rattle.std.specs.List.{list_any}
+use Rattle.std.specs.BTreeSet.{BTreeSet, contains}
+use Rattle.std.specs.Str.{is_utf8}
+use Rattle.serde_json.specs.Read.{read}
+use Rattle.oci_digest.specs.Digest.{is_digest}
+use Rattle.oci_manifest.specs.declared.fault.ManifestFault.{ManifestFault}
+use Rattle.oci_manifest.specs.declared.manifest.member.Field as code
+use Rattle.oci_manifest.specs.declared.manifest.member.Field.TheVariants as variant
+use Rattle.oci_manifest.specs.Descriptor.{Descriptor, same_key, key_cmp}
+use Rattle.oci_manifest.specs.Fault.{Fails, Fault, not_json, not_object, no_config, bad_list, bad_descriptor}
+use Rattle.oci_manifest.specs.Manifest.{Field, optional, required, listed, member_of, fields_of, is_distributed, distributed_once}
+use Rattle.oci_manifest.specs.declared.kind.Kind.{Kind}
+use Rattle.oci_manifest.specs.declared.kind.Kind.TheVariants.{Leaf}
+
+-- ---- chains of results
+
+-- what comes of a result, or its fault
+infixl 10 ◌>>=◌
+abbrev pub ◌>>=◌ : {A B : Type 0} → Result A Fault → (A → Result B Fault) → Result B Fault
+(Ok x) >>= f = f x
+(Err e) >>= f = Err e
+
+-- what is there, or else this fault
+abbrev pub or_fault : {A : Type 0} → Fault → Option A → Result A Fault
+or_fault e (Some x) = Ok x
+or_fault e None = Err e
+
+-- ---- descriptors
+
+-- the text of this member
+abbrev pub text_at : List ℕ → Data → Option (List ℕ)
+text_at name value = option_and_then as_str (get name value)
+
+-- the whole number of this member
+abbrev pub size_at : List ℕ → Data → Option ℕ
+size_at name value = option_and_then as_u64 (option_and_then as_number (get name value))
+
+-- the descriptor of these parts, where the digest is one and the size fits
+abbrev pub checked : List ℕ → List ℕ → ℕ → Option Descriptor
+checked media_type digest size = if is_digest digest && nat_lt size (2 ^ 63) then Some (record { media_type = media_type; digest = digest; size = size }) else None
+
+-- the descriptor that a value is
+unfoldable pub descriptor_of : Data → Option Descriptor
+descriptor_of value = option_and_then (λ media_type. option_and_then (λ digest. option_and_then (checked media_type digest) (size_at (codes "size") value)) (text_at (codes "digest") value)) (text_at (codes "mediaType") value)
+
+-- the descriptors of a list's elements, the first of them at position i
+unfoldable pub descriptors_from : List ℕ → ℕ → Items → Result (List Descriptor) Fault
+descriptors_from name i no_items = Ok []
+descriptors_from name i (item d ds) = do
+  k ← or_fault (bad_descriptor name i) (descriptor_of d)
+  ks ← descriptors_from name (i + 1) ds
+  Ok (k ∷ ks)
+
+-- ---- members
+
+-- the one key of a member that is a descriptor
+abbrev pub single : List ℕ → Data → Result (List Descriptor) Fault
+single name value = do
+  k ← or_fault (bad_descriptor name 0) (descriptor_of value)
+  Ok (k ∷ [])
+
+-- the keys of a member that may hold a descriptor
+abbrev pub optional_in : List ℕ → Option Data → Result (List Descriptor) Fault
+optional_in name None = Ok []
+optional_in name (Some d) = single name d
+
+-- the keys of a member that has to hold a descriptor
+abbrev pub required_in : List ℕ → Option Data → Result (List Descriptor) Fault
+required_in name None = Err no_config
+required_in name (Some d) = single name d
+
+-- the keys of a member that may hold a list
+abbrev pub listed_in : List ℕ → Option Data → Result (List Descriptor) Fault
+listed_in name None = Ok []
+listed_in name (Some d) = do
+  ds ← or_fault (bad_list name) (as_array d)
+  descriptors_from name 0 ds
+
+-- the keys of a member
+unfoldable pub keys_of : Data → Field → Result (List Descriptor) Fault
+keys_of manifest (optional name) = optional_in name (member_of manifest name)
+keys_of manifest (required name) = required_in name (member_of manifest name)
+keys_of manifest (listed name) = listed_in name (member_of manifest name)
+
+-- the keys of these members, in their order
+unfoldable pub all_keys : Data → List Field → Result (List Descriptor) Fault
+all_keys manifest [] = Ok []
+all_keys manifest (f ∷ fs) = do
+  front ← keys_of manifest f
+  rest ← all_keys manifest fs
+  Ok (front ++ rest)
+
+-- ---- the whole
+
+-- the value that the bytes are, where they are a text
+abbrev pub reading : List ℕ → Option Data
+reading bytes = if is_utf8 bytes then read bytes else None
+
+-- the keys of a manifest's members, doubled ones and those of undistributed layers too
+unfoldable pub manifest_keys : Kind → List ℕ → Result (List Descriptor) Fault
+manifest_keys kind bytes = do
+  manifest ← or_fault not_json (reading bytes)
+  members ← or_fault not_object (as_object manifest)
+  all_keys manifest (fields_of kind)
+
+-- the successors of a content, or the first rule that it breaks
+unfoldable pub successors_of : Kind → List ℕ → Result (List Descriptor) Fault
+successors_of Leaf bytes = Ok []
+successors_of kind bytes = manifest_keys kind bytes >>= λ keys. Ok (distributed_once keys)
+
+-- ---- what the parts of the code do
+
+-- the member that the code's field names
+abbrev pub field_of : code.Field → Field
+field_of (variant.Optional name) = optional name.now
+field_of (variant.Required name) = required name.now
+field_of (variant.Listed name) = listed name.now
+
+-- these keys, and then those of a result
+abbrev pub prepend : List Descriptor → Result (List Descriptor) Fault → Result (List Descriptor) Fault
+prepend front r = r >>= λ keys. Ok (front ++ keys)
+
+-- on Ok the keys of a result went to the end of a list, and on Err it has this fault
+abbrev pub Adds : List Descriptor → List Descriptor → Result Unit ManifestFault → Result (List Descriptor) Fault → Type 0
+Adds old new (Ok u) r = prepend old r ≡ Ok new
+Adds old new (Err e) r = Fails e r
+
+-- whether a list has a key
+abbrev pub has : Descriptor → List Descriptor → Bool
+has k ks = list_any (λ other. same_key other k) ks
+
+-- the keys with one more at the end, where it is distributed and not there yet
+abbrev pub with_successor : List Descriptor → Descriptor → List Descriptor
+with_successor kept k = if is_distributed k && not (has k kept) then kept ++ k ∷ [] else kept
+
+-- a set has the keys of a list, and no other
+abbrev pub Remembers : BTreeSet Descriptor → List Descriptor → Type 0
+Remembers seen kept = (k : Descriptor) → contains key_cmp seen k ≡ has k kept

@@ -1,0 +1,164 @@
+ghost use Rattle.std.specs.Prelude.{◌≡◌, ◌<◌, ◌^◌, ◌↔◌, Some, IsOk, IfOk, IfErr, string_bytes};
+ghost use Rattle.oci_manifest.specs.declared.fault.KeyFault.TheVariants.{BadSize};
+
+use crate::fault::KeyFault;
+use oci_digest::{Digest, NoMemory};
+use std::cmp::Ordering;
+use std::fmt;
+use std::marker::Model;
+
+/// The greatest size that a descriptor may state, 2^63 - 1 (OCI image-spec 1.1, descriptor.md: `size` is an int64).
+pub const MAX_SIZE: u64 = 9_223_372_036_854_775_807;
+
+/// What names a content: its media type, its digest and its size in bytes.
+///
+/// These are the required properties of a descriptor (OCI image-spec 1.1, descriptor.md, "Properties"); oras-go names
+/// a node of a graph by the same three. Two media types over the same bytes are two keys. A contract sees a key as a
+/// record of the media type's bytes, the digest's text and the size.
+#[derive(Debug, Drop)]
+pub struct Key {
+    media_type: String,
+    digest: Digest,
+    size: u64,
+}
+
+impl Model for Key {
+    ghost use Rattle.std.specs.Prelude.{string_bytes, ◌<◌, ◌^◌};
+    ghost use Rattle.oci_manifest.specs.Descriptor.{Descriptor};
+
+    ghost Value = { Descriptor };
+
+    ghost view = { λ k. record { media_type = string_bytes k.media_type; digest = k.digest; size = k.size } };
+
+    ghost invariant = { λ k. k.size < 2 ^ 63 };
+}
+
+impl Key {
+    ghost use Rattle.oci_manifest.specs.Descriptor.{Descriptor};
+
+    /// The key of these parts. Any text is a media type, the empty one too. Takes no memory.
+    ///
+    /// [4] BadSize where the size is over [`MAX_SIZE`], and only there.
+    pub fn new(media_type: String, digest: Digest, size: u64) -> Result<Key, KeyFault>
+        ensures parts { IfOk result
+            (λ k. k ≡ record { media_type = string_bytes media_type; digest = digest; size = size }) }
+        ensures fits { IsOk result ↔ (size < 2 ^ 63) }
+        ensures refused { IfErr result (λ e. e ≡ BadSize) }
+    {
+        if size > MAX_SIZE {
+            return Err(KeyFault::BadSize);
+        }
+        Ok(Key {
+            media_type,
+            digest,
+            size,
+        })
+    }
+
+    /// The media type, as it was given.
+    pub fn media_type(&self) -> &str
+        ensures { result.now ≡ self.now.media_type }
+    {
+        self.media_type.as_str()
+    }
+
+    /// The digest of the content.
+    pub fn digest(&self) -> &Digest
+        ensures { result.now ≡ self.now.digest }
+    {
+        &self.digest
+    }
+
+    /// The size of the content, in bytes.
+    pub fn size(&self) -> u64
+        ensures size { result ≡ self.now.size }
+        ensures fits { result < 2 ^ 63 }
+    {
+        self.size
+    }
+
+    /// An equal key, which takes memory for its media type.
+    pub fn try_clone(&self) -> Result<Key, NoMemory>
+        ensures { IfOk result (λ k. k ≡ self.now) }
+    {
+        Ok(Key {
+            media_type: self.media_type.clone()?,
+            digest: self.digest,
+            size: self.size,
+        })
+    }
+}
+
+/// `<digest> <size> <mediaType>`, with the size in decimal.
+impl fmt::Display for Key {
+    ghost use Rattle.oci_manifest.specs.Descriptor.{key_text};
+
+    ghost output = { λ k. Some (key_text k) };
+
+    fn fmt<W: fmt::Write>(&self, f: &mut fmt::Formatter<W>) -> fmt::Result {
+        let (digest, size, media_type) = (self.digest(), self.size(), self.media_type());
+        write!(f, "{digest} {size} {media_type}")
+    }
+}
+
+/// Whether all three parts are equal.
+impl PartialEq for Key {
+    ghost use Rattle.std.proofs.Common.{rules};
+    ghost use Rattle.std.specs.Cmp.Rules.{comparing};
+    ghost use Rattle.oci_manifest.specs.Descriptor.{same_key};
+
+    ghost eq = { same_key };
+
+    ghost laws = { Prim.search (comparing, rules) };
+
+    fn eq(&self, other: &Key) -> bool {
+        self.media_type == other.media_type
+            && self.digest == other.digest
+            && self.size == other.size
+    }
+}
+
+impl Eq for Key {
+    ghost use Rattle.std.proofs.Common.{rules};
+    ghost use Rattle.std.specs.Cmp.Rules.{comparing};
+
+    ghost laws = { Prim.search (comparing, rules) };
+}
+
+/// By the bytes of the media type, then by those of the digest text, then by size.
+impl Ord for Key {
+    ghost use Rattle.std.proofs.Common.{rules};
+    ghost use Rattle.std.specs.Cmp.Rules.{comparing};
+    ghost use Rattle.oci_manifest.specs.Descriptor.{key_cmp};
+
+    ghost cmp = { key_cmp };
+
+    ghost total = { Prim.search (comparing, rules) };
+
+    ghost matches_partial_cmp = { Prim.search (comparing, rules) };
+
+    ghost matches_eq = { Prim.search (comparing, rules) };
+
+    fn cmp(&self, other: &Key) -> Ordering {
+        self.media_type
+            .cmp(&other.media_type)
+            .then(self.digest.cmp(&other.digest))
+            .then(self.size.cmp(&other.size))
+    }
+}
+
+impl PartialOrd for Key {
+    ghost use Rattle.std.proofs.Common.{rules};
+    ghost use Rattle.std.specs.Cmp.{partial_order_from_own_ties};
+    ghost use Rattle.std.specs.Cmp.Rules.{comparing};
+    ghost use Rattle.std.specs.Ordering.{as_partial_cmp};
+    ghost use Rattle.oci_manifest.specs.Descriptor.{key_cmp};
+
+    ghost partial_cmp = { as_partial_cmp key_cmp };
+
+    ghost laws = { partial_order_from_own_ties (Prim.search (comparing, rules)) (Prim.search (comparing, rules)) };
+
+    fn partial_cmp(&self, other: &Key) -> Option<Ordering> {
+        Some(self.cmp(other))
+    }
+}
