@@ -1,0 +1,10 @@
+pub mod Lookups
+pub mod Copies
+pub mod KeyOrder
+pub mod Contents
+pub mod ClosedGraphs
+pub mod Places
+pub mod Holders
+pub mod Leasts
+pub mod Names
+pub mod References

@@ -1,0 +1,14 @@
+pub mod Keyed
+pub mod Content
+pub mod Graph
+pub mod GraphLaws
+pub mod Closed
+pub mod Copied
+pub mod Before
+pub mod Tags
+pub mod Contents
+pub mod Places
+pub mod Holders
+pub mod Open
+pub mod Numbers
+pub mod Push

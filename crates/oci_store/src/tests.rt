@@ -1,0 +1,6 @@
+mod closed;
+mod contents;
+mod graphs;
+mod names;
+mod pushes;
+mod traits;
