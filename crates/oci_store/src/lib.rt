@@ -49,6 +49,3 @@ pub use memory::MemoryStore;
 pub use source::Source;
 pub use store::Store;
 pub use tagger::Tagger;
-
-#[cfg(test)]
-mod tests;

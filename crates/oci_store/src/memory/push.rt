@@ -1,18 +1,16 @@
-ghost use Rattle.std.specs.Prelude.{◌≡◌, false, List, [], ◌∷◌, ◌++◌, Result, IfErr, OnOk, OnErr};
-ghost use Rattle.oci_manifest.specs.Descriptor.{Descriptor};
-ghost use Rattle.oci_manifest.specs.Fault.{Fault, Fails};
+ghost use Rattle.std.specs.Prelude.{◌≡◌, false, [], ◌∷◌, ◌++◌, IfErr, OnOk, OnErr};
 ghost use Rattle.oci_store.specs.Graph.{nodes_of};
 ghost use Rattle.oci_store.specs.Holders.{AreHolders};
 ghost use Rattle.oci_store.specs.Keyed.{has_key};
-ghost use Rattle.oci_store.specs.Push.{push_check, closed_check, read_check, Refused, Gives, IsPlain};
+ghost use Rattle.oci_store.specs.Push.{push_check, closed_check, Gives, IsPlain};
 
-use crate::fault::PushFault;
+use crate::fault::{PushFault, unread};
 use crate::memory::entry::Held;
 use crate::memory::holders::Holders;
 use crate::memory::index::Entries;
 use bytes::Bytes;
 use oci_digest::NoMemory;
-use oci_manifest::{Key, Kind, ManifestFault, successors};
+use oci_manifest::{Key, Kind, successors};
 use std::alloc::Global;
 
 /// The successors of what may be pushed.
@@ -59,18 +57,6 @@ pub(crate) fn check_closed(
     match missing.try_clone() {
         Ok(missing) => Err(PushFault::MissingSuccessor(missing)),
         Err(_) => Err(PushFault::Memory),
-    }
-}
-
-/// The refusal of content that does not read.
-fn unread(fault: ManifestFault) -> PushFault
-    ensures refused { (read : Result (List Descriptor) Fault) → Fails fault read
-        → Refused result (read_check read) }
-    ensures plain { IsPlain result }
-{
-    match fault {
-        ManifestFault::Memory => PushFault::Memory,
-        _ => PushFault::BadManifest(fault),
     }
 }
 

@@ -1,0 +1,7 @@
+pub mod Checks
+pub mod Causes
+pub mod Growth
+pub mod Places
+pub mod Headline
+pub mod References
+pub mod Unfailing

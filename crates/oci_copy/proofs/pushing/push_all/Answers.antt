@@ -1,0 +1,73 @@
+use Rattle.std.proofs.Common.{◌≡◌, ◌+◌, ◌++◌, ◌∷◌, [], ◌≤◌, ℕ, List, length, true, refl, sym, ap, ◌∙◌, arith, append-nil, append_assoc}
+use Rattle.std.specs.Map.{keys_of}
+use Rattle.std.proofs.lemmas.List.Elements.{All-contains}
+use Rattle.std.proofs.lemmas.Result.{err_from_is_err_and}
+use Rattle.oci_manifest.specs.Descriptor.{Descriptor}
+use Rattle.oci_store.specs.Keyed.{has_key}
+use Rattle.oci_plan.specs.Plan.{keys_before}
+use Rattle.oci_copy.proofs.Growth.{keeps_start}
+use Rattle.oci_copy.proofs.Places.{Contains-from_slice_get, keys_before-more, fresh_at, all_held, ready_at, length-more}
+use Rattle.oci_copy.proofs.Causes.{run_from_step}
+use Rattle.oci_copy.proofs.pushing.push_all.Goals as goal
+
+pub loop-place-init : goal.loop-place-init
+loop-place-init g c = record {
+  keys = sym (append-nil _);
+  count = omega arith;
+  keeps = keeps_start (g.A.Store.is_honest c.args.source.now) g.D.Dest.shares (g.A.Store.entries c.args.source.now) c.args.plan.now.keys
+      (g.D.Store.is_sound c.args.destination.now) (g.D.Store.nodes c.args.destination.now) (g.D.Store.entries c.args.destination.now) (g.D.Store.failure_count c.args.destination.now);
+  tags = refl;
+  name = refl;
+}
+
+pub push_planned-requires-clause-there : goal.push_planned-requires-clause-there
+push_planned-requires-clause-there g c =
+    let at = c.key_at.ensures in
+    All-contains (λ (k : Descriptor). has_key (g.A.Store.entries c.args.source.now) k ≡ true) c.args.plan.now.keys c.key_at.result.now c.requires.there
+    (Contains-from_slice_get c.args.plan.now.keys at.0 c.key_at.result.now at.2)
+
+pub push_planned-requires-clause-fresh : goal.push_planned-requires-clause-fresh
+push_planned-requires-clause-fresh g c =
+    let at = c.key_at.ensures in
+    fresh_at c.args.plan.now c.requires.plan c.requires.order (g.D.Store.nodes c.args.destination.now) (g.D.Store.nodes c.loop-place.destination) c.loop-place.place at.0 c.key_at.result.now
+    c.requires.fresh c.loop-place.invariant.keys at.1 at.2
+
+pub push_planned-requires-clause-ready : goal.push_planned-requires-clause-ready
+push_planned-requires-clause-ready g c honest bytes own =
+    let at = c.key_at.ensures in
+    ready_at c.args.plan.now c.requires.plan c.requires.order (g.A.Store.entries c.args.source.now) (g.D.Store.nodes c.args.destination.now) (g.D.Store.nodes c.loop-place.destination)
+    c.loop-place.place at.0 c.key_at.result.now bytes (c.requires.reads honest) (c.requires.follows honest) c.loop-place.invariant.keys at.1 at.2 own
+
+pub returns-in_err-push_planned-clause-keeps : goal.returns-in_err-push_planned-clause-keeps
+returns-in_err-push_planned-clause-keeps g c =
+    let at = c.key_at.ensures in
+    c.push_planned.ensures.keeps c.args.plan.now.keys c.args.destination.now (Contains-from_slice_get c.args.plan.now.keys at.0 c.key_at.result.now at.2) c.loop-place.invariant.keeps
+
+pub returns-in_err-push_planned-clause-cause : goal.returns-in_err-push_planned-clause-cause
+returns-in_err-push_planned-clause-cause g c =
+    let at = c.key_at.ensures in
+    let p = err_from_is_err_and c.from_residual.result c.from_residual.ensures.1 in
+    rw (p.1, p.2) (run_from_step (g.A.Store.is_honest c.args.source.now) (g.D.Dest.is_halted c.loop-place.destination) _ (g.A.Source.fails_at c.args.source.now)
+    (g.D.Store.failure_count c.args.destination.now) (g.D.Store.failure_count c.loop-place.destination) (g.D.Store.failure_count c.push_planned.new.destination)
+    c.args.plan.now.keys c.key_at.result.now _ (Contains-from_slice_get c.args.plan.now.keys at.0 c.key_at.result.now at.2)
+    (λ halted. (c.loop-place.destination, sym c.in_err-push_planned.ensures.refused, halted)) c.loop-place.invariant.keeps.rising c.in_err-push_planned.ensures.cause)
+
+pub loop-place-preserved : goal.loop-place-preserved
+loop-place-preserved g c =
+    let at = c.key_at.ensures in
+    let pushed = c.in_ok-push_planned.ensures.pushed in
+    let more = length-more (g.D.Store.nodes c.loop-place.destination) (g.D.Store.nodes c.push_planned.new.destination) c.key_at.result.now pushed in
+    record {
+      keys = pushed ∙ (ap (λ (ks : List Descriptor). ks ++ c.key_at.result.now ∷ []) c.loop-place.invariant.keys
+          ∙ (append_assoc (keys_of (g.D.Store.nodes c.args.destination.now)) (keys_before c.loop-place.place c.args.plan.now) (c.key_at.result.now ∷ []) ∙ ap (λ (ks : List Descriptor). keys_of (g.D.Store.nodes c.args.destination.now) ++ ks)
+          (sym (keys_before-more c.args.plan.now c.requires.plan c.requires.order c.loop-place.place at.0 c.key_at.result.now at.1 at.2))));
+      count = omega (arith, more, c.loop-place.invariant.count);
+      keeps = c.push_planned.ensures.keeps c.args.plan.now.keys c.args.destination.now (Contains-from_slice_get c.args.plan.now.keys at.0 c.key_at.result.now at.2) c.loop-place.invariant.keeps;
+      tags = c.push_planned.ensures.tags ∙ c.loop-place.invariant.tags;
+      name = c.push_planned.ensures.name ∙ c.loop-place.invariant.name;
+    }
+
+pub returns-clause-held : goal.returns-clause-held
+returns-clause-held g c =
+    all_held c.args.plan.now c.requires.plan c.requires.order (g.D.Store.nodes c.args.destination.now) (g.D.Store.nodes c.loop-place.destination) c.loop-place.place
+    (omega (arith, c.len-place-end.ensures.len)) c.loop-place.invariant.keys

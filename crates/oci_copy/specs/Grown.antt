@@ -1,0 +1,30 @@
+-- How a destination grows by what a source has, and when its bytes can be told.
+use Rattle.std.specs.Prelude.{◌≡◌, ℕ, List, ◌++◌, Some}
+use Rattle.oci_manifest.specs.Descriptor.{Descriptor}
+use Rattle.oci_store.specs.Keyed.{value_at}
+use Rattle.oci_store.specs.Content.{Entry}
+use Rattle.oci_store.specs.Graph.{Node}
+use Rattle.oci_store.specs.Copied.{Agree, AreReached}
+use Rattle.oci_store.specs.Push.{IsCalm}
+
+-- the new list begins with the old one
+abbrev pub BeginsWith : {X : Type 0} → List X → List X → Type 0
+BeginsWith {X} old new = (added : List X) × (new ≡ old ++ added)
+
+-- the new pairs are the old ones, and then the source's pairs of keys that are reached from the roots
+abbrev pub IsGrown : {X : Type 0} → List Node → List (Descriptor × X) → List Descriptor → List (Descriptor × X) → List (Descriptor × X) → Type 0
+IsGrown {X} graph source roots old new = (added : List (Descriptor × X)) × (new ≡ old ++ added) × AreReached graph source roots added
+
+-- a key of the one and a key of the other that have the same digest have the same bytes
+abbrev pub SameByDigest : List Entry → List Entry → Type 0
+SameByDigest a b = (k other : Descriptor) (x y : List ℕ) → value_at a k ≡ Some x → value_at b other ≡ Some y → other.digest ≡ k.digest → y ≡ x
+
+-- The bytes of a copy can be told: the source is honest, the destination was sound, none of its puts failed meanwhile and
+-- none could fail uncounted, both agree, and where the destination keeps one file a digest, keys of one digest have the same bytes.
+pub record IsTold (honest sound shares : Type 0) (failures_before failures_after : ℕ) (source old : List Entry) : Type 0 where
+  pub is_honest : honest
+  pub is_sound : sound
+  pub is_calm : IsCalm failures_before failures_after
+  pub agrees : Agree source old
+  pub same_old : shares → SameByDigest source old
+  pub same_source : shares → SameByDigest source source

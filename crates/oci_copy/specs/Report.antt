@@ -1,0 +1,17 @@
+-- The numbers of a copy's report.
+use Rattle.std.specs.Prelude.{◌≡◌, ℕ, List, length, filter, ◌↔◌, Contains}
+use Rattle.std.specs.List.{IsDistinct}
+use Rattle.oci_manifest.specs.Descriptor.{Descriptor, same_key}
+use Rattle.oci_manifest.specs.Manifest.{first_places}
+use Rattle.oci_store.specs.Keyed.{has_key}
+use Rattle.oci_store.specs.Graph.{Node}
+use Rattle.oci_plan.specs.Outside.{IsOutside}
+
+-- this many keys are outside the held ones
+abbrev pub IsOutsideCount : List Node → List Node → List Descriptor → ℕ → Type 0
+IsOutsideCount source held roots n = (keys : List Descriptor) × IsDistinct same_key keys
+    × ((k : Descriptor) → Contains keys k ↔ IsOutside source held roots k) × (length keys ≡ n)
+
+-- how many distinct roots are held
+abbrev pub held_count : List Node → List Descriptor → ℕ
+held_count held roots = length (first_places (filter (has_key held) roots))

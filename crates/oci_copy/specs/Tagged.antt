@@ -1,0 +1,44 @@
+-- Copies by reference: the root that a reference stands for, and the tag that is set.
+use Rattle.std.specs.Prelude.{◌≡◌, ◌≢◌, ℕ, ◌<◌, ◌≤◌, ◌==◌, length, ◌⊎◌, Bool, List, [], ◌∷◌, if◌then◌else◌}
+use Rattle.oci_manifest.specs.Descriptor.{Descriptor}
+use Rattle.oci_store.specs.Content.{Entry}
+use Rattle.oci_store.specs.Graph.{Node}
+use Rattle.oci_store.specs.Tags.{Tags, Resolves}
+use Rattle.oci_store.specs.declared.fault.RefFault.{RefFault}
+use Rattle.oci_store.specs.declared.fault.RefFault.TheVariants as reference
+use Rattle.oci_copy.specs.declared.fault.CopyFault.{CopyFault}
+use Rattle.oci_copy.specs.declared.fault.CopyFault.TheVariants as fault
+use Rattle.oci_copy.specs.Fault.{Refused}
+
+-- the tag that a copy sets: the destination's reference, or the source's where that is empty
+abbrev pub name_of : List ℕ → List ℕ → List ℕ
+name_of source_reference destination_reference = if length destination_reference == 0 then source_reference else destination_reference
+
+-- there is no root as yet, or it is the key that the reference stands for
+abbrev pub IsRootOf : List Descriptor → Tags → List ℕ → List Descriptor → Type 0
+IsRootOf keys tags name roots = (roots ≡ []) ⊎ ((k : Descriptor) × (roots ≡ k ∷ []) × Resolves keys tags name k)
+
+-- why a reference does not resolve
+abbrev pub IsReferenceCause : List Descriptor → Tags → List ℕ → RefFault → Type 0
+IsReferenceCause keys tags name reference.EmptyReference = name ≡ []
+IsReferenceCause keys tags name reference.UnknownReference = (name ≢ []) × ((k : Descriptor) → Resolves keys tags name k → ⊥)
+IsReferenceCause keys tags name reference.NotHeld = ⊥
+IsReferenceCause keys tags name reference.Memory = ⊥
+
+-- the reference stands for a key, there are at most 64 workers, and the copy of that key is refused for its cause
+abbrev pub IsRefusedRoot : List Descriptor → Tags → List ℕ → ℕ → (List Descriptor → CopyFault → Type 0) → CopyFault → Type 0
+IsRefusedRoot keys tags name workers cause e = (k : Descriptor) × Resolves keys tags name k × (workers ≤ 64) × cause (k ∷ []) e
+
+-- Why a copy by reference is refused. The causes are looked at in this order: the source's reference does not resolve; there
+-- are too many workers; the copy of the root is refused. Setting the tag can only want memory.
+abbrev pub RefusedByReference : List Descriptor → Tags → List ℕ → ℕ → (List Descriptor → CopyFault → Type 0) → CopyFault → Type 0
+RefusedByReference keys tags name workers cause (fault.Reference e) = IsReferenceCause keys tags name e
+RefusedByReference keys tags name workers cause fault.BadWorkers = (k : Descriptor) × Resolves keys tags name k × (64 < workers)
+RefusedByReference keys tags name workers cause fault.Memory = Unit {0}
+RefusedByReference keys tags name workers cause e = IsRefusedRoot keys tags name workers cause e
+
+-- what a refused reference is told as: itself, or want of memory where it was that
+abbrev pub TellsReference : RefFault → CopyFault → Type 0
+TellsReference e (fault.Reference told) = (told ≡ e) × (e ≢ reference.Memory)
+TellsReference e fault.Memory = e ≡ reference.Memory
+TellsReference e other = ⊥

@@ -1,0 +1,36 @@
+//! Copies of content graphs from one store to another (oras-go v2, "Copy" and "CopyGraph").
+//!
+//! | Call | What it copies |
+//! |---|---|
+//! | [`copy_one`] | what a source has under a list of keys, on the calling thread |
+//! | [`copy`] | what a reference of the source stands for, which is then tagged in the destination |
+//! | [`copy_memory`] | as `copy_one`, from a store in memory to a closed one |
+//!
+//! After a copy that succeeds the destination has what it had and what the source reaches from the roots, and nothing else.
+//! The destination always comes back. A refusal leaves all that it had, and perhaps some of what was to be brought; each key
+//! then has all that it lists, and the tags are as they were.
+//!
+//! A copy takes a key that the destination holds to have all that it lists, and does not look below it. So the destination has
+//! to be closed: each key that it lists is held. Where it is not, nothing is copied.
+//!
+//! What is said of keys, and of what each lists, rests on an honest source and on two graphs that agree. What is said of bytes
+//! rests beside that on a destination whose device returns what was written and did not fail meanwhile. Of stores in memory
+//! all of it holds but the agreement, which fails only where two contents have one size and one SHA-256.
+#![tactic(auto)]
+
+mod fault;
+mod memory;
+mod options;
+mod planning;
+mod push;
+mod pushing;
+mod report;
+mod single;
+mod tagged;
+
+pub use fault::CopyFault;
+pub use memory::copy_memory;
+pub use options::Options;
+pub use report::Report;
+pub use single::copy_one;
+pub use tagged::copy;

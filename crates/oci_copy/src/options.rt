@@ -1,0 +1,23 @@
+ghost use Rattle.std.specs.Prelude.{◌≡◌};
+ghost use Rattle.oci_copy.specs.Options.{limit_of};
+
+/// How a copy is made. Where a number is 0, the default stands.
+#[derive(Clone, Copy, Debug, PartialEq, Eq, Default)]
+pub struct Options {
+    /// How many workers copy, at most 64; 0 means 3. A copy on the calling thread does not look at it.
+    pub workers: u32,
+    /// How large a manifest may be, in bytes; 0 means 4194304, which is 4 MiB.
+    pub max_metadata_bytes: u64,
+}
+
+impl Options {
+    /// How large a manifest may be, in bytes.
+    pub fn metadata_limit(&self) -> u64
+        ensures { result ≡ limit_of self.now }
+    {
+        match self.max_metadata_bytes {
+            0 => 4_194_304,
+            limit => limit,
+        }
+    }
+}

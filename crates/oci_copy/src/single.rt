@@ -1,0 +1,109 @@
+ghost use Rattle.std.specs.Prelude.{◌≡◌, ◌+◌, ◌≤◌, ℕ, true, false, length, OnOk, IfOk, IfErr};
+ghost use Rattle.oci_manifest.specs.Descriptor.{Descriptor};
+ghost use Rattle.oci_store.specs.Keyed.{has_key, HasAll};
+ghost use Rattle.oci_store.specs.Content.{IsContent};
+ghost use Rattle.oci_store.specs.Graph.{nodes_of, Reaches};
+ghost use Rattle.oci_store.specs.Closed.{IsClosed};
+ghost use Rattle.oci_store.specs.Copied.{Agree, IsCopied};
+ghost use Rattle.oci_plan.specs.Outside.{IsOutside};
+ghost use Rattle.oci_plan.specs.Visiting.{IsSoundItem};
+ghost use Rattle.oci_copy.specs.Options.{limit_of};
+ghost use Rattle.oci_copy.specs.Grown.{BeginsWith, IsGrown, IsTold};
+ghost use Rattle.oci_copy.specs.Report.{IsOutsideCount, held_count};
+ghost use Rattle.oci_copy.specs.Fault.{Refused, IsEarly};
+ghost use Rattle.oci_copy.specs.Plain.{RefusedForPlan};
+
+use crate::fault::CopyFault;
+use crate::options::Options;
+use crate::planning::plan_copy;
+use crate::pushing::push_all;
+use crate::report::Report;
+use oci_manifest::Key;
+use oci_plan::Plan;
+use oci_store::{Dest, Source};
+use std::alloc::Global;
+
+/// Copies what the source has under some roots, on the calling thread (oras-go v2, "CopyGraph").
+///
+/// The destination always comes back. It gains each key that the source reaches from a root along keys that the destination
+/// lacks, each after the keys that it lists; nothing that it had is lost, and its tags stay. A key that it has is taken to have
+/// all that it lists, so the destination has to be closed.
+///
+/// Refused, in this order, with `DestinationOpen`; with `Plan`, where the source cannot give what is to be brought; and then, for
+/// each key in turn, with `Fetch`, `Push` or `Stuck`. With the first two nothing is changed, and with the others the keys pushed
+/// before stay and the destination is closed. `Memory` may come at any point.
+///
+/// Each manifest is fetched once for the plan, and each key once for its push; contents are shared and not copied.
+pub fn copy_one<A: Source, D: Dest>(
+    alloc: Global,
+    source: &A,
+    destination: D,
+    roots: &[Key],
+    options: &Options,
+) -> (D, Result<Report, CopyFault>)
+    // What the destination then has: what it had, and what the source reaches from the roots.
+    ensures graph { OnOk result.1 (A.is_honest source.now → Agree (nodes_of (A.entries source.now)) (D.nodes destination)
+        → IsCopied (nodes_of (A.entries source.now)) (nodes_of (A.entries source.now)) roots.now (D.nodes destination) (D.nodes result.0)) }
+    ensures reached { OnOk result.1 (A.is_honest source.now → Agree (nodes_of (A.entries source.now)) (D.nodes destination)
+        → (k : Descriptor) → Reaches (nodes_of (A.entries source.now)) roots.now k → has_key (D.nodes result.0) k ≡ true) }
+    ensures content { OnOk result.1 (
+        IsTold (A.is_honest source.now) (D.is_sound destination) D.shares (D.failure_count destination) (D.failure_count result.0) (A.entries source.now) (D.entries destination)
+        → IsCopied (nodes_of (A.entries source.now)) (A.entries source.now) roots.now (D.entries destination) (D.entries result.0)) }
+    ensures roots { OnOk result.1 (HasAll (D.nodes result.0) roots.now) }
+    ensures was_closed { OnOk result.1 (IsClosed (D.nodes destination)) }
+    ensures was_sound { OnOk result.1 (A.is_honest source.now → (k : Descriptor)
+        → IsOutside (nodes_of (A.entries source.now)) (D.nodes destination) roots.now k → IsSoundItem (A.entries source.now) (limit_of options.now) k) }
+
+    // The report.
+    ensures planned { IfOk result.1 (λ report. A.is_honest source.now
+        → IsOutsideCount (nodes_of (A.entries source.now)) (D.nodes destination) roots.now report.planned) }
+    ensures pushed { IfOk result.1 (λ report. (report.planned ≡ report.pushed)
+        × (length (D.nodes result.0) ≡ length (D.nodes destination) + report.pushed)) }
+    ensures skipped { IfOk result.1 (λ report. report.skipped ≡ held_count (D.nodes destination) roots.now) }
+
+    // What holds after a refusal too.
+    ensures begins { BeginsWith (D.nodes destination) (D.nodes result.0) }
+    ensures grown { A.is_honest source.now
+        → IsGrown (nodes_of (A.entries source.now)) (nodes_of (A.entries source.now)) roots.now (D.nodes destination) (D.nodes result.0) }
+    ensures grown_content { IsTold (A.is_honest source.now) (D.is_sound destination) D.shares (D.failure_count destination) (D.failure_count result.0) (A.entries source.now) (D.entries destination)
+        → IsGrown (nodes_of (A.entries source.now)) (A.entries source.now) roots.now (D.entries destination) (D.entries result.0) }
+    ensures sound { IsTold (A.is_honest source.now) (D.is_sound destination) D.shares (D.failure_count destination) (D.failure_count result.0) (A.entries source.now) (D.entries destination)
+        → D.is_sound result.0 }
+    ensures closed { IsClosed (D.nodes destination) → IsClosed (D.nodes result.0) }
+    ensures failures { D.failure_count destination ≤ D.failure_count result.0 }
+    ensures tags { D.tags result.0 ≡ D.tags destination }
+    ensures name { D.name result.0 ≡ D.name destination }
+
+    // Each refusal comes for its cause.
+    ensures refused { IfErr result.1 (Refused (A.is_honest source.now) ((d : D) × (D.nodes d ≡ D.nodes result.0) × D.is_halted d)
+        (A.fails_at source.now) (A.entries source.now) (limit_of options.now) (D.nodes destination) roots.now
+        (D.failure_count destination) (D.failure_count result.0)) }
+    ensures plain { IfErr result.1 (λ fault. A.is_honest source.now → IsContent (A.entries source.now) → ((k : Descriptor) → A.fails_at source.now k ≡ false)
+        → IsClosed (D.nodes destination) → ((d : D) → D.is_halted d → ⊥) → D.failure_count result.0 ≡ 0
+        → RefusedForPlan (A.entries source.now) (limit_of options.now) (D.nodes destination) roots.now fault) }
+    ensures unchanged { IfErr result.1 (λ fault. IsEarly fault → result.0 ≡ destination) }
+{
+    let plan = match plan_copy(alloc, source, &destination, roots, options) {
+        Ok(plan) => plan,
+        Err(fault) => return (destination, Err(fault)),
+    };
+    let mut destination = destination;
+    match push_all(source, &mut destination, &plan) {
+        Ok(()) => (destination, Ok(report_of(&plan))),
+        Err(fault) => (destination, Err(fault)),
+    }
+}
+
+// The report of a copy that pushed all that was planned.
+fn report_of(plan: &Plan) -> Report
+    ensures planned { result.planned ≡ length plan.now.keys }
+    ensures pushed { result.pushed ≡ length plan.now.keys }
+    ensures skipped { result.skipped ≡ length plan.now.skipped }
+{
+    let planned = plan.len() as u64;
+    Report {
+        planned,
+        pushed: planned,
+        skipped: plan.skipped().len() as u64,
+    }
+}

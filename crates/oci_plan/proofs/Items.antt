@@ -1,0 +1,127 @@
+-- One visited key: what its checks, its fetch and its reading say of it.
+use Rattle.std.proofs.Common.{◌≡◌, ℕ, Bool, true, false, ◌⊎◌, inl, inr, List, [], ◌∷◌, length, Option, Some, None, Result, Ok, Err, refl, sym, ap, subst, ◌∙◌}
+use Rattle.std.specs.Prelude.{option_map, is_some, unwrap_or, IfOk, IfErr, OnOk, IsErrOf, ◌↔◌}
+use Rattle.std.specs.Result.{result_unwrap_or}
+use Rattle.std.specs.List.{IsDistinct, AllByRecursion, filter}
+use Rattle.std.proofs.lemmas.Bool.{false≢true}
+use Rattle.oci_manifest.specs.Descriptor.{Descriptor, same_key}
+use Rattle.oci_manifest.specs.Fault.{Fault, Fails, Gives, IsFault}
+use Rattle.oci_manifest.specs.declared.fault.ManifestFault.{ManifestFault}
+use Rattle.oci_manifest.specs.declared.fault.ManifestFault.TheVariants as reading
+use Rattle.oci_manifest.specs.MediaTypes.{kind_of}
+use Rattle.oci_manifest.specs.Manifest.{first_places, is_distributed}
+use Rattle.oci_manifest.specs.Reading.{successors_of}
+use Rattle.oci_manifest.specs.declared.kind.Kind.{Kind}
+use Rattle.oci_manifest.specs.declared.kind.Kind.TheVariants.{Image, Index, DockerImage, DockerList, Artifact, Leaf}
+use Rattle.oci_manifest.proofs.Keys.{Decides-same_key, cases}
+use Rattle.oci_manifest.proofs.Laws.{successors_of-distinct}
+use Rattle.oci_store.specs.Keyed.{value_at, has_key}
+use Rattle.oci_store.specs.Content.{Entry, Matches, succ_of, successors_in}
+use Rattle.oci_store.specs.Graph.{Node, nodes_of}
+use Rattle.oci_store.specs.declared.fault.FetchFault.{FetchFault}
+use Rattle.oci_store.specs.declared.fault.FetchFault.TheVariants as fetch
+use Rattle.oci_plan.specs.Visiting.{successors_at, IsWithin}
+use Rattle.oci_plan.specs.Refusal.{IsKeyFault, IsOfKey, IsUnread}
+use Rattle.oci_plan.specs.Walk.{IsPassed, IsReadFault, fetch_refusal, read_refusal}
+use Rattle.std.specs.Global.{Vec}
+use Rattle.oci_plan.proofs.Places.{IsDistinct-places}
+use Rattle.oci_plan.specs.declared.fault.PlanFault.{PlanFault}
+use Rattle.oci_plan.specs.declared.fault.PlanFault.TheVariants as fault
+
+-- ---- the source's content under a key
+
+-- the node of a key has what the bytes under it list
+pub value_at-nodes_of : (entries : List Entry) (k : Descriptor) → value_at (nodes_of entries) k ≡ option_map (successors_in k) (value_at entries k)
+value_at-nodes_of [] k = refl
+value_at-nodes_of (e ∷ entries) k =
+    elim (cases (same_key e.0 k)) [
+      | inl same ↦
+          let key = (Decides-same_key e.0 k).0 same in
+          let here : Some (successors_in e.0 e.1) ≡ Some (successors_in k e.1) = ap (λ (x : Descriptor). Some (successors_in x e.1)) key in
+          rw same here
+      | inr other ↦ rw other (value_at-nodes_of entries k)
+    ]
+
+-- what the bytes under a key list is what the source lists there
+pub successors_at-nodes_of : (entries : List Entry) (k : Descriptor) (bytes : List ℕ) (ks : List Descriptor) → value_at entries k ≡ Some bytes → succ_of k bytes ≡ Ok ks → successors_at (nodes_of entries) k ≡ ks
+successors_at-nodes_of entries k bytes ks at reads =
+    ap (λ (o : Option (List Descriptor)). unwrap_or o []) (value_at-nodes_of entries k ∙ ap (option_map (successors_in k)) at)
+    ∙ ap (λ (r : Result (List Descriptor) Fault). result_unwrap_or r []) reads
+
+-- ---- refusals
+
+-- a refused fetch of a held key is told of it
+pub fetch_refused : (honest : Type 0) (fails : Descriptor → Bool) (entries : List Entry) (limit : ℕ) (k : Descriptor) (f : FetchFault) → IsWithin limit k → has_key entries k ≡ true
+    → (f ≡ fetch.NotFound → has_key entries k ≡ false) → (f ≡ fetch.Corrupt → fails k ≡ true) → (f ≡ fetch.Device → fails k ≡ true)
+    → IsKeyFault honest fails entries limit (fetch_refusal k f) × IsOfKey k (fetch_refusal k f)
+fetch_refused honest fails entries limit k fetch.NotFound within there gone corrupt device = ((within, gone refl), refl)
+fetch_refused honest fails entries limit k fetch.Corrupt within there gone corrupt device = ((within, there, corrupt refl, tt), refl)
+fetch_refused honest fails entries limit k fetch.Device within there gone corrupt device = ((within, there, device refl, tt), refl)
+fetch_refused honest fails entries limit k fetch.Memory within there gone corrupt device = (tt, tt)
+
+-- a refused reading is told of the key
+pub read_refused : (k : Descriptor) (bytes : List ℕ) (f : ManifestFault) → Fails f (succ_of k bytes) → IsReadFault k bytes (read_refusal k f)
+read_refused k bytes reading.NotJson h = (refl, _, h, refl)
+read_refused k bytes reading.NotObject h = (refl, _, h, refl)
+read_refused k bytes reading.NoConfig h = (refl, _, h, refl)
+read_refused k bytes (reading.BadList member) h = (refl, _, h, refl)
+read_refused k bytes (reading.BadDescriptor member position) h = (refl, _, h, refl)
+read_refused k bytes reading.Memory h = tt
+
+-- bytes of a held key that do not read are a fault of it
+pub unread : (honest : Type 0) (fails : Descriptor → Bool) (entries : List Entry) (limit : ℕ) (k : Descriptor) (bytes : List ℕ) (e : PlanFault) → IsWithin limit k → has_key entries k ≡ true
+    → Matches k bytes → (honest → value_at entries k ≡ Some bytes) → IsReadFault k bytes e → IsKeyFault honest fails entries limit e × IsOfKey k e
+unread honest fails entries limit k bytes (fault.TooLarge named l) within there matching own h = absurd h
+unread honest fails entries limit k bytes (fault.NotFound named) within there matching own h = absurd h
+unread honest fails entries limit k bytes (fault.Fetch named f) within there matching own h = absurd h
+unread honest fails entries limit k bytes (fault.Manifest named f) within there matching own h =
+    let about : Descriptor → Type 0 = λ x. IsWithin limit x × (has_key entries x ≡ true) × IsUnread honest entries x f in
+    (subst about (sym h.0) (within, there, record { bytes = bytes; cause = h.1; matching = matching; own = own; breaks = h.2; tells = h.3 }), h.0)
+unread honest fails entries limit k bytes (fault.Cycle keys) within there matching own h = absurd h
+unread honest fails entries limit k bytes fault.Memory within there matching own h = (tt, tt)
+unread honest fails entries limit k bytes fault.TooMany within there matching own h = absurd h
+
+-- ---- what a visited key lists
+
+held_bytes : (entries : List Entry) (k : Descriptor) → has_key entries k ≡ true → (bytes : List ℕ) × (value_at entries k ≡ Some bytes)
+held_bytes entries k h = go (value_at entries k) refl h
+  where
+    go : (o : Option (List ℕ)) → o ≡ value_at entries k → is_some o ≡ true → (bytes : List ℕ) × (value_at entries k ≡ Some bytes)
+    go (Some bytes) e h = (bytes, sym e)
+    go None e h = cc h
+
+leaf_reads : (k : Descriptor) (bytes : List ℕ) → kind_of k.media_type ≡ Leaf → succ_of k bytes ≡ Ok []
+unfolding successors_of
+leaf_reads k bytes leaf = ap (λ (kind : Kind). successors_of kind bytes) leaf
+
+pub leaf_passed : (honest : Type 0) (entries : List Entry) (limit : ℕ) (k : Descriptor) → kind_of k.media_type ≡ Leaf → has_key entries k ≡ true → IsWithin limit k → IsPassed honest entries limit k
+leaf_passed honest entries limit k leaf there within =
+    let it = held_bytes entries k there in
+    record { there = there; within = within; reads = λ _. (it.0, [], it.1, leaf_reads k it.0 leaf) }
+
+pub leaf_lists : (entries : List Entry) (k : Descriptor) → kind_of k.media_type ≡ Leaf → has_key entries k ≡ true → [] ≡ successors_at (nodes_of entries) k
+leaf_lists entries k leaf there =
+    let it = held_bytes entries k there in
+    sym (successors_at-nodes_of entries k it.0 [] it.1 (leaf_reads k it.0 leaf))
+
+-- a fact about the answer of an item, from a fact about its reading
+pub record IsItemAnswer (honest : Type 0) (fails : Descriptor → Bool) (entries : List Entry) (limit : ℕ) (k : Descriptor) (r : Result (Vec Descriptor) PlanFault) : Type 0 where
+  pub passed : OnOk r (IsPassed honest entries limit k)
+  pub listed : IfOk r (λ keys. honest → keys.items ≡ successors_at (nodes_of entries) k)
+  pub distinct : IfOk r (λ keys. IsDistinct same_key keys.items)
+  pub cause : IfErr r (IsKeyFault honest fails entries limit)
+  pub named : IfErr r (IsOfKey k)
+
+pub item_answer : (honest : Type 0) (fails : Descriptor → Bool) (entries : List Entry) (limit : ℕ) (k : Descriptor) (bytes : List ℕ) (r : Result (Vec Descriptor) PlanFault)
+    → IsWithin limit k → has_key entries k ≡ true → Matches k bytes → (honest → value_at entries k ≡ Some bytes)
+    → IfOk r (λ keys. succ_of k bytes ≡ Ok keys.items) → IfErr r (IsReadFault k bytes) → IsItemAnswer honest fails entries limit k r
+item_answer honest fails entries limit k bytes (Ok keys) within there matching own reads refused = record {
+  passed = record { there = there; within = within; reads = λ h. (bytes, keys.items, own h, reads) };
+  listed = λ h. sym (successors_at-nodes_of entries k bytes keys.items (own h) reads);
+  distinct = successors_of-distinct (kind_of k.media_type) bytes keys.items reads;
+  cause = tt;
+  named = tt;
+}
+item_answer honest fails entries limit k bytes (Err e) within there matching own reads refused =
+    let told = unread honest fails entries limit k bytes e within there matching own refused in
+    record { passed = tt; listed = tt; distinct = tt; cause = told.0; named = told.1 }

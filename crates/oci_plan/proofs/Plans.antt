@@ -1,0 +1,323 @@
+-- What a finished walk and an order of its lists make: a plan, or a cycle of keys.
+use Rattle.std.proofs.Common.{◌≡◌, ◌≢◌, ℕ, zero, suc, ◌+◌, ◌-◌, ◌<◌, ◌≤◌, Bool, true, false, cond, not, ◌⊎◌, inl, inr, List, [], ◌∷◌, ◌++◌, length, map, take, get_or, eqb, Option, Some, None, refl, sym, ap, subst, ◌∙◌, arith}
+use Rattle.std.specs.Prelude.{Contains, AllPairs, filter_map, nat_le}
+use Rattle.std.specs.Global.{Vec}
+use Rattle.std.specs.List.{filter, slice_get, find, cons_option, All, AllZip, AllByRecursion, IsDistinct}
+use Rattle.std.proofs.lemmas.Bool.{false≢true, both_ways, eqb-true, lt-leb, leb-true, cases_lt, cases_eq, or_left, or_right}
+use Rattle.std.proofs.lemmas.List.{length-map, get_or-map, get_or_past, get_or_default}
+use Rattle.std.proofs.lemmas.List.Elements.{All-nil, All-head, All-tail, All-weaker, All-contains, All-contains_itself}
+use Rattle.std.proofs.lemmas.Map.Keys.{IsDistinct-head, IsDistinct-tail, IsDistinct-from_apart}
+use Rattle.std.proofs.lemmas.Option.{slice_get_within, get_or_from_slice_get, slice_get-get_or}
+use Rattle.oci_manifest.specs.Descriptor.{Descriptor, same_key}
+use Rattle.oci_manifest.proofs.Keys.{Decides-same_key, cases}
+use Rattle.oci_store.specs.Keyed.{has_key}
+use Rattle.oci_store.specs.Content.{Entry}
+use Rattle.oci_store.specs.Graph.{Node, nodes_of, IsEdge}
+use Rattle.oci_plan.specs.Graph.{lists_of, successors_of, without_doubles, HasEdge, AreNumbers, IsGraph, IsCycle, IsFirstBad}
+use Rattle.oci_plan.specs.Order.{Ordered, IsOrder, FollowsSuccessors}
+use Rattle.oci_plan.specs.Fault.{IsCauseOf}
+use Rattle.oci_plan.specs.Outside.{IsOutside, IsKeyCycle}
+use Rattle.oci_plan.specs.Visiting.{successors_at, is_fresh, is_among}
+use Rattle.oci_plan.specs.Plan.{Planned, Number, HasEdges, FollowsListed, keys_before}
+use Rattle.oci_plan.specs.Refusal.{IsKeyFault, IsFirstFault}
+use Rattle.oci_plan.specs.Walk.{IsListOf, IsWalk, IsTellable, IsTold, IsNamedCycle}
+use Rattle.oci_plan.specs.declared.fault.OrderFault.{OrderFault}
+use Rattle.oci_plan.specs.declared.fault.OrderFault.TheVariants as ordering
+use Rattle.oci_plan.specs.declared.fault.PlanFault.{PlanFault}
+use Rattle.oci_plan.specs.declared.fault.PlanFault.TheVariants as fault
+use Rattle.oci_plan.proofs.Places.{Keys, Contains-from_among, among_from_Contains, among-filter, among_filter_from, among_from_place, place_from_among, All-from_among, one_place}
+use Rattle.oci_plan.proofs.Visits.{found_outside, outside_found, successors_at-edge}
+use Rattle.oci_plan.proofs.Names.{first_two}
+
+-- ---- numbers and the keys that they name
+
+pub Number-length : (ks : Keys) (numbers : List ℕ) (named : Keys) → Number ks numbers named → length numbers ≡ length named
+Number-length ks numbers named h = sym (length-map numbers (slice_get ks)) ∙ ap length h ∙ length-map named (λ (x : Descriptor). Some x)
+
+-- the key at a place is that of the number there
+Number-at : (ks : Keys) (numbers : List ℕ) (named : Keys) (i : ℕ) (k : Descriptor) → Number ks numbers named → slice_get named i ≡ Some k → slice_get ks (get_or numbers i 0) ≡ Some k
+Number-at ks numbers [] i k h at = cc at
+Number-at ks [] (x ∷ named) i k h at = cc h
+Number-at ks (n ∷ numbers) (x ∷ named) zero k h at =
+    let p = first_two (slice_get ks n) (Some x) (map (slice_get ks) numbers) (map (λ (y : Descriptor). Some y) named) h in
+    p.0 ∙ at
+Number-at ks (n ∷ numbers) (x ∷ named) (suc i) k h at =
+    let p = first_two (slice_get ks n) (Some x) (map (slice_get ks) numbers) (map (λ (y : Descriptor). Some y) named) h in
+    Number-at ks numbers named i k p.1 at
+
+-- each of the numbers has its key among the named ones
+named_at : (ks : Keys) (numbers : List ℕ) (named : Keys) (n i : ℕ) → Number ks numbers named → i < length numbers → get_or numbers i n ≡ n → (k : Descriptor) × (slice_get ks n ≡ Some k) × (is_among named k ≡ true)
+named_at ks [] named n i h lt is = absurd (omega (arith, lt))
+named_at ks (m ∷ numbers) [] n i h lt is = cc h
+named_at ks (m ∷ numbers) (x ∷ named) n zero h lt is =
+    let p = first_two (slice_get ks m) (Some x) (map (slice_get ks) numbers) (map (λ (y : Descriptor). Some y) named) h in
+    (x, ap (slice_get ks) (sym is) ∙ p.0, or_left (same_key x x) (is_among named x) ((Decides-same_key x x).1 refl))
+named_at ks (m ∷ numbers) (x ∷ named) n (suc i) h lt is =
+    let p = first_two (slice_get ks m) (Some x) (map (slice_get ks) numbers) (map (λ (y : Descriptor). Some y) named) h in
+    let r = named_at ks numbers named n i p.1 (omega (arith, lt)) is in
+    (r.0, r.1, or_right (same_key x r.0) (is_among named r.0) r.2)
+
+pub named_number : (ks : Keys) (numbers : List ℕ) (named : Keys) (n : ℕ) → Number ks numbers named → Contains numbers n → (k : Descriptor) × (slice_get ks n ≡ Some k) × (is_among named k ≡ true)
+named_number ks numbers named n h there = named_at ks numbers named n there.0 h there.1 there.2
+
+-- each of the named keys has its number there
+pub numbered_key : (ks : Keys) (numbers : List ℕ) (named : Keys) (k : Descriptor) → Number ks numbers named → is_among named k ≡ true → (n : ℕ) × Contains numbers n × (slice_get ks n ≡ Some k)
+numbered_key ks numbers named k h there =
+    let at = place_from_among named k there in
+    let within : at.0 < length numbers = omega (arith, slice_get_within named at.0 k at.1, Number-length ks numbers named h) in
+    (get_or numbers at.0 0, (at.0, within, get_or_default numbers at.0 (get_or numbers at.0 0) 0 within), Number-at ks numbers named at.0 k h at.1)
+
+-- a number whose key is none of the named ones is none of the numbers
+other_numbers : (ks : Keys) (n : ℕ) (k : Descriptor) (numbers : List ℕ) (named : Keys) → slice_get ks n ≡ Some k → Number ks numbers named → AllByRecursion (λ y. same_key k y ≡ false) named
+    → filter (λ m. not (eqb n m)) numbers ≡ numbers
+other_numbers ks n k [] named at h apart = refl
+other_numbers ks n k (m ∷ numbers) [] at h apart = cc h
+other_numbers ks n k (m ∷ numbers) (x ∷ named) at h apart =
+    let p = first_two (slice_get ks m) (Some x) (map (slice_get ks) numbers) (map (λ (y : Descriptor). Some y) named) h in
+    let rest = other_numbers ks n k numbers named at p.1 apart.1 in
+    elim (cases (eqb n m)) [
+      | inr other ↦ rw (other, rest) refl
+      | inl same ↦
+          let e : n ≡ m = eqb-true n m same in
+          let keys : k ≡ x = cc (sym at ∙ ap (slice_get ks) e ∙ p.0) in
+          absurd (both_ways (same_key k x) apart.0 ((Decides-same_key k x).1 keys))
+    ]
+
+-- numbers of distinct keys are distinct
+pub without_doubles-same : (ks : Keys) (numbers : List ℕ) (named : Keys) → Number ks numbers named → IsDistinct same_key named → without_doubles numbers ≡ numbers
+without_doubles-same ks [] named h distinct = refl
+without_doubles-same ks (n ∷ numbers) [] h distinct = cc h
+without_doubles-same ks (n ∷ numbers) (k ∷ named) h distinct =
+    let p = first_two (slice_get ks n) (Some k) (map (slice_get ks) numbers) (map (λ (y : Descriptor). Some y) named) h in
+    let rest = without_doubles-same ks numbers named p.1 (IsDistinct-tail same_key k named distinct) in
+    ap (λ (t : List ℕ). n ∷ filter (λ m. not (eqb n m)) t) rest
+    ∙ ap (λ (t : List ℕ). n ∷ t) (other_numbers ks n k numbers named p.0 p.1 (IsDistinct-head same_key k named distinct))
+
+-- the key of one of some numbers is among the keys of these
+pub among-filter_map : (ks : Keys) (numbers : List ℕ) (n i : ℕ) (k : Descriptor) → i < length numbers → get_or numbers i n ≡ n → slice_get ks n ≡ Some k → is_among (filter_map (slice_get ks) numbers) k ≡ true
+among-filter_map ks [] n i k lt is at = absurd (omega (arith, lt))
+among-filter_map ks (m ∷ numbers) n zero k lt is at =
+    let here : slice_get ks m ≡ Some k = ap (slice_get ks) is ∙ at in
+    rw here (or_left (same_key k k) (is_among (filter_map (slice_get ks) numbers) k) ((Decides-same_key k k).1 refl))
+among-filter_map ks (m ∷ numbers) n (suc i) k lt is at = skip (slice_get ks m) (among-filter_map ks numbers n i k (omega (arith, lt)) is at)
+  where
+    skip : (o : Option Descriptor) → is_among (filter_map (slice_get ks) numbers) k ≡ true → is_among (cons_option o (filter_map (slice_get ks) numbers)) k ≡ true
+    skip None h = h
+    skip (Some x) h = or_right (same_key x k) (is_among (filter_map (slice_get ks) numbers) k) h
+
+-- ---- lists by number
+
+same_length : {A B : Type 0} (R : A → B → Type 0) (xs : List A) (ys : List B) → AllZip R xs ys → length xs ≡ length ys
+same_length R [] [] h = refl
+same_length R [] (y ∷ ys) h = absurd h
+same_length R (x ∷ xs) [] h = absurd h
+same_length R (x ∷ xs) (y ∷ ys) h = ap suc (same_length R xs ys h.1)
+
+-- what pairs the items of two lists pairs those of one place
+paired : {A B : Type 0} (R : A → B → Type 0) (xs : List A) (ys : List B) (i : ℕ) (x : A) → AllZip R xs ys → slice_get xs i ≡ Some x → (y : B) × (slice_get ys i ≡ Some y) × R x y
+paired R [] ys i x h at = cc at
+paired R (a ∷ xs) [] i x h at = absurd h
+paired {A} R (a ∷ xs) (y ∷ ys) zero x h at =
+    let same : a ≡ x = cc at in
+    (y, refl, subst (λ (z : A). R z y) same h.0)
+paired R (a ∷ xs) (y ∷ ys) (suc i) x h at = paired R xs ys i x h.1 at
+
+successors_of-at : (lists : List (Vec ℕ)) (n : ℕ) (v : Vec ℕ) → slice_get lists n ≡ Some v → successors_of (lists_of lists) n ≡ v.items
+successors_of-at [] n v at = cc at
+successors_of-at (l ∷ lists) zero v at =
+    let same : l ≡ v = cc at in
+    ap (λ (x : Vec ℕ). x.items) same
+successors_of-at (l ∷ lists) (suc n) v at = successors_of-at lists n v at
+
+doubles-at : (lists : List (Vec ℕ)) (n : ℕ) (v : Vec ℕ) → slice_get lists n ≡ Some v → successors_of (map without_doubles (lists_of lists)) n ≡ without_doubles v.items
+doubles-at [] n v at = cc at
+doubles-at (l ∷ lists) zero v at =
+    let same : l ≡ v = cc at in
+    ap (λ (x : Vec ℕ). without_doubles x.items) same
+doubles-at (l ∷ lists) (suc n) v at = doubles-at lists n v at
+
+module _ (honest : Type 0) (entries : List Entry) (held : List Node) (roots : Keys) (limit : ℕ) (keys : Keys) (lists : List (Vec ℕ)) (walk : IsWalk honest entries held roots limit keys keys lists) (distinct : IsDistinct same_key keys) where
+  abbrev source : List Node
+  source = nodes_of entries
+
+  pub lists_length : length lists ≡ length keys
+  lists_length = sym (same_length (IsListOf honest entries held keys) keys lists walk.listed)
+
+  numbers_length : length (lists_of lists) ≡ length keys
+  numbers_length = length-map lists (λ (v : Vec ℕ). v.items) ∙ lists_length
+
+  -- the keys of the two ends of an edge
+  record IsKeyEdge (m n : ℕ) : Type 0 where
+    pub from : Descriptor
+    pub to : Descriptor
+    pub at_from : slice_get keys m ≡ Some from
+    pub at_to : slice_get keys n ≡ Some to
+    pub edge : honest → IsEdge source from to
+
+  key_edge : (m n : ℕ) → HasEdge (lists_of lists) m n → IsKeyEdge m n
+  key_edge m n there =
+      elim (cases_lt m (length keys)) [
+        | inr past ↦
+            let none : successors_of (lists_of lists) m ≡ [] = get_or_past (lists_of lists) m [] (omega (arith, past, numbers_length)) in
+            absurd (nothing (subst (λ (ns : List ℕ). Contains ns n) none there))
+        | inl within ↦ inside within
+      ]
+    where
+      nothing : Contains [] n → ⊥
+      nothing c = absurd (omega (arith, c.1))
+
+      inside : m < length keys → IsKeyEdge m n
+      inside within =
+          let some : Descriptor = get_or keys m (record { media_type = []; digest = []; size = 0 }) in
+          let at : slice_get keys m ≡ Some some = slice_get-get_or keys m (record { media_type = []; digest = []; size = 0 }) within in
+          let list = paired (IsListOf honest entries held keys) keys lists m some walk.listed at in
+          let told = list.2 in
+          let it = named_number keys list.0.items told.named n told.numbers_name (subst (λ (ns : List ℕ). Contains ns n) (successors_of-at lists m list.0 list.1) there) in
+          record {
+            from = some;
+            to = it.0;
+            at_from = at;
+            at_to = it.1;
+            edge = λ h.
+                let own = ap (λ (t : Keys). is_among t it.0) (sym (told.own h)) ∙ it.2 in
+                successors_at-edge source some it.0 (among-filter (is_fresh held) (successors_at source some) it.0 own).1;
+          }
+
+  is_number : (n : ℕ) (k : Descriptor) → slice_get keys n ≡ Some k → n < length (lists_of lists)
+  is_number n k at = omega (arith, slice_get_within keys n k at, numbers_length)
+
+  pub is_graph : IsGraph (lists_of lists)
+  is_graph n =
+      All-weaker (Contains (successors_of (lists_of lists) n)) (λ m. m < length (lists_of lists))
+      (λ m there. let e = key_edge n m there in is_number m e.to e.at_to) (successors_of (lists_of lists) n) (All-contains_itself (successors_of (lists_of lists) n))
+
+  -- ---- a cycle
+
+  cycle_key : (numbers : List ℕ) → IsCycle (lists_of lists) numbers → (i : ℕ) → i < length numbers → (k : Descriptor) × (slice_get keys (get_or numbers i 0) ≡ Some k)
+  cycle_key numbers cycle i lt =
+      elim (cases_lt (i + 1) (length numbers)) [
+        | inl inner ↦ let e = key_edge (get_or numbers i 0) (get_or numbers (i + 1) 0) (cycle.path i inner) in (e.from, e.at_from)
+        | inr last ↦
+            let e = key_edge (get_or numbers (length numbers - 1) 0) (get_or numbers 0 0) cycle.closes in
+            let end : length numbers - 1 ≡ i = omega (arith, lt, last) in
+            (e.from, ap (λ (j : ℕ). slice_get keys (get_or numbers j 0)) (sym end) ∙ e.at_from)
+      ]
+
+  pub cycle_numbers : (numbers : List ℕ) → IsCycle (lists_of lists) numbers → All (λ n. n < length keys) numbers
+  cycle_numbers numbers cycle = λ i d lt.
+      let it = cycle_key numbers cycle i lt in
+      subst (λ (n : ℕ). n < length keys) (get_or_default numbers i 0 d lt) (slice_get_within keys (get_or numbers i 0) it.0 it.1)
+
+  no_bad_number : (i n : ℕ) → IsFirstBad (lists_of lists) i n → ⊥
+  no_bad_number i n bad = none (successors_of (lists_of lists) i) (is_graph i) bad.first
+    where
+      none : (ms : List ℕ) → All (λ m. m < length (lists_of lists)) ms → find (λ m. nat_le (length (lists_of lists)) m) ms ≡ Some n → ⊥
+      none [] all found = cc found
+      none (m ∷ ms) all found =
+          let small : nat_le (length (lists_of lists)) m ≡ false = lt-leb (length (lists_of lists)) m (All-head (λ m. m < length (lists_of lists)) m ms all) in
+          none ms (All-tail (λ m. m < length (lists_of lists)) m ms all) (rw small at found)
+
+  -- an order's fault can be told of the keys
+  pub tellable : (f : OrderFault) → IsCauseOf (lists_of lists) f → IsTellable keys f
+  tellable (ordering.Cycle numbers) cause = cycle_numbers numbers.items cause.1
+  tellable (ordering.BadNumber list number) cause = no_bad_number list number cause
+  tellable ordering.Memory cause = tt
+
+  named_cycle : (numbers : List ℕ) (named : Keys) → IsCycle (lists_of lists) numbers → Number keys numbers named → honest → IsKeyCycle source named
+  named_cycle numbers named cycle names h = record {
+    some = omega (arith, cycle.some, same_len);
+    distinct = IsDistinct-from_apart same_key named apart;
+    path = λ i from to at_from at_to.
+        let inner : i + 1 < length numbers = omega (arith, slice_get_within named (i + 1) to at_to, same_len) in
+        joined (get_or numbers i 0) (get_or numbers (i + 1) 0) from to (key_edge (get_or numbers i 0) (get_or numbers (i + 1) 0) (cycle.path i inner)) (Number-at keys numbers named i from names at_from) (Number-at keys numbers named (i + 1) to names at_to);
+    closes = λ from to at_from at_to.
+        let end : length named - 1 ≡ length numbers - 1 = ap (λ (n : ℕ). n - 1) (sym same_len) in
+        let at_end = subst (λ (j : ℕ). slice_get named j ≡ Some from) end at_from in
+        joined (get_or numbers (length numbers - 1) 0) (get_or numbers 0 0) from to (key_edge (get_or numbers (length numbers - 1) 0) (get_or numbers 0 0) cycle.closes) (Number-at keys numbers named (length numbers - 1) from names at_end) (Number-at keys numbers named 0 to names at_to);
+  }
+    where
+      same_len : length numbers ≡ length named
+      same_len = Number-length keys numbers named names
+
+      joined : (m n : ℕ) (from to : Descriptor) → IsKeyEdge m n → slice_get keys m ≡ Some from → slice_get keys n ≡ Some to → IsEdge source from to
+      joined m n from to e at_from at_to =
+          let same_from : e.from ≡ from = cc (sym e.at_from ∙ at_from) in
+          let same_to : e.to ≡ to = cc (sym e.at_to ∙ at_to) in
+          subst (λ (x : Descriptor). IsEdge source x to) same_from (subst (λ (x : Descriptor). IsEdge source e.from x) same_to (e.edge h))
+
+      apart : (i j : ℕ) (d : Descriptor) → i < j → j < length named → same_key (get_or named i d) (get_or named j d) ≡ false
+      apart i j d lt within =
+          elim (cases (same_key (get_or named i d) (get_or named j d))) [
+            | inr other ↦ other
+            | inl same ↦
+                let e = (Decides-same_key (get_or named i d) (get_or named j d)).0 same in
+                let at_i = Number-at keys numbers named i (get_or named j d) names (slice_get-get_or named i d (omega (arith, lt, within)) ∙ ap (λ (x : Descriptor). Some x) e) in
+                let at_j = Number-at keys numbers named j (get_or named j d) names (slice_get-get_or named j d within) in
+                let one = one_place keys (get_or numbers i 0) (get_or numbers j 0) (get_or named j d) distinct at_i at_j in
+                absurd (cycle.distinct i j 0 lt (omega (arith, within, same_len)) one)
+          ]
+
+  -- what is told of an order's fault is a cause against the plan
+  pub told_first : (f : OrderFault) (e : PlanFault) → IsCauseOf (lists_of lists) f → IsTold keys f e → honest → IsFirstFault entries held roots limit e
+  told_first (ordering.Cycle numbers) e cause told h = go e told
+    where
+      outside : (named : Keys) → Number keys numbers.items named → All (IsOutside source held roots) named
+      outside named names = All-from_among (IsOutside source held roots) named (λ k there.
+          let it = numbered_key keys numbers.items named k names there in
+          found_outside source held roots keys k (walk.visiting h) (ap (λ (t : Keys). is_among t k) (sym (walk.found h)) ∙ among_from_place keys it.0 k it.2))
+
+      go : (e : PlanFault) → IsNamedCycle keys numbers.items e → IsFirstFault entries held roots limit e
+      go (fault.TooLarge k l) told' = absurd told'
+      go (fault.NotFound k) told' = absurd told'
+      go (fault.Fetch k x) told' = absurd told'
+      go (fault.Manifest k x) told' = absurd told'
+      go (fault.Cycle named) told' = (named_cycle numbers.items named.items cause.1 told' h, outside named.items told')
+      go fault.Memory told' = tt
+      go fault.TooMany told' = absurd told'
+  told_first (ordering.BadNumber list number) e cause told h = absurd told
+  told_first ordering.Memory e cause told h = subst (λ (x : PlanFault). IsFirstFault entries held roots limit x) (sym told) tt
+
+  -- ---- a plan
+
+  pub outside_exactly : honest → (k : Descriptor) → (Contains keys k → IsOutside source held roots k) × (IsOutside source held roots k → Contains keys k)
+  outside_exactly h k = (
+    λ there. found_outside source held roots keys k (walk.visiting h) (ap (λ (t : Keys). is_among t k) (sym (walk.found h)) ∙ among_from_Contains keys k there),
+    λ outside. Contains-from_among keys k (outside_found source held roots keys (walk.found h) k outside),
+  )
+
+  module _ (o : Ordered) (ordered : o.lists ≡ map without_doubles (lists_of lists)) where
+    pub numbered : length o.lists ≡ length keys
+    numbered = ap length ordered ∙ length-map (lists_of lists) without_doubles ∙ numbers_length
+
+    -- the successors of a number, by their keys
+    edges_at : honest → (number : ℕ) (k : Descriptor) → slice_get keys number ≡ Some k → Number keys (successors_of o.lists number) (filter (is_fresh held) (successors_at source k))
+    edges_at h number k at =
+        let list = paired (IsListOf honest entries held keys) keys lists number k walk.listed at in
+        let told = list.2 in
+        let numbers : successors_of o.lists number ≡ list.0.items =
+        ap (λ (ls : List (List ℕ)). successors_of ls number) ordered ∙ doubles-at lists number list.0 list.1 ∙ without_doubles-same keys list.0.items told.named told.numbers_name told.distinct in
+        subst (λ (ns : List ℕ). Number keys ns (filter (is_fresh held) (successors_at source k))) (sym numbers) (subst (λ (t : Keys). Number keys list.0.items t) (told.own h) told.numbers_name)
+
+    pub has_edges : honest → (skipped : Keys) → HasEdges source held (record { keys = keys; order = o; skipped = skipped })
+    has_edges h skipped number k at = edges_at h number k at
+
+    pub follows_listed : honest → IsOrder o → (skipped : Keys) → FollowsListed source held (record { keys = keys; order = o; skipped = skipped })
+    follows_listed h is_order skipped place number k at_place at =
+        All-from_among (λ to. (has_key held to ≡ true) ⊎ Contains (filter_map (slice_get keys) (take place o.sequence)) to) (successors_at source k) (λ to there. earlier to there)
+      where
+        at_number : get_or o.sequence place 0 ≡ number
+        at_number = get_or_from_slice_get o.sequence place number 0 at_place
+
+        before : All (Contains (take place o.sequence)) (successors_of o.lists number)
+        before = subst (λ (n : ℕ). All (Contains (take place o.sequence)) (successors_of o.lists n)) at_number (is_order.topological.follows place (slice_get_within o.sequence place number at_place))
+
+        earlier : (to : Descriptor) → is_among (successors_at source k) to ≡ true → (has_key held to ≡ true) ⊎ Contains (filter_map (slice_get keys) (take place o.sequence)) to
+        earlier to there =
+            elim (cases (has_key held to)) [
+              | inl there' ↦ inl there'
+              | inr none ↦
+                  let passes : is_fresh held to ≡ true = rw none refl in
+                  let it = numbered_key keys (successors_of o.lists number) (filter (is_fresh held) (successors_at source k)) to (edges_at h number k at) (among_filter_from (is_fresh held) (successors_at source k) to passes there) in
+                  let stands = All-contains (Contains (take place o.sequence)) (successors_of o.lists number) it.0 before it.1 in
+                  inr (Contains-from_among (filter_map (slice_get keys) (take place o.sequence)) to (among-filter_map keys (take place o.sequence) it.0 stands.0 to stands.1 stands.2 it.2))
+            ]

@@ -1,0 +1,11 @@
+pub mod Doubles
+pub mod Fault
+pub mod Graph
+pub mod KeyList
+pub mod Order
+pub mod Outside
+pub mod Plan
+pub mod Refusal
+pub mod Search
+pub mod Visiting
+pub mod Walk

@@ -1,0 +1,18 @@
+-- What a copy has to bring, and the cycles of keys.
+use Rattle.std.specs.Prelude.{◌≡◌, ℕ, ◌+◌, ◌-◌, ◌<◌, false, List, length, Some, Contains, slice_get}
+use Rattle.std.specs.List.{IsDistinct}
+use Rattle.oci_manifest.specs.Descriptor.{Descriptor, same_key}
+use Rattle.oci_store.specs.Keyed.{has_key}
+use Rattle.oci_store.specs.Graph.{Node, IsEdge}
+
+-- the key stands at the end of a path of the source from a root, and no key of the path is held
+pub data IsOutside (source held : List Node) (roots : List Descriptor) : Descriptor → Type 0 where
+  root : {k : Descriptor} → Contains roots k → has_key held k ≡ false → IsOutside source held roots k
+  along : {from to : Descriptor} → IsOutside source held roots from → IsEdge source from to → has_key held to ≡ false → IsOutside source held roots to
+
+-- a cycle: one or more distinct keys, with an edge from each to the next, and from the last to the first
+pub record IsKeyCycle (source : List Node) (keys : List Descriptor) : Type 0 where
+  pub some : 0 < length keys
+  pub distinct : IsDistinct same_key keys
+  pub path : (i : ℕ) (from to : Descriptor) → slice_get keys i ≡ Some from → slice_get keys (i + 1) ≡ Some to → IsEdge source from to
+  pub closes : (from to : Descriptor) → slice_get keys (length keys - 1) ≡ Some from → slice_get keys 0 ≡ Some to → IsEdge source from to

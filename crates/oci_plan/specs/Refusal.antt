@@ -1,0 +1,82 @@
+-- When a plan is refused, and what the refusal says.
+use Rattle.std.specs.Prelude.{◌≡◌, ◌≢◌, ℕ, ◌<◌, Bool, true, false, List, length, Some, Err}
+use Rattle.std.specs.List.{All, IsDistinct}
+use Rattle.oci_manifest.specs.Descriptor.{Descriptor, same_key}
+use Rattle.oci_manifest.specs.MediaTypes.{kind_of}
+use Rattle.oci_manifest.specs.Fault.{Fault, IsFault}
+use Rattle.oci_manifest.specs.declared.kind.Kind.TheVariants.{Leaf}
+use Rattle.oci_manifest.specs.declared.fault.ManifestFault.{ManifestFault}
+use Rattle.oci_store.specs.Keyed.{value_at, has_key}
+use Rattle.oci_store.specs.Content.{Entry, Matches, succ_of}
+use Rattle.oci_store.specs.Graph.{Node, nodes_of}
+use Rattle.oci_store.specs.declared.fault.FetchFault.{FetchFault}
+use Rattle.oci_store.specs.declared.fault.FetchFault.TheVariants as fetch
+use Rattle.oci_plan.specs.Outside.{IsOutside, IsKeyCycle}
+use Rattle.oci_plan.specs.Visiting.{IsWithin, IsFirstAtFault}
+use Rattle.oci_plan.specs.declared.fault.PlanFault.{PlanFault}
+use Rattle.oci_plan.specs.declared.fault.PlanFault.TheVariants as fault
+
+-- the number of a plan's fault
+abbrev pub plan_number_of : PlanFault → ℕ
+plan_number_of (fault.NotFound k) = 53
+plan_number_of (fault.TooLarge k limit) = 54
+plan_number_of (fault.Cycle keys) = 55
+plan_number_of (fault.Manifest k e) = 56
+plan_number_of (fault.Fetch k e) = 57
+plan_number_of fault.Memory = 58
+plan_number_of fault.TooMany = 59
+
+-- the key is a manifest's, of a size over the limit
+abbrev pub IsTooLarge : ℕ → Descriptor → Type 0
+IsTooLarge limit k = (kind_of k.media_type ≢ Leaf) × (limit < k.size)
+
+-- the device has other bytes, or could not be read
+abbrev pub IsDeviceFault : FetchFault → Type 0
+IsDeviceFault fetch.NotFound = ⊥
+IsDeviceFault fetch.Corrupt = Unit {0}
+IsDeviceFault fetch.Device = Unit {0}
+IsDeviceFault fetch.Memory = ⊥
+
+-- bytes that match the key do not read, for this reason, which is no want of memory; of an honest source they are the key's
+pub record IsUnread (honest : Type 0) (entries : List Entry) (k : Descriptor) (e : ManifestFault) : Type 0 where
+  pub bytes : List ℕ
+  pub cause : Fault
+  pub matching : Matches k bytes
+  pub own : honest → value_at entries k ≡ Some bytes
+  pub breaks : succ_of k bytes ≡ Err cause
+  pub tells : IsFault e cause
+
+-- what a fault says of the key that it names: each check is made only where those before it pass
+abbrev pub IsKeyFault : Type 0 → (Descriptor → Bool) → List Entry → ℕ → PlanFault → Type 0
+IsKeyFault honest fails entries limit (fault.TooLarge k l) = (l ≡ limit) × IsTooLarge limit k
+IsKeyFault honest fails entries limit (fault.NotFound k) = IsWithin limit k × (has_key entries k ≡ false)
+IsKeyFault honest fails entries limit (fault.Fetch k e) = IsWithin limit k × (has_key entries k ≡ true) × (fails k ≡ true) × IsDeviceFault e
+IsKeyFault honest fails entries limit (fault.Manifest k e) = IsWithin limit k × (has_key entries k ≡ true) × IsUnread honest entries k e
+IsKeyFault honest fails entries limit (fault.Cycle keys) = Unit {0}
+IsKeyFault honest fails entries limit fault.Memory = Unit {0}
+IsKeyFault honest fails entries limit fault.TooMany = Unit {0}
+
+-- the fault names this key, or is want of memory
+abbrev pub IsOfKey : Descriptor → PlanFault → Type 0
+IsOfKey k (fault.TooLarge named l) = named ≡ k
+IsOfKey k (fault.NotFound named) = named ≡ k
+IsOfKey k (fault.Fetch named e) = named ≡ k
+IsOfKey k (fault.Manifest named e) = named ≡ k
+IsOfKey k (fault.Cycle keys) = ⊥
+IsOfKey k fault.Memory = Unit {0}
+IsOfKey k fault.TooMany = ⊥
+
+-- there are more distinct keys outside than numbers
+abbrev pub HasTooMany : List Node → List Node → List Descriptor → Type 0
+HasTooMany source held roots = (keys : List Descriptor) × (4294967295 < length keys) × IsDistinct same_key keys × All (IsOutside source held roots) keys
+
+-- Of what an honest source lists, where the plan is refused: a fault that names a key is of the first visited key that is
+-- not sound, a cycle is one of keys outside, and too many keys are outside.
+abbrev pub IsFirstFault : List Entry → List Node → List Descriptor → ℕ → PlanFault → Type 0
+IsFirstFault entries held roots limit (fault.TooLarge k l) = IsFirstAtFault (nodes_of entries) entries held roots limit k
+IsFirstFault entries held roots limit (fault.NotFound k) = IsFirstAtFault (nodes_of entries) entries held roots limit k
+IsFirstFault entries held roots limit (fault.Fetch k e) = IsFirstAtFault (nodes_of entries) entries held roots limit k
+IsFirstFault entries held roots limit (fault.Manifest k e) = IsFirstAtFault (nodes_of entries) entries held roots limit k
+IsFirstFault entries held roots limit (fault.Cycle keys) = IsKeyCycle (nodes_of entries) keys.items × All (IsOutside (nodes_of entries) held roots) keys.items
+IsFirstFault entries held roots limit fault.Memory = Unit {0}
+IsFirstFault entries held roots limit fault.TooMany = HasTooMany (nodes_of entries) held roots

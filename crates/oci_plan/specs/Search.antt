@@ -1,0 +1,63 @@
+-- The search that finds an order: how far it is at each moment, and that it ends.
+use Rattle.std.specs.Prelude.{◌≡◌, ◌≢◌, ℕ, ◌+◌, ◌-◌, ◌<◌, ◌≤◌, ◌^◌, List, length, take, drop, All, Contains, sum_by, slice_index}
+use Rattle.std.specs.List.{slice_index_or}
+use Rattle.oci_plan.specs.Graph.{successors_of, IsDistinct, IsPath}
+use Rattle.oci_plan.specs.Order.{FollowsSuccessors}
+use Rattle.oci_plan.specs.declared.ordering.search.Progress.{Progress}
+use Rattle.oci_plan.specs.declared.ordering.search.Search.{Search}
+use Rattle.oci_plan.specs.declared.ordering.search.Progress.TheVariants.{New, Open, Done}
+
+-- how far the search is with a number
+abbrev pub progress_of : List Progress → ℕ → Progress
+progress_of progress n = slice_index_or progress n New
+
+-- 1 for a number that is done
+abbrev pub done_count : Progress → ℕ
+done_count New = 0
+done_count (Open finished) = 0
+done_count Done = 1
+
+-- more than the steps that the search may still take at a number
+abbrev pub steps_left : Progress → ℕ
+steps_left New = 2 ^ 64 + 1
+steps_left (Open finished) = 2 ^ 64 - finished
+steps_left Done = 0
+
+-- a list has at most 2^64 - 1 elements, so the search ends
+abbrev pub work_left : List Progress → ℕ
+work_left progress = sum_by steps_left progress
+
+-- each number that the search has met, it has still met
+abbrev pub KeepsMet : List Progress → List Progress → Type 0
+KeepsMet old new = (n : ℕ) → progress_of old n ≢ New → progress_of new n ≢ New
+
+-- the number that a list ends with
+pub record EndsWith (numbers : List ℕ) (n : ℕ) : Type 0 where
+  pub some : 0 < length numbers
+  pub last : slice_index numbers (length numbers - 1) ≡ n
+
+-- What holds between two steps: the path is one of open numbers, each of which stands on it; the sequence has the done
+-- numbers, each after its successors; and the finished successors of an open number are done.
+pub record IsSound (lists : List (List ℕ)) (progress : List Progress) (path sequence : List ℕ) : Type 0 where
+  pub known : length progress ≡ length lists
+  pub path_open : (n : ℕ) → Contains path n → (count : ℕ) × (progress_of progress n ≡ Open count)
+  pub open_path : (n count : ℕ) → progress_of progress n ≡ Open count → Contains path n
+  pub path_distinct : IsDistinct path
+  pub is_path : IsPath lists path
+  pub sequence_done : (n : ℕ) → Contains sequence n → progress_of progress n ≡ Done
+  pub done_sequence : (n : ℕ) → progress_of progress n ≡ Done → Contains sequence n
+  pub sequence_distinct : IsDistinct sequence
+  pub follows : FollowsSuccessors lists sequence
+  pub finished : (n count : ℕ) → progress_of progress n ≡ Open count → (count ≤ length (successors_of lists n)) × All (Contains sequence) (take count (successors_of lists n))
+  pub counted : sum_by done_count progress ≡ length sequence
+
+-- the part of a path from a number on
+pub record IsTailFrom (path : List ℕ) (n : ℕ) (tail : List ℕ) : Type 0 where
+  pub place : ℕ
+  pub within : place < length path
+  pub starts : slice_index path place ≡ n
+  pub rest : tail ≡ drop place path
+
+-- the search stands between two steps
+abbrev pub IsBetween : List (List ℕ) → Search → Type 0
+IsBetween lists s = IsSound lists s.progress.items s.path.items s.sequence.items

@@ -1,0 +1,102 @@
+-- The walk that finds what a plan needs: which keys were visited, and the numbers that stand for their successors.
+use Rattle.std.specs.Prelude.{◌≡◌, ℕ, ◌<◌, ◌≤◌, ◌⊎◌, true, false, List, length, Some, Ok, Err, map, filter, Contains, slice_get}
+use Rattle.std.specs.List.{All, AllZip, IsDistinct}
+use Rattle.std.specs.Global.{Vec}
+use Rattle.oci_manifest.specs.Descriptor.{Descriptor, same_key}
+use Rattle.oci_manifest.specs.Manifest.{first_places}
+use Rattle.oci_store.specs.Keyed.{value_at, has_key}
+use Rattle.oci_store.specs.Content.{Entry, succ_of}
+use Rattle.oci_store.specs.Graph.{Node, nodes_of}
+use Rattle.oci_manifest.specs.Fault.{Fault, IsFault}
+use Rattle.oci_manifest.specs.declared.fault.ManifestFault.{ManifestFault}
+use Rattle.oci_manifest.specs.declared.fault.ManifestFault.TheVariants as reading
+use Rattle.oci_store.specs.declared.fault.FetchFault.{FetchFault}
+use Rattle.oci_store.specs.declared.fault.FetchFault.TheVariants as fetch
+use Rattle.oci_plan.specs.Visiting.{successors_at, candidates, is_fresh, IsVisiting, IsWithin}
+use Rattle.oci_plan.specs.Plan.{Number}
+use Rattle.oci_plan.specs.declared.fault.OrderFault.{OrderFault}
+use Rattle.oci_plan.specs.declared.fault.OrderFault.TheVariants as ordering
+use Rattle.oci_plan.specs.declared.fault.PlanFault.{PlanFault}
+use Rattle.oci_plan.specs.declared.fault.PlanFault.TheVariants as fault
+
+-- the numbers are the places of keys that no list has twice, and of an honest source these are what it lists and is not held
+pub record IsListOf (honest : Type 0) (entries : List Entry) (held : List Node) (keys : List Descriptor) (k : Descriptor) (numbers : Vec ℕ) : Type 0 where
+  pub named : List Descriptor
+  pub numbers_name : Number keys numbers.items named
+  pub distinct : IsDistinct same_key named
+  pub own : honest → named ≡ filter (is_fresh held) (successors_at (nodes_of entries) k)
+
+-- the key passed its checks
+pub record IsPassed (honest : Type 0) (entries : List Entry) (limit : ℕ) (k : Descriptor) : Type 0 where
+  pub there : has_key entries k ≡ true
+  pub within : IsWithin limit k
+  pub reads : honest → (bytes : List ℕ) × (successors : List Descriptor) × (value_at entries k ≡ Some bytes) × (succ_of k bytes ≡ Ok successors)
+
+-- how far the walk is: the visited keys are the first of the keys, and the keys are what is not held among the roots and
+-- what the visited ones list
+pub record IsWalk (honest : Type 0) (entries : List Entry) (held : List Node) (roots : List Descriptor) (limit : ℕ) (keys visited : List Descriptor) (lists : List (Vec ℕ)) : Type 0 where
+  pub few : length keys ≤ 4294967295
+  pub fresh : All (λ k. has_key held k ≡ false) keys
+  pub has_roots : All (λ k. (has_key held k ≡ true) ⊎ Contains keys k) roots
+  pub passed : All (IsPassed honest entries limit) visited
+  pub listed : AllZip (IsListOf honest entries held keys) visited lists
+  pub visiting : honest → IsVisiting (nodes_of entries) held roots visited
+  pub found : honest → keys ≡ first_places (filter (is_fresh held) (candidates (nodes_of entries) roots visited))
+
+-- numbers are refused for want of memory, or where there are more keys than numbers
+abbrev pub IsNumberFault : List Descriptor → PlanFault → Type 0
+IsNumberFault keys fault.TooMany = 4294967295 < length keys
+IsNumberFault keys fault.Memory = Unit {0}
+IsNumberFault keys (fault.TooLarge k limit) = ⊥
+IsNumberFault keys (fault.NotFound k) = ⊥
+IsNumberFault keys (fault.Fetch k e) = ⊥
+IsNumberFault keys (fault.Manifest k e) = ⊥
+IsNumberFault keys (fault.Cycle ks) = ⊥
+
+-- bytes do not read, for the reason that the fault tells of this key; or memory was wanting
+abbrev pub IsReadFault : Descriptor → List ℕ → PlanFault → Type 0
+IsReadFault k bytes (fault.TooLarge named limit) = ⊥
+IsReadFault k bytes (fault.NotFound named) = ⊥
+IsReadFault k bytes (fault.Fetch named e) = ⊥
+IsReadFault k bytes (fault.Manifest named e) = (named ≡ k) × (cause : Fault) × (succ_of k bytes ≡ Err cause) × IsFault e cause
+IsReadFault k bytes (fault.Cycle keys) = ⊥
+IsReadFault k bytes fault.Memory = Unit {0}
+IsReadFault k bytes fault.TooMany = ⊥
+
+-- a fetch is refused for what the store says, which a want of memory is not
+abbrev pub fetch_refusal : Descriptor → FetchFault → PlanFault
+fetch_refusal k fetch.NotFound = fault.NotFound k
+fetch_refusal k fetch.Corrupt = fault.Fetch k fetch.Corrupt
+fetch_refusal k fetch.Device = fault.Fetch k fetch.Device
+fetch_refusal k fetch.Memory = fault.Memory
+
+-- a manifest is refused for what its reading says, which a want of memory is not
+abbrev pub read_refusal : Descriptor → ManifestFault → PlanFault
+read_refusal k reading.NotJson = fault.Manifest k reading.NotJson
+read_refusal k reading.NotObject = fault.Manifest k reading.NotObject
+read_refusal k reading.NoConfig = fault.Manifest k reading.NoConfig
+read_refusal k (reading.BadList member) = fault.Manifest k (reading.BadList member)
+read_refusal k (reading.BadDescriptor member position) = fault.Manifest k (reading.BadDescriptor member position)
+read_refusal k reading.Memory = fault.Memory
+
+-- a cycle of numbers is told by the keys of these numbers, unless memory was wanting
+abbrev pub IsNamedCycle : List Descriptor → List ℕ → PlanFault → Type 0
+IsNamedCycle keys numbers (fault.TooLarge named limit) = ⊥
+IsNamedCycle keys numbers (fault.NotFound named) = ⊥
+IsNamedCycle keys numbers (fault.Fetch named e) = ⊥
+IsNamedCycle keys numbers (fault.Manifest named e) = ⊥
+IsNamedCycle keys numbers (fault.Cycle named) = Number keys numbers named.items
+IsNamedCycle keys numbers fault.Memory = Unit {0}
+IsNamedCycle keys numbers fault.TooMany = ⊥
+
+-- an order's fault can be told of keys: its cycle is one of numbers of keys, and no number is bad
+abbrev pub IsTellable : List Descriptor → OrderFault → Type 0
+IsTellable keys (ordering.Cycle numbers) = All (λ n. n < length keys) numbers.items
+IsTellable keys (ordering.BadNumber list number) = ⊥
+IsTellable keys ordering.Memory = Unit {0}
+
+-- what an order's fault is of keys
+abbrev pub IsTold : List Descriptor → OrderFault → PlanFault → Type 0
+IsTold keys (ordering.Cycle numbers) e = IsNamedCycle keys numbers.items e
+IsTold keys (ordering.BadNumber list number) e = ⊥
+IsTold keys ordering.Memory e = e ≡ fault.Memory

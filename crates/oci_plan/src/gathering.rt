@@ -1,0 +1,79 @@
+ghost use Rattle.std.specs.Prelude.{◌≡◌, ◌↔◌, ◌⊎◌, true, false, length, map, filter, Some, Contains, slice_get, IfOk, IfErr};
+ghost use Rattle.std.specs.List.{All, IsDistinct};
+ghost use Rattle.oci_manifest.specs.Descriptor.{Descriptor, same_key};
+ghost use Rattle.oci_manifest.specs.Manifest.{first_places};
+ghost use Rattle.oci_store.specs.Keyed.{has_key, HasAll};
+ghost use Rattle.oci_store.specs.Graph.{nodes_of};
+ghost use Rattle.oci_plan.specs.Order.{IsOrder};
+ghost use Rattle.oci_plan.specs.Outside.{IsOutside};
+ghost use Rattle.oci_plan.specs.Visiting.{IsWithin, IsSoundItem};
+ghost use Rattle.oci_plan.specs.Plan.{IsPlan, HasEdges, FollowsListed};
+ghost use Rattle.oci_plan.specs.Refusal.{IsKeyFault, IsFirstFault};
+ghost use Rattle.oci_plan.specs.Walk.{IsTellable, IsTold};
+
+mod cycle;
+mod item;
+mod key_list;
+mod skipped;
+mod walk;
+
+use crate::fault::{OrderFault, PlanFault};
+use crate::ordering::topological::order;
+use crate::plan::Plan;
+use cycle::keys_of;
+use oci_manifest::Key;
+use oci_store::{Dest, Source};
+use skipped::held_roots;
+use std::alloc::Global;
+use walk::{Visited, visit};
+
+/// An order's fault, told of the keys.
+fn told(alloc: Global, keys: &[Key], fault: OrderFault) -> PlanFault
+    requires { IsTellable keys.now fault }
+    ensures { IsTold keys.now fault result }
+{
+    match fault {
+        OrderFault::Cycle(numbers) => match keys_of(alloc, keys, &numbers) {
+            Ok(cycle) => PlanFault::Cycle(cycle),
+            Err(refused) => PlanFault::from(refused),
+        },
+        OrderFault::BadNumber(_, _) => unreachable!(),
+        OrderFault::Memory => PlanFault::Memory,
+    }
+}
+
+/// The plan of a copy from a source: what it has to bring so that the destination has the roots.
+pub fn gather<A: Source, D: Dest>(
+    alloc: Global,
+    source: &A,
+    destination: &D,
+    roots: &[Key],
+    limit: u64,
+) -> Result<Plan, PlanFault>
+    // What is planned.
+    ensures plan { IfOk result IsPlan }
+    ensures order { IfOk result (λ p. IsOrder p.order) }
+    ensures fresh { IfOk result (λ p. All (λ k. has_key (D.nodes destination.now) k ≡ false) p.keys) }
+    ensures there { IfOk result (λ p. HasAll (A.entries source.now) p.keys) }
+    ensures within { IfOk result (λ p. All (IsWithin limit) p.keys) }
+    ensures roots { IfOk result (λ p. All (λ k. (has_key (D.nodes destination.now) k ≡ true) ⊎ Contains p.keys k) roots.now) }
+    ensures skipped { IfOk result (λ p. p.skipped ≡ first_places (filter (has_key (D.nodes destination.now)) roots.now)) }
+
+    // What is planned, where the source's bytes can be told.
+    ensures outside { IfOk result (λ p. A.is_honest source.now
+        → (k : Descriptor) → Contains p.keys k ↔ IsOutside (nodes_of (A.entries source.now)) (D.nodes destination.now) roots.now k) }
+    ensures sound { IfOk result (λ p. A.is_honest source.now → All (IsSoundItem (A.entries source.now) limit) p.keys) }
+    ensures edges { IfOk result (λ p. A.is_honest source.now → HasEdges (nodes_of (A.entries source.now)) (D.nodes destination.now) p) }
+    ensures follows { IfOk result (λ p. A.is_honest source.now → FollowsListed (nodes_of (A.entries source.now)) (D.nodes destination.now) p) }
+
+    // Why nothing is planned.
+    ensures cause { IfErr result (IsKeyFault (A.is_honest source.now) (A.fails_at source.now) (A.entries source.now) limit) }
+    ensures first { IfErr result (λ e. A.is_honest source.now → IsFirstFault (A.entries source.now) (D.nodes destination.now) roots.now limit e) }
+{
+    let skipped = held_roots(alloc, destination, roots)?;
+    let Visited { keys, lists } = visit(alloc, source, destination, roots, limit)?;
+    match order(lists) {
+        Ok(order) => Ok(Plan::new(keys, order, skipped)),
+        Err(fault) => Err(told(alloc, &keys, fault)),
+    }
+}

@@ -1,0 +1,126 @@
+ghost use Rattle.std.specs.Prelude.{◌≡◌, ◌≢◌, ◌<◌, ◌≤◌, true, List, Some, Ok, IfOk, IfErr, OnOk, MatchBool};
+ghost use Rattle.std.specs.List.{IsDistinct};
+ghost use Rattle.oci_manifest.specs.Descriptor.{same_key};
+ghost use Rattle.oci_manifest.specs.MediaTypes.{kind_of};
+ghost use Rattle.oci_manifest.specs.declared.kind.Kind.TheVariants.{Leaf};
+ghost use Rattle.oci_store.specs.Content.{Matches, succ_of};
+ghost use Rattle.oci_store.specs.Graph.{nodes_of};
+ghost use Rattle.oci_store.specs.Keyed.{has_key, value_at};
+ghost use Rattle.oci_plan.specs.Refusal.{IsKeyFault, IsOfKey};
+ghost use Rattle.oci_plan.specs.Visiting.{successors_at, IsWithin};
+ghost use Rattle.oci_plan.specs.Walk.{IsPassed, IsReadFault, fetch_refusal, read_refusal};
+
+use crate::fault::PlanFault;
+use bytes::Bytes;
+use oci_manifest::{Key, Kind, ManifestFault, successors};
+use oci_store::{FetchFault, Source};
+use std::alloc::Global;
+
+/// Whether content of a kind may have this size: a leaf may have any.
+fn is_within(kind: Kind, size: u64, limit: u64) -> bool
+    ensures { MatchBool result (kind ≢ Leaf → size ≤ limit) ((kind ≢ Leaf) × (limit < size)) }
+{
+    match kind {
+        Kind::Leaf => true,
+        _ => size <= limit,
+    }
+}
+
+/// Looks at the size of a manifest, and then whether the source has the key.
+fn check<A: Source>(source: &A, key: &Key, limit: u64) -> Result<(), PlanFault>
+    ensures there { OnOk result (has_key (A.entries source.now) key.now ≡ true) }
+    ensures within { OnOk result (IsWithin limit key.now) }
+    ensures cause { IfErr result (IsKeyFault (A.is_honest source.now) (A.fails_at source.now) (A.entries source.now) limit) }
+    ensures named { IfErr result (IsOfKey key.now) }
+{
+    if !is_within(Kind::of(key.media_type()), key.size(), limit) {
+        return Err(PlanFault::TooLarge(key.try_clone()?, limit));
+    }
+    if !source.exists(key) {
+        return Err(PlanFault::NotFound(key.try_clone()?));
+    }
+    Ok(())
+}
+
+/// Why a key was not fetched.
+fn fetch_fault(key: Key, fault: FetchFault) -> PlanFault
+    ensures { result ≡ fetch_refusal key fault }
+{
+    match fault {
+        FetchFault::NotFound => PlanFault::NotFound(key),
+        FetchFault::Corrupt => PlanFault::Fetch(key, FetchFault::Corrupt),
+        FetchFault::Device => PlanFault::Fetch(key, FetchFault::Device),
+        FetchFault::Memory => PlanFault::Memory,
+    }
+}
+
+/// The bytes of a key that passed its checks.
+#[tactic(auto, using(crate::proofs::Items::fetch_refused))]
+fn fetch<A: Source>(source: &A, key: &Key, limit: u64) -> Result<Bytes, PlanFault>
+    requires there { has_key (A.entries source.now) key.now ≡ true }
+    requires within { IsWithin limit key.now }
+    ensures matching { IfOk result (λ bytes. Matches key.now bytes) }
+    ensures own { IfOk result (λ bytes. A.is_honest source.now → value_at (A.entries source.now) key.now ≡ Some bytes) }
+    ensures cause { IfErr result (IsKeyFault (A.is_honest source.now) (A.fails_at source.now) (A.entries source.now) limit) }
+    ensures named { IfErr result (IsOfKey key.now) }
+{
+    match source.fetch(key) {
+        Ok(bytes) => Ok(bytes),
+        Err(fault) => Err(fetch_fault(key.try_clone()?, fault)),
+    }
+}
+
+/// Why a manifest was not read.
+fn read_fault(key: Key, fault: ManifestFault) -> PlanFault
+    ensures { result ≡ read_refusal key fault }
+{
+    match fault {
+        ManifestFault::NotJson => PlanFault::Manifest(key, ManifestFault::NotJson),
+        ManifestFault::NotObject => PlanFault::Manifest(key, ManifestFault::NotObject),
+        ManifestFault::NoConfig => PlanFault::Manifest(key, ManifestFault::NoConfig),
+        ManifestFault::BadList(member) => PlanFault::Manifest(key, ManifestFault::BadList(member)),
+        ManifestFault::BadDescriptor(member, position) => {
+            PlanFault::Manifest(key, ManifestFault::BadDescriptor(member, position))
+        }
+        ManifestFault::Memory => PlanFault::Memory,
+    }
+}
+
+/// The keys that a manifest's bytes list.
+fn read(alloc: Global, key: &Key, kind: Kind, bytes: &[u8]) -> Result<Vec<Key>, PlanFault>
+    requires { kind ≡ kind_of key.now.media_type }
+    ensures listed { IfOk result (λ keys. succ_of key.now bytes.now ≡ Ok keys.items) }
+    ensures refused { IfErr result (IsReadFault key.now bytes.now) }
+{
+    match successors(alloc, kind, bytes) {
+        Ok(keys) => Ok(keys),
+        Err(fault) => Err(read_fault(key.try_clone()?, fault)),
+    }
+}
+
+/// The keys that a visited key lists.
+///
+/// Of a manifest the size is looked at first, then whether the source has it; then it is fetched and read. A leaf is never
+/// fetched.
+pub(crate) fn item_successors<A: Source>(
+    alloc: Global,
+    source: &A,
+    key: &Key,
+    limit: u64,
+) -> Result<Vec<Key>, PlanFault>
+    ensures passed { OnOk result (IsPassed (A.is_honest source.now) (A.entries source.now) limit key.now) }
+    ensures listed { IfOk result (λ keys. A.is_honest source.now → keys.items ≡ successors_at (nodes_of (A.entries source.now)) key.now) }
+    ensures distinct { IfOk result (λ keys. IsDistinct same_key keys.items) }
+    ensures cause { IfErr result (IsKeyFault (A.is_honest source.now) (A.fails_at source.now) (A.entries source.now) limit) }
+    ensures named { IfErr result (IsOfKey key.now) }
+{
+    check(source, key, limit)?;
+    let kind = Kind::of(key.media_type());
+    match kind {
+        Kind::Leaf => Ok(Vec::new(alloc)),
+        _ => {
+            let bytes = fetch(source, key, limit)?;
+            read(alloc, key, kind, &bytes)
+        }
+    }
+}

@@ -1,0 +1,84 @@
+ghost use Rattle.std.specs.Prelude.{◌≡◌, ◌≤◌, length, filter, Some, slice_get, IfOk, IfErr, OnOk};
+ghost use Rattle.std.specs.List.{IsDistinct};
+ghost use Rattle.oci_manifest.specs.Descriptor.{same_key};
+ghost use Rattle.oci_plan.specs.Plan.{Number};
+ghost use Rattle.oci_plan.specs.Refusal.{IsKeyFault, IsFirstFault};
+ghost use Rattle.oci_plan.specs.Visiting.{is_fresh, with_key, with_keys};
+ghost use Rattle.oci_plan.specs.Walk.{IsNumberFault, IsWalk};
+
+use super::item::item_successors;
+use super::key_list::KeyList;
+use crate::fault::PlanFault;
+use oci_manifest::Key;
+use oci_store::{Dest, Source};
+use std::alloc::Global;
+
+/// The keys that a walk visited, in that order, and for each the numbers of its successors that are among them.
+pub(crate) struct Visited {
+    pub(crate) keys: Vec<Key>,
+    pub(crate) lists: Vec<Vec<u32>>,
+}
+
+/// The number of a key. A new key gets the next one.
+fn number(keys: &mut KeyList, key: &Key) -> Result<u32, PlanFault>
+    ensures keys { OnOk result (keys.new ≡ with_key keys.old key.now) }
+    ensures number { IfOk result (λ number. slice_get keys.new number ≡ Some key.now) }
+    ensures few { OnOk result (length keys.new ≤ 4294967295) }
+    ensures refused { IfErr result (IsNumberFault (with_key keys.old key.now)) }
+{
+    let place = keys.place(key)?;
+    if keys.len() > u32::MAX as usize {
+        return Err(PlanFault::TooMany);
+    }
+    Ok(place as u32)
+}
+
+/// The numbers of those of these keys that the destination does not have.
+fn number_fresh<D: Dest>(
+    alloc: Global,
+    destination: &D,
+    keys: &mut KeyList,
+    successors: &[Key],
+) -> Result<Vec<u32>, PlanFault>
+    requires { length keys.old ≤ 4294967295 }
+    ensures keys { OnOk result (keys.new ≡ with_keys keys.old (filter (is_fresh (D.nodes destination.now)) successors.now)) }
+    ensures numbers { IfOk result (λ numbers. Number keys.new numbers.items (filter (is_fresh (D.nodes destination.now)) successors.now)) }
+    ensures few { OnOk result (length keys.new ≤ 4294967295) }
+    ensures refused { IfErr result (IsNumberFault (with_keys keys.old (filter (is_fresh (D.nodes destination.now)) successors.now))) }
+{
+    let mut numbers = Vec::new(alloc);
+    for key in successors {
+        if destination.has(key) {
+            continue;
+        }
+        numbers.push(number(keys, key)?)?;
+    }
+    Ok(numbers)
+}
+
+/// Visits what the source has under the roots and the destination does not have, first come, first served.
+pub(crate) fn visit<A: Source, D: Dest>(
+    alloc: Global,
+    source: &A,
+    destination: &D,
+    roots: &[Key],
+    limit: u64,
+) -> Result<Visited, PlanFault>
+    ensures walked { IfOk result (λ w. IsWalk (A.is_honest source.now) (A.entries source.now) (D.nodes destination.now) roots.now limit w.keys.items w.keys.items w.lists.items) }
+    ensures distinct { IfOk result (λ w. IsDistinct same_key w.keys.items) }
+    ensures cause { IfErr result (IsKeyFault (A.is_honest source.now) (A.fails_at source.now) (A.entries source.now) limit) }
+    ensures first { IfErr result (λ e. A.is_honest source.now → IsFirstFault (A.entries source.now) (D.nodes destination.now) roots.now limit e) }
+{
+    let mut keys = KeyList::new(alloc);
+    let _ = number_fresh(alloc, destination, &mut keys, roots)?;
+    let mut lists = Vec::new(alloc);
+    while let Some(key) = keys.get(lists.len()) {
+        let successors = item_successors(alloc, source, key, limit)?;
+        let numbers = number_fresh(alloc, destination, &mut keys, &successors)?;
+        lists.push(numbers)?;
+    }
+    Ok(Visited {
+        keys: keys.into_keys(),
+        lists,
+    })
+}

@@ -1,0 +1,24 @@
+//! Plans of a copy: which contents it has to bring, and in which order they may be pushed.
+//!
+//! [`gather`] visits what a source has under some roots and a destination lacks, and answers a [`Plan`]: the keys, each
+//! with a number, and an [`Order`] of the numbers in which each key comes after those that it lists. It answers a
+//! [`PlanFault`] where the source cannot give what is to be brought.
+//!
+//! [`order`] takes a graph of numbers, list `i` having the successors of number `i`, and puts each number after its
+//! successors. It answers an [`Order`], or an [`OrderFault`] that says why there is none: a list holds what is no number
+//! of the graph, or the graph has a cycle, which the fault carries.
+//!
+//! No call recurses along the graph, so a chain of any length needs no deep stack.
+#![tactic(auto)]
+
+mod fault;
+mod gathering;
+mod ordering;
+mod plan;
+mod spaced;
+
+pub use fault::{OrderFault, PlanFault};
+pub use gathering::gather;
+pub use ordering::Order;
+pub use ordering::topological::order;
+pub use plan::Plan;

@@ -1,0 +1,65 @@
+ghost use Rattle.std.specs.Prelude.{◌≡◌, ◌==◌, ℕ, List, [], length, slice_get};
+ghost use Rattle.std.specs.Option.{option_copied};
+ghost use Rattle.oci_plan.specs.Order.{IsOrder};
+
+mod doubles;
+mod numbers;
+mod search;
+pub(crate) mod topological;
+
+use std::marker::Model;
+
+/// The numbers of a graph in an order in which each stands after its successors, with their successors.
+#[derive(Debug, Drop)]
+pub struct Order {
+    lists: Vec<Vec<u32>>,
+    sequence: Vec<u32>,
+}
+
+impl Model for Order {
+    ghost use Rattle.oci_plan.specs.Graph.{lists_of};
+    ghost use Rattle.oci_plan.specs.Order.{Ordered, IsOrder};
+
+    ghost Value = { Ordered };
+
+    ghost view = { λ o. record { lists = lists_of o.lists.items; sequence = o.sequence.items } };
+
+    ghost invariant = { λ o. IsOrder (record { lists = lists_of o.lists.items; sequence = o.sequence.items }) };
+}
+
+impl Order {
+    /// How many numbers the graph has.
+    pub fn len(&self) -> usize
+        ensures len { result ≡ length self.now.lists }
+        ensures order { IsOrder self.now }
+    {
+        self.lists.len()
+    }
+
+    /// Whether the graph has no number.
+    pub fn is_empty(&self) -> bool
+        ensures { result ≡ (length self.now.lists == 0) }
+    {
+        self.lists.is_empty()
+    }
+
+    /// The number at a place of the order, from 0 on, or nothing past its end.
+    pub fn at(&self, place: usize) -> Option<u32>
+        ensures at { result ≡ slice_get self.now.sequence place }
+        ensures order { IsOrder self.now }
+    {
+        self.sequence.get(place).copied()
+    }
+
+    /// The successors of a number, each once, as the graph lists them; nothing for what is no number of the graph.
+    pub fn successors(&self, number: u32) -> Option<&[u32]>
+        ensures successors { option_copied result ≡ slice_get self.now.lists number }
+        ensures order { IsOrder self.now }
+    {
+        let list = self.lists.get(number as usize)?;
+        Some(list)
+    }
+}
+
+#[cfg(test)]
+mod tests;

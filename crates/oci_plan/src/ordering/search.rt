@@ -1,0 +1,184 @@
+ghost use Rattle.std.specs.Prelude.{◌≡◌, ◌≢◌, ℕ, ◌<◌, ◌≤◌, [], length, Contains, IfOk, IfErr, OnOk, OnSome, slice_get};
+ghost use Rattle.oci_plan.specs.Graph.{lists_of, successors_of, IsGraph, HasEdge};
+ghost use Rattle.oci_plan.specs.Fault.{IsCycleFault};
+ghost use Rattle.oci_plan.specs.Order.{IsTopological};
+ghost use Rattle.oci_plan.specs.Search.{progress_of, work_left, KeepsMet, EndsWith, IsTailFrom, IsBetween};
+ghost use Rattle.oci_plan.specs.declared.ordering.search.Progress.TheVariants.{New, Open, Done};
+
+use crate::fault::OrderFault;
+use std::alloc::{AllocError, Global};
+
+/// How far the search is with a number.
+#[derive(Clone, Copy, Debug)]
+pub(crate) enum Progress {
+    /// Not met yet.
+    New,
+    /// On the path, with so many of its successors done.
+    Open(usize),
+    /// In the sequence, after its successors.
+    Done,
+}
+
+/// A search along the edges of a graph, depth first, with a path of its own in place of recursion.
+#[derive(Drop)]
+pub(crate) struct Search {
+    progress: Vec<Progress>,
+    /// From the number at which the search began to the one where it is, each a successor of the one before.
+    path: Vec<u32>,
+    /// The numbers that are done, each after its successors.
+    sequence: Vec<u32>,
+}
+
+/// The successor of a number at a place of its list.
+fn successor(lists: &[Vec<u32>], number: u32, place: usize) -> Option<u32>
+    requires { number < length lists.now }
+    ensures value { result ≡ slice_get (successors_of (lists_of lists.now) number) place }
+    ensures within { OnSome result (place < usize.MAX) }
+{
+    let list = &lists[number as usize];
+    if place < list.len() {
+        Some(list[place])
+    } else {
+        None
+    }
+}
+
+impl Search {
+    /// A search that has met no number yet.
+    fn new(alloc: Global, lists: &[Vec<u32>]) -> Result<Search, AllocError>
+        ensures sound { IfOk result (IsBetween (lists_of lists.now)) }
+        ensures idle { IfOk result (λ s. s.path.items ≡ []) }
+    {
+        Ok(Search {
+            progress: vec![in alloc; Progress::New; lists.len()]?,
+            path: Vec::new(alloc),
+            sequence: Vec::new(alloc),
+        })
+    }
+
+    /// Puts a number that is met for the first time at the path's end.
+    fn enter(&mut self, lists: &[Vec<u32>], number: u32) -> Result<(), OrderFault>
+        requires number { number < length lists.now }
+        requires fresh { progress_of self.old.progress.items number ≡ New }
+        requires edge { (last : ℕ) → EndsWith self.old.path.items last → HasEdge (lists_of lists.now) last number }
+        requires sound { IsBetween (lists_of lists.now) self.old }
+        ensures sound { OnOk result (IsBetween (lists_of lists.now) self.new) }
+        ensures smaller { OnOk result (work_left self.new.progress.items < work_left self.old.progress.items) }
+        ensures met { OnOk result (progress_of self.new.progress.items number ≢ New) }
+        ensures keeps { OnOk result (KeepsMet self.old.progress.items self.new.progress.items) }
+        ensures refused { IfErr result (IsCycleFault (lists_of lists.now)) }
+    {
+        self.path.push(number)?;
+        self.progress[number as usize] = Progress::Open(0);
+        Ok(())
+    }
+
+    /// Counts one more successor of an open number as done.
+    fn advance(&mut self, lists: &[Vec<u32>], number: u32, finished: usize, next: u32)
+        requires number { number < length lists.now }
+        requires open { progress_of self.old.progress.items number ≡ Open finished }
+        requires next { slice_get (successors_of (lists_of lists.now) number) finished ≡ Some next }
+        requires within { finished < usize.MAX }
+        requires done { progress_of self.old.progress.items next ≡ Done }
+        requires sound { IsBetween (lists_of lists.now) self.old }
+        ensures sound { IsBetween (lists_of lists.now) self.new }
+        ensures smaller { work_left self.new.progress.items < work_left self.old.progress.items }
+        ensures keeps { KeepsMet self.old.progress.items self.new.progress.items }
+    {
+        self.progress[number as usize] = Progress::Open(finished + 1);
+    }
+
+    /// Moves the number at the path's end, whose successors are all done, into the sequence.
+    fn finish(&mut self, lists: &[Vec<u32>], number: u32, finished: usize) -> Result<(), OrderFault>
+        requires number { number < length lists.now }
+        requires last { EndsWith self.old.path.items number }
+        requires open { progress_of self.old.progress.items number ≡ Open finished }
+        requires all { length (successors_of (lists_of lists.now) number) ≤ finished }
+        requires sound { IsBetween (lists_of lists.now) self.old }
+        ensures sound { OnOk result (IsBetween (lists_of lists.now) self.new) }
+        ensures smaller { OnOk result (work_left self.new.progress.items < work_left self.old.progress.items) }
+        ensures keeps { OnOk result (KeepsMet self.old.progress.items self.new.progress.items) }
+        ensures refused { IfErr result (IsCycleFault (lists_of lists.now)) }
+    {
+        self.sequence.push(number)?;
+        let _ = self.path.pop();
+        self.progress[number as usize] = Progress::Done;
+        Ok(())
+    }
+
+    /// The path from a number on it to its end.
+    fn path_from(&self, number: u32) -> Result<Vec<u32>, AllocError>
+        requires { Contains self.now.path.items number }
+        ensures { IfOk result (λ tail. IsTailFrom self.now.path.items number tail.items) }
+    {
+        let Some(place) = self.path.iter().position(|other| *other == number) else {
+            unreachable!()
+        };
+        Vec::from_slice(*self.path.allocator(), &self.path[place..])
+    }
+
+    /// Goes along one more edge from the number at the path's end, or back from it where no edge is left.
+    fn step(&mut self, lists: &[Vec<u32>], number: u32) -> Result<(), OrderFault>
+        requires graph { IsGraph (lists_of lists.now) }
+        requires last { EndsWith self.old.path.items number }
+        requires sound { IsBetween (lists_of lists.now) self.old }
+        ensures sound { OnOk result (IsBetween (lists_of lists.now) self.new) }
+        ensures smaller { OnOk result (work_left self.new.progress.items < work_left self.old.progress.items) }
+        ensures keeps { OnOk result (KeepsMet self.old.progress.items self.new.progress.items) }
+        ensures refused { IfErr result (IsCycleFault (lists_of lists.now)) }
+    {
+        let Progress::Open(finished) = self.progress[number as usize] else {
+            unreachable!()
+        };
+        let Some(next) = successor(lists, number, finished) else {
+            return self.finish(lists, number, finished);
+        };
+        match self.progress[next as usize] {
+            Progress::New => self.enter(lists, next),
+            Progress::Open(_) => Err(OrderFault::Cycle(self.path_from(next)?)),
+            Progress::Done => {
+                self.advance(lists, number, finished, next);
+                Ok(())
+            }
+        }
+    }
+
+    /// Brings a number, and all that edges lead to from it, into the sequence.
+    fn visit(&mut self, lists: &[Vec<u32>], start: u32) -> Result<(), OrderFault>
+        requires graph { IsGraph (lists_of lists.now) }
+        requires number { start < length lists.now }
+        requires idle { self.old.path.items ≡ [] }
+        requires sound { IsBetween (lists_of lists.now) self.old }
+        ensures sound { OnOk result (IsBetween (lists_of lists.now) self.new) }
+        ensures idle { OnOk result (self.new.path.items ≡ []) }
+        ensures met { OnOk result (progress_of self.new.progress.items start ≢ New) }
+        ensures keeps { OnOk result (KeepsMet self.old.progress.items self.new.progress.items) }
+        ensures refused { IfErr result (IsCycleFault (lists_of lists.now)) }
+    {
+        let Progress::New = self.progress[start as usize] else {
+            return Ok(());
+        };
+        self.enter(lists, start)?;
+        while let Some(number) = self.path.last().copied() {
+            self.step(lists, number)?;
+        }
+        Ok(())
+    }
+}
+
+/// The numbers of a graph, each after its successors.
+pub(crate) fn topological_sequence(
+    alloc: Global,
+    lists: &[Vec<u32>],
+) -> Result<Vec<u32>, OrderFault>
+    requires count { length lists.now ≤ 4294967295 }
+    requires graph { IsGraph (lists_of lists.now) }
+    ensures ordered { IfOk result (λ sequence. IsTopological (lists_of lists.now) sequence.items) }
+    ensures refused { IfErr result (IsCycleFault (lists_of lists.now)) }
+{
+    let mut search = Search::new(alloc, lists)?;
+    for start in 0..lists.len() {
+        search.visit(lists, start as u32)?;
+    }
+    Ok(search.sequence)
+}

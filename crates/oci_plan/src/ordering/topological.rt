@@ -1,0 +1,52 @@
+ghost use Rattle.std.specs.Prelude.{◌≡◌, ℕ, ◌≤◌, List, length, map, IfOk, IfErr, OnOk, Err, vec_len};
+ghost use Rattle.oci_plan.specs.Graph.{lists_of, without_doubles, IsGraph, IsCycle, IsFirstBad};
+ghost use Rattle.oci_plan.specs.Fault.{IsCycleFault, IsCauseOf};
+ghost use Rattle.oci_plan.specs.Order.{IsTopological, IsOrder};
+
+use super::Order;
+use super::doubles::drop_doubles;
+use super::numbers::first_bad_number;
+use super::search::topological_sequence;
+use crate::fault::OrderFault;
+use std::alloc::Global;
+
+/// The order of a graph whose lists hold its numbers alone.
+fn order_of_graph(alloc: Global, lists: &[Vec<u32>]) -> Result<Order, OrderFault>
+    requires count { length lists.now ≤ 4294967295 }
+    requires graph { IsGraph (lists_of lists.now) }
+    ensures lists { IfOk result (λ o. o.lists ≡ map without_doubles (lists_of lists.now)) }
+    ensures order { IfOk result IsOrder }
+    ensures topological { IfOk result (λ o. IsTopological (lists_of lists.now) o.sequence) }
+    ensures refused { IfErr result (IsCycleFault (lists_of lists.now)) }
+{
+    let sequence = topological_sequence(alloc, lists)?;
+    let distinct = drop_doubles(alloc, lists)?;
+    Ok(Order {
+        lists: distinct,
+        sequence,
+    })
+}
+
+/// The numbers of a graph, each after its successors. List `i` has the successors of number `i`; a number that stands
+/// twice in a list is kept once, at its first place. Which of the possible orders comes is open.
+///
+/// The numbers are looked at before anything else: [`OrderFault::BadNumber`] comes exactly where a list holds what is no
+/// number of the graph. Otherwise the answer is an order exactly where the graph has no cycle, and
+/// [`OrderFault::Cycle`] where it has one, unless memory runs out. The time grows with the numbers and the edges.
+pub fn order(lists: Vec<Vec<u32>>) -> Result<Order, OrderFault>
+    requires { vec_len lists ≤ 4294967295 }
+
+    // An order of the given graph, doubles dropped.
+    ensures lists { IfOk result (λ o. o.lists ≡ map without_doubles (lists_of lists.items)) }
+    ensures order { IfOk result IsOrder }
+    ensures no_cycle { OnOk result ((numbers : List ℕ) → IsCycle (lists_of lists.items) numbers → ⊥) }
+
+    // Each refusal has its cause in the graph, and a bad number is always told.
+    ensures refused { IfErr result (IsCauseOf (lists_of lists.items)) }
+    ensures bad_number { (i n : ℕ) → IsFirstBad (lists_of lists.items) i n → result ≡ Err (OrderFault.BadNumber i n) }
+{
+    if let Some((list, number)) = first_bad_number(&lists) {
+        return Err(OrderFault::BadNumber(list, number));
+    }
+    order_of_graph(*lists.allocator(), &lists)
+}

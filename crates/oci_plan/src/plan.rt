@@ -1,0 +1,76 @@
+ghost use Rattle.std.specs.Prelude.{◌≡◌, ◌==◌, length, slice_get};
+ghost use Rattle.std.specs.Option.{option_copied};
+ghost use Rattle.oci_plan.specs.Plan.{IsPlan};
+
+use crate::ordering::Order;
+use oci_manifest::Key;
+use std::marker::Model;
+
+/// What a copy has to bring: keys, each with a number, and an order of the numbers in which each key comes after those that
+/// it lists.
+#[derive(Debug, Drop)]
+pub struct Plan {
+    keys: Vec<Key>,
+    order: Order,
+    skipped: Vec<Key>,
+}
+
+impl Model for Plan {
+    ghost use Rattle.oci_plan.specs.Plan.{Planned, IsPlan};
+
+    ghost Value = { Planned };
+
+    ghost view = { λ p. record { keys = p.keys.items; order = p.order; skipped = p.skipped.items } };
+
+    ghost invariant = { λ p. IsPlan (record { keys = p.keys.items; order = p.order; skipped = p.skipped.items }) };
+}
+
+impl Plan {
+    /// A plan of these keys.
+    pub(crate) fn new(keys: Vec<Key>, order: Order, skipped: Vec<Key>) -> Plan
+        requires { IsPlan (record { keys = keys.items; order = order; skipped = skipped.items }) }
+        ensures { result ≡ record { keys = keys.items; order = order; skipped = skipped.items } }
+    {
+        Plan {
+            keys,
+            order,
+            skipped,
+        }
+    }
+
+    /// How many keys there are to bring.
+    pub fn len(&self) -> usize
+        ensures len { result ≡ length self.now.keys }
+        ensures plan { IsPlan self.now }
+    {
+        self.keys.len()
+    }
+
+    /// Whether there is nothing to bring.
+    pub fn is_empty(&self) -> bool
+        ensures { result ≡ (length self.now.keys == 0) }
+    {
+        self.keys.is_empty()
+    }
+
+    /// The key of a number, from 0 on; nothing for what is no number of the plan.
+    pub fn key(&self, number: u32) -> Option<&Key>
+        ensures { option_copied result ≡ slice_get self.now.keys number }
+    {
+        self.keys.get(number as usize)
+    }
+
+    /// The numbers in an order in which each comes after its successors.
+    pub fn order(&self) -> &Order
+        ensures { result.now ≡ self.now.order }
+    {
+        &self.order
+    }
+
+    /// The roots that the destination has, each once, in their order.
+    pub fn skipped(&self) -> &[Key]
+        ensures { result.now ≡ self.now.skipped }
+    {
+        &self.skipped
+    }
+}

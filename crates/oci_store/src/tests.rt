@@ -1,6 +1,0 @@
-mod closed;
-mod contents;
-mod graphs;
-mod names;
-mod pushes;
-mod traits;

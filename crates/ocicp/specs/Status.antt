@@ -1,0 +1,32 @@
+-- The status that a run ends with.
+use Rattle.std.specs.Prelude.{ℕ, Bool, true, false, if◌then◌else◌}
+use Rattle.oci_copy.specs.declared.fault.CopyFault.{CopyFault}
+use Rattle.oci_copy.specs.declared.fault.CopyFault.TheVariants as copy
+use Rattle.oci_store.specs.declared.fault.PushFault.{PushFault}
+use Rattle.oci_store.specs.declared.fault.PushFault.TheVariants as push
+use Rattle.ocicp.specs.declared.fault.Ending.{Ending}
+use Rattle.ocicp.specs.declared.fault.Ending.TheVariants as ending
+use Rattle.ocicp.specs.declared.fault.ProgramFault.{ProgramFault}
+use Rattle.ocicp.specs.declared.fault.ProgramFault.TheVariants as fault
+
+-- whether a refused push is want of memory
+abbrev pub is_push_memory : PushFault → Bool
+is_push_memory push.Memory = true
+is_push_memory e = false
+
+-- whether a refused copy is want of memory
+abbrev pub is_copy_memory : CopyFault → Bool
+is_copy_memory copy.Memory = true
+is_copy_memory e = false
+
+-- whether want of memory is behind a fault
+abbrev pub is_memory : ProgramFault → Bool
+is_memory (fault.Push e) = is_push_memory e
+is_memory (fault.Copy e) = is_copy_memory e
+is_memory fault.Memory = true
+is_memory e = false
+
+-- the status: 2 where the words are no use of the program, 3 for want of memory, and 1 for every other fault
+abbrev pub status_of : Ending → ℕ
+status_of (ending.Usage error) = 2
+status_of (ending.Fault e) = if is_memory e then 3 else 1

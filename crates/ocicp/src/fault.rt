@@ -1,0 +1,111 @@
+ghost use Rattle.std.specs.Prelude.{◌≡◌};
+ghost use Rattle.ocicp.specs.Status.{is_memory, status_of};
+
+use oci_copy::CopyFault;
+use oci_digest::NoMemory;
+use oci_manifest::KeyFault;
+use oci_store::PushFault;
+use std::alloc::{AllocError, AllocFailed};
+use std::fmt;
+use thiserror::Error;
+
+/// Why the program is refused.
+#[derive(Debug, Drop, Error)]
+pub enum ProgramFault {
+    /// An item has no `=`.
+    #[error("92 BadItem {0}")]
+    BadItem(String),
+    /// The file could not be read.
+    #[error("93 File {0}")]
+    File(String),
+    /// The output could not be written.
+    #[error("94 Output")]
+    Output,
+    /// The file is too long for a key.
+    #[error("{0}")]
+    Key(KeyFault),
+    /// The store refused the file.
+    #[error("{0}")]
+    Push(PushFault),
+    /// The copy was refused.
+    #[error("{0}")]
+    Copy(CopyFault),
+    /// Memory was wanting.
+    #[error("memory")]
+    Memory,
+}
+
+impl ProgramFault {
+    /// Whether want of memory is behind it.
+    pub fn is_memory(&self) -> bool
+        ensures { result ≡ is_memory self.now }
+    {
+        match self {
+            ProgramFault::Push(fault) => matches!(fault, PushFault::Memory),
+            ProgramFault::Copy(fault) => matches!(fault, CopyFault::Memory),
+            ProgramFault::Memory => true,
+            _ => false,
+        }
+    }
+}
+
+impl From<AllocError> for ProgramFault {
+    fn from(_refused: AllocError) -> ProgramFault {
+        ProgramFault::Memory
+    }
+}
+
+impl From<NoMemory> for ProgramFault {
+    fn from(_refused: NoMemory) -> ProgramFault {
+        ProgramFault::Memory
+    }
+}
+
+impl<T: Drop> From<AllocFailed<T>> for ProgramFault {
+    fn from(_refused: AllocFailed<T>) -> ProgramFault {
+        ProgramFault::Memory
+    }
+}
+
+/// Why a run ends before it is done. It prints what the error output shows.
+#[derive(Drop)]
+pub enum Ending {
+    /// The words are no use of the program: the text says how it is used.
+    Usage(clap::Error),
+    /// What was asked for is refused.
+    Fault(ProgramFault),
+}
+
+impl Ending {
+    /// The status of the run: 2 for `Usage`, 3 for want of memory, and otherwise 1.
+    pub fn status(&self) -> u8
+        ensures { result ≡ status_of self.now }
+    {
+        match self {
+            Ending::Usage(_) => 2,
+            Ending::Fault(fault) => { if fault.is_memory() { 3 } else { 1 } }
+        }
+    }
+}
+
+impl fmt::Display for Ending {
+    fn fmt<W: fmt::Write>(&self, f: &mut fmt::Formatter<W>) -> fmt::Result {
+        match self {
+            Ending::Usage(usage) => write!(f, "{usage}"),
+            Ending::Fault(fault) if fault.is_memory() => writeln!(f, "ocicp: memory"),
+            Ending::Fault(fault) => writeln!(f, "ocicp: {fault}"),
+        }
+    }
+}
+
+impl From<ProgramFault> for Ending {
+    fn from(fault: ProgramFault) -> Ending {
+        Ending::Fault(fault)
+    }
+}
+
+impl From<AllocError> for Ending {
+    fn from(_refused: AllocError) -> Ending {
+        Ending::Fault(ProgramFault::Memory)
+    }
+}
