@@ -126,7 +126,7 @@ fn mem_command_with_a_failing_output(rt: HostRuntime) -> Result<(), Fail> {
     folder.remove(&rt)
 }
 
-/// What is no use of the program prints nothing on its output, and has status 2.
+/// What is no use of the program prints its usage on the error output alone, and has status 2.
 #[test]
 fn usage_faults(rt: HostRuntime) -> Result<(), Fail> {
     let uses = [
@@ -142,7 +142,7 @@ fn usage_faults(rt: HostRuntime) -> Result<(), Fail> {
         let answer = run_words(&rt, &given, &mut printed, &mut told);
         assert_eq!(rt; answer, 2, "{words:?}");
         assert!(rt; printed.is_empty(), "{words:?}");
-        assert!(rt; told.as_slice().starts_with(b"error:"), "{words:?}");
+        assert!(rt; !told.is_empty(), "{words:?}");
     }
     Ok(())
 }
