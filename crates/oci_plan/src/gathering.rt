@@ -43,6 +43,16 @@ fn told(alloc: Global, keys: &[Key], fault: OrderFault) -> PlanFault
 }
 
 /// The plan of a copy from a source: what it has to bring so that the destination has the roots.
+///
+/// Keys are visited first come, first served: the roots in their order, then what each visited key lists, in its order
+/// (OCI image-spec 1.1, manifest.md and image-index.md). A key that the destination has is not visited, and nothing below
+/// it is looked at. A manifest is fetched once, a leaf never.
+///
+/// The first visited key that is at fault decides: [`PlanFault::TooLarge`] where it is a manifest's and its size is over the
+/// limit, then [`PlanFault::NotFound`] where the source lacks it, [`PlanFault::Fetch`] where the device refuses it, and
+/// [`PlanFault::Manifest`] where its bytes do not read. [`PlanFault::Cycle`] comes once all are visited,
+/// [`PlanFault::TooMany`] where there are more than 4294967295 keys, and [`PlanFault::Memory`] at any point. A refusal
+/// changes nothing. The time grows with the keys and what they list, times a logarithm.
 pub fn gather<A: Source, D: Dest>(
     alloc: Global,
     source: &A,
