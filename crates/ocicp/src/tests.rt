@@ -126,25 +126,25 @@ fn mem_command_with_a_failing_output(rt: HostRuntime) -> Result<(), Fail> {
     folder.remove(&rt)
 }
 
-/// What is no use of the program prints its usage on the error output alone, and has status 2.
+/// Runs the program on words that are no use of it: status 2, and the usage on the error output alone.
+fn assert_usage<R: Files + AllocGlobal + Abort>(rt: &R, words: &[&str]) -> Result<(), Fail> {
+    let mut printed = Vec::new(rt.alloc());
+    let mut told = Vec::new(rt.alloc());
+    let given = strings(rt.alloc(), words)?;
+    let answer = run_words(rt, &given, &mut printed, &mut told);
+    assert_eq!(rt; answer, 2, "{words:?}");
+    assert!(rt; printed.is_empty(), "{words:?}");
+    assert!(rt; !told.is_empty(), "{words:?}");
+    Ok(())
+}
+
 #[test]
 fn usage_faults(rt: HostRuntime) -> Result<(), Fail> {
-    let uses = [
-        ["mem"].as_slice(),
-        [].as_slice(),
-        ["copies"].as_slice(),
-        ["mem", "--loud", "text/plain=abc.txt"].as_slice(),
-    ];
-    for words in uses {
-        let given = strings(rt.alloc(), words)?;
-        let mut printed = Vec::new(rt.alloc());
-        let mut told = Vec::new(rt.alloc());
-        let answer = run_words(&rt, &given, &mut printed, &mut told);
-        assert_eq!(rt; answer, 2, "{words:?}");
-        assert!(rt; printed.is_empty(), "{words:?}");
-        assert!(rt; !told.is_empty(), "{words:?}");
-    }
-    Ok(())
+    assert_usage(&rt, &["mem"])?;
+    assert_usage(&rt, &["copies"])?;
+    assert_usage(&rt, &["mem", "--loud", "text/plain=abc.txt"])?;
+    let none: [&str; 0] = [];
+    assert_usage(&rt, &none)
 }
 
 /// `--help` prints on the output, has status 0, and names each command.
