@@ -60,6 +60,7 @@ pub trait Dest: Store {
         ensures device { IsErrOf result PushFault.Device
             → (Self.failure_count self.old < Self.failure_count self.new) ⊎ (Self.failure_count self.new ≡ 2 ^ 64 - 1) }
         ensures halted { IsErrOf result PushFault.Halted → is_halted self.old }
+        ensures running { OnOk result (is_halted self.new → is_halted self.old) }
         ensures tags { Self.tags self.new ≡ Self.tags self.old }
         ensures name { Self.name self.new ≡ Self.name self.old };
 
