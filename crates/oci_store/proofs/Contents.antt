@@ -109,3 +109,7 @@ pub closed_check-ok : (graph : List Node) (k : Descriptor) (bytes : List ℕ) (k
     → (push_check graph k bytes ≡ Ok ks) × (first_missing graph ks ≡ None)
 unfolding closed_check
 closed_check-ok graph k bytes ks h = passed_ok graph (push_check graph k bytes) ks h
+
+-- what passes the closed check is new, matches and reads
+pub IsNew-from_closed_check : (graph : List Node) (k : Descriptor) (bytes : List ℕ) (ks : List Descriptor) → closed_check graph k bytes ≡ Ok ks → IsNew graph k bytes ks
+IsNew-from_closed_check graph k bytes ks h = IsNew-from_check graph k bytes ks (closed_check-ok graph k bytes ks h).0

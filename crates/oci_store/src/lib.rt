@@ -49,3 +49,6 @@ pub use memory::MemoryStore;
 pub use source::Source;
 pub use store::Store;
 pub use tagger::Tagger;
+
+#[cfg(test)]
+mod tests;

@@ -12,10 +12,10 @@ ghost use Rattle.oci_store.specs.Push.{push_check, closed_check, Answers, IsPlai
 ghost use Rattle.oci_store.specs.Tags.{by_bytes};
 
 mod dest;
-mod entry;
+pub(crate) mod entry;
 mod holders;
-mod index;
-mod push;
+pub(crate) mod index;
+pub(crate) mod push;
 mod source;
 mod tagger;
 mod tags;

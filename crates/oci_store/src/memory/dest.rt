@@ -19,12 +19,7 @@ impl Dest for MemoryStore {
     }
 
     fn missing(&self) -> Result<Option<(Key, Key)>, NoMemory> {
-        for held in self.entries.as_slice() {
-            if let Some(missing) = self.entries.first_missing(held.successors()) {
-                return Ok(Some((held.key().try_clone()?, missing.try_clone()?)));
-            }
-        }
-        Ok(None)
+        self.entries.first_open()
     }
 
     fn push_closed(&mut self, key: &Key, content: Bytes) -> Result<usize, PushFault> {

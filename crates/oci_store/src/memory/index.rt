@@ -1,9 +1,10 @@
-ghost use Rattle.std.specs.Prelude.{◌≡◌, ◌<◌, false, List, [], ◌∷◌, ◌++◌, length, Some, is_some, OnOk, OnErr, IfErr, vec_len};
+ghost use Rattle.std.specs.Prelude.{◌≡◌, ◌<◌, false, List, [], ◌∷◌, ◌++◌, length, Some, is_some, IfOk, OnOk, OnErr, IfErr, vec_len};
 ghost use Rattle.std.specs.BTreeMap.{Updates, IsUnchanged};
 ghost use Rattle.std.specs.Vec.{vec_capacity};
 ghost use Rattle.std.specs.Option.{option_copied};
 ghost use Rattle.std.specs.Map.{keys_of};
 ghost use Rattle.oci_manifest.specs.Descriptor.{Descriptor, key_cmp};
+ghost use Rattle.oci_store.specs.Closed.{first_open};
 ghost use Rattle.oci_store.specs.Graph.{nodes_of};
 ghost use Rattle.oci_store.specs.Tags.{IsLeastOf};
 ghost use Rattle.oci_store.specs.Keyed.{value_at, has_key, first_missing};
@@ -73,6 +74,18 @@ impl Entries {
         ensures { option_copied result ≡ first_missing (nodes_of self.now) keys.now }
     {
         keys.iter().find(|key| self.content(*key).is_none())
+    }
+
+    /// The first key that lists a key which is not held, with the first such key.
+    pub(crate) fn first_open(&self) -> Result<Option<(Key, Key)>, NoMemory>
+        ensures { IfOk result (λ found. found ≡ first_open (nodes_of self.now)) }
+    {
+        for held in self.as_slice() {
+            if let Some(missing) = self.first_missing(held.successors()) {
+                return Ok(Some((held.key().try_clone()?, missing.try_clone()?)));
+            }
+        }
+        Ok(None)
     }
 
     /// The least key with a digest.
