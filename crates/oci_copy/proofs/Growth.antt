@@ -43,7 +43,7 @@ module _ (honest shares : Type 0) (source : List Entry) (planned : List Descript
       let same : f ≡ failures0 = (let e = calm.0 in omega arith) in
       let less : f < 2 ^ 64 - 1 = (let e = calm.0 in let l = calm.1 in omega arith) in
       let now : f' ≡ f = (let e = calm.0 in omega arith) in
-      (record { is_honest = told.is_honest; is_sound = told.is_sound; is_calm = (same, less); agrees = told.agrees; same_old = told.same_old; same_source = told.same_source }, (now, calm.1))
+      (record { is_honest = told.is_honest; is_sound = told.is_sound; is_calm = (same, less); same_old = told.same_old; same_source = told.same_source }, (now, calm.1))
 
   -- the pairs of the pushed key's digest have its bytes
   agrees_at : (entries : List Entry) (f : ℕ) (k : Descriptor) (bytes : List ℕ) → Told f → IsOpeningAnd source planned entries0 entries → value_at source k ≡ Some bytes → shares → AgreesAt entries k bytes

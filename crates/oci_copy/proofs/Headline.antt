@@ -106,12 +106,12 @@ module _ {honest shares : Type 0} {source : List Entry} {limit : ℕ} {p : Plann
         (grows_to_copy (List Descriptor) (nodes_of source) (nodes_of source) nodes0 keeps.added roots (Agree-grown (nodes_of source) nodes0 keeps.added agree (keeps.own h)) (each h)
         (λ k r. subst (λ (l : List Node). has_key l k ≡ true) keeps.is (reached_held h agree k r)))
 
-    pub copied_content : (sound0 → nodes0 ≡ nodes_of entries0) → keys_of nodes1 ≡ keys_of entries1 → Told → IsCopied (nodes_of source) source roots entries0 entries1
-    copied_content listed same told =
+    pub copied_content : (sound0 → nodes0 ≡ nodes_of entries0) → keys_of nodes1 ≡ keys_of entries1 → Told → Agree source entries0 → IsCopied (nodes_of source) source roots entries0 entries1
+    copied_content listed same told agrees =
         let was = (keeps.told told).1 in
         let own : All (λ (e : Entry). value_at source e.0 ≡ Some e.1) was.added = λ i d lt. (was.each i d lt).1 in
-        let agree : Agree (nodes_of source) nodes0 = subst (Agree (nodes_of source)) (sym (listed told.is_sound)) (Agree-nodes_of source entries0 told.agrees) in
+        let agree : Agree (nodes_of source) nodes0 = subst (Agree (nodes_of source)) (sym (listed told.is_sound)) (Agree-nodes_of source entries0 agrees) in
         let holds : (k : Descriptor) → Reaches (nodes_of source) roots k → has_key entries1 k ≡ true = λ k r. has_key-same_keys nodes1 entries1 k same (reached_held told.is_honest agree k r) in
         subst (λ (l : List Entry). IsCopied (nodes_of source) source roots entries0 l) (sym was.is)
-        (grows_to_copy (List ℕ) (nodes_of source) source entries0 was.added roots (Agree-grown source entries0 was.added told.agrees own) (λ i d lt. let e = was.each i d lt in (e.1, reached told.is_honest _ e.0))
+        (grows_to_copy (List ℕ) (nodes_of source) source entries0 was.added roots (Agree-grown source entries0 was.added agrees own) (λ i d lt. let e = was.each i d lt in (e.1, reached told.is_honest _ e.0))
         (λ k r. subst (λ (l : List Entry). has_key l k ≡ true) was.is (holds k r)))

@@ -10,7 +10,6 @@ use Rattle.oci_store.specs.Keyed.{HasAll, first_missing}
 use Rattle.oci_store.specs.Content.{Entry, IsContent, succ_of}
 use Rattle.oci_store.specs.Graph.{Node, nodes_of}
 use Rattle.oci_store.specs.Closed.{IsClosed, with_holder, open_in, first_open}
-use Rattle.oci_store.specs.Copied.{Agree}
 use Rattle.oci_store.specs.declared.fault.PushFault.{PushFault}
 use Rattle.oci_store.specs.declared.fault.PushFault.TheVariants as push
 use Rattle.oci_store.proofs.Lookups.{All-value_at, first_missing-from_HasAll}
@@ -73,13 +72,12 @@ module _ (honest halted : Type 0) (fails : Descriptor → Bool) (source : List E
   refused_for_plan fault.Memory cause = tt
   refused_for_plan (fault.Reference e) cause = absurd cause
 
--- what is supposed so that bytes can be told holds of stores in memory that agree
-pub told_in_memory : (honest sound shares : Type 0) → honest → sound → (shares → ⊥) → (source old : List Entry) → Agree source old → IsTold honest sound shares 0 0 source old
-told_in_memory honest sound shares h s never source old agree = record {
+-- what is supposed so that bytes can be told holds of stores in memory
+pub told_in_memory : (honest sound shares : Type 0) → honest → sound → (shares → ⊥) → (source old : List Entry) → IsTold honest sound shares 0 0 source old
+told_in_memory honest sound shares h s never source old = record {
   is_honest = h;
   is_sound = s;
   is_calm = (refl, omega arith);
-  agrees = agree;
   same_old = λ shared. absurd (never shared);
   same_source = λ shared. absurd (never shared);
 }

@@ -40,9 +40,8 @@ pub fn copy_memory(
     ensures pushed { IfOk result.1 (λ report. (report.planned ≡ report.pushed)
         × (length result.0.entries ≡ length destination.entries + report.pushed)) }
     ensures skipped { IfOk result.1 (λ report. report.skipped ≡ held_count (nodes_of destination.entries) roots.now) }
-    ensures begins { Agree source.now.entries destination.entries → BeginsWith destination.entries result.0.entries }
-    ensures grown { Agree source.now.entries destination.entries
-        → IsGrown (nodes_of source.now.entries) source.now.entries roots.now destination.entries result.0.entries }
+    ensures begins { BeginsWith destination.entries result.0.entries }
+    ensures grown { IsGrown (nodes_of source.now.entries) source.now.entries roots.now destination.entries result.0.entries }
     ensures content { IsContent result.0.entries }
     ensures closed { IsClosed (nodes_of result.0.entries) }
     ensures tags { result.0.tags ≡ destination.tags }

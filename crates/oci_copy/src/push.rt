@@ -31,6 +31,7 @@ pub(crate) fn push_planned<A: Source, D: Dest>(
         (D.is_sound destination.new) (D.nodes destination.new) (D.entries destination.new) (D.failure_count destination.new) }
     ensures cause { IfErr result (IsStepCause (A.is_honest source.now) (D.is_halted destination.old) (A.fails_at source.now)
         (D.failure_count destination.old) (D.failure_count destination.new) key.now) }
+    ensures running { OnOk result (D.is_halted destination.new → D.is_halted destination.old) }
     ensures failures { D.failure_count destination.old ≤ D.failure_count destination.new }
     ensures tags { D.tags destination.new ≡ D.tags destination.old }
     ensures name { D.name destination.new ≡ D.name destination.old }

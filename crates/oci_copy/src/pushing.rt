@@ -24,8 +24,8 @@ pub(crate) fn push_all<A: Source, D: Dest>(
     ensures keeps { Keeps (A.is_honest source.now) D.shares (A.entries source.now) plan.now.keys
         (D.is_sound destination.old) (D.nodes destination.old) (D.entries destination.old) (D.failure_count destination.old)
         (D.is_sound destination.new) (D.nodes destination.new) (D.entries destination.new) (D.failure_count destination.new) }
-    ensures cause { IfErr result (IsRunCause (A.is_honest source.now) ((d : D) × (D.nodes d ≡ D.nodes destination.new) × D.is_halted d)
-        (A.fails_at source.now) (D.failure_count destination.old) (D.failure_count destination.new) plan.now.keys) }
+    ensures cause { IfErr result (IsRunCause (A.is_honest source.now) (D.is_halted destination.old) (A.fails_at source.now)
+        (D.failure_count destination.old) (D.failure_count destination.new) plan.now.keys) }
     ensures tags { D.tags destination.new ≡ D.tags destination.old }
     ensures name { D.name destination.new ≡ D.name destination.old }
 {

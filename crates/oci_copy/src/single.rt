@@ -48,6 +48,7 @@ pub fn copy_one<A: Source, D: Dest>(
         → (k : Descriptor) → Reaches (nodes_of (A.entries source.now)) roots.now k → has_key (D.nodes result.0) k ≡ true) }
     ensures content { OnOk result.1 (
         IsTold (A.is_honest source.now) (D.is_sound destination) D.shares (D.failure_count destination) (D.failure_count result.0) (A.entries source.now) (D.entries destination)
+        → Agree (A.entries source.now) (D.entries destination)
         → IsCopied (nodes_of (A.entries source.now)) (A.entries source.now) roots.now (D.entries destination) (D.entries result.0)) }
     ensures roots { OnOk result.1 (HasAll (D.nodes result.0) roots.now) }
     ensures was_closed { OnOk result.1 (IsClosed (D.nodes destination)) }
@@ -75,11 +76,11 @@ pub fn copy_one<A: Source, D: Dest>(
     ensures name { D.name result.0 ≡ D.name destination }
 
     // Each refusal comes for its cause.
-    ensures refused { IfErr result.1 (Refused (A.is_honest source.now) ((d : D) × (D.nodes d ≡ D.nodes result.0) × D.is_halted d)
+    ensures refused { IfErr result.1 (Refused (A.is_honest source.now) (D.is_halted destination)
         (A.fails_at source.now) (A.entries source.now) (limit_of options.now) (D.nodes destination) roots.now
         (D.failure_count destination) (D.failure_count result.0)) }
     ensures plain { IfErr result.1 (λ fault. A.is_honest source.now → IsContent (A.entries source.now) → ((k : Descriptor) → A.fails_at source.now k ≡ false)
-        → IsClosed (D.nodes destination) → ((d : D) → D.is_halted d → ⊥) → D.failure_count result.0 ≡ 0
+        → IsClosed (D.nodes destination) → (D.is_halted destination → ⊥) → D.failure_count result.0 ≡ 0
         → RefusedForPlan (A.entries source.now) (limit_of options.now) (D.nodes destination) roots.now fault) }
     ensures unchanged { IfErr result.1 (λ fault. IsEarly fault → result.0 ≡ destination) }
 {

@@ -54,6 +54,7 @@ pub fn copy<A: Source + Tagger, D: Dest + Tagger>(
         → (k : Descriptor) → Reaches (nodes_of (A.entries source.now)) (it.0 ∷ []) k → has_key (D.nodes result.0) k ≡ true) }
     ensures content { IfOk result.1 (λ it.
         IsTold (A.is_honest source.now) (D.is_sound destination) D.shares (D.failure_count destination) (D.failure_count result.0) (A.entries source.now) (D.entries destination)
+        → Agree (A.entries source.now) (D.entries destination)
         → IsCopied (nodes_of (A.entries source.now)) (A.entries source.now) (it.0 ∷ []) (D.entries destination) (D.entries result.0)) }
     ensures was_closed { OnOk result.1 (IsClosed (D.nodes destination)) }
     ensures was_sound { IfOk result.1 (λ it. A.is_honest source.now → (k : Descriptor)
@@ -82,7 +83,7 @@ pub fn copy<A: Source + Tagger, D: Dest + Tagger>(
 
     // Each refusal comes for its cause.
     ensures refused { IfErr result.1 (RefusedByReference (keys_of (A.nodes source.now)) (A.tags source.now) source_reference.now options.now.workers
-        (λ roots. Refused (A.is_honest source.now) ((d : D) × (D.nodes d ≡ D.nodes result.0) × D.is_halted d)
+        (λ roots. Refused (A.is_honest source.now) (D.is_halted destination)
         (A.fails_at source.now) (A.entries source.now) (limit_of options.now) (D.nodes destination) roots
         (D.failure_count destination) (D.failure_count result.0))) }
     ensures unchanged { IfErr result.1 (λ fault. IsEarly fault → result.0 ≡ destination) }

@@ -22,8 +22,8 @@ returns-clause-copied c =
     let s = c.args.source.now.entries in
     let d = c.args.destination.entries in
     let n = c.copy_one-destination.result.0.entries in
-    IfOk-weaker c.copy_one-destination.result.1 (λ (r : Report). IsTold ⊤ ⊤ ⊥ 0 0 s d → IsCopied (nodes_of s) s c.args.roots.now d n) (λ (r : Report). Agree s d → IsCopied (nodes_of s) s c.args.roots.now d n)
-    (λ r copied agree. copied (told_in_memory ⊤ ⊤ ⊥ tt tt (λ never. never) s d agree)) c.copy_one-destination.ensures.content
+    IfOk-weaker c.copy_one-destination.result.1 (λ (r : Report). IsTold ⊤ ⊤ ⊥ 0 0 s d → Agree s d → IsCopied (nodes_of s) s c.args.roots.now d n) (λ (r : Report). Agree s d → IsCopied (nodes_of s) s c.args.roots.now d n)
+    (λ r copied agree. copied (told_in_memory ⊤ ⊤ ⊥ tt tt (λ never. never) s d) agree) c.copy_one-destination.ensures.content
 
 pub returns-clause-reached : goal.returns-clause-reached
 returns-clause-reached c =
@@ -50,8 +50,8 @@ returns-clause-refused c =
     let n = c.copy_one-destination.result.0.entries in
     let closed = rw c.memory-closed.ensures.same at c.memory-closed.ensures.closed in
     IfErr-weaker c.copy_one-destination.result.1
-    (Refused ⊤ ((x : Contents) × (nodes_of x.entries ≡ nodes_of n) × ⊥) (λ (k : Descriptor). false) s (limit_of c.args.options.now) (nodes_of d) c.args.roots.now 0 0)
+    (Refused ⊤ ⊥ (λ (k : Descriptor). false) s (limit_of c.args.options.now) (nodes_of d) c.args.roots.now 0 0)
     (RefusedForPlan s (limit_of c.args.options.now) (nodes_of d) c.args.roots.now)
-    (refused_for_plan ⊤ ((x : Contents) × (nodes_of x.entries ≡ nodes_of n) × ⊥) (λ (k : Descriptor). false) s (limit_of c.args.options.now) (nodes_of d) c.args.roots.now 0 0
-    tt (λ x. x.2) (λ k. refl) c.len-readable.ensures.content closed refl)
+    (refused_for_plan ⊤ ⊥ (λ (k : Descriptor). false) s (limit_of c.args.options.now) (nodes_of d) c.args.roots.now 0 0
+    tt (λ never. never) (λ k. refl) c.len-readable.ensures.content closed refl)
     c.copy_one-destination.ensures.refused

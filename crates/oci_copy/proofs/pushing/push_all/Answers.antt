@@ -16,6 +16,7 @@ loop-place-init g c = record {
   count = omega arith;
   keeps = keeps_start (g.A.Store.is_honest c.args.source.now) g.D.Dest.shares (g.A.Store.entries c.args.source.now) c.args.plan.now.keys
       (g.D.Store.is_sound c.args.destination.now) (g.D.Store.nodes c.args.destination.now) (g.D.Store.entries c.args.destination.now) (g.D.Store.failure_count c.args.destination.now);
+  running = λ halted. halted;
   tags = refl;
   name = refl;
 }
@@ -47,10 +48,10 @@ pub returns-in_err-push_planned-clause-cause : goal.returns-in_err-push_planned-
 returns-in_err-push_planned-clause-cause g c =
     let at = c.key_at.ensures in
     let p = err_from_is_err_and c.from_residual.result c.from_residual.ensures.1 in
-    rw (p.1, p.2) (run_from_step (g.A.Store.is_honest c.args.source.now) (g.D.Dest.is_halted c.loop-place.destination) _ (g.A.Source.fails_at c.args.source.now)
+    rw (p.1, p.2) (run_from_step (g.A.Store.is_honest c.args.source.now) (g.D.Dest.is_halted c.loop-place.destination) (g.D.Dest.is_halted c.args.destination.now) (g.A.Source.fails_at c.args.source.now)
     (g.D.Store.failure_count c.args.destination.now) (g.D.Store.failure_count c.loop-place.destination) (g.D.Store.failure_count c.push_planned.new.destination)
     c.args.plan.now.keys c.key_at.result.now _ (Contains-from_slice_get c.args.plan.now.keys at.0 c.key_at.result.now at.2)
-    (λ halted. (c.loop-place.destination, sym c.in_err-push_planned.ensures.refused, halted)) c.loop-place.invariant.keeps.rising c.in_err-push_planned.ensures.cause)
+    c.loop-place.invariant.running c.loop-place.invariant.keeps.rising c.in_err-push_planned.ensures.cause)
 
 pub loop-place-preserved : goal.loop-place-preserved
 loop-place-preserved g c =
@@ -63,6 +64,7 @@ loop-place-preserved g c =
           (sym (keys_before-more c.args.plan.now c.requires.plan c.requires.order c.loop-place.place at.0 c.key_at.result.now at.1 at.2))));
       count = omega (arith, more, c.loop-place.invariant.count);
       keeps = c.push_planned.ensures.keeps c.args.plan.now.keys c.args.destination.now (Contains-from_slice_get c.args.plan.now.keys at.0 c.key_at.result.now at.2) c.loop-place.invariant.keeps;
+      running = λ halted. c.loop-place.invariant.running (c.in_ok-push_planned.ensures.running halted);
       tags = c.push_planned.ensures.tags ∙ c.loop-place.invariant.tags;
       name = c.push_planned.ensures.name ∙ c.loop-place.invariant.name;
     }

@@ -11,6 +11,7 @@ invariant-loop-place g l = record {
   keeps : Keeps (g.A.Store.is_honest l.source) g.D.Dest.shares (g.A.Store.entries l.source) l.plan.keys
       (g.D.Store.is_sound l.initial.destination) (g.D.Store.nodes l.initial.destination) (g.D.Store.entries l.initial.destination) (g.D.Store.failure_count l.initial.destination)
       (g.D.Store.is_sound l.destination) (g.D.Store.nodes l.destination) (g.D.Store.entries l.destination) (g.D.Store.failure_count l.destination);
+  running : g.D.Dest.is_halted l.destination → g.D.Dest.is_halted l.initial.destination;
   tags : g.D.Store.tags l.destination ≡ g.D.Store.tags l.initial.destination;
   name : g.D.Store.name l.destination ≡ g.D.Store.name l.initial.destination;
 }

@@ -14,9 +14,9 @@ pub returns-in-Ok-push_all-clause-reached : goal.returns-in-Ok-push_all-clause-r
 returns-in-Ok-push_all-clause-reached g c h agree = reached_held c.in-Ok.ensures.plan c.push_all.ensures.keeps c.in-Ok.ensures.closed c.in-Ok-push_all.ensures.held h agree
 
 pub returns-in-Ok-push_all-clause-content : goal.returns-in-Ok-push_all-clause-content
-returns-in-Ok-push_all-clause-content g c told =
+returns-in-Ok-push_all-clause-content g c told agree =
     copied_content c.in-Ok.ensures.plan c.push_all.ensures.keeps c.in-Ok.ensures.closed c.in-Ok-push_all.ensures.held
-    (g.D.Store.listed c.args.destination) (g.D.Store.same_keys c.push_all.new.destination) told
+    (g.D.Store.listed c.args.destination) (g.D.Store.same_keys c.push_all.new.destination) told agree
 
 pub returns-in-Ok-push_all-clause-roots : goal.returns-in-Ok-push_all-clause-roots
 returns-in-Ok-push_all-clause-roots g c = roots_held c.in-Ok.ensures.plan c.push_all.ensures.keeps c.in-Ok-push_all.ensures.held
@@ -45,26 +45,26 @@ returns-clause-closed g c was = closed c.in-Ok.ensures.plan c.push_all.ensures.k
 
 pub returns-clause-refused : goal.returns-clause-refused
 returns-clause-refused g c =
-    refused-from_run (g.A.Store.is_honest c.args.source.now) ((d : g.row.D.Denot) × (g.D.Store.nodes d ≡ g.D.Store.nodes c.push_all.new.destination) × g.D.Dest.is_halted d)
+    refused-from_run (g.A.Store.is_honest c.args.source.now) (g.D.Dest.is_halted c.args.destination)
     (g.A.Source.fails_at c.args.source.now) (g.A.Store.entries c.args.source.now) (limit_of c.args.options.now) (g.D.Store.nodes c.args.destination) c.args.roots.now c.in-Ok.plan.keys
     (g.D.Store.failure_count c.args.destination) (g.D.Store.failure_count c.push_all.new.destination) c.in-Err-push_all.fault
     c.in-Ok.ensures.closed (λ h k there. (c.in-Ok.ensures.plan.outside h k).0 there) c.in-Err-push_all.ensures.cause
 
 pub returns-clause-plain : goal.returns-clause-plain
 returns-clause-plain g c h content never was_closed not_halted none =
-    let halted = (d : g.row.D.Denot) × (g.D.Store.nodes d ≡ g.D.Store.nodes c.push_all.new.destination) × g.D.Dest.is_halted d in
+    let halted = g.D.Dest.is_halted c.args.destination in
     refused_for_plan (g.A.Store.is_honest c.args.source.now) halted (g.A.Source.fails_at c.args.source.now) (g.A.Store.entries c.args.source.now) (limit_of c.args.options.now)
     (g.D.Store.nodes c.args.destination) c.args.roots.now (g.D.Store.failure_count c.args.destination) (g.D.Store.failure_count c.push_all.new.destination)
-    h (λ it. not_halted it.0 it.2) never content was_closed none c.in-Err-push_all.fault
+    h not_halted never content was_closed none c.in-Err-push_all.fault
     (refused-from_run (g.A.Store.is_honest c.args.source.now) halted (g.A.Source.fails_at c.args.source.now) (g.A.Store.entries c.args.source.now) (limit_of c.args.options.now)
     (g.D.Store.nodes c.args.destination) c.args.roots.now c.in-Ok.plan.keys (g.D.Store.failure_count c.args.destination) (g.D.Store.failure_count c.push_all.new.destination)
     c.in-Err-push_all.fault c.in-Ok.ensures.closed (λ h k there. (c.in-Ok.ensures.plan.outside h k).0 there) c.in-Err-push_all.ensures.cause)
 
 pub returns-in-Err-clause-plain : goal.returns-in-Err-clause-plain
 returns-in-Err-clause-plain g c h content never was_closed not_halted none =
-    let halted = (d : g.row.D.Denot) × (g.D.Store.nodes d ≡ g.D.Store.nodes c.args.destination) × g.D.Dest.is_halted d in
+    let halted = g.D.Dest.is_halted c.args.destination in
     refused_for_plan (g.A.Store.is_honest c.args.source.now) halted (g.A.Source.fails_at c.args.source.now) (g.A.Store.entries c.args.source.now) (limit_of c.args.options.now)
     (g.D.Store.nodes c.args.destination) c.args.roots.now (g.D.Store.failure_count c.args.destination) (g.D.Store.failure_count c.args.destination)
-    h (λ it. not_halted it.0 it.2) never content was_closed none c.in-Err.fault
+    h not_halted never content was_closed none c.in-Err.fault
     (refused-from_start (g.A.Store.is_honest c.args.source.now) halted (g.A.Source.fails_at c.args.source.now) (g.A.Store.entries c.args.source.now) (limit_of c.args.options.now)
     (g.D.Store.nodes c.args.destination) c.args.roots.now (g.D.Store.failure_count c.args.destination) (g.D.Store.failure_count c.args.destination) c.in-Err.fault c.in-Err.ensures.cause)

@@ -17,7 +17,7 @@ returns-in-Err-copied-clause-grown_content g c told =
 pub returns-in-Err-copied-clause-refused : goal.returns-in-Err-copied-clause-refused
 returns-in-Err-copied-clause-refused g c =
     refused_by_root (keys_of (g.A.Store.nodes c.args.source.now)) (g.A.Store.tags c.args.source.now) c.args.source_reference.now c.args.options.now.workers
-    (λ (roots : List Descriptor). Refused (g.A.Store.is_honest c.args.source.now) ((d : g.row.D.Denot) × (g.D.Store.nodes d ≡ g.D.Store.nodes c.copy_one-destination.result.0) × g.D.Dest.is_halted d)
+    (λ (roots : List Descriptor). Refused (g.A.Store.is_honest c.args.source.now) (g.D.Dest.is_halted c.args.destination)
     (g.A.Source.fails_at c.args.source.now) (g.A.Store.entries c.args.source.now) (limit_of c.args.options.now) (g.D.Store.nodes c.args.destination) roots
     (g.D.Store.failure_count c.args.destination) (g.D.Store.failure_count c.copy_one-destination.result.0))
     c.in-Ok.root c.from_ref-roots.result.now c.in-Err-copied.fault c.in-Ok.ensures.found c.if-workers-gt-MAX_WORKERS.false c.from_ref-roots.ensures.value (λ x. x) (λ r x. x)
@@ -29,9 +29,9 @@ returns-in-Ok-tag-clause-graph g c h agree =
     rw (c.tag.ensures.nodes, ← c.from_ref-roots.ensures.value) (done h agree)
 
 pub returns-in-Ok-tag-clause-content : goal.returns-in-Ok-tag-clause-content
-returns-in-Ok-tag-clause-content g c told =
+returns-in-Ok-tag-clause-content g c told agree =
     let done = rw c.in-Ok-copied.is at c.copy_one-destination.ensures.content in
-    rw (c.tag.ensures.entries, ← c.from_ref-roots.ensures.value) (done (rw c.tag.ensures.failures at told))
+    rw (c.tag.ensures.entries, ← c.from_ref-roots.ensures.value) (done (rw c.tag.ensures.failures at told) agree)
 
 pub returns-in-Ok-tag-clause-was_sound : goal.returns-in-Ok-tag-clause-was_sound
 returns-in-Ok-tag-clause-was_sound g c h k outside =
