@@ -13,7 +13,7 @@ use Rattle.oci_store.specs.Graph.{Node, nodes_of, Reaches}
 use Rattle.oci_store.specs.Graph as graph
 use Rattle.oci_store.specs.Closed.{IsClosed}
 use Rattle.oci_store.specs.Copied.{Agree, IsCopied, AreReached}
-use Rattle.oci_store.proofs.Lookups.{All-value_at, value_at-append_cases, has_key-append_left}
+use Rattle.oci_store.proofs.Lookups.{All-value_at, value_at-append_cases, has_key-append_left, has_key-same_keys}
 use Rattle.oci_store.proofs.Copies.{holds_reached, grows_to_copy}
 use Rattle.oci_plan.specs.Outside.{IsOutside}
 use Rattle.oci_plan.specs.Outside as outside
@@ -22,7 +22,6 @@ use Rattle.oci_copy.specs.Grown.{IsGrown, IsTold}
 use Rattle.oci_copy.specs.Kept.{Keeps}
 use Rattle.oci_copy.specs.Planned.{IsPlanOf}
 use Rattle.oci_copy.proofs.Growth.{HasAll-append}
-use Rattle.oci_copy.proofs.Places.{has_key-same_keys}
 
 -- what is outside is reached
 pub reached-from_outside : (source held : List Node) (roots : List Descriptor) (k : Descriptor) → IsOutside source held roots k → Reaches source roots k

@@ -1,4 +1,4 @@
--- Which keys stand in a list of pairs, and which have been pushed at a place of a plan's order.
+-- Which keys have been pushed at a place of a plan's order.
 use Rattle.std.proofs.Common.{◌≡◌, ℕ, ◌+◌, ◌<◌, ◌≤◌, ◌⊎◌, inl, inr, Bool, true, false, List, [], ◌∷◌, ◌++◌, length, get_or, take, Option, Some, None, Result, Ok, Err, refl, sym, ap, subst, ◌∙◌, arith, length-append}
 use Rattle.std.specs.Prelude.{Contains, slice_get, filter_map, unwrap_or, IsOk}
 use Rattle.std.specs.List.{All, IsDistinct}
@@ -15,34 +15,11 @@ use Rattle.oci_manifest.specs.Fault.{Fault}
 use Rattle.oci_store.specs.Keyed.{value_at, has_key, HasAll}
 use Rattle.oci_store.specs.Content.{Entry, succ_of, successors_in}
 use Rattle.oci_store.specs.Graph.{Node, nodes_of}
+use Rattle.oci_store.proofs.Lookups.{has_key-from_Contains, Contains-from_has_key}
 use Rattle.oci_plan.specs.Order.{IsOrder}
 use Rattle.oci_plan.specs.Plan.{Planned, IsPlan, FollowsListed, keys_before}
 use Rattle.oci_plan.specs.Visiting.{successors_at}
 use Rattle.oci_copy.proofs.Growth.{value_at-nodes_of}
-
--- the key of a pair is there
-has_key-cons : {X : Type 0} (p : Descriptor × X) (pairs : List (Descriptor × X)) (k : Descriptor) → has_key pairs k ≡ true → has_key (p ∷ pairs) k ≡ true
-has_key-cons p pairs k h = elim (cases (same_key p.0 k)) [ inl same ↦ rw same refl | inr other ↦ rw other h ]
-
-HasAll-keys_of : {X : Type 0} (pairs : List (Descriptor × X)) → HasAll pairs (keys_of pairs)
-HasAll-keys_of {X} [] = All-nil (λ k. has_key {X = X} [] k ≡ true)
-HasAll-keys_of (p ∷ pairs) =
-    let same : same_key p.0 p.0 ≡ true = (Decides-same_key p.0 p.0).1 refl in
-    All-cons (λ k. has_key (p ∷ pairs) k ≡ true) p.0 (keys_of pairs) (rw same refl)
-    (All-weaker (λ k. has_key pairs k ≡ true) (λ k. has_key (p ∷ pairs) k ≡ true) (has_key-cons p pairs) (keys_of pairs) (HasAll-keys_of pairs))
-
-pub has_key-from_Contains : {X : Type 0} (pairs : List (Descriptor × X)) (k : Descriptor) → Contains (keys_of pairs) k → has_key pairs k ≡ true
-has_key-from_Contains pairs k c = All-contains (λ k. has_key pairs k ≡ true) (keys_of pairs) k (HasAll-keys_of pairs) c
-
-pub Contains-from_has_key : {X : Type 0} (pairs : List (Descriptor × X)) (k : Descriptor) → has_key pairs k ≡ true → Contains (keys_of pairs) k
-Contains-from_has_key [] k h = cc h
-Contains-from_has_key (p ∷ pairs) k h =
-    elim (cases (same_key p.0 k)) [
-      | inl same ↦
-          let key = (Decides-same_key p.0 k).0 same in
-          subst (λ (d : Descriptor). Contains (keys_of (p ∷ pairs)) d) key (Contains-append_left (p.0 ∷ []) (keys_of pairs) p.0 (Contains-push [] p.0))
-      | inr other ↦ Contains-append_right (p.0 ∷ []) (keys_of pairs) k (Contains-from_has_key pairs k (rw other at h))
-    ]
 
 length-keys_of : {X : Type 0} (pairs : List (Descriptor × X)) → length (keys_of pairs) ≡ length pairs
 length-keys_of [] = refl
@@ -53,10 +30,6 @@ pub length-more : {X : Type 0} (old new : List (Descriptor × X)) (k : Descripto
 length-more old new k keys =
     let lengths : length (keys_of new) ≡ length (keys_of old ++ k ∷ []) = ap length keys in
     omega (arith, lengths, length-append (keys_of old) (k ∷ []), length-keys_of old, length-keys_of new)
-
--- lists with the same keys have the same keys
-pub has_key-same_keys : {X Y : Type 0} (a : List (Descriptor × X)) (b : List (Descriptor × Y)) (k : Descriptor) → keys_of a ≡ keys_of b → has_key a k ≡ true → has_key b k ≡ true
-has_key-same_keys a b k same h = has_key-from_Contains b k (subst (λ (ks : List Descriptor). Contains ks k) same (Contains-from_has_key a k h))
 
 only : {X : Type 0} (x y : X) → Contains (x ∷ []) y → x ≡ y
 only {X} x y c = All-contains (λ (z : X). x ≡ z) (x ∷ []) y (All-cons (λ (z : X). x ≡ z) x [] refl (All-nil (λ (z : X). x ≡ z))) c

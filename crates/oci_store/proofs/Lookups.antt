@@ -2,7 +2,8 @@
 use Rattle.std.proofs.Common.{◌≡◌, ℕ, true, false, not, ◌⊎◌, inl, inr, List, [], ◌∷◌, ◌++◌, Option, Some, None, is_some, refl, sym, ap, subst, ◌∙◌}
 use Rattle.std.specs.Prelude.{Contains, find}
 use Rattle.std.specs.List.{All}
-use Rattle.std.proofs.lemmas.List.Elements.{All-head, All-tail, All-cons, All-nil, All-contains}
+use Rattle.std.specs.Map.{keys_of}
+use Rattle.std.proofs.lemmas.List.Elements.{All-head, All-tail, All-cons, All-nil, All-weaker, All-contains, Contains-append_left, Contains-append_right, Contains-push}
 use Rattle.oci_manifest.specs.Descriptor.{Descriptor, same_key}
 use Rattle.oci_manifest.proofs.Keys.{Decides-same_key, cases}
 use Rattle.oci_store.specs.Keyed.{value_at, has_key, HasAll, first_missing}
@@ -77,3 +78,33 @@ first_missing-from_HasAll pairs (k ∷ ks) h =
 -- one of keys that are all there is there
 pub has_key-from_HasAll : {X : Type 0} (pairs : List (Descriptor × X)) (ks : List Descriptor) (k : Descriptor) → HasAll pairs ks → Contains ks k → has_key pairs k ≡ true
 has_key-from_HasAll pairs ks k h c = All-contains (λ k. has_key pairs k ≡ true) ks k h c
+
+-- the key of a pair is there
+has_key-cons : {X : Type 0} (p : Descriptor × X) (pairs : List (Descriptor × X)) (k : Descriptor) → has_key pairs k ≡ true → has_key (p ∷ pairs) k ≡ true
+has_key-cons p pairs k h = elim (cases (same_key p.0 k)) [ inl same ↦ rw same refl | inr other ↦ rw other h ]
+
+-- each key of the pairs is there
+HasAll-keys_of : {X : Type 0} (pairs : List (Descriptor × X)) → HasAll pairs (keys_of pairs)
+HasAll-keys_of {X} [] = All-nil (λ k. has_key {X = X} [] k ≡ true)
+HasAll-keys_of (p ∷ pairs) =
+    let same : same_key p.0 p.0 ≡ true = (Decides-same_key p.0 p.0).1 refl in
+    All-cons (λ k. has_key (p ∷ pairs) k ≡ true) p.0 (keys_of pairs) (rw same refl)
+    (All-weaker (λ k. has_key pairs k ≡ true) (λ k. has_key (p ∷ pairs) k ≡ true) (has_key-cons p pairs) (keys_of pairs) (HasAll-keys_of pairs))
+
+-- a key stands in the list of keys exactly where it is there
+pub has_key-from_Contains : {X : Type 0} (pairs : List (Descriptor × X)) (k : Descriptor) → Contains (keys_of pairs) k → has_key pairs k ≡ true
+has_key-from_Contains pairs k c = All-contains (λ k. has_key pairs k ≡ true) (keys_of pairs) k (HasAll-keys_of pairs) c
+
+pub Contains-from_has_key : {X : Type 0} (pairs : List (Descriptor × X)) (k : Descriptor) → has_key pairs k ≡ true → Contains (keys_of pairs) k
+Contains-from_has_key [] k h = cc h
+Contains-from_has_key (p ∷ pairs) k h =
+    elim (cases (same_key p.0 k)) [
+      | inl same ↦
+          let key = (Decides-same_key p.0 k).0 same in
+          subst (λ (d : Descriptor). Contains (keys_of (p ∷ pairs)) d) key (Contains-append_left (p.0 ∷ []) (keys_of pairs) p.0 (Contains-push [] p.0))
+      | inr other ↦ Contains-append_right (p.0 ∷ []) (keys_of pairs) k (Contains-from_has_key pairs k (rw other at h))
+    ]
+
+-- lists with the same keys have the same keys
+pub has_key-same_keys : {X Y : Type 0} (a : List (Descriptor × X)) (b : List (Descriptor × Y)) (k : Descriptor) → keys_of a ≡ keys_of b → has_key a k ≡ true → has_key b k ≡ true
+has_key-same_keys a b k same h = has_key-from_Contains b k (subst (λ (ks : List Descriptor). Contains ks k) same (Contains-from_has_key a k h))

@@ -5,8 +5,7 @@ use Rattle.std.specs.BTreeSet.{BTreeSet, contains}
 use Rattle.std.specs.List.{list_any}
 use Rattle.std.specs.Option.{option_map_or}
 use Rattle.oci_manifest.specs.Descriptor.{Descriptor, same_key, key_cmp}
-use Rattle.oci_store.specs.Content.{Entry, IsContent}
-use Rattle.oci_store.specs.Graph.{Node, nodes_of}
+use Rattle.oci_store.specs.Graph.{Node}
 use Rattle.oci_store.specs.Keyed.{value_at}
 
 -- whether a key is one of these
@@ -28,8 +27,3 @@ is_holder sets holder listed = option_map_or (λ keys. contains key_cmp keys hol
 -- each key's set has the keys that list it
 abbrev pub AreHolders : List Node → KeySets → Type 0
 AreHolders graph sets = (holder listed : Descriptor) → is_holder sets holder listed ≡ lists_key graph holder listed
-
--- each entry matches its key and reads, and the sets have the holders
-pub record IsIndexed (entries : List Entry) (sets : KeySets) : Type 0 where
-  pub content : IsContent entries
-  pub holders : AreHolders (nodes_of entries) sets

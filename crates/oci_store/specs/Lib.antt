@@ -9,6 +9,7 @@ pub mod Tags
 pub mod Contents
 pub mod Places
 pub mod Holders
+pub mod Memory
 pub mod Open
 pub mod Numbers
 pub mod Push

@@ -9,7 +9,7 @@ ghost use Rattle.oci_store.specs.Contents.{Contents, no_contents};
 ghost use Rattle.oci_store.specs.Graph.{nodes_of};
 ghost use Rattle.oci_store.specs.Keyed.{value_at, has_key};
 ghost use Rattle.oci_store.specs.Push.{push_check, closed_check, Answers, IsPlain};
-ghost use Rattle.oci_store.specs.Tags.{by_bytes};
+ghost use Rattle.oci_store.specs.Tags.{by_bytes, AreNames};
 
 mod dest;
 pub(crate) mod entry;
@@ -43,13 +43,13 @@ pub struct MemoryStore {
 
 impl Model for MemoryStore {
     ghost use Rattle.oci_store.specs.Contents.{Contents};
-    ghost use Rattle.oci_store.specs.Holders.{IsIndexed};
+    ghost use Rattle.oci_store.specs.Memory.{IsMemory};
 
     ghost Value = { Contents };
 
     ghost view = { λ s. record { entries = s.entries; tags = s.names } };
 
-    ghost invariant = { λ s. IsIndexed s.entries s.holders.sets };
+    ghost invariant = { λ s. IsMemory s.entries s.holders.sets s.names };
 }
 
 impl MemoryStore {
@@ -92,6 +92,7 @@ impl MemoryStore {
     pub fn tags(&self) -> Result<Vec<(String, Key)>, NoMemory>
         ensures exact { IfOk result (λ tags. by_bytes tags.items ≡ self.now.tags) }
         ensures order { IfOk result (λ tags. IsStrictlySortedBy (slice_cmp nat_cmp) (keys_of (by_bytes tags.items))) }
+        ensures names { AreNames (nodes_of self.now.entries) self.now.tags }
     {
         self.names.to_vec(self.alloc)
     }

@@ -1,10 +1,11 @@
-ghost use Rattle.std.specs.Prelude.{◌≡◌, false, MatchOption};
+ghost use Rattle.std.specs.Prelude.{◌≡◌, true, false, IfSome, MatchOption};
 ghost use Rattle.std.specs.Map.{keys_of};
 ghost use Rattle.std.specs.Option.{option_copied};
 ghost use Rattle.oci_digest.specs.Digest.{is_digest};
 ghost use Rattle.oci_store.specs.Content.{IsContent};
 ghost use Rattle.oci_store.specs.Graph.{nodes_of};
-ghost use Rattle.oci_store.specs.Tags.{IsResolved};
+ghost use Rattle.oci_store.specs.Keyed.{has_key};
+ghost use Rattle.oci_store.specs.Tags.{AreNames, IsResolved};
 
 use crate::fault::RefFault;
 use crate::memory::MemoryStore;
@@ -38,8 +39,10 @@ impl Tagger for MemoryStore {
 
 /// The key that a reference stands for.
 fn named<'s>(entries: &'s Entries, names: &'s Names, reference: &str) -> Option<&'s Key>
-    requires { IsContent entries.now }
-    ensures { IsResolved (keys_of (nodes_of entries.now)) names.now reference.now (option_copied result) }
+    requires content { IsContent entries.now }
+    requires names { AreNames (nodes_of entries.now) names.now }
+    ensures resolved { IsResolved (keys_of (nodes_of entries.now)) names.now reference.now (option_copied result) }
+    ensures there { IfSome (option_copied result) (λ key. has_key (nodes_of entries.now) key ≡ true) }
 {
     if let Some(key) = names.get(reference) {
         return Some(key);

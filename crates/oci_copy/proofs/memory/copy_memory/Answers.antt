@@ -13,7 +13,7 @@ use Rattle.oci_copy.specs.Fault.{Refused}
 use Rattle.oci_copy.specs.Grown.{IsTold}
 use Rattle.oci_copy.specs.Plain.{RefusedForPlan}
 use Rattle.oci_copy.proofs.Headline.{Agree-nodes_of}
-use Rattle.oci_copy.proofs.Places.{has_key-same_keys}
+use Rattle.oci_store.proofs.Lookups.{has_key-same_keys}
 use Rattle.oci_copy.proofs.Unfailing.{told_in_memory, refused_for_plan, length-nodes_of}
 use Rattle.oci_copy.proofs.memory.copy_memory.Goals as goal
 

@@ -3,6 +3,7 @@ use Rattle.oci_store.specs.Content.{Entry}
 use Rattle.oci_store.specs.Graph.{nodes_of}
 use Rattle.oci_store.specs.Keyed.{has_key}
 use Rattle.oci_store.proofs.Contents.{IsNew-from_check, IsNew-successors, IsContent-pushed, closed_check-ok}
+use Rattle.oci_store.proofs.References.{AreNames-pushed}
 use Rattle.oci_store.proofs.memory.MemoryStore.push_after_successors.Goals as goal
 
 pub new-requires : goal.new-requires
@@ -31,4 +32,5 @@ invariant_of-self-2 c =
     record {
       content = IsContent-pushed entries c.put.new.entries c.args.key.now c.args.content keys c.self.invariant.content passed (c.in_ok-put.ensures.pushed ∙ ap (λ (e : Entry). entries ++ e ∷ []) c.in_ok-held.ensures);
       holders = c.in_ok-put.ensures.holders;
+      names = AreNames-pushed entries c.put.new.entries c.in_ok-held.held c.self.inside.names c.self.invariant.names c.in_ok-put.ensures.pushed;
     }

@@ -1,23 +1,26 @@
-use Rattle.std.proofs.Common.{◌≡◌, List, ℕ, None, sym, ap, subst, ◌∙◌}
+use Rattle.std.proofs.Common.{◌≡◌, List, ℕ, Option, None, IfSome, true, sym, ap, subst, ◌∙◌}
 use Rattle.std.specs.Map.{keys_of}
 use Rattle.std.specs.Option.{option_copied}
+use Rattle.std.specs.Str.{bytes_eq}
 use Rattle.oci_manifest.specs.Descriptor.{Descriptor}
 use Rattle.oci_store.specs.Graph.{nodes_of}
 use Rattle.oci_store.specs.GraphLaws.{keys_of-nodes_of}
 use Rattle.oci_store.specs.Tags.{IsLeastOf, tag_at}
-use Rattle.oci_store.proofs.References.{IsResolved-digest, IsLeastOf-no_digest}
+use Rattle.oci_store.specs.Keyed.{has_key}
+use Rattle.oci_store.proofs.References.{IsResolved-digest, IsLeastOf-no_digest, least_held}
+use Rattle.std.proofs.lemmas.Map.Views.{IfSome-lookup_from_All}
 use Rattle.oci_store.proofs.memory.tagger.named.Goals as goal
 
-pub returns-in_default-parsed : goal.returns-in_default-parsed
-returns-in_default-parsed c =
+pub returns-in_default-parsed-clause-resolved : goal.returns-in_default-parsed-clause-resolved
+returns-in_default-parsed-clause-resolved c =
     let entries = c.args.entries.now in
     let reference = c.args.reference.now in
     let untagged : tag_at c.args.names.now reference ≡ None = sym c.get.ensures ∙ ap option_copied c.in_default.is in
     IsResolved-digest (keys_of (nodes_of entries)) c.args.names.now reference None untagged
-    (subst (λ (keys : List Descriptor). IsLeastOf keys reference None) (sym (keys_of-nodes_of entries)) (IsLeastOf-no_digest entries reference c.requires c.in_default-parsed.ensures))
+    (subst (λ (keys : List Descriptor). IsLeastOf keys reference None) (sym (keys_of-nodes_of entries)) (IsLeastOf-no_digest entries reference c.requires.content c.in_default-parsed.ensures))
 
-pub returns : goal.returns
-returns c =
+pub returns-clause-resolved : goal.returns-clause-resolved
+returns-clause-resolved c =
     let entries = c.args.entries.now in
     let reference = c.args.reference.now in
     let found = option_copied c.least_with.result in
@@ -25,3 +28,12 @@ returns c =
     IsResolved-digest (keys_of (nodes_of entries)) c.args.names.now reference found untagged
     (subst (λ (keys : List Descriptor). IsLeastOf keys reference found) (sym (keys_of-nodes_of entries))
     (subst (λ (digest : List ℕ). IsLeastOf (keys_of entries) digest found) c.in-Some-parsed.ensures c.least_with.ensures))
+
+pub returns-in-Some-clause-there : goal.returns-in-Some-clause-there
+returns-in-Some-clause-there c =
+    let P : Descriptor → Type 0 = λ (k : Descriptor). has_key (nodes_of c.args.entries.now) k ≡ true in
+    let named = IfSome-lookup_from_All P (bytes_eq c.args.reference.now) c.args.names.now c.requires.names.held in
+    subst (λ (o : Option Descriptor). IfSome o P) (sym c.get.ensures ∙ ap option_copied c.in-Some.is) named
+
+pub returns-clause-there : goal.returns-clause-there
+returns-clause-there c = least_held c.args.entries.now c.in-Some-parsed.digest (option_copied c.least_with.result) c.least_with.ensures

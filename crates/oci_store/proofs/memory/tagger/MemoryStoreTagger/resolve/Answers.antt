@@ -14,11 +14,11 @@ pub returns-in_err-try_clone-in-Some-clause-unknown : goal.returns-in_err-try_cl
 returns-in_err-try_clone-in-Some-clause-unknown c =
     let reference = c.args.reference.now in
     let key = c.in-Some.key.now in
-    never_unknown _ _ (Names c.args.self.now reference) key (subst (λ (s : Contents). Names s reference key) c.self.view_is c.in-Some.ensures)
+    never_unknown _ _ (Names c.args.self.now reference) key (subst (λ (s : Contents). Names s reference key) c.self.view_is c.in-Some.ensures.resolved)
     (memory_only c.from_residual.result c.from_residual.ensures.1)
 
 pub returns-in_ok-try_clone-in-Some-clause-unknown : goal.returns-in_ok-try_clone-in-Some-clause-unknown
 returns-in_ok-try_clone-in-Some-clause-unknown c =
     let reference = c.args.reference.now in
     let key = c.in-Some.key.now in
-    never_unknown _ _ (Names c.args.self.now reference) key (subst (λ (s : Contents). Names s reference key) c.self.view_is c.in-Some.ensures) (λ u. cc u)
+    never_unknown _ _ (Names c.args.self.now reference) key (subst (λ (s : Contents). Names s reference key) c.self.view_is c.in-Some.ensures.resolved) (λ u. cc u)
