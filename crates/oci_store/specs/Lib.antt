@@ -12,3 +12,4 @@ pub mod Holders
 pub mod Open
 pub mod Numbers
 pub mod Push
+pub mod Files
