@@ -1,5 +1,5 @@
 -- What a reference stands for.
-use Rattle.std.proofs.Common.{◌≡◌, ◌≢◌, ℕ, true, false, List, Option, Some, None, Result, Ok, Err, refl, sym, ap, subst, ◌∙◌}
+use Rattle.std.proofs.Common.{◌≡◌, ◌≢◌, ℕ, false, List, Option, Some, None, Result, Ok, Err, refl, sym, subst, ◌∙◌}
 use Rattle.std.specs.List.{All}
 use Rattle.std.specs.Result.{IsErrAnd, IsErrOf}
 use Rattle.std.specs.Map.{keys_of}
@@ -10,7 +10,7 @@ use Rattle.oci_manifest.specs.Descriptor.{Descriptor}
 use Rattle.oci_store.specs.Content.{Entry, Matches, IsContent}
 use Rattle.oci_store.specs.declared.fault.RefFault.{RefFault}
 use Rattle.oci_store.specs.declared.fault.RefFault.TheVariants as fault
-use Rattle.oci_store.specs.Tags.{Tags, tag_at, Resolves, IsResolved, IsLeastOf, IsLeastWith}
+use Rattle.oci_store.specs.Tags.{Tags, tag_at, IsResolved, IsLeastOf, IsLeastWith}
 use Rattle.oci_digest.proofs.DigestLemmas.{IsDigest-digest_of}
 
 -- a tag of that name decides
