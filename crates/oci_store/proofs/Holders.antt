@@ -1,7 +1,7 @@
 -- Sets of holders, one key at a time.
 use Rattle.std.proofs.Common.{◌≡◌, ℕ, ◌+◌, ◌<◌, Bool, true, false, cond, not, ◌&&◌, ◌||◌, inl, inr, List, [], ◌∷◌, ◌++◌, length, take, drop, get_or, Option, Some, None, is_some, arith, refl, sym, ap, subst, ◌∙◌}
 use Rattle.std.specs.Prelude.{Contains, ◌↔◌, Result, Ok, Err, OnErr, IsSome}
-use Rattle.std.specs.BTreeMap.{BTreeMap, get, get_by, is_at, Updates, UpdatesBy}
+use Rattle.std.specs.BTreeMap.{get, is_at, Updates}
 use Rattle.std.specs.BTreeSet.{BTreeSet, contains}
 use Rattle.std.specs.List.{list_any}
 use Rattle.std.specs.List.Sorted.{IsStrictlySortedBy}

@@ -1,11 +1,10 @@
 -- The least key with a digest, one key at a time.
-use Rattle.std.proofs.Common.{◌≡◌, ◌≢◌, ◌+◌, ◌<◌, ℕ, Bool, not, true, false, List, [], ◌∷◌, ◌++◌, length, take, get_or, Less, Equal, Greater, Option, Some, None, rules, refl, sym, ap, ◌∙◌}
-use Rattle.std.specs.List.{All}
+use Rattle.std.proofs.Common.{◌≡◌, ◌≢◌, ◌+◌, ◌<◌, ℕ, Bool, not, true, false, List, [], ◌∷◌, ◌++◌, length, take, get_or, Less, Equal, Greater, Option, Some, None, refl, sym, ap, ◌∙◌}
 use Rattle.std.specs.Map.{keys_of}
 use Rattle.std.specs.Ordering.{ordering_reverse, is_gt}
 use Rattle.std.specs.declared.cmp.Ordering.{Ordering}
 use Rattle.std.proofs.lemmas.Cmp.{tied_itself, upto}
-use Rattle.std.proofs.lemmas.List.Elements.{All-push, All-nil, All-weaker, Contains-append_left, Contains-push}
+use Rattle.std.proofs.lemmas.List.Elements.{All-push, All-weaker, Contains-append_left, Contains-push}
 use Rattle.std.specs.Str.{bytes_eq}
 use Rattle.std.proofs.lemmas.Bool.{not-false}
 use Rattle.std.proofs.lemmas.List.{take_more, map-append}
@@ -13,7 +12,7 @@ use Rattle.std.proofs.lemmas.Slice.Eq.{bytes_eq-Decides}
 use Rattle.oci_manifest.specs.Descriptor.{Descriptor, key_cmp}
 use Rattle.oci_store.specs.Content.{Entry}
 use Rattle.oci_store.proofs.KeyOrder.{key_cmp_total}
-use Rattle.oci_store.specs.Tags.{IsLeastWith, IsLeastOf}
+use Rattle.oci_store.specs.Tags.{IsLeastOf}
 
 abbrev NotAfter : List ℕ → Descriptor → Descriptor → Type 0
 NotAfter digest k other = other.digest ≡ digest → key_cmp k other ≢ Greater

@@ -8,3 +8,4 @@ pub mod Holders
 pub mod Leasts
 pub mod Names
 pub mod References
+pub mod Files

@@ -13,3 +13,4 @@ pub mod Memory
 pub mod Open
 pub mod Numbers
 pub mod Push
+pub mod Files

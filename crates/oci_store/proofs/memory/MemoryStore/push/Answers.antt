@@ -1,8 +1,8 @@
-use Rattle.std.proofs.Common.{List, [], ◌∷◌, ◌++◌, ap, ◌∙◌}
+use Rattle.std.proofs.Common.{[], ◌∷◌, ◌++◌, ap, ◌∙◌}
 use Rattle.oci_store.specs.Content.{Entry}
 use Rattle.oci_store.specs.Graph.{nodes_of}
 use Rattle.oci_store.specs.Keyed.{has_key}
-use Rattle.oci_store.proofs.Contents.{IsNew-from_check, IsNew-successors, IsContent-pushed, closed_check-ok}
+use Rattle.oci_store.proofs.Contents.{IsNew-from_check, IsNew-successors, IsContent-pushed}
 use Rattle.oci_store.proofs.References.{AreNames-pushed}
 use Rattle.oci_store.proofs.memory.MemoryStore.push.Goals as goal
 

@@ -1,4 +1,4 @@
-use Rattle.std.proofs.Common.{◌≡◌, true, cond, List, [], None, Some, sym, ap, subst, ◌∙◌}
+use Rattle.std.proofs.Common.{◌≡◌, true, cond, List, None, Some, sym, ap, subst, ◌∙◌}
 use Rattle.std.specs.BTreeMap.{Updates, get, is_at}
 use Rattle.std.specs.BTreeSet.{contains}
 use Rattle.std.specs.List.{list_any}

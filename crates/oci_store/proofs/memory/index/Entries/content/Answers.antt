@@ -1,4 +1,4 @@
-use Rattle.std.proofs.Common.{◌≡◌, Some, is_some, sym, ap, ◌∙◌, arith}
+use Rattle.std.proofs.Common.{Some, is_some, sym, ap, ◌∙◌, arith}
 use Rattle.std.specs.Option.{option_copied}
 use Rattle.oci_store.specs.Content.{Entry}
 use Rattle.oci_store.specs.GraphLaws.{has_key-nodes_of}
