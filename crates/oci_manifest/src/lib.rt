@@ -34,8 +34,3 @@ pub use fault::{KeyFault, ManifestFault};
 pub use key::{Key, MAX_SIZE};
 pub use kind::Kind;
 pub use manifest::successors;
-
-#[cfg(test)]
-mod contents;
-#[cfg(test)]
-mod tests;

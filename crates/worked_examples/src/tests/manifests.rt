@@ -2,8 +2,8 @@ use crate::contents::{
     Content, EMPTY, FOREIGN, IMAGE, INDEX, LAYER, bar, docker_image, empty, foo, image_0, image_1,
     image_2, image_3, image_4, index_1, index_2, index_3, index_4, referrer,
 };
-use crate::{Key, KeyFault, Kind, MAX_SIZE, ManifestFault, successors};
 use oci_digest::Digest;
+use oci_manifest::{Key, KeyFault, Kind, MAX_SIZE, ManifestFault, successors};
 use std::alloc::Global;
 use std::process::Abort;
 use std::test::Fail;

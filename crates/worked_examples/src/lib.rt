@@ -1,0 +1,15 @@
+//! Worked examples of the library, run through its public calls.
+//!
+//! This crate has tests alone. A proof covers what a contract says, for every input; what stands here is what no contract
+//! says: that a call succeeds where memory is there, that the numbers, sizes and digests of known contents come out as
+//! other tools have them, and how a refusal prints.
+//!
+//! `contents` makes the contents, and `tests` has a module for each part of the library: `manifests` (what a manifest
+//! lists); `pushes`, `graphs` and `tags` (stores); `plans`; `copies`, `references`, `failing` and `large` (copies); and
+//! `faults`, how each refusal prints.
+#![tactic(auto)]
+
+#[cfg(test)]
+mod contents;
+#[cfg(test)]
+mod tests;

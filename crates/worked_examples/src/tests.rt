@@ -1,0 +1,11 @@
+mod copies;
+mod failing;
+mod faults;
+mod graphs;
+mod large;
+mod manifests;
+mod plans;
+mod pushes;
+mod references;
+mod stores;
+mod tags;

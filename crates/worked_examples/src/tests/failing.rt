@@ -1,0 +1,122 @@
+ghost use Rattle.std.specs.Prelude.{◌≡◌};
+ghost use Rattle.std.specs.Option.{ForSome};
+ghost use Rattle.oci_store.specs.Graph.{nodes_of};
+
+use crate::contents::Sample::{Bar, Empty, Foo, Image2, Image3, Index1};
+use crate::tests::copies::copied;
+use crate::tests::stores::{assert_holds, keys, memory};
+use bytes::Bytes;
+use oci_digest::NoMemory;
+use oci_manifest::Key;
+use oci_store::{ClosedStore, Dest, PushFault, Store};
+use std::alloc::Global;
+use std::process::Abort;
+use std::test::Fail;
+
+/// A store that passes so many pushes to a closed one, fails the next as a device does, and then passes all.
+///
+/// Until then it has a spare store with the same keys, which looks at each push first: a device fails only at a push against
+/// which nothing else stands.
+#[derive(Drop)]
+struct FailingStore {
+    store: ClosedStore,
+    spare: Option<ClosedStore>,
+    passing: u64,
+    ghost same: { ForSome spare (λ s. nodes_of s.entries ≡ nodes_of store.entries) },
+}
+
+impl FailingStore {
+    /// An empty store that fails the push after so many.
+    fn new(alloc: Global, passing: u64) -> FailingStore {
+        FailingStore {
+            store: ClosedStore::new(alloc),
+            spare: Some(ClosedStore::new(alloc)),
+            passing,
+        }
+    }
+}
+
+impl Store for FailingStore {
+    ghost use Rattle.std.specs.Prelude.{[], ⊤, cond, is_some};
+    ghost use Rattle.std.proofs.Common.{refl};
+    ghost use Rattle.oci_store.specs.GraphLaws.{keys_of-nodes_of};
+
+    ghost nodes = { λ s. nodes_of s.store.entries };
+
+    ghost entries = { λ s. s.store.entries };
+
+    ghost tags = { λ s. s.store.tags };
+
+    ghost name = { λ s. [] };
+
+    ghost is_honest = { λ s. ⊤ };
+
+    ghost is_sound = { λ s. ⊤ };
+
+    ghost failure_count = { λ s. cond (is_some s.spare) 0 1 };
+
+    ghost same_keys = { λ s. keys_of-nodes_of s.store.entries };
+
+    ghost listed = { λ s _. refl };
+}
+
+impl Dest for FailingStore {
+    ghost shares = { ⊥ };
+
+    ghost is_halted = { λ s. ⊥ };
+
+    fn has(&self, key: &Key) -> bool {
+        self.store.has(key)
+    }
+
+    fn count(&self) -> usize {
+        self.store.count()
+    }
+
+    fn missing(&self) -> Result<Option<(Key, Key)>, NoMemory> {
+        self.store.missing()
+    }
+
+    fn push_closed(&mut self, key: &Key, content: Bytes) -> Result<usize, PushFault> {
+        let again = content.clone().map_err(|_| PushFault::Memory)?;
+        let Some(mut spare) = self.spare.take() else {
+            return self.store.push_closed(key, content);
+        };
+        if let Err(fault) = spare.push_closed(key, again) {
+            self.spare = Some(spare);
+            return Err(fault);
+        }
+        if self.passing == 0 {
+            return Err(PushFault::Device);
+        }
+        self.passing -= 1;
+        let place = self.store.push_closed(key, content)?;
+        self.spare = Some(spare);
+        Ok(place)
+    }
+
+    fn failures(&self) -> u64 {
+        if self.spare.is_some() { 0 } else { 1 }
+    }
+}
+
+/// The store fails its third push, and the copy is refused; the same copy into what came back brings the rest.
+#[test]
+fn failing_push(rt: HostRuntime) -> Result<(), Fail> {
+    let alloc = rt.alloc();
+    let all = [Empty, Foo, Bar, Image2, Image3, Index1];
+    let source = memory(alloc, &all)?;
+    let roots = keys(alloc, &[Index1])?;
+    let destination = FailingStore::new(alloc, 2);
+    let (destination, told) = copied(alloc, &source, destination, &roots, 0)?;
+    assert!(rt;
+        told.starts_with("82 Push ") && told.ends_with(" 43 Device"),
+        "{told}"
+    );
+    assert_eq!(rt; destination.count(), 2);
+    assert_eq!(rt; destination.failures(), 1);
+    assert!(rt; destination.missing()?.is_none());
+    let (destination, told) = copied(alloc, &source, destination, &roots, 0)?;
+    assert_eq!(rt; told.as_str(), "planned 4 pushed 4 skipped 0");
+    assert_holds(&rt, destination.store.memory(), &all)
+}

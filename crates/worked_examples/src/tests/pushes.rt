@@ -1,0 +1,74 @@
+use crate::contents::Sample::{Empty, Image0};
+use crate::contents::{EMPTY, IMAGE, Sample};
+use crate::tests::stores::{assert_holds, memory, push};
+use bytes::Bytes;
+use oci_digest::Digest;
+use oci_manifest::Key;
+use oci_store::MemoryStore;
+use std::alloc::Global;
+use std::process::Abort;
+use std::test::Fail;
+
+fn key(alloc: Global, media_type: &str, digest: Digest, size: u64) -> Result<Key, Fail> {
+    let media_type = String::from_str(alloc, media_type)?;
+    Ok(Key::new(media_type, digest, size)?)
+}
+
+/// Pushes under the sample's own key, and compares what is told.
+fn assert_push<R: AllocGlobal + Abort>(
+    rt: &R,
+    store: &mut MemoryStore,
+    sample: Sample,
+    want: &str,
+) -> Result<(), Fail> {
+    let alloc = rt.alloc();
+    let got = push(alloc, store, &sample.key(alloc)?, sample.bytes(alloc)?)?;
+    assert_eq!(rt; got.as_str(), want);
+    Ok(())
+}
+
+#[test]
+fn push_twice(rt: HostRuntime) -> Result<(), Fail> {
+    let mut store = memory(rt.alloc(), &[])?;
+    assert_push(&rt, &mut store, Empty, "place 0")?;
+    assert_push(&rt, &mut store, Empty, "30 AlreadyExists")?;
+    assert_holds(&rt, &store, &[Empty])
+}
+
+/// Pushes under some key, and compares what is told; the store stays empty.
+fn assert_refused<R: AllocGlobal + Abort>(
+    rt: &R,
+    key: &Key,
+    bytes: Bytes,
+    want: &str,
+) -> Result<(), Fail> {
+    let mut store = memory(rt.alloc(), &[])?;
+    let got = push(rt.alloc(), &mut store, key, bytes)?;
+    assert_eq!(rt; got.as_str(), want);
+    assert_holds(rt, &store, &[])
+}
+
+#[test]
+fn push_refusals(rt: HostRuntime) -> Result<(), Fail> {
+    let alloc = rt.alloc();
+    let of_empty = Digest::of(b"{}");
+    let longer = key(alloc, EMPTY, of_empty, 3)?;
+    assert_refused(&rt, &longer, Empty.bytes(alloc)?, "31 SizeMismatch")?;
+    let other = key(alloc, EMPTY, Digest::of(b"foo"), 2)?;
+    assert_refused(&rt, &other, Empty.bytes(alloc)?, "32 DigestMismatch")?;
+    let list = key(alloc, IMAGE, Digest::of(b"[]"), 2)?;
+    let bytes = Bytes::from_vec(b"[]".to_vec(alloc)?)?;
+    assert_refused(&rt, &list, bytes, "33 BadManifest 11 NotObject")
+}
+
+/// An entry by its place, and the empty store.
+#[test]
+fn entries(rt: HostRuntime) -> Result<(), Fail> {
+    let alloc = rt.alloc();
+    let store = memory(alloc, &[Empty, Image0])?;
+    let key = store.entry(1).map(|(key, _)| key.size());
+    assert_eq!(rt; key, Some(241));
+    assert!(rt; store.entry(2).is_none());
+    assert!(rt; !store.is_empty() && memory(alloc, &[])?.is_empty());
+    Ok(())
+}
