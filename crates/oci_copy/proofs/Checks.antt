@@ -1,15 +1,14 @@
 -- What the check of a push finds for bytes that match, under a key that is not held.
-use Rattle.std.proofs.Common.{◌≡◌, ◌≢◌, ℕ, Bool, true, false, not, List, Option, Some, None, Result, Ok, Err, refl, sym, ap, ◌∙◌, eq-eqb}
-use Rattle.std.specs.Prelude.{◌==◌, length, Contains, find}
-use Rattle.std.proofs.lemmas.Bool.{false≢true, cases_Bool}
+use Rattle.std.proofs.Common.{◌≡◌, ℕ, true, false, List, Option, Some, None, Result, Ok, Err, refl, sym, ap, ◌∙◌, eq-eqb}
+use Rattle.std.specs.Prelude.{◌==◌, length}
 use Rattle.std.proofs.lemmas.Slice.Eq.{bytes_eq-Decides}
-use Rattle.oci_digest.specs.Digest.{Verifies, verifies, digest_of}
+use Rattle.oci_digest.specs.Digest.{verifies, digest_of}
 use Rattle.oci_manifest.specs.Descriptor.{Descriptor}
 use Rattle.oci_manifest.specs.Fault.{Fault}
 use Rattle.oci_store.specs.Keyed.{has_key, HasAll, first_missing}
-use Rattle.oci_store.specs.Content.{Entry, Matches, succ_of, successors_in}
+use Rattle.oci_store.specs.Content.{Matches, succ_of, successors_in}
 use Rattle.oci_store.specs.Graph.{Node}
-use Rattle.oci_store.specs.Push.{Refusal, push_check, closed_check, read_check, held_check, successors_check, already_exists, size_mismatch, digest_mismatch, bad_manifest, missing_successor}
+use Rattle.oci_store.specs.Push.{push_check, closed_check, read_check, held_check, successors_check}
 use Rattle.oci_store.proofs.Lookups.{HasAll-from_first_missing, first_missing-from_HasAll}
 
 -- bytes that match pass the checks of size and digest

@@ -1,17 +1,17 @@
 -- A push keeps what a run keeps.
-use Rattle.std.proofs.Common.{◌≡◌, ◌≤◌, ◌<◌, ◌-◌, ◌^◌, ◌⊎◌, inl, inr, ℕ, true, List, [], ◌∷◌, ◌++◌, Some, sym, ap, ◌∙◌, append_assoc, append-nil, subst, arith}
+use Rattle.std.proofs.Common.{◌≡◌, ◌≤◌, ◌<◌, ◌-◌, ◌^◌, inl, inr, ℕ, true, List, [], ◌∷◌, ◌++◌, Some, sym, ap, ◌∙◌, append_assoc, append-nil, subst, arith}
 use Rattle.std.specs.Prelude.{Contains}
 use Rattle.std.specs.List.{All}
 use Rattle.std.proofs.lemmas.List.Elements.{All-nil, All-weaker, All-push}
 use Rattle.oci_manifest.specs.Descriptor.{Descriptor, same_key}
 use Rattle.oci_manifest.proofs.Keys.{Decides-same_key, cases}
 use Rattle.oci_store.specs.Keyed.{value_at, has_key, HasAll}
-use Rattle.oci_store.specs.Content.{Entry, Matches, successors_in}
+use Rattle.oci_store.specs.Content.{Entry, successors_in}
 use Rattle.oci_store.specs.Graph.{Node, node_of, nodes_of}
 use Rattle.oci_store.specs.Push.{IsCalm, IsUndisturbed, AgreesAt}
 use Rattle.oci_store.proofs.Lookups.{All-value_at, value_at-append_cases, has_key-append_left}
 use Rattle.oci_copy.specs.Grown.{IsTold}
-use Rattle.oci_copy.specs.Kept.{Keeps, IsOpeningAnd, ArePlanned}
+use Rattle.oci_copy.specs.Kept.{Keeps, IsOpeningAnd}
 
 -- the graph of a content has the nodes of its pairs
 pub value_at-nodes_of : (entries : List Entry) (k : Descriptor) (bytes : List ℕ) → value_at entries k ≡ Some bytes → value_at (nodes_of entries) k ≡ Some (successors_in k bytes)

@@ -1,5 +1,5 @@
 -- Which keys have been pushed at a place of a plan's order.
-use Rattle.std.proofs.Common.{◌≡◌, ℕ, ◌+◌, ◌<◌, ◌≤◌, ◌⊎◌, inl, inr, Bool, true, false, List, [], ◌∷◌, ◌++◌, length, get_or, take, Option, Some, None, Result, Ok, Err, refl, sym, ap, subst, ◌∙◌, arith, length-append}
+use Rattle.std.proofs.Common.{◌≡◌, ℕ, ◌+◌, ◌<◌, ◌≤◌, ◌⊎◌, inl, inr, true, false, List, [], ◌∷◌, ◌++◌, length, get_or, take, Option, Some, None, Result, Ok, Err, refl, sym, ap, subst, ◌∙◌, arith, length-append}
 use Rattle.std.specs.Prelude.{Contains, slice_get, filter_map, unwrap_or, IsOk}
 use Rattle.std.specs.List.{All, IsDistinct}
 use Rattle.std.specs.Map.{keys_of}
@@ -10,7 +10,7 @@ use Rattle.std.proofs.lemmas.List.Elements.{All-cons, All-nil, All-weaker, All-c
 use Rattle.std.proofs.lemmas.Map.Keys.{apart_from_distinct}
 use Rattle.std.proofs.lemmas.Option.{slice_get_within, get_or_from_slice_get, slice_get-get_or}
 use Rattle.oci_manifest.specs.Descriptor.{Descriptor, same_key}
-use Rattle.oci_manifest.proofs.Keys.{Decides-same_key, cases}
+use Rattle.oci_manifest.proofs.Keys.{Decides-same_key}
 use Rattle.oci_manifest.specs.Fault.{Fault}
 use Rattle.oci_store.specs.Keyed.{value_at, has_key, HasAll}
 use Rattle.oci_store.specs.Content.{Entry, succ_of, successors_in}

@@ -5,13 +5,10 @@ use Rattle.oci_manifest.specs.Fault.{Fault, IsFault}
 use Rattle.oci_store.specs.Closed.{IsClosed, first_open}
 use Rattle.oci_store.specs.Content.{Entry}
 use Rattle.oci_store.specs.Graph.{Node, nodes_of}
-use Rattle.oci_store.specs.Keyed.{has_key}
 use Rattle.oci_store.specs.declared.fault.FetchFault.{FetchFault}
 use Rattle.oci_store.specs.declared.fault.FetchFault.TheVariants as fetch
 use Rattle.oci_store.specs.declared.fault.PushFault.{PushFault}
 use Rattle.oci_store.specs.declared.fault.PushFault.TheVariants as push
-use Rattle.oci_store.specs.declared.fault.RefFault.{RefFault}
-use Rattle.oci_store.specs.declared.fault.RefFault.TheVariants as reference
 use Rattle.oci_plan.specs.Outside.{IsOutside}
 use Rattle.oci_plan.specs.Refusal.{IsDeviceFault, IsKeyFault, IsFirstFault}
 use Rattle.oci_plan.specs.declared.fault.PlanFault.{PlanFault}

@@ -1,16 +1,15 @@
 -- Why a copy is refused where neither store fails.
-use Rattle.std.specs.Prelude.{◌≡◌, ℕ, ◌<◌, false, List, length}
-use Rattle.std.specs.List.{All, IsDistinct}
+use Rattle.std.specs.Prelude.{◌≡◌, ℕ, false, List}
+use Rattle.std.specs.List.{All}
 use Rattle.oci_manifest.specs.Descriptor.{Descriptor}
 use Rattle.oci_store.specs.Keyed.{has_key}
 use Rattle.oci_store.specs.Content.{Entry}
 use Rattle.oci_store.specs.Graph.{Node, nodes_of}
-use Rattle.oci_plan.specs.Refusal.{IsFirstFault}
 use Rattle.oci_plan.specs.declared.fault.PlanFault.{PlanFault}
 use Rattle.oci_plan.specs.declared.fault.PlanFault.TheVariants as plan
 use Rattle.oci_plan.specs.Outside.{IsOutside, IsKeyCycle}
 use Rattle.oci_plan.specs.Refusal.{IsTooLarge, HasTooMany}
-use Rattle.oci_plan.specs.Visiting.{IsWithin, IsFirstAtFault}
+use Rattle.oci_plan.specs.Visiting.{IsFirstAtFault}
 use Rattle.oci_copy.specs.declared.fault.CopyFault.{CopyFault}
 use Rattle.oci_copy.specs.declared.fault.CopyFault.TheVariants as fault
 

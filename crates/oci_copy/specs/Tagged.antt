@@ -1,14 +1,11 @@
 -- Copies by reference: the root that a reference stands for, and the tag that is set.
-use Rattle.std.specs.Prelude.{◌≡◌, ◌≢◌, ℕ, ◌<◌, ◌≤◌, ◌==◌, length, ◌⊎◌, Bool, List, [], ◌∷◌, if◌then◌else◌}
+use Rattle.std.specs.Prelude.{◌≡◌, ◌≢◌, ℕ, ◌<◌, ◌≤◌, ◌==◌, length, ◌⊎◌, List, [], ◌∷◌, if◌then◌else◌}
 use Rattle.oci_manifest.specs.Descriptor.{Descriptor}
-use Rattle.oci_store.specs.Content.{Entry}
-use Rattle.oci_store.specs.Graph.{Node}
 use Rattle.oci_store.specs.Tags.{Tags, Resolves}
 use Rattle.oci_store.specs.declared.fault.RefFault.{RefFault}
 use Rattle.oci_store.specs.declared.fault.RefFault.TheVariants as reference
 use Rattle.oci_copy.specs.declared.fault.CopyFault.{CopyFault}
 use Rattle.oci_copy.specs.declared.fault.CopyFault.TheVariants as fault
-use Rattle.oci_copy.specs.Fault.{Refused}
 
 -- the tag that a copy sets: the destination's reference, or the source's where that is empty
 abbrev pub name_of : List ℕ → List ℕ → List ℕ

@@ -1,30 +1,27 @@
 -- One visited key: what its checks, its fetch and its reading say of it.
-use Rattle.std.proofs.Common.{◌≡◌, ℕ, Bool, true, false, ◌⊎◌, inl, inr, List, [], ◌∷◌, length, Option, Some, None, Result, Ok, Err, refl, sym, ap, subst, ◌∙◌}
-use Rattle.std.specs.Prelude.{option_map, is_some, unwrap_or, IfOk, IfErr, OnOk, IsErrOf, ◌↔◌}
+use Rattle.std.proofs.Common.{◌≡◌, ℕ, Bool, true, false, inl, inr, List, [], ◌∷◌, Option, Some, None, Result, Ok, Err, refl, sym, ap, subst, ◌∙◌}
+use Rattle.std.specs.Prelude.{option_map, is_some, unwrap_or, IfOk, IfErr, OnOk}
 use Rattle.std.specs.Result.{result_unwrap_or}
-use Rattle.std.specs.List.{IsDistinct, AllByRecursion, filter}
-use Rattle.std.proofs.lemmas.Bool.{false≢true}
+use Rattle.std.specs.List.{IsDistinct}
 use Rattle.oci_manifest.specs.Descriptor.{Descriptor, same_key}
-use Rattle.oci_manifest.specs.Fault.{Fault, Fails, Gives, IsFault}
+use Rattle.oci_manifest.specs.Fault.{Fault, Fails}
 use Rattle.oci_manifest.specs.declared.fault.ManifestFault.{ManifestFault}
 use Rattle.oci_manifest.specs.declared.fault.ManifestFault.TheVariants as reading
 use Rattle.oci_manifest.specs.MediaTypes.{kind_of}
-use Rattle.oci_manifest.specs.Manifest.{first_places, is_distributed}
 use Rattle.oci_manifest.specs.Reading.{successors_of}
 use Rattle.oci_manifest.specs.declared.kind.Kind.{Kind}
-use Rattle.oci_manifest.specs.declared.kind.Kind.TheVariants.{Image, Index, DockerImage, DockerList, Artifact, Leaf}
+use Rattle.oci_manifest.specs.declared.kind.Kind.TheVariants.{Leaf}
 use Rattle.oci_manifest.proofs.Keys.{Decides-same_key, cases}
 use Rattle.oci_manifest.proofs.Laws.{successors_of-distinct}
 use Rattle.oci_store.specs.Keyed.{value_at, has_key}
 use Rattle.oci_store.specs.Content.{Entry, Matches, succ_of, successors_in}
-use Rattle.oci_store.specs.Graph.{Node, nodes_of}
+use Rattle.oci_store.specs.Graph.{nodes_of}
 use Rattle.oci_store.specs.declared.fault.FetchFault.{FetchFault}
 use Rattle.oci_store.specs.declared.fault.FetchFault.TheVariants as fetch
 use Rattle.oci_plan.specs.Visiting.{successors_at, IsWithin}
 use Rattle.oci_plan.specs.Refusal.{IsKeyFault, IsOfKey, IsUnread}
 use Rattle.oci_plan.specs.Walk.{IsPassed, IsReadFault, fetch_refusal, read_refusal}
 use Rattle.std.specs.Global.{Vec}
-use Rattle.oci_plan.proofs.Places.{IsDistinct-places}
 use Rattle.oci_plan.specs.declared.fault.PlanFault.{PlanFault}
 use Rattle.oci_plan.specs.declared.fault.PlanFault.TheVariants as fault
 

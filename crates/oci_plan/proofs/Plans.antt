@@ -1,11 +1,11 @@
 -- What a finished walk and an order of its lists make: a plan, or a cycle of keys.
-use Rattle.std.proofs.Common.{◌≡◌, ◌≢◌, ℕ, zero, suc, ◌+◌, ◌-◌, ◌<◌, ◌≤◌, Bool, true, false, cond, not, ◌⊎◌, inl, inr, List, [], ◌∷◌, ◌++◌, length, map, take, get_or, eqb, Option, Some, None, refl, sym, ap, subst, ◌∙◌, arith}
-use Rattle.std.specs.Prelude.{Contains, AllPairs, filter_map, nat_le}
+use Rattle.std.proofs.Common.{◌≡◌, ℕ, zero, suc, ◌+◌, ◌-◌, ◌<◌, true, false, not, ◌⊎◌, inl, inr, List, [], ◌∷◌, length, map, take, get_or, eqb, Option, Some, None, refl, sym, ap, subst, ◌∙◌, arith}
+use Rattle.std.specs.Prelude.{Contains, filter_map, nat_le}
 use Rattle.std.specs.Global.{Vec}
 use Rattle.std.specs.List.{filter, slice_get, find, cons_option, All, AllZip, AllByRecursion, IsDistinct}
-use Rattle.std.proofs.lemmas.Bool.{false≢true, both_ways, eqb-true, lt-leb, leb-true, cases_lt, cases_eq, or_left, or_right}
-use Rattle.std.proofs.lemmas.List.{length-map, get_or-map, get_or_past, get_or_default}
-use Rattle.std.proofs.lemmas.List.Elements.{All-nil, All-head, All-tail, All-weaker, All-contains, All-contains_itself}
+use Rattle.std.proofs.lemmas.Bool.{both_ways, eqb-true, lt-leb, cases_lt, or_left, or_right}
+use Rattle.std.proofs.lemmas.List.{length-map, get_or_past, get_or_default}
+use Rattle.std.proofs.lemmas.List.Elements.{All-head, All-tail, All-weaker, All-contains, All-contains_itself}
 use Rattle.std.proofs.lemmas.Map.Keys.{IsDistinct-head, IsDistinct-tail, IsDistinct-from_apart}
 use Rattle.std.proofs.lemmas.Option.{slice_get_within, get_or_from_slice_get, slice_get-get_or}
 use Rattle.oci_manifest.specs.Descriptor.{Descriptor, same_key}
@@ -13,13 +13,13 @@ use Rattle.oci_manifest.proofs.Keys.{Decides-same_key, cases}
 use Rattle.oci_store.specs.Keyed.{has_key}
 use Rattle.oci_store.specs.Content.{Entry}
 use Rattle.oci_store.specs.Graph.{Node, nodes_of, IsEdge}
-use Rattle.oci_plan.specs.Graph.{lists_of, successors_of, without_doubles, HasEdge, AreNumbers, IsGraph, IsCycle, IsFirstBad}
-use Rattle.oci_plan.specs.Order.{Ordered, IsOrder, FollowsSuccessors}
+use Rattle.oci_plan.specs.Graph.{lists_of, successors_of, without_doubles, HasEdge, IsGraph, IsCycle, IsFirstBad}
+use Rattle.oci_plan.specs.Order.{Ordered, IsOrder}
 use Rattle.oci_plan.specs.Fault.{IsCauseOf}
 use Rattle.oci_plan.specs.Outside.{IsOutside, IsKeyCycle}
 use Rattle.oci_plan.specs.Visiting.{successors_at, is_fresh, is_among}
-use Rattle.oci_plan.specs.Plan.{Planned, Number, HasEdges, FollowsListed, keys_before}
-use Rattle.oci_plan.specs.Refusal.{IsKeyFault, IsFirstFault}
+use Rattle.oci_plan.specs.Plan.{Number, HasEdges, FollowsListed}
+use Rattle.oci_plan.specs.Refusal.{IsFirstFault}
 use Rattle.oci_plan.specs.Walk.{IsListOf, IsWalk, IsTellable, IsTold, IsNamedCycle}
 use Rattle.oci_plan.specs.declared.fault.OrderFault.{OrderFault}
 use Rattle.oci_plan.specs.declared.fault.OrderFault.TheVariants as ordering

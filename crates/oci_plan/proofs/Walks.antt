@@ -1,23 +1,22 @@
 -- The walk: its start, one more key, its end, and what a refusal says.
-use Rattle.std.proofs.Common.{◌≡◌, ℕ, zero, suc, ◌+◌, ◌<◌, ◌≤◌, Bool, true, false, cond, not, ◌⊎◌, inl, inr, List, [], ◌∷◌, ◌++◌, length, map, take, get_or, Option, Some, None, Result, Ok, Err, refl, sym, ap, subst, ◌∙◌, arith, append-nil, append_assoc}
-use Rattle.std.specs.Prelude.{Contains, IsOk}
+use Rattle.std.proofs.Common.{◌≡◌, ℕ, ◌<◌, ◌≤◌, Bool, true, false, ◌⊎◌, inl, inr, List, [], ◌∷◌, ◌++◌, length, take, Some, Ok, refl, sym, ap, subst, ◌∙◌, arith, append-nil}
+use Rattle.std.specs.Prelude.{Contains}
 use Rattle.std.specs.Global.{Vec}
-use Rattle.std.specs.List.{filter, slice_get, All, AllZip, IsDistinct}
+use Rattle.std.specs.List.{filter, slice_get, AllZip, IsDistinct}
 use Rattle.std.proofs.lemmas.Bool.{not-true}
 use Rattle.std.proofs.lemmas.List.{take_all, take_more, take-append-le, length_push}
-use Rattle.std.proofs.lemmas.List.Elements.{All-nil, All-push, All-contains, All-weaker, filter-append}
+use Rattle.std.proofs.lemmas.List.Elements.{All-nil, All-push, All-weaker, filter-append}
 use Rattle.std.proofs.lemmas.Option.{slice_get_within, get_or_from_slice_get}
 use Rattle.oci_manifest.specs.Descriptor.{Descriptor, same_key}
 use Rattle.oci_manifest.specs.Manifest.{first_places}
-use Rattle.oci_manifest.specs.Fault.{Fault}
-use Rattle.oci_manifest.proofs.Keys.{Decides-same_key, cases}
-use Rattle.oci_store.specs.Keyed.{value_at, has_key}
+use Rattle.oci_manifest.proofs.Keys.{cases}
+use Rattle.oci_store.specs.Keyed.{has_key}
 use Rattle.oci_store.specs.Content.{Entry, succ_of}
 use Rattle.oci_store.specs.Graph.{Node, nodes_of}
 use Rattle.oci_plan.specs.Outside.{IsOutside}
-use Rattle.oci_plan.specs.Visiting.{successors_at, candidates, is_fresh, is_among, with_key, with_keys, next_visit, IsVisiting, start, next, IsWithin, IsSoundItem, IsFirstAtFault}
+use Rattle.oci_plan.specs.Visiting.{successors_at, candidates, is_fresh, is_among, with_keys, IsVisiting, start, next, IsSoundItem, IsFirstAtFault}
 use Rattle.oci_plan.specs.Plan.{Number}
-use Rattle.oci_plan.specs.Refusal.{IsKeyFault, IsOfKey, IsFirstFault, HasTooMany}
+use Rattle.oci_plan.specs.Refusal.{IsKeyFault, IsOfKey, IsFirstFault}
 use Rattle.oci_plan.specs.Walk.{IsListOf, IsPassed, IsWalk, IsNumberFault}
 use Rattle.oci_plan.specs.declared.fault.PlanFault.{PlanFault}
 use Rattle.oci_plan.specs.declared.fault.PlanFault.TheVariants as fault

@@ -1,5 +1,5 @@
 -- The walk that finds what a plan needs: which keys were visited, and the numbers that stand for their successors.
-use Rattle.std.specs.Prelude.{◌≡◌, ℕ, ◌<◌, ◌≤◌, ◌⊎◌, true, false, List, length, Some, Ok, Err, map, filter, Contains, slice_get}
+use Rattle.std.specs.Prelude.{◌≡◌, ℕ, ◌<◌, ◌≤◌, ◌⊎◌, true, false, List, length, Some, Ok, Err, filter, Contains}
 use Rattle.std.specs.List.{All, AllZip, IsDistinct}
 use Rattle.std.specs.Global.{Vec}
 use Rattle.oci_manifest.specs.Descriptor.{Descriptor, same_key}

@@ -3,7 +3,6 @@ use Rattle.std.specs.Prelude.{⊤}
 use Rattle.std.proofs.lemmas.Result.{IfOk-weaker, IfErr-weaker}
 use Rattle.oci_manifest.specs.Descriptor.{Descriptor}
 use Rattle.oci_store.specs.Keyed.{has_key}
-use Rattle.oci_store.specs.Contents.{Contents}
 use Rattle.oci_store.specs.Graph.{nodes_of, Reaches}
 use Rattle.oci_store.specs.GraphLaws.{keys_of-nodes_of}
 use Rattle.oci_store.specs.Copied.{Agree, IsCopied}

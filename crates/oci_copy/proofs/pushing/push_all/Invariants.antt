@@ -1,4 +1,4 @@
-use Rattle.std.proofs.Common.{◌≡◌, ◌+◌, ◌++◌, ℕ, length}
+use Rattle.std.proofs.Common.{◌≡◌, ◌+◌, ◌++◌, length}
 use Rattle.std.specs.Map.{keys_of}
 use Rattle.oci_plan.specs.Plan.{keys_before}
 use Rattle.oci_copy.specs.Kept.{Keeps}

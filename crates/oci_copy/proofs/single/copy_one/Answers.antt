@@ -1,4 +1,3 @@
-use Rattle.std.proofs.Common.{◌≡◌}
 use Rattle.std.proofs.lemmas.List.Elements.{All-contains}
 use Rattle.oci_plan.specs.Visiting.{IsSoundItem}
 use Rattle.oci_copy.specs.Options.{limit_of}

@@ -1,4 +1,4 @@
-use Rattle.std.proofs.Common.{◌≡◌, List, inr}
+use Rattle.std.proofs.Common.{List, inr}
 use Rattle.std.specs.Map.{keys_of}
 use Rattle.oci_manifest.specs.Descriptor.{Descriptor}
 use Rattle.oci_copy.specs.Options.{limit_of}

@@ -1,4 +1,4 @@
-use Rattle.std.proofs.Common.{◌≡◌, ◌≤◌, ◌-◌, length, take}
+use Rattle.std.proofs.Common.{◌≤◌, ◌-◌, length, take}
 use Rattle.oci_plan.specs.Walk.{IsWalk}
 use Rattle.oci_plan.proofs.gathering.walk.visit.Given as goal
 

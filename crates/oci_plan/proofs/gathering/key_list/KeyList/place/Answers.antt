@@ -1,4 +1,4 @@
-use Rattle.std.proofs.Common.{◌≡◌, ℕ, List, [], ◌∷◌, ◌++◌, length, Some, None, sym, ap, subst, ◌∙◌, rules, arith}
+use Rattle.std.proofs.Common.{◌≡◌, ℕ, List, [], ◌∷◌, ◌++◌, length, Some, None, sym, ap, subst, ◌∙◌, rules}
 use Rattle.std.specs.BTreeMap.{get, Updates}
 use Rattle.std.specs.List.{slice_get}
 use Rattle.oci_manifest.specs.Descriptor.{Descriptor, key_cmp}
