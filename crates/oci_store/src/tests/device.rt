@@ -15,8 +15,8 @@ use std::alloc::Global;
 use std::collections::BTreeMap;
 use std::marker::Model;
 
-/// A store over a device that has a file a digest and may fail a put. What each content lists was
-/// read when it came; its bytes are in the file alone.
+/// A store over a device that has a file a digest and may fail a put. The graph keeps what was read
+/// when each content came; a fetch gives what the file has now.
 #[derive(Drop)]
 pub(crate) struct DeviceStore {
     alloc: Global,
