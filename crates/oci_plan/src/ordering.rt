@@ -60,6 +60,3 @@ impl Order {
         Some(list)
     }
 }
-
-#[cfg(test)]
-mod tests;

@@ -5,8 +5,8 @@
 //! other tools have them, and how a refusal prints.
 //!
 //! `contents` makes the contents, and `tests` has a module for each part of the library: `manifests` (what a manifest
-//! lists); `pushes`, `graphs` and `tags` (stores); `plans`; `copies`, `references`, `failing` and `large` (copies); and
-//! `faults`, how each refusal prints.
+//! lists); `pushes`, `graphs` and `tags` (stores); `orders` and `plans`; `copies`, `references`, `failing` and `large`
+//! (copies); and `faults`, how each refusal prints.
 #![tactic(auto)]
 
 #[cfg(test)]

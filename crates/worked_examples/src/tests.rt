@@ -4,6 +4,7 @@ mod faults;
 mod graphs;
 mod large;
 mod manifests;
+mod orders;
 mod plans;
 mod pushes;
 mod references;

@@ -1,6 +1,4 @@
-use crate::fault::OrderFault;
-use crate::ordering::Order;
-use crate::ordering::topological::order;
+use oci_plan::{Order, OrderFault, order};
 use std::alloc::{AllocError, Global};
 use std::process::Abort;
 use std::test::Fail;
