@@ -7,9 +7,8 @@ use Rattle.std.proofs.lemmas.List.Elements.{filter-append}
 use Rattle.std.proofs.lemmas.Map.Views.{any-filter_same}
 use Rattle.std.proofs.lemmas.Slice.Eq.{bytes_eq-Decides}
 use Rattle.std.specs.Str.{bytes_eq}
-use Rattle.oci_manifest.specs.Descriptor.{Descriptor, same_key}
+use Rattle.oci_manifest.specs.Descriptor.{Descriptor, same_key, is_among}
 use Rattle.oci_manifest.specs.Manifest.{first_places, is_distributed, distributed_once}
-pub use Rattle.oci_manifest.specs.Reading.{has}
 use Rattle.oci_manifest.specs.Reading.{with_successor}
 
 pub Decides-same_key : (a b : Descriptor) → Decides (same_key a b) (a ≡ b)
@@ -39,29 +38,29 @@ others k ks = filter (λ other. not (same_key k other)) ks
 
 -- a key that is there already goes nowhere, and a new one to the end
 abbrev pub with_key : List Descriptor → Descriptor → List Descriptor
-with_key ks k = cond (has k ks) ks (ks ++ k ∷ [])
+with_key ks k = cond (is_among ks k) ks (ks ++ k ∷ [])
 
 others-with_same : (j k : Descriptor) (ks : List Descriptor) → j ≡ k → others j (with_key ks k) ≡ others j ks
 others-with_same j k ks e =
     let gone : same_key j k ≡ true = (Decides-same_key j k).1 e in
-    elim (has k ks) as (λ b. others j (cond b ks (ks ++ k ∷ [])) ≡ others j ks) [
+    elim (is_among ks k) as (λ b. others j (cond b ks (ks ++ k ∷ [])) ≡ others j ks) [
       | true ↦ refl
       | false ↦ filter-append (λ other. not (same_key j other)) ks (k ∷ []) ∙ rw gone (append-nil (others j ks))
     ]
 
 -- the others than j have k where all have it
-has-others : (j k : Descriptor) (ks : List Descriptor) → same_key j k ≡ false → has k (others j ks) ≡ has k ks
-has-others j k ks h = any-filter_same (λ other. same_key other k) (λ other. not (same_key j other)) true (λ o e. ap (λ (x : Descriptor). not (same_key j x)) ((Decides-same_key o k).0 e) ∙ ap not h) ks
+is_among-others : (j k : Descriptor) (ks : List Descriptor) → same_key j k ≡ false → is_among (others j ks) k ≡ is_among ks k
+is_among-others j k ks h = any-filter_same (λ other. same_key other k) (λ other. not (same_key j other)) true (λ o e. ap (λ (x : Descriptor). not (same_key j x)) ((Decides-same_key o k).0 e) ∙ ap not h) ks
 
 others-with_other : (j k : Descriptor) (ks : List Descriptor) → same_key j k ≡ false → others j (with_key ks k) ≡ with_key (others j ks) k
 others-with_other j k ks h =
-    elim (has k ks) as (λ b. others j (cond b ks (ks ++ k ∷ [])) ≡ cond b (others j ks) (others j ks ++ k ∷ [])) [
+    elim (is_among ks k) as (λ b. others j (cond b ks (ks ++ k ∷ [])) ≡ cond b (others j ks) (others j ks ++ k ∷ [])) [
       | true ↦ refl
       | false ↦ filter-append (λ other. not (same_key j other)) ks (k ∷ []) ∙ rw h refl
-    ] ∙ ap (λ (b : Bool). cond b (others j ks) (others j ks ++ k ∷ [])) (sym (has-others j k ks h))
+    ] ∙ ap (λ (b : Bool). cond b (others j ks) (others j ks ++ k ∷ [])) (sym (is_among-others j k ks h))
 
 with_key-cons : (j k : Descriptor) (ks : List Descriptor) → same_key j k ≡ false → j ∷ with_key ks k ≡ with_key (j ∷ ks) k
-with_key-cons j k ks h = rw h (elim (has k ks) as (λ b. j ∷ cond b ks (ks ++ k ∷ []) ≡ cond b (j ∷ ks) (j ∷ (ks ++ k ∷ []))) [ true ↦ refl | false ↦ refl ])
+with_key-cons j k ks h = rw h (elim (is_among ks k) as (λ b. j ∷ cond b ks (ks ++ k ∷ []) ≡ cond b (j ∷ ks) (j ∷ (ks ++ k ∷ []))) [ true ↦ refl | false ↦ refl ])
 
 pub first_places-push : (ks : List Descriptor) (k : Descriptor) → first_places (ks ++ k ∷ []) ≡ with_key (first_places ks) k
 first_places-push [] k = refl
@@ -89,7 +88,7 @@ distributed_once_push ks k =
     ∙ elim (is_distributed k) as (λ b. first_places (filter is_distributed ks ++ cond b (k ∷ []) []) ≡ cond b (with_key (distributed_once ks) k) (distributed_once ks)) [
       | true ↦ first_places-push (filter is_distributed ks) k
       | false ↦ ap first_places (append-nil (filter is_distributed ks))
-    ] ∙ after_all (is_distributed k) (has k (distributed_once ks)) (distributed_once ks) k
+    ] ∙ after_all (is_distributed k) (is_among (distributed_once ks) k) (distributed_once ks) k
 
 -- ---- no key twice
 

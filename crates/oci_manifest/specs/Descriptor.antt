@@ -1,6 +1,7 @@
 -- Descriptors, which name contents (OCI image-spec 1.1, descriptor.md, "Properties").
 use Rattle.std.specs.Prelude.{ℕ, Bool, ◌&&◌, ◌==◌, List, ◌++◌, codes}
 use Rattle.std.specs.declared.cmp.Ordering.{Ordering}
+use Rattle.std.specs.List.{list_any}
 use Rattle.std.specs.Str.{bytes_eq}
 use Rattle.std.specs.Fmt.{decimal}
 use Rattle.std.specs.Ordering.{nat_cmp, on, then_cmp}
@@ -15,6 +16,10 @@ pub record Descriptor : Type 0 where
 -- whether two descriptors have one media type, one digest and one size
 abbrev pub same_key : Descriptor → Descriptor → Bool
 same_key a b = bytes_eq a.media_type b.media_type && bytes_eq a.digest b.digest && a.size == b.size
+
+-- whether a descriptor is one of these
+abbrev pub is_among : List Descriptor → Descriptor → Bool
+is_among keys k = list_any (λ other. same_key other k) keys
 
 -- the order of descriptors: by the bytes of the media type, then by those of the digest text, then by size
 abbrev pub key_cmp : Descriptor → Descriptor → Ordering

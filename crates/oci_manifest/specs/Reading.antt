@@ -2,7 +2,6 @@
 use Rattle.std.specs.Prelude.{◌≡◌, ℕ, Bool, ◌+◌, ◌^◌, ◌&&◌, nat_lt, not, List, [], ◌∷◌, ◌++◌, codes, Option, Some, None, option_and_then, Result, Ok, Err, if◌then◌else◌}
 use Rattle.serde_json.specs.Data.{Data, Items, no_items, item}
 use Rattle.serde_json.specs.Find.{get, as_str, as_number, as_u64, as_array, as_object}
-use Rattle.std.specs.List.{list_any}
 use Rattle.std.specs.BTreeSet.{BTreeSet, contains}
 use Rattle.std.specs.Str.{is_utf8}
 use Rattle.serde_json.specs.Read.{read}
@@ -10,7 +9,7 @@ use Rattle.oci_digest.specs.Digest.{is_digest}
 use Rattle.oci_manifest.specs.declared.fault.ManifestFault.{ManifestFault}
 use Rattle.oci_manifest.specs.declared.manifest.member.Field as code
 use Rattle.oci_manifest.specs.declared.manifest.member.Field.TheVariants as variant
-use Rattle.oci_manifest.specs.Descriptor.{Descriptor, same_key, key_cmp}
+use Rattle.oci_manifest.specs.Descriptor.{Descriptor, is_among, key_cmp}
 use Rattle.oci_manifest.specs.Fault.{Fails, Fault, not_json, not_object, no_config, bad_list, bad_descriptor}
 use Rattle.oci_manifest.specs.Manifest.{Field, optional, required, listed, member_of, fields_of, is_distributed, distributed_once}
 use Rattle.oci_manifest.specs.declared.kind.Kind.{Kind}
@@ -129,14 +128,10 @@ abbrev pub Adds : List Descriptor → List Descriptor → Result Unit ManifestFa
 Adds old new (Ok u) r = prepend old r ≡ Ok new
 Adds old new (Err e) r = Fails e r
 
--- whether a list has a key
-abbrev pub has : Descriptor → List Descriptor → Bool
-has k ks = list_any (λ other. same_key other k) ks
-
 -- the keys with one more at the end, where it is distributed and not there yet
 abbrev pub with_successor : List Descriptor → Descriptor → List Descriptor
-with_successor kept k = if is_distributed k && not (has k kept) then kept ++ k ∷ [] else kept
+with_successor kept k = if is_distributed k && not (is_among kept k) then kept ++ k ∷ [] else kept
 
 -- a set has the keys of a list, and no other
 abbrev pub Remembers : BTreeSet Descriptor → List Descriptor → Type 0
-Remembers seen kept = (k : Descriptor) → contains key_cmp seen k ≡ has k kept
+Remembers seen kept = (k : Descriptor) → contains key_cmp seen k ≡ is_among kept k

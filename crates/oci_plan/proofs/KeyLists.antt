@@ -6,10 +6,10 @@ use Rattle.std.specs.List.{slice_get, IsDistinct}
 use Rattle.std.specs.Ordering.{is_eq}
 use Rattle.std.proofs.lemmas.Map.Keys.{IsDistinct-from_apart}
 use Rattle.std.proofs.lemmas.Option.{slice_get-get_or}
-use Rattle.oci_manifest.specs.Descriptor.{Descriptor, same_key, key_cmp}
+use Rattle.oci_manifest.specs.Descriptor.{Descriptor, same_key, key_cmp, is_among}
 use Rattle.oci_manifest.proofs.Keys.{Decides-same_key, cases}
 use Rattle.oci_plan.specs.KeyList.{IsIndexOf}
-use Rattle.oci_plan.specs.Visiting.{is_among, with_key}
+use Rattle.oci_plan.specs.Visiting.{with_key}
 use Rattle.oci_plan.proofs.Places.{Keys, slice_get-append_left, slice_get-push, slice_get-push_cases, among_from_place, place_from_among}
 
 -- keys that the order ties are equal

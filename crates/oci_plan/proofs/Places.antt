@@ -7,10 +7,10 @@ use Rattle.std.proofs.lemmas.List.Elements.{All-nil, All-cons, All-contains}
 use Rattle.std.proofs.lemmas.Map.Keys.{apart_from_distinct}
 use Rattle.std.proofs.lemmas.Map.Views.{any-filter_same}
 use Rattle.std.proofs.lemmas.Option.{slice_get_within, get_or_from_slice_get}
-use Rattle.oci_manifest.specs.Descriptor.{Descriptor, same_key}
+use Rattle.oci_manifest.specs.Descriptor.{Descriptor, same_key, is_among}
 use Rattle.oci_manifest.specs.Manifest.{first_places}
 use Rattle.oci_manifest.proofs.Keys.{Decides-same_key, first_places-push, cases}
-use Rattle.oci_plan.specs.Visiting.{is_among, with_key, with_keys}
+use Rattle.oci_plan.specs.Visiting.{with_key, with_keys}
 
 abbrev pub Keys : Type 0
 Keys = List Descriptor

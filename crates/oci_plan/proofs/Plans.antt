@@ -8,7 +8,7 @@ use Rattle.std.proofs.lemmas.List.{length-map, get_or_past, get_or_default}
 use Rattle.std.proofs.lemmas.List.Elements.{All-head, All-tail, All-weaker, All-contains, All-contains_itself}
 use Rattle.std.proofs.lemmas.Map.Keys.{IsDistinct-head, IsDistinct-tail, IsDistinct-from_apart}
 use Rattle.std.proofs.lemmas.Option.{slice_get_within, get_or_from_slice_get, slice_get-get_or}
-use Rattle.oci_manifest.specs.Descriptor.{Descriptor, same_key}
+use Rattle.oci_manifest.specs.Descriptor.{Descriptor, same_key, is_among}
 use Rattle.oci_manifest.proofs.Keys.{Decides-same_key, cases}
 use Rattle.oci_store.specs.Keyed.{has_key}
 use Rattle.oci_store.specs.Content.{Entry}
@@ -17,7 +17,7 @@ use Rattle.oci_plan.specs.Graph.{lists_of, successors_of, without_doubles, HasEd
 use Rattle.oci_plan.specs.Order.{Ordered, IsOrder}
 use Rattle.oci_plan.specs.Fault.{IsCauseOf}
 use Rattle.oci_plan.specs.Outside.{IsOutside, IsKeyCycle}
-use Rattle.oci_plan.specs.Visiting.{successors_at, is_fresh, is_among}
+use Rattle.oci_plan.specs.Visiting.{successors_at, is_fresh}
 use Rattle.oci_plan.specs.Plan.{Number, HasEdges, FollowsListed}
 use Rattle.oci_plan.specs.Refusal.{IsFirstFault}
 use Rattle.oci_plan.specs.Walk.{IsListOf, IsWalk, IsTellable, IsTold, IsNamedCycle}

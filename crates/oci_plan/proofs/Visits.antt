@@ -5,13 +5,13 @@ use Rattle.std.specs.List.{filter, flat_map, slice_get, All}
 use Rattle.std.proofs.lemmas.Bool.{and_parts, not-true}
 use Rattle.std.proofs.lemmas.List.Elements.{All-nil, All-push, All-contains}
 use Rattle.std.proofs.lemmas.List.Concat.{flat_map-append}
-use Rattle.oci_manifest.specs.Descriptor.{Descriptor, same_key}
+use Rattle.oci_manifest.specs.Descriptor.{Descriptor, same_key, is_among}
 use Rattle.oci_manifest.specs.Manifest.{first_places}
 use Rattle.oci_manifest.proofs.Keys.{Decides-same_key, cases}
 use Rattle.oci_store.specs.Keyed.{value_at, has_key}
 use Rattle.oci_store.specs.Graph.{Node, IsEdge}
 use Rattle.oci_plan.specs.Outside.{IsOutside, root, along}
-use Rattle.oci_plan.specs.Visiting.{successors_at, candidates, is_fresh, is_among, next_visit, IsVisiting, start, next}
+use Rattle.oci_plan.specs.Visiting.{successors_at, candidates, is_fresh, next_visit, IsVisiting, start, next}
 use Rattle.oci_plan.proofs.Places.{Keys, Contains-from_among, among_from_Contains, among-append_left, among-append_right, among-append_cases, among-filter, among_filter_from, among_flat_map_from, among-flat_map, among-first_places, find-Some, find_agree}
 
 -- ---- the next key to visit

@@ -7,14 +7,14 @@ use Rattle.std.proofs.lemmas.Bool.{not-true}
 use Rattle.std.proofs.lemmas.List.{take_all, take_more, take-append-le, length_push}
 use Rattle.std.proofs.lemmas.List.Elements.{All-nil, All-push, All-weaker, filter-append}
 use Rattle.std.proofs.lemmas.Option.{slice_get_within, get_or_from_slice_get}
-use Rattle.oci_manifest.specs.Descriptor.{Descriptor, same_key}
+use Rattle.oci_manifest.specs.Descriptor.{Descriptor, same_key, is_among}
 use Rattle.oci_manifest.specs.Manifest.{first_places}
 use Rattle.oci_manifest.proofs.Keys.{cases}
 use Rattle.oci_store.specs.Keyed.{has_key}
 use Rattle.oci_store.specs.Content.{Entry, succ_of}
 use Rattle.oci_store.specs.Graph.{Node, nodes_of}
 use Rattle.oci_plan.specs.Outside.{IsOutside}
-use Rattle.oci_plan.specs.Visiting.{successors_at, candidates, is_fresh, is_among, with_keys, IsVisiting, start, next, IsSoundItem, IsFirstAtFault}
+use Rattle.oci_plan.specs.Visiting.{successors_at, candidates, is_fresh, with_keys, IsVisiting, start, next, IsSoundItem, IsFirstAtFault}
 use Rattle.oci_plan.specs.Plan.{Number}
 use Rattle.oci_plan.specs.Refusal.{IsKeyFault, IsOfKey, IsFirstFault}
 use Rattle.oci_plan.specs.Walk.{IsListOf, IsPassed, IsWalk, IsNumberFault}

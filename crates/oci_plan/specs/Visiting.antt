@@ -1,7 +1,7 @@
 -- In which order keys are visited, and which of them may be visited past.
 use Rattle.std.specs.Prelude.{◌≡◌, ◌≢◌, ℕ, ◌≤◌, ◌&&◌, Bool, true, not, List, [], ◌∷◌, ◌++◌, find, Option, Some, unwrap_or, IsOk, if◌then◌else◌}
-use Rattle.std.specs.List.{All, flat_map, list_any}
-use Rattle.oci_manifest.specs.Descriptor.{Descriptor, same_key}
+use Rattle.std.specs.List.{All, flat_map}
+use Rattle.oci_manifest.specs.Descriptor.{Descriptor, is_among}
 use Rattle.oci_manifest.specs.MediaTypes.{kind_of}
 use Rattle.oci_manifest.specs.declared.kind.Kind.TheVariants.{Leaf}
 use Rattle.oci_store.specs.Keyed.{value_at, has_key}
@@ -19,10 +19,6 @@ candidates source roots items = roots ++ flat_map (successors_at source) items
 -- whether a key is not held
 abbrev pub is_fresh : List Node → Descriptor → Bool
 is_fresh held k = not (has_key held k)
-
--- whether a key is one of these
-abbrev pub is_among : List Descriptor → Descriptor → Bool
-is_among items k = list_any (λ other. same_key other k) items
 
 -- the keys, with one more at the end where it is new
 abbrev pub with_key : List Descriptor → Descriptor → List Descriptor

@@ -10,12 +10,12 @@ use Rattle.std.specs.Ordering.{is_eq}
 use Rattle.std.proofs.lemmas.List.{take_more, take-append-drop, take_all, map-append}
 use Rattle.std.proofs.lemmas.List.Folds.{list_any-append}
 use Rattle.std.proofs.lemmas.Map.Views.{Contains-from_any, list_any-from_Contains, btree_set_contains_iff}
-use Rattle.oci_manifest.specs.Descriptor.{Descriptor, same_key, key_cmp}
+use Rattle.oci_manifest.specs.Descriptor.{Descriptor, same_key, key_cmp, is_among}
 use Rattle.oci_manifest.proofs.Keys.{cases}
 use Rattle.oci_store.specs.Content.{Entry, successors_in}
 use Rattle.oci_store.specs.Graph.{Node, IsEdge, node_of, nodes_of}
 use Rattle.oci_store.specs.Before.{IsBefore}
-use Rattle.oci_store.specs.Holders.{is_among, lists_key, KeySets, is_holder, AreHolders}
+use Rattle.oci_store.specs.Holders.{lists_key, KeySets, is_holder, AreHolders}
 use Rattle.oci_store.specs.Keyed.{value_at, has_key}
 use Rattle.oci_store.proofs.KeyOrder.{same_key_laws, key_cmp_total, is_eq-key_cmp, key_cmp_exact, tied, absent_parts, apart_too}
 
@@ -112,10 +112,16 @@ nothing_forgotten old holder listed none other key =
     ]
 
 -- ---- several keys
+-- the test may be put the other way round
+is_among-turned : (ks : List Descriptor) (k : Descriptor) → is_among ks k ≡ list_any (same_key k) ks
+is_among-turned [] k = refl
+is_among-turned (d ∷ ks) k = rw (same_key_laws.symm d k, is_among-turned ks k) refl
+
 pub is_among-more : (ks : List Descriptor) (i : ℕ) (k key : Descriptor) → i < length ks → k ≡ get_or ks i k → is_among (take (i + 1) ks) key ≡ (is_among (take i ks) key || same_key key k)
 is_among-more ks i k key lt is =
-    ap (λ (t : List Descriptor). is_among t key) (take_more ks i k lt) ∙ list_any-append (same_key key) (take i ks) (get_or ks i k ∷ [])
-    ∙ ap (λ (d : Descriptor). is_among (take i ks) key || (same_key key d || false)) (sym is) ∙ ap (λ (b : Bool). is_among (take i ks) key || b) (sym (and_or-same (same_key key k)))
+    ap (λ (t : List Descriptor). is_among t key) (take_more ks i k lt) ∙ list_any-append (λ other. same_key other key) (take i ks) (get_or ks i k ∷ [])
+    ∙ ap (λ (d : Descriptor). is_among (take i ks) key || (same_key d key || false)) (sym is)
+    ∙ ap (λ (b : Bool). is_among (take i ks) key || b) (sym (and_or-same (same_key k key)) ∙ same_key_laws.symm k key)
 
 noted_step : (o h a s : Bool) → ((o || (h && a)) || (h && s)) ≡ (o || (h && (a || s)))
 noted_step true true true true = refl
@@ -169,7 +175,7 @@ IsForgottenAt-more old mid new holder listed i k lt is before step other key =
 
 is_among-take : (ks : List Descriptor) (i : ℕ) (key : Descriptor) → is_among (take i ks) key ≡ true → is_among ks key ≡ true
 is_among-take ks i key h =
-    ap (λ (t : List Descriptor). is_among t key) (sym (take-append-drop i ks)) ∙ list_any-append (same_key key) (take i ks) (drop i ks) ∙ rw h refl
+    ap (λ (t : List Descriptor). is_among t key) (sym (take-append-drop i ks)) ∙ list_any-append (λ other. same_key other key) (take i ks) (drop i ks) ∙ rw h refl
 
 taken_back_at : (o h a b : Bool) → (h ≡ true → o ≡ false) → (a ≡ true → b ≡ true) → ((o || (h && a)) && not (h && b)) ≡ o
 taken_back_at true true a b old more = cc (old refl)
@@ -204,11 +210,15 @@ lists_key-push (n ∷ graph) k ks absent holder listed =
 
 -- a test for an edge
 pub lists_key-edge : (graph : List Node) (from to : Descriptor) → (lists_key graph from to ≡ true) ↔ IsEdge graph from to
-lists_key-edge graph from to = (found (value_at graph from) refl, λ edge. ap (λ (o : Option (List Descriptor)). option_map_or (λ keys. is_among keys to) o false) edge.1 ∙ list_any-from_Contains same_key_laws to edge.0 edge.2)
+lists_key-edge graph from to = (
+  found (value_at graph from) refl,
+  λ edge. ap (λ (o : Option (List Descriptor)). option_map_or (λ keys. is_among keys to) o false) edge.1
+      ∙ (is_among-turned edge.0 to ∙ list_any-from_Contains same_key_laws to edge.0 edge.2),
+)
   where
     found : (o : Option (List Descriptor)) → value_at graph from ≡ o → option_map_or (λ keys. is_among keys to) o false ≡ true → IsEdge graph from to
     found None e h = cc h
-    found (Some ks) e h = (ks, e, Contains-from_any tied to ks h)
+    found (Some ks) e h = (ks, e, Contains-from_any tied to ks (sym (is_among-turned ks to) ∙ h))
 
 -- the keys of the set of a key are its holders
 abbrev pub AreTold : KeySets → Descriptor → List Descriptor → Type 0
