@@ -3,7 +3,7 @@
 use crate::contents::Sample::{Bar, Foo};
 use crate::tests::stores::keys;
 use oci_copy::CopyFault;
-use oci_manifest::ManifestFault;
+use oci_manifest::{KeyFault, ManifestFault};
 use oci_plan::PlanFault;
 use oci_store::{FetchFault, OpenFault, PushFault, RefFault};
 use std::process::Abort;
@@ -32,6 +32,26 @@ fn assert_keyed<R: AllocGlobal + Abort>(
     let key = Foo.key(rt.alloc())?;
     let told = format!(in rt.alloc(); "{name} {key}{rest}")?;
     assert_line(rt, line, number, told.as_str())
+}
+
+#[test]
+fn key_and_manifest_faults(rt: HostRuntime) -> Result<(), Fail> {
+    let fault = KeyFault::BadSize;
+    assert_line(&rt, fault.to_string(rt.alloc())?, fault.number(), "BadSize")?;
+    for (fault, rest) in [
+        (ManifestFault::NotJson, "NotJson"),
+        (ManifestFault::NotObject, "NotObject"),
+        (ManifestFault::NoConfig, "NoConfig"),
+        (ManifestFault::BadList("blobs"), "BadList blobs"),
+        (
+            ManifestFault::BadDescriptor("layers", 3),
+            "BadDescriptor layers 3",
+        ),
+        (ManifestFault::Memory, "Memory"),
+    ] {
+        assert_line(&rt, fault.to_string(rt.alloc())?, fault.number(), rest)?;
+    }
+    Ok(())
 }
 
 #[test]

@@ -157,7 +157,12 @@ fn random_graph(
 
 /// Whether each of these numbers is marked.
 fn all_marked(marks: &[bool], numbers: &[u32]) -> bool {
-    numbers.iter().all(|number| marks.get(*number as usize).copied().unwrap_or(false))
+    for number in numbers {
+        if !marks.get(*number as usize).copied().unwrap_or(false) {
+            return false;
+        }
+    }
+    true
 }
 
 /// Whether all numbers can be taken away, each once its successors are gone.
