@@ -4,10 +4,10 @@ use crate::contents::Sample::{
 };
 use crate::contents::{IMAGE, Sample};
 use crate::tests::stores::{assert_holds, closed, keys, memory};
-use oci_copy::{CopyFault, Options, Report, copy_one};
+use oci_copy::{CopyFault, Options, Report, copy_memory, copy_one};
 use oci_digest::Digest;
 use oci_manifest::Key;
-use oci_store::{Dest, Source};
+use oci_store::{ClosedStore, Dest, MemoryStore, Source};
 use std::alloc::Global;
 use std::process::Abort;
 use std::test::Fail;
@@ -45,6 +45,19 @@ pub(crate) fn copied<A: Source, D: Dest + Drop>(
         max_metadata_bytes,
     };
     let (destination, answer) = copy_one(alloc, source, destination, roots, &options);
+    let told = line(alloc, &answer)?;
+    Ok((destination, told))
+}
+
+/// The same between stores in memory.
+fn copied_in_memory(
+    alloc: Global,
+    source: &MemoryStore,
+    destination: ClosedStore,
+    roots: &[Key],
+) -> Result<(ClosedStore, String), Fail> {
+    let options = Options::default();
+    let (destination, answer) = copy_memory(alloc, source, destination, roots, &options);
     let told = line(alloc, &answer)?;
     Ok((destination, told))
 }
@@ -187,6 +200,18 @@ fn foreign_layer(rt: HostRuntime) -> Result<(), Fail> {
             copied: &[Empty, DockerImage],
         },
     )
+}
+
+/// The copy between stores in memory in its plainest words is the same copy.
+#[test]
+fn one_image_in_memory(rt: HostRuntime) -> Result<(), Fail> {
+    let alloc = rt.alloc();
+    let source = memory(alloc, &[Empty, Foo, Image0])?;
+    let destination = closed(alloc, &[Bar])?;
+    let roots = keys(alloc, &[Image0])?;
+    let (destination, told) = copied_in_memory(alloc, &source, destination, &roots)?;
+    assert_eq!(rt; told.as_str(), "planned 2 pushed 2 skipped 0");
+    assert_holds(&rt, destination.memory(), &[Bar, Empty, Image0])
 }
 
 /// Nothing is copied into a destination that lacks what one of its keys lists.
