@@ -3,11 +3,11 @@ use crate::contents::Sample::{
     Index2,
 };
 use crate::contents::{IMAGE, Sample};
-use crate::tests::stores::{assert_holds, closed, keys, memory};
+use crate::tests::stores::{assert_entry, assert_holds, closed, keys, memory};
 use oci_copy::{CopyFault, Options, Report, copy_memory, copy_one};
 use oci_digest::Digest;
 use oci_manifest::Key;
-use oci_store::{ClosedStore, Dest, MemoryStore, Source};
+use oci_store::{ClosedStore, Dest, Source};
 use std::alloc::Global;
 use std::process::Abort;
 use std::test::Fail;
@@ -49,65 +49,104 @@ pub(crate) fn copied<A: Source, D: Dest + Drop>(
     Ok((destination, told))
 }
 
-/// The same between stores in memory.
+/// What a copy with a number of workers leaves in an empty store.
+fn copied_with(
+    alloc: Global,
+    source: &[Sample],
+    root: Sample,
+    workers: u32,
+) -> Result<ClosedStore, Fail> {
+    let source = memory(alloc, source)?;
+    let roots = [root.key(alloc)?];
+    let options = Options {
+        workers,
+        max_metadata_bytes: 0,
+    };
+    let (destination, _) = copy_one(alloc, &source, ClosedStore::new(alloc), &roots, &options);
+    Ok(destination)
+}
+
+/// The same between stores of samples in memory.
 fn copied_in_memory(
     alloc: Global,
-    source: &MemoryStore,
-    destination: ClosedStore,
-    roots: &[Key],
+    source: &[Sample],
+    destination: &[Sample],
+    root: Sample,
 ) -> Result<(ClosedStore, String), Fail> {
+    let source = memory(alloc, source)?;
+    let destination = closed(alloc, destination)?;
+    let roots = [root.key(alloc)?];
     let options = Options::default();
-    let (destination, answer) = copy_memory(alloc, source, destination, roots, &options);
+    let (destination, answer) = copy_memory(alloc, &source, destination, &roots, &options);
     let told = line(alloc, &answer)?;
     Ok((destination, told))
 }
 
+/// Copies some keys out of a store of samples, compares what is told, and gives the destination.
+fn assert_keyed<R: AllocGlobal + Abort, D: Dest + Drop>(
+    rt: &R,
+    source: &[Sample],
+    destination: D,
+    roots: &[Key],
+    max_metadata_bytes: u64,
+    want: &str,
+) -> Result<D, Fail> {
+    let source = memory(rt.alloc(), source)?;
+    let (destination, told) = copied(rt.alloc(), &source, destination, roots, max_metadata_bytes)?;
+    assert_eq!(rt; told.as_str(), want);
+    Ok(destination)
+}
+
+/// The same with samples for roots.
+fn assert_told<R: AllocGlobal + Abort, D: Dest + Drop>(
+    rt: &R,
+    source: &[Sample],
+    destination: D,
+    roots: &[Sample],
+    want: &str,
+) -> Result<D, Fail> {
+    let roots = keys(rt.alloc(), roots)?;
+    assert_keyed(rt, source, destination, &roots, 0, want)
+}
+
 fn assert_copied<R: AllocGlobal + Abort>(rt: &R, row: Row<'_>) -> Result<(), Fail> {
-    let alloc = rt.alloc();
-    let source = memory(alloc, row.source)?;
-    let destination = closed(alloc, row.destination)?;
-    let roots = keys(alloc, row.roots)?;
-    let (destination, told) = copied(alloc, &source, destination, &roots, 0)?;
-    assert_eq!(rt; told.as_str(), row.told);
+    let destination = closed(rt.alloc(), row.destination)?;
+    let destination = assert_told(rt, row.source, destination, row.roots, row.told)?;
     assert_holds(rt, destination.memory(), row.copied)
 }
 
-#[test]
-fn one_image(rt: HostRuntime) -> Result<(), Fail> {
-    assert_copied(
-        &rt,
-        Row {
-            source: &[Empty, Image0],
-            destination: &[],
-            roots: &[Image0],
-            told: "planned 2 pushed 2 skipped 0",
-            copied: &[Empty, Image0],
-        },
+/// What the copy of an image leaves in an empty store.
+fn copy_of_one_image<R: AllocGlobal + Abort>(rt: &R) -> Result<ClosedStore, Fail> {
+    let told = "planned 2 pushed 2 skipped 0";
+    assert_told(
+        rt,
+        &[Empty, Image0],
+        closed(rt.alloc(), &[])?,
+        &[Image0],
+        told,
     )
 }
 
+/// What is copied comes after what it lists.
+#[test]
+fn one_image(rt: HostRuntime) -> Result<(), Fail> {
+    let destination = copy_of_one_image(&rt)?;
+    assert_holds(&rt, destination.memory(), &[Empty, Image0])?;
+    assert_entry(&rt, destination.memory(), 0, Empty)?;
+    assert_entry(&rt, destination.memory(), 1, Image0)
+}
+
+/// The same copy again into the store that the first one left changes nothing, nor does a copy of no roots.
 #[test]
 fn copy_again(rt: HostRuntime) -> Result<(), Fail> {
-    assert_copied(
-        &rt,
-        Row {
-            source: &[Empty, Image0],
-            destination: &[Empty, Image0],
-            roots: &[Image0],
-            told: "planned 0 pushed 0 skipped 1",
-            copied: &[Empty, Image0],
-        },
-    )?;
-    assert_copied(
-        &rt,
-        Row {
-            source: &[Empty, Image0],
-            destination: &[Empty, Image0],
-            roots: &[],
-            told: "planned 0 pushed 0 skipped 0",
-            copied: &[Empty, Image0],
-        },
-    )
+    let source = [Empty, Image0];
+    let destination = copy_of_one_image(&rt)?;
+    let told = "planned 0 pushed 0 skipped 1";
+    let destination = assert_told(&rt, &source, destination, &[Image0], told)?;
+    let told = "planned 0 pushed 0 skipped 0";
+    let destination = assert_told(&rt, &source, destination, &[], told)?;
+    assert_holds(&rt, destination.memory(), &source)?;
+    assert_entry(&rt, destination.memory(), 0, Empty)
 }
 
 /// A layer that is listed twice comes once.
@@ -125,8 +164,18 @@ fn doubled_layer(rt: HostRuntime) -> Result<(), Fail> {
     )
 }
 
+/// Copies an index of two images with a number of workers, at which a copy on the calling thread does not look.
+fn assert_two_images<R: AllocGlobal + Abort>(rt: &R, workers: u32) -> Result<(), Fail> {
+    let all = [Empty, Foo, Bar, Image2, Image3, Index1];
+    let destination = copied_with(rt.alloc(), &all, Index1, workers)?;
+    assert_holds(rt, destination.memory(), &all)
+}
+
 #[test]
 fn two_images(rt: HostRuntime) -> Result<(), Fail> {
+    for workers in [0, 1, 3, 64, 65] {
+        assert_two_images(&rt, workers)?;
+    }
     let all = [Empty, Foo, Bar, Image2, Image3, Index1];
     assert_copied(
         &rt,
@@ -205,42 +254,46 @@ fn foreign_layer(rt: HostRuntime) -> Result<(), Fail> {
 /// The copy between stores in memory in its plainest words is the same copy.
 #[test]
 fn one_image_in_memory(rt: HostRuntime) -> Result<(), Fail> {
-    let alloc = rt.alloc();
-    let source = memory(alloc, &[Empty, Foo, Image0])?;
-    let destination = closed(alloc, &[Bar])?;
-    let roots = keys(alloc, &[Image0])?;
-    let (destination, told) = copied_in_memory(alloc, &source, destination, &roots)?;
+    let (destination, told) = copied_in_memory(rt.alloc(), &[Empty, Foo, Image0], &[Bar], Image0)?;
     assert_eq!(rt; told.as_str(), "planned 2 pushed 2 skipped 0");
     assert_holds(&rt, destination.memory(), &[Bar, Empty, Image0])
+}
+
+/// What is told where a store has an image without its config.
+fn open_line(alloc: Global) -> Result<String, Fail> {
+    let (holder, missing) = (Image0.key(alloc)?, Empty.key(alloc)?);
+    Ok(format!(in alloc; "80 DestinationOpen {holder} {missing}")?)
 }
 
 /// Nothing is copied into a destination that lacks what one of its keys lists.
 #[test]
 fn open_destination(rt: HostRuntime) -> Result<(), Fail> {
-    let alloc = rt.alloc();
-    let source = memory(alloc, &[Foo])?;
-    let destination = memory(alloc, &[Image0])?;
-    let roots = keys(alloc, &[Foo])?;
-    let (destination, told) = copied(alloc, &source, destination, &roots, 0)?;
-    let (holder, missing) = (Image0.key(alloc)?, Empty.key(alloc)?);
-    let want = format!(in alloc; "80 DestinationOpen {holder} {missing}")?;
-    assert!(rt; told == want, "{told}");
+    let told = open_line(rt.alloc())?;
+    let destination = memory(rt.alloc(), &[Image0])?;
+    let destination = assert_told(&rt, &[Foo], destination, &[Foo], told.as_str())?;
     assert_holds(&rt, &destination, &[Image0])
 }
 
-/// The copy of one key into an empty store with a limit, and what it tells.
+/// The copy of one key into an empty store with a limit, and what it tells: some words and, where it is refused, the key and the limit.
 fn assert_limited<R: AllocGlobal + Abort>(
     rt: &R,
     source: &[Sample],
     root: Key,
     max_metadata_bytes: u64,
-    want: &str,
+    words: (&str, &str),
 ) -> Result<(), Fail> {
-    let source = memory(rt.alloc(), source)?;
+    let (before, after) = words;
+    let want = format!(in rt.alloc(); "81 Plan {before} {root}{after}")?;
     let destination = closed(rt.alloc(), &[])?;
     let roots = [root];
-    let (_, told) = copied(rt.alloc(), &source, destination, &roots, max_metadata_bytes)?;
-    assert_eq!(rt; told.as_str(), want);
+    assert_keyed(
+        rt,
+        source,
+        destination,
+        &roots,
+        max_metadata_bytes,
+        want.as_str(),
+    )?;
     Ok(())
 }
 
@@ -253,15 +306,20 @@ fn sized(alloc: Global, size: u64) -> Result<Key, Fail> {
 #[test]
 fn size_limit(rt: HostRuntime) -> Result<(), Fail> {
     let alloc = rt.alloc();
-    let key = sized(alloc, 4194305)?;
-    let told = format!(in alloc; "81 Plan 54 TooLarge {key} 4194304")?;
-    assert_limited(&rt, &[], key, 0, told.as_str())?;
-    let key = sized(alloc, 4194304)?;
-    let told = format!(in alloc; "81 Plan 53 NotFound {key}")?;
-    assert_limited(&rt, &[], key, 0, told.as_str())?;
+    let too_large = ("54 TooLarge", " 4194304");
+    assert_limited(&rt, &[], sized(alloc, 4194305)?, 0, too_large)?;
+    assert_limited(&rt, &[], sized(alloc, 4194304)?, 0, ("53 NotFound", ""))?;
+    let too_large = ("54 TooLarge", " 240");
+    assert_limited(&rt, &[Empty, Image0], Image0.key(alloc)?, 240, too_large)?;
+    let roots = [Image0.key(alloc)?];
     let told = "planned 2 pushed 2 skipped 0";
-    assert_limited(&rt, &[Empty, Image0], Image0.key(alloc)?, 241, told)?;
-    let key = Image0.key(alloc)?;
-    let told = format!(in alloc; "81 Plan 54 TooLarge {key} 240")?;
-    assert_limited(&rt, &[Empty, Image0], key, 240, told.as_str())
+    assert_keyed(
+        &rt,
+        &[Empty, Image0],
+        closed(alloc, &[])?,
+        &roots,
+        241,
+        told,
+    )?;
+    Ok(())
 }

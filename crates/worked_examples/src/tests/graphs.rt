@@ -1,7 +1,6 @@
 use crate::contents::Sample;
 use crate::contents::Sample::{Empty, Foo, Image0, Image2, Index3, Index4, Referrer};
-use crate::tests::stores::{assert_holds, closed, keys, memory, push_closed};
-use oci_manifest::Key;
+use crate::tests::stores::{assert_holds, keys, memory};
 use oci_store::{
     ClosedStore, Dest, GraphSource, MemoryStore, content_grows_to_copy, graph_grows_to_copy,
     holds_reached,
@@ -45,54 +44,54 @@ fn missing<D: Dest>(alloc: Global, store: &D) -> Result<String, Fail> {
     }
 }
 
-/// What `close` answers, as text; the store that it takes holds these samples afterwards.
-fn close<R: AllocGlobal + Abort>(
+/// What is told of the first key without its successor: some words, and both keys.
+fn pair(alloc: Global, words: &str, holder: Sample, missing: Sample) -> Result<String, Fail> {
+    let (holder, missing) = (holder.key(alloc)?, missing.key(alloc)?);
+    Ok(format!(in alloc; "{words}{holder} {missing}")?)
+}
+
+/// What `missing` answers of a store of samples.
+fn assert_missing<R: AllocGlobal + Abort>(
     rt: &R,
-    store: MemoryStore,
     samples: &[Sample],
-) -> Result<String, Fail> {
+    want: &str,
+) -> Result<(), Fail> {
+    let store = memory(rt.alloc(), samples)?;
+    let told = missing(rt.alloc(), &store)?;
+    assert_eq!(rt; told.as_str(), want);
+    Ok(())
+}
+
+/// What `close` answers, as text, and the store that it took.
+fn close(alloc: Global, store: MemoryStore) -> Result<(MemoryStore, String), Fail> {
     match ClosedStore::close(store) {
-        Ok(closed) => {
-            assert_holds(rt, &closed.into_memory(), samples)?;
-            Ok(String::new(rt.alloc()))
-        }
+        Ok(closed) => Ok((closed.into_memory(), String::new(alloc))),
         Err((store, fault)) => {
-            assert_holds(rt, &store, samples)?;
-            Ok(format!(in rt.alloc(); "{fault}")?)
+            let told = format!(in alloc; "{fault}")?;
+            Ok((store, told))
         }
     }
 }
 
-#[test]
-fn open_and_closed(rt: HostRuntime) -> Result<(), Fail> {
-    let alloc = rt.alloc();
-    let store = memory(alloc, &[Image2])?;
-    let (image, config) = (Image2.key(alloc)?, Empty.key(alloc)?);
-    let pair = format!(in alloc; "{image} {config}")?;
-    assert!(rt; missing(alloc, &store)? == pair);
-    let refused = format!(in alloc; "40 Open {pair}")?;
-    assert!(rt; close(&rt, store, &[Image2])? == refused);
-    let store = memory(alloc, &[Image2, Foo, Empty])?;
-    assert_eq!(rt; missing(alloc, &store)?.as_str(), "");
-    assert_eq!(rt; close(&rt, store, &[Image2, Foo, Empty])?.as_str(), "");
-    Ok(())
+/// What `close` answers of a store of samples, which holds them afterwards.
+fn assert_close<R: AllocGlobal + Abort>(
+    rt: &R,
+    samples: &[Sample],
+    want: &str,
+) -> Result<(), Fail> {
+    let (store, told) = close(rt.alloc(), memory(rt.alloc(), samples)?)?;
+    assert_eq!(rt; told.as_str(), want);
+    assert_holds(rt, &store, samples)
 }
 
-/// A manifest does not come before what it lists.
 #[test]
-fn successors_first(rt: HostRuntime) -> Result<(), Fail> {
-    let alloc = rt.alloc();
-    let mut store = closed(alloc, &[])?;
-    let told = push_closed(alloc, &mut store, &Image0.key(alloc)?, Image0.bytes(alloc)?)?;
-    let empty = Empty.key(alloc)?;
-    let want = format!(in alloc; "42 MissingSuccessor {empty}")?;
-    assert!(rt; told == want, "{told}");
-    let image = Image0.key(alloc)?;
-    let media_type = String::from_str(alloc, image.media_type())?;
-    let shorter = Key::new(media_type, *image.digest(), 240)?;
-    let told = push_closed(alloc, &mut store, &shorter, Image0.bytes(alloc)?)?;
-    assert_eq!(rt; told.as_str(), "31 SizeMismatch");
-    assert_holds(&rt, store.memory(), &[])
+fn open_and_closed(rt: HostRuntime) -> Result<(), Fail> {
+    let open = pair(rt.alloc(), "", Image2, Empty)?;
+    assert_missing(&rt, &[Image2], open.as_str())?;
+    let open = pair(rt.alloc(), "40 Open ", Image2, Empty)?;
+    assert_close(&rt, &[Image2], open.as_str())?;
+    assert_missing(&rt, &[Image2, Foo, Empty], "")?;
+    assert_close(&rt, &[Image2, Foo, Empty], "")
 }
 
 /// The laws do nothing when they run.

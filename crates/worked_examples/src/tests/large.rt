@@ -1,6 +1,7 @@
+use crate::contents::Sample::Empty;
 use crate::contents::{Content, LAYER, image, image_0, index};
 use crate::tests::copies::copied;
-use crate::tests::stores::{closed, push};
+use crate::tests::stores::{closed, memory, push};
 use bytes::Bytes;
 use oci_manifest::Key;
 use oci_store::MemoryStore;
@@ -35,19 +36,21 @@ fn image_on(alloc: Global, subject: &str) -> Result<Content, Fail> {
     image(alloc, rest.as_str())
 }
 
-/// A chain of 3,000 images, each with the one before as its subject.
-#[test]
-fn long_chain(rt: HostRuntime) -> Result<(), Fail> {
-    let alloc = rt.alloc();
-    let mut store = MemoryStore::new(alloc);
-    put(alloc, &mut store, crate::contents::empty(alloc)?)?;
+/// Puts a chain of images into the store, each with the one before as its subject, and gives the key of the last.
+fn put_chain(alloc: Global, store: &mut MemoryStore, length: u32) -> Result<Key, Fail> {
     let mut last = image_0(alloc)?;
-    for _ in 1..3_000 {
+    for _ in 1..length {
         let next = image_on(alloc, last.descriptor(alloc)?.as_str())?;
-        put(alloc, &mut store, last)?;
+        put(alloc, store, last)?;
         last = next;
     }
-    let root = put(alloc, &mut store, last)?;
+    put(alloc, store, last)
+}
+
+#[test]
+fn long_chain(rt: HostRuntime) -> Result<(), Fail> {
+    let mut store = memory(rt.alloc(), &[Empty])?;
+    let root = put_chain(rt.alloc(), &mut store, 3_000)?;
     assert_copied(&rt, &store, root, "planned 3001 pushed 3001 skipped 0")
 }
 
@@ -59,19 +62,23 @@ fn numbered(alloc: Global, number: u32) -> Result<Content, Fail> {
     })
 }
 
-/// An index of 5,000 layers.
+/// Puts so many layers and their index into the store, and gives the key of the index.
+fn put_index(alloc: Global, store: &mut MemoryStore, length: u32) -> Result<Key, Fail> {
+    let mut list = String::new(alloc);
+    for number in 0..length {
+        let layer = numbered(alloc, number)?;
+        if number > 0 {
+            list.push_str(",")?;
+        }
+        list.push_str(layer.descriptor(alloc)?.as_str())?;
+        put(alloc, store, layer)?;
+    }
+    put(alloc, store, index(alloc, list.as_str())?)
+}
+
 #[test]
 fn wide_index(rt: HostRuntime) -> Result<(), Fail> {
-    let alloc = rt.alloc();
-    let mut store = MemoryStore::new(alloc);
-    let mut list = numbered(alloc, 0)?.descriptor(alloc)?;
-    put(alloc, &mut store, numbered(alloc, 0)?)?;
-    for number in 1..5_000 {
-        let layer = numbered(alloc, number)?;
-        list.push_str(",")?;
-        list.push_str(layer.descriptor(alloc)?.as_str())?;
-        put(alloc, &mut store, layer)?;
-    }
-    let root = put(alloc, &mut store, index(alloc, list.as_str())?)?;
+    let mut store = memory(rt.alloc(), &[])?;
+    let root = put_index(rt.alloc(), &mut store, 5_000)?;
     assert_copied(&rt, &store, root, "planned 5001 pushed 5001 skipped 0")
 }

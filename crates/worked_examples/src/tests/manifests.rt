@@ -1,6 +1,6 @@
 use crate::contents::{
-    Content, EMPTY, FOREIGN, IMAGE, INDEX, LAYER, bar, docker_image, empty, foo, image_0, image_1,
-    image_2, image_3, image_4, index_1, index_2, index_3, index_4, referrer,
+    Content, EMPTY, FOREIGN, IMAGE, INDEX, LAYER, Sample, bar, docker_image, empty, foo, image_0,
+    image_1, index_1, referrer,
 };
 use oci_digest::Digest;
 use oci_manifest::{Key, Kind, MAX_SIZE, successors};
@@ -47,12 +47,12 @@ fn expect_made(
 fn expect_key(
     rt: &impl Abort,
     alloc: Global,
-    content: &Content,
+    sample: Sample,
     media_type: &str,
     size: u64,
     digits: &str,
 ) -> Result<(), Fail> {
-    let got = content.key(alloc)?.to_string(alloc)?;
+    let got = sample.key(alloc)?.to_string(alloc)?;
     let want = format!(in alloc; "sha256:{digits} {size} {media_type}")?;
     assert!(rt; got == want, "{got}");
     Ok(())
@@ -71,35 +71,35 @@ const OF_IMAGE_2: &str = "7e1df211bc4556d2a9db939a81721c52e5e53c59e3dfb45a57205a
 #[test]
 fn layers_and_images(rt: HostRuntime) -> Result<(), Fail> {
     let alloc = rt.alloc();
-    expect_key(&rt, alloc, &empty(alloc)?, EMPTY, 2, OF_EMPTY)?;
-    expect_key(&rt, alloc, &foo(alloc)?, LAYER, 3, OF_FOO)?;
-    expect_key(&rt, alloc, &bar(alloc)?, LAYER, 3, OF_BAR)?;
-    expect_key(&rt, alloc, &image_0(alloc)?, IMAGE, 241, OF_IMAGE_0)?;
+    expect_key(&rt, alloc, Sample::Empty, EMPTY, 2, OF_EMPTY)?;
+    expect_key(&rt, alloc, Sample::Foo, LAYER, 3, OF_FOO)?;
+    expect_key(&rt, alloc, Sample::Bar, LAYER, 3, OF_BAR)?;
+    expect_key(&rt, alloc, Sample::Image0, IMAGE, 241, OF_IMAGE_0)?;
     let digits = "d80fa97ca0539dfbfd206b1c8ebe52025d1994c7f1b9b187c4cad1371ab9a585";
-    expect_key(&rt, alloc, &image_1(alloc)?, IMAGE, 532, digits)?;
-    expect_key(&rt, alloc, &image_2(alloc)?, IMAGE, 385, OF_IMAGE_2)?;
+    expect_key(&rt, alloc, Sample::Image1, IMAGE, 532, digits)?;
+    expect_key(&rt, alloc, Sample::Image2, IMAGE, 385, OF_IMAGE_2)?;
     let digits = "3f167608abdb6f3e8f7a3c6ac3957c7da7b621d2536c484e8419ae104fba9b34";
-    expect_key(&rt, alloc, &image_3(alloc)?, IMAGE, 532, digits)?;
+    expect_key(&rt, alloc, Sample::Image3, IMAGE, 532, digits)?;
     let digits = "bed7727900d8aa6452792bb6124f28d01c2cc16e232add9a9276cc17d799a784";
-    expect_key(&rt, alloc, &image_4(alloc)?, IMAGE, 387, digits)
+    expect_key(&rt, alloc, Sample::Image4, IMAGE, 387, digits)
 }
 
 #[test]
 fn referrers_and_indexes(rt: HostRuntime) -> Result<(), Fail> {
     let alloc = rt.alloc();
     let digits = "bab9e997a499d9a01debd4356f23454db050baa4f31321e5a33e2e3aebd4f8eb";
-    expect_key(&rt, alloc, &referrer(alloc)?, IMAGE, 402, digits)?;
+    expect_key(&rt, alloc, Sample::Referrer, IMAGE, 402, digits)?;
     let digits = "8ede3797b5d175cf105016f170f6e4a175a141a2865be8e6822edd38acd70711";
-    expect_key(&rt, alloc, &index_1(alloc)?, INDEX, 339, digits)?;
+    expect_key(&rt, alloc, Sample::Index1, INDEX, 339, digits)?;
     let digits = "0b8dc1984af33df0070c6aac0e96b5e5a73279e316612635d1a76f663efbde88";
-    expect_key(&rt, alloc, &index_2(alloc)?, INDEX, 339, digits)?;
+    expect_key(&rt, alloc, Sample::Index2, INDEX, 339, digits)?;
     let digits = "d9c3e7cfc5f64c505159926d395e41fe249bf6d3a5bf23f53c6bdce34993a368";
-    expect_key(&rt, alloc, &index_3(alloc)?, INDEX, 186, digits)?;
+    expect_key(&rt, alloc, Sample::Index3, INDEX, 186, digits)?;
     let digits = "04b54ec52bc620cd8553bcdfd876570329efa5cc7ead029e4d6b03ae3f4b29dd";
-    expect_key(&rt, alloc, &index_4(alloc)?, INDEX, 183, digits)?;
+    expect_key(&rt, alloc, Sample::Index4, INDEX, 183, digits)?;
     let digits = "655f703d5da3c83b1f8c9a8bb0cc7d4f6921a4a30b0b9d024a867ed937c03921";
     let media_type = "application/vnd.docker.distribution.manifest.v2+json";
-    expect_key(&rt, alloc, &docker_image(alloc)?, media_type, 347, digits)
+    expect_key(&rt, alloc, Sample::DockerImage, media_type, 347, digits)
 }
 
 /// Whether a key of this size is refused for it.

@@ -92,7 +92,23 @@ fn gathered<A: Source, D: Dest>(
     line(alloc, &gather(alloc, source, destination, roots, 4_194_304))
 }
 
-/// What is planned from a source into a destination, and how many fetches that took.
+/// What is planned from a source into a store of samples, and how many fetches that took.
+fn planned(
+    alloc: Global,
+    source: &MemoryStore,
+    destination: &[Sample],
+    roots: &[Sample],
+) -> Result<(String, u32), Fail> {
+    let counted = Counted {
+        store: source,
+        fetches: Cell::new(0),
+    };
+    let destination = closed(alloc, destination)?;
+    let roots = keys(alloc, roots)?;
+    let told = gathered(alloc, &counted, &destination, &roots)?;
+    Ok((told, counted.fetches.get()))
+}
+
 fn assert_planned<R: AllocGlobal + Abort>(
     rt: &R,
     source: &[Sample],
@@ -101,17 +117,10 @@ fn assert_planned<R: AllocGlobal + Abort>(
     want: &str,
     fetches: u32,
 ) -> Result<(), Fail> {
-    let alloc = rt.alloc();
-    let store = memory(alloc, source)?;
-    let counted = Counted {
-        store: &store,
-        fetches: Cell::new(0),
-    };
-    let destination = closed(alloc, destination)?;
-    let roots = keys(alloc, roots)?;
-    let told = gathered(alloc, &counted, &destination, &roots)?;
+    let source = memory(rt.alloc(), source)?;
+    let (told, fetched) = planned(rt.alloc(), &source, destination, roots)?;
     assert_eq!(rt; told.as_str(), want);
-    assert_eq!(rt; counted.fetches.get(), fetches);
+    assert_eq!(rt; fetched, fetches);
     Ok(())
 }
 

@@ -1,6 +1,6 @@
 use crate::contents::Sample::{Empty, Image0};
 use crate::contents::{EMPTY, IMAGE, Sample};
-use crate::tests::stores::{assert_holds, memory, push};
+use crate::tests::stores::{assert_holds, closed, memory, push, push_closed};
 use bytes::Bytes;
 use oci_digest::Digest;
 use oci_manifest::Key;
@@ -59,6 +59,26 @@ fn push_refusals(rt: HostRuntime) -> Result<(), Fail> {
     let list = key(alloc, IMAGE, Digest::of(b"[]"), 2)?;
     let bytes = Bytes::from_vec(b"[]".to_vec(alloc)?)?;
     assert_refused(&rt, &list, bytes, "33 BadManifest 11 NotObject")
+}
+
+/// Pushes an image under some key into an empty closed store, and compares what is told; the store stays empty.
+fn assert_not_closed<R: AllocGlobal + Abort>(rt: &R, key: &Key, want: &str) -> Result<(), Fail> {
+    let mut store = closed(rt.alloc(), &[])?;
+    let got = push_closed(rt.alloc(), &mut store, key, Image0.bytes(rt.alloc())?)?;
+    assert_eq!(rt; got.as_str(), want);
+    assert_holds(rt, store.memory(), &[])
+}
+
+/// A manifest does not come before what it lists.
+#[test]
+fn successors_first(rt: HostRuntime) -> Result<(), Fail> {
+    let alloc = rt.alloc();
+    let empty = Empty.key(alloc)?;
+    let want = format!(in alloc; "42 MissingSuccessor {empty}")?;
+    let image = Image0.key(alloc)?;
+    assert_not_closed(&rt, &image, want.as_str())?;
+    let shorter = key(alloc, IMAGE, *image.digest(), 240)?;
+    assert_not_closed(&rt, &shorter, "31 SizeMismatch")
 }
 
 /// An entry by its place, and the empty store.

@@ -1,7 +1,7 @@
 use crate::contents::Sample;
 use crate::contents::Sample::{Empty, Image0};
 use crate::tests::stores::{assert_holds, closed, memory};
-use crate::tests::tags::{assert_resolves, tag};
+use crate::tests::tags::{assert_names, tag};
 use oci_copy::{CopyFault, Options, Report, copy};
 use oci_manifest::Key;
 use oci_store::{ClosedStore, Dest, MemoryStore, Source, Tagger};
@@ -27,67 +27,107 @@ fn line(alloc: Global, answer: &Result<(Key, Report), CopyFault>) -> Result<Stri
 fn copied<A: Source + Tagger, D: Dest + Tagger + Drop>(
     alloc: Global,
     source: &A,
-    source_reference: &str,
+    from: &str,
     destination: D,
+    to: &str,
     workers: u32,
 ) -> Result<(D, String), Fail> {
     let options = Options {
         workers,
         max_metadata_bytes: 0,
     };
-    let (destination, answer) = copy(alloc, source, source_reference, destination, "", &options);
+    let (destination, answer) = copy(alloc, source, from, destination, to, &options);
     let told = line(alloc, &answer)?;
     Ok((destination, told))
 }
 
-/// The copy of a reference into an empty store brings these samples, of which the last one is named by the reference.
-fn assert_brings<R: AllocGlobal + Abort>(
-    rt: &R,
-    reference: &str,
+/// A copy of one reference to another into an empty store, and what comes of it.
+#[derive(Clone, Copy)]
+struct Row<'a> {
+    from: &'a str,
+    to: &'a str,
     root: Sample,
-    report: &str,
-    samples: &[Sample],
-) -> Result<(), Fail> {
-    let alloc = rt.alloc();
+    report: &'a str,
+    copied: &'a [Sample],
+    /// The one name that the destination then has.
+    name: &'a str,
+}
+
+/// What the copy leaves in an empty store, and what it tells.
+fn copied_row(alloc: Global, row: Row<'_>) -> Result<(ClosedStore, String), Fail> {
     let source = one_image(alloc)?;
-    let destination = closed(alloc, &[])?;
-    let (destination, told) = copied(alloc, &source, reference, destination, 0)?;
-    let key = root.key(alloc)?;
-    let want = format!(in alloc; "{key} {report}")?;
+    copied(alloc, &source, row.from, closed(alloc, &[])?, row.to, 0)
+}
+
+fn assert_copied<R: AllocGlobal + Abort>(rt: &R, row: Row<'_>) -> Result<(), Fail> {
+    let (destination, told) = copied_row(rt.alloc(), row)?;
+    let (key, report) = (row.root.key(rt.alloc())?, row.report);
+    let want = format!(in rt.alloc(); "{key} {report}")?;
     assert!(rt; told == want, "{told}");
-    assert_holds(rt, destination.memory(), samples)?;
-    assert_resolves(rt, &destination, reference, root)
+    assert_holds(rt, destination.memory(), row.copied)?;
+    assert_names(rt, destination.memory(), row.name, row.root)
 }
 
 #[test]
 fn copy_of_a_tag(rt: HostRuntime) -> Result<(), Fail> {
-    let report = "planned 2 pushed 2 skipped 0";
-    assert_brings(&rt, "m", Image0, report, &[Empty, Image0])
+    let row = Row {
+        from: "m",
+        to: "",
+        root: Image0,
+        report: "planned 2 pushed 2 skipped 0",
+        copied: &[Empty, Image0],
+        name: "m",
+    };
+    assert_copied(&rt, row)?;
+    assert_copied(
+        &rt,
+        Row {
+            to: "v1",
+            name: "v1",
+            ..row
+        },
+    )
 }
 
 #[test]
 fn copy_of_a_digest(rt: HostRuntime) -> Result<(), Fail> {
     let digest = Empty.key(rt.alloc())?.digest().to_string(rt.alloc())?;
-    let report = "planned 1 pushed 1 skipped 0";
-    assert_brings(&rt, digest.as_str(), Empty, report, &[Empty])
+    assert_copied(
+        &rt,
+        Row {
+            from: digest.as_str(),
+            to: "",
+            root: Empty,
+            report: "planned 1 pushed 1 skipped 0",
+            copied: &[Empty],
+            name: digest.as_str(),
+        },
+    )
 }
 
-/// The copy into a store that holds one thing under a name is refused, and the store is as it was.
+/// What a copy leaves in a store that has one content under the name `e`, and what it tells.
+fn copied_beside(
+    alloc: Global,
+    reference: &str,
+    workers: u32,
+) -> Result<(ClosedStore, String), Fail> {
+    let source = one_image(alloc)?;
+    let mut destination = closed(alloc, &[Empty])?;
+    tag(alloc, &mut destination, &Empty.key(alloc)?, "e")?;
+    copied(alloc, &source, reference, destination, "", workers)
+}
+
+/// The copy is refused, and the store is as it was.
 fn assert_refused<R: AllocGlobal + Abort>(
     rt: &R,
     reference: &str,
     workers: u32,
     want: &str,
 ) -> Result<(), Fail> {
-    let alloc = rt.alloc();
-    let source = one_image(alloc)?;
-    let mut destination = closed(alloc, &[Empty])?;
-    tag(alloc, &mut destination, &Empty.key(alloc)?, "e")?;
-    let (destination, told) = copied(alloc, &source, reference, destination, workers)?;
+    let (destination, told) = copied_beside(rt.alloc(), reference, workers)?;
     assert_eq!(rt; told.as_str(), want);
     assert_holds(rt, destination.memory(), &[Empty])?;
-    assert_eq!(rt; destination.memory().tags()?.len(), 1);
-    assert_resolves(rt, &destination, "e", Empty)
+    assert_names(rt, destination.memory(), "e", Empty)
 }
 
 #[test]

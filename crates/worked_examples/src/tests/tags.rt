@@ -21,11 +21,7 @@ pub(crate) fn tag<T: Tagger>(
 }
 
 /// What `resolve` answers, as text: the key, or the fault.
-pub(crate) fn resolve<T: Tagger>(
-    alloc: Global,
-    store: &T,
-    reference: &str,
-) -> Result<String, Fail> {
+fn resolve<T: Tagger>(alloc: Global, store: &T, reference: &str) -> Result<String, Fail> {
     match &store.resolve(reference) {
         Ok(key) => Ok(format!(in alloc; "{key}")?),
         Err(fault) => Ok(format!(in alloc; "{fault}")?),
@@ -33,7 +29,7 @@ pub(crate) fn resolve<T: Tagger>(
 }
 
 /// A reference stands for a sample's key.
-pub(crate) fn assert_resolves<R: AllocGlobal + Abort, T: Tagger>(
+fn assert_resolves<R: AllocGlobal + Abort, T: Tagger>(
     rt: &R,
     store: &T,
     reference: &str,
@@ -42,6 +38,32 @@ pub(crate) fn assert_resolves<R: AllocGlobal + Abort, T: Tagger>(
     let want = sample.key(rt.alloc())?.to_string(rt.alloc())?;
     let got = resolve(rt.alloc(), store, reference)?;
     assert!(rt; got == want, "{reference}: {got}");
+    Ok(())
+}
+
+/// A reference is refused.
+fn assert_unresolved<R: AllocGlobal + Abort, T: Tagger>(
+    rt: &R,
+    store: &T,
+    reference: &str,
+    want: &str,
+) -> Result<(), Fail> {
+    let got = resolve(rt.alloc(), store, reference)?;
+    assert_eq!(rt; got.as_str(), want);
+    Ok(())
+}
+
+/// The tag of a sample's key is refused.
+fn assert_refused<R: AllocGlobal + Abort, T: Tagger>(
+    rt: &R,
+    store: &mut T,
+    sample: Sample,
+    name: &str,
+    want: &str,
+) -> Result<(), Fail> {
+    let key = sample.key(rt.alloc())?;
+    let got = tag(rt.alloc(), store, &key, name)?;
+    assert_eq!(rt; got.as_str(), want);
     Ok(())
 }
 
@@ -66,38 +88,56 @@ fn listed(alloc: Global, store: &MemoryStore) -> Result<String, Fail> {
     Ok(text)
 }
 
+/// The store has one name, which is that of the sample's key.
+pub(crate) fn assert_names<R: AllocGlobal + Abort>(
+    rt: &R,
+    store: &MemoryStore,
+    name: &str,
+    sample: Sample,
+) -> Result<(), Fail> {
+    let key = sample.key(rt.alloc())?;
+    let want = format!(in rt.alloc(); "{name} {key}\n")?;
+    let got = listed(rt.alloc(), store)?;
+    assert!(rt; got == want, "{got}");
+    Ok(())
+}
+
+/// The store has two names, in byte order.
+fn assert_both<R: AllocGlobal + Abort>(rt: &R, store: &MemoryStore) -> Result<(), Fail> {
+    let (image, empty) = (Image0.key(rt.alloc())?, Empty.key(rt.alloc())?);
+    let want = format!(in rt.alloc(); "a {image}\nm {empty}\n")?;
+    let got = listed(rt.alloc(), store)?;
+    assert!(rt; got == want, "{got}");
+    Ok(())
+}
+
 #[test]
 fn references(rt: HostRuntime) -> Result<(), Fail> {
     let alloc = rt.alloc();
-    let mut store = memory(alloc, &[Empty, Image0])?;
+    let store = memory(alloc, &[Empty, Image0])?;
     let digest = Empty.key(alloc)?.digest().to_string(alloc)?;
     assert_resolves(&rt, &store, digest.as_str(), Empty)?;
-    assert_eq!(rt;
-        resolve(alloc, &store, "x")?.as_str(),
-        "36 UnknownReference"
-    );
-    assert_eq!(rt; resolve(alloc, &store, "")?.as_str(), "35 EmptyReference");
+    assert_unresolved(&rt, &store, "x", "36 UnknownReference")?;
+    assert_unresolved(&rt, &store, "", "35 EmptyReference")
+}
+
+/// A name that is there is moved, and a name comes before a digest.
+#[test]
+fn tags(rt: HostRuntime) -> Result<(), Fail> {
+    let mut store = memory(rt.alloc(), &[Empty, Image0])?;
     assert_tags(&rt, &mut store, Image0, "m")?;
     assert_tags(&rt, &mut store, Empty, "m")?;
-    // A name comes before a digest.
+    let digest = Empty.key(rt.alloc())?.digest().to_string(rt.alloc())?;
     assert_tags(&rt, &mut store, Image0, digest.as_str())
 }
 
 #[test]
 fn refused_tags(rt: HostRuntime) -> Result<(), Fail> {
-    let alloc = rt.alloc();
-    let mut store = memory(alloc, &[Empty, Image0])?;
-    assert_tags(&rt, &mut store, Image0, "n")?;
+    let mut store = memory(rt.alloc(), &[Empty, Image0])?;
     assert_tags(&rt, &mut store, Empty, "m")?;
-    let before = listed(alloc, &store)?;
-    let (empty, image) = (Empty.key(alloc)?, Image0.key(alloc)?);
-    assert!(rt; before == format!(in alloc; "m {empty}\nn {image}\n")?);
-    let told = tag(alloc, &mut store, &Foo.key(alloc)?, "m")?;
-    assert_eq!(rt; told.as_str(), "37 NotHeld");
-    assert_eq!(rt;
-        tag(alloc, &mut store, &empty, "")?.as_str(),
-        "35 EmptyReference"
-    );
-    assert!(rt; listed(alloc, &store)? == before);
-    Ok(())
+    assert_refused(&rt, &mut store, Foo, "m", "37 NotHeld")?;
+    assert_refused(&rt, &mut store, Empty, "", "35 EmptyReference")?;
+    assert_names(&rt, &store, "m", Empty)?;
+    assert_tags(&rt, &mut store, Image0, "a")?;
+    assert_both(&rt, &store)
 }
