@@ -7,8 +7,8 @@
 //! | [`copy_memory`] | as `copy_one`, from a store in memory to a closed one |
 //!
 //! After a copy that succeeds the destination has what it had and what the source reaches from the roots, and nothing else.
-//! The destination always comes back. A refusal leaves all that it had, and perhaps some of what was to be brought; each key
-//! then has all that it lists, and the tags are as they were.
+//! The destination always comes back. A refusal leaves all that it had, and perhaps some of what was to be brought; where the
+//! destination was closed it is closed, and the tags are as they were.
 //!
 //! A copy takes a key that the destination holds to have all that it lists, and does not look below it. So the destination has
 //! to be closed: each key that it lists is held. Where it is not, nothing is copied.

@@ -33,7 +33,7 @@ pub(crate) fn plan_copy<A: Source, D: Dest>(
     }
 }
 
-// A copy goes to a closed destination alone.
+/// A copy goes to a closed destination alone.
 fn check_closed<D: Dest>(destination: &D) -> Result<(), CopyFault>
     ensures closed { OnOk result (IsClosed (D.nodes destination.now)) }
     ensures open { IfErr result (IsOpenCause (D.nodes destination.now)) }
@@ -45,7 +45,7 @@ fn check_closed<D: Dest>(destination: &D) -> Result<(), CopyFault>
     }
 }
 
-// The fault of a copy that has no plan.
+/// The fault of a copy that has no plan.
 fn plan_fault(fault: PlanFault) -> CopyFault
     ensures { TellsPlan fault result }
 {

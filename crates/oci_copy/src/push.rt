@@ -46,7 +46,7 @@ pub(crate) fn push_planned<A: Source, D: Dest>(
     }
 }
 
-// The fault of a copy whose source refused the key.
+/// The fault of a copy whose source refused the key.
 fn fetch_fault(key: &Key, fault: FetchFault) -> CopyFault
     ensures { TellsFetch key.now fault result }
 {
@@ -59,7 +59,7 @@ fn fetch_fault(key: &Key, fault: FetchFault) -> CopyFault
     }
 }
 
-// The fault of a copy whose destination refused the key.
+/// The fault of a copy whose destination refused the key.
 fn push_fault(key: &Key, fault: PushFault) -> CopyFault
     ensures { TellsPush key.now fault result }
 {

@@ -35,7 +35,7 @@ pub(crate) fn push_all<A: Source, D: Dest>(
     Ok(())
 }
 
-// The key at a place of the plan's order.
+/// The key at a place of the plan's order.
 fn key_at(plan: &Plan, place: usize) -> &Key
     requires plan { IsPlan plan.now }
     requires order { IsOrder plan.now.order }

@@ -26,12 +26,12 @@ use std::alloc::Global;
 /// Copies what the source has under some roots, on the calling thread (oras-go v2, "CopyGraph").
 ///
 /// The destination always comes back. It gains each key that the source reaches from a root along keys that the destination
-/// lacks, each after the keys that it lists; nothing that it had is lost, and its tags stay. A key that it has is taken to have
+/// lacks; nothing that it had is lost, and its tags stay. A key that it has is taken to have
 /// all that it lists, so the destination has to be closed.
 ///
 /// Refused, in this order, with `DestinationOpen`; with `Plan`, where the source cannot give what is to be brought; and then, for
 /// each key in turn, with `Fetch`, `Push` or `Stuck`. With the first two nothing is changed, and with the others the keys pushed
-/// before stay and the destination is closed. `Memory` may come at any point.
+/// before stay and the destination is closed. `Memory` may come at any point, and leaves what the others leave.
 ///
 /// Each manifest is fetched once for the plan, and each key once for its push; contents are shared and not copied.
 pub fn copy_one<A: Source, D: Dest>(
@@ -95,7 +95,7 @@ pub fn copy_one<A: Source, D: Dest>(
     }
 }
 
-// The report of a copy that pushed all that was planned.
+/// The report of a copy that pushed all that was planned.
 fn report_of(plan: &Plan) -> Report
     ensures planned { result.planned ≡ length plan.now.keys }
     ensures pushed { result.pushed ≡ length plan.now.keys }

@@ -44,6 +44,7 @@ pub fn copy<A: Source + Tagger, D: Dest + Tagger>(
     // What is copied and tagged.
     ensures root { IfOk result.1 (λ it. Resolves (keys_of (A.nodes source.now)) (A.tags source.now) source_reference.now it.0) }
     ensures tagged { IfOk result.1 (λ it. D.tags result.0 ≡ set_tag (D.tags destination) (name_of source_reference.now destination_reference.now) it.0) }
+    ensures held { IfOk result.1 (λ it. has_key (D.nodes result.0) it.0 ≡ true) }
     ensures untagged { OnErr result.1 (D.tags result.0 ≡ D.tags destination) }
     ensures workers { OnOk result.1 (options.now.workers ≤ 64) }
 
@@ -108,7 +109,7 @@ pub fn copy<A: Source + Tagger, D: Dest + Tagger>(
     }
 }
 
-// The name that the copied key gets.
+/// The name that the copied key gets.
 fn tag_name<'a>(source_reference: &'a str, destination_reference: &'a str) -> &'a str
     ensures { result.now ≡ name_of source_reference.now destination_reference.now }
 {
@@ -119,7 +120,7 @@ fn tag_name<'a>(source_reference: &'a str, destination_reference: &'a str) -> &'
     }
 }
 
-// The fault of a copy whose reference was refused.
+/// The fault of a copy whose reference was refused.
 fn reference_fault(fault: RefFault) -> CopyFault
     ensures { TellsReference fault result }
 {

@@ -1,6 +1,8 @@
-use Rattle.std.proofs.Common.{List, inr}
+use Rattle.std.proofs.Common.{◌≡◌, true, List, [], inr}
 use Rattle.std.specs.Map.{keys_of}
+use Rattle.std.proofs.lemmas.List.Elements.{All-head}
 use Rattle.oci_manifest.specs.Descriptor.{Descriptor}
+use Rattle.oci_store.specs.Keyed.{has_key}
 use Rattle.oci_copy.specs.Options.{limit_of}
 use Rattle.oci_copy.specs.Fault.{Refused}
 use Rattle.oci_copy.proofs.References.{refused_by_root}
@@ -22,6 +24,12 @@ returns-in-Err-copied-clause-refused g c =
     (g.D.Store.failure_count c.args.destination) (g.D.Store.failure_count c.copy_one-destination.result.0))
     c.in-Ok.root c.from_ref-roots.result.now c.in-Err-copied.fault c.in-Ok.ensures.found c.if-workers-gt-MAX_WORKERS.false c.from_ref-roots.ensures.value (λ x. x) (λ r x. x)
     (rw c.in-Err-copied.is at c.copy_one-destination.ensures.refused)
+
+pub returns-in-Ok-tag-clause-held : goal.returns-in-Ok-tag-clause-held
+returns-in-Ok-tag-clause-held g c =
+    let nodes = g.D.Store.nodes c.copy_one-destination.result.0 in
+    let done = rw c.in-Ok-copied.is at c.copy_one-destination.ensures.roots in
+    rw c.tag.ensures.nodes (All-head (λ k. has_key nodes k ≡ true) c.in-Ok.root [] (rw c.from_ref-roots.ensures.value at done))
 
 pub returns-in-Ok-tag-clause-graph : goal.returns-in-Ok-tag-clause-graph
 returns-in-Ok-tag-clause-graph g c h agree =
