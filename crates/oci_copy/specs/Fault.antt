@@ -97,7 +97,7 @@ Refused honest halted fails source limit opening roots before after fault.BadWor
 Refused honest halted fails source limit opening roots before after fault.Memory = Unit {0}
 Refused honest halted fails source limit opening roots before after (fault.Reference e) = ⊥
 
--- a refusal that comes before the first push
+-- a refusal that comes only before the first push
 abbrev pub IsEarly : CopyFault → Type 0
 IsEarly (fault.DestinationOpen holder missing) = Unit {0}
 IsEarly (fault.Plan e) = Unit {0}
