@@ -7,15 +7,15 @@ use Rattle.oci_store.specs.Graph.{Node, nodes_of}
 use Rattle.oci_plan.specs.declared.fault.PlanFault.{PlanFault}
 use Rattle.oci_plan.specs.declared.fault.PlanFault.TheVariants as plan
 use Rattle.oci_plan.specs.Refusal.{IsTooLarge, IsCycleOutside, HasTooMany}
-use Rattle.oci_plan.specs.Visiting.{IsFirstAtFault}
+use Rattle.oci_plan.specs.Visiting.{IsNextVisited}
 use Rattle.oci_copy.specs.declared.fault.CopyFault.{CopyFault}
 use Rattle.oci_copy.specs.declared.fault.CopyFault.TheVariants as fault
 
 -- why there is no plan: the first visited key that is at fault is not there or too large; or a cycle is outside and every key
 -- outside is sound; or too many keys are outside and those visited so far are sound
 abbrev pub NotPlanned : List Entry → ℕ → List Node → List Descriptor → PlanFault → Type 0
-NotPlanned source limit opening roots (plan.NotFound k) = IsFirstAtFault (nodes_of source) source opening roots limit k × (has_key source k ≡ false)
-NotPlanned source limit opening roots (plan.TooLarge k l) = IsFirstAtFault (nodes_of source) source opening roots limit k × (l ≡ limit) × IsTooLarge limit k
+NotPlanned source limit opening roots (plan.NotFound k) = IsNextVisited (nodes_of source) source opening roots limit k × (has_key source k ≡ false)
+NotPlanned source limit opening roots (plan.TooLarge k l) = IsNextVisited (nodes_of source) source opening roots limit k × (l ≡ limit) × IsTooLarge limit k
 NotPlanned source limit opening roots (plan.Cycle keys) = IsCycleOutside source opening roots limit keys.items
 NotPlanned source limit opening roots plan.TooMany = HasTooMany source opening roots limit
 NotPlanned source limit opening roots e = ⊥

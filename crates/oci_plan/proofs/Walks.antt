@@ -14,7 +14,7 @@ use Rattle.oci_store.specs.Keyed.{has_key}
 use Rattle.oci_store.specs.Content.{Entry, succ_of}
 use Rattle.oci_store.specs.Graph.{Node, nodes_of}
 use Rattle.oci_plan.specs.Outside.{IsOutside}
-use Rattle.oci_plan.specs.Visiting.{successors_at, candidates, is_fresh, with_keys, IsVisiting, start, next, IsSoundItem, IsFirstAtFault}
+use Rattle.oci_plan.specs.Visiting.{successors_at, candidates, is_fresh, with_keys, IsVisiting, start, next, IsSoundItem, IsNextVisited}
 use Rattle.oci_plan.specs.Plan.{Number}
 use Rattle.oci_plan.specs.Refusal.{IsKeyFault, IsOfKey, IsFirstFault}
 use Rattle.oci_plan.specs.Walk.{IsListOf, IsPassed, IsWalk, IsNumberFault}
@@ -198,7 +198,7 @@ module _ (honest : Type 0) (entries : List Entry) (held : List Node) (roots : Ke
       → IsOfKey k e → honest → IsFirstFault entries held roots limit e
   item_first keys lists i k e walk at of_key h = go e of_key
     where
-      first : (named : Descriptor) → named ≡ k → IsFirstAtFault source entries held roots limit named
+      first : (named : Descriptor) → named ≡ k → IsNextVisited source entries held roots limit named
       first named same = (
         take i keys,
         subst (λ (x : Descriptor). IsVisiting source held roots (take i keys ++ x ∷ [])) (sym same) (walk_visiting keys lists i k walk at h),

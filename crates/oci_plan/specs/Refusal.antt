@@ -13,7 +13,7 @@ use Rattle.oci_store.specs.Graph.{Node, nodes_of}
 use Rattle.oci_store.specs.declared.fault.FetchFault.{FetchFault}
 use Rattle.oci_store.specs.declared.fault.FetchFault.TheVariants as fetch
 use Rattle.oci_plan.specs.Outside.{IsOutside, IsKeyCycle}
-use Rattle.oci_plan.specs.Visiting.{candidates, is_fresh, IsVisiting, IsWithin, IsSoundItem, IsFirstAtFault}
+use Rattle.oci_plan.specs.Visiting.{candidates, is_fresh, IsVisiting, IsWithin, IsSoundItem, IsNextVisited}
 use Rattle.oci_plan.specs.declared.fault.PlanFault.{PlanFault}
 use Rattle.oci_plan.specs.declared.fault.PlanFault.TheVariants as fault
 
@@ -67,13 +67,13 @@ IsOfKey k (fault.Cycle keys) = ⊥
 IsOfKey k fault.Memory = Unit {0}
 IsOfKey k fault.TooMany = ⊥
 
--- the keys are a cycle outside, and every key outside is sound
+-- the keys are a cycle of the source, all of them are outside, and every key outside is sound
 abbrev pub IsCycleOutside : List Entry → List Node → List Descriptor → ℕ → List Descriptor → Type 0
 IsCycleOutside entries held roots limit keys = IsKeyCycle (nodes_of entries) keys × All (IsOutside (nodes_of entries) held roots) keys
     × ((k : Descriptor) → IsOutside (nodes_of entries) held roots k → IsSoundItem entries limit k)
 
--- There are more distinct keys outside than numbers: the keys that are not held among the roots and what the keys visited so
--- far list. Every key visited so far is sound.
+-- Every key visited so far is sound, and there are more keys than numbers that are not held among the roots and what the
+-- visited keys list, each taken once: all these are outside.
 pub record HasTooMany (entries : List Entry) (held : List Node) (roots : List Descriptor) (limit : ℕ) : Type 0 where
   pub visited : List Descriptor
   pub visiting : IsVisiting (nodes_of entries) held roots visited
@@ -84,13 +84,14 @@ pub record HasTooMany (entries : List Entry) (held : List Node) (roots : List De
   pub distinct : IsDistinct same_key keys
   pub outside : All (IsOutside (nodes_of entries) held roots) keys
 
--- Of what an honest source lists, where the plan is refused: a fault that names a key is of the first visited key that is
--- not sound, a cycle is one of keys outside which are all sound, and too many keys are outside before any is at fault.
+-- Where the plan is refused, of what an honest source lists: every key visited before the key that a fault names is sound; a
+-- cycle is one of keys outside, and every key outside is sound; where there are too many keys, they are outside, and every
+-- key visited so far is sound.
 abbrev pub IsFirstFault : List Entry → List Node → List Descriptor → ℕ → PlanFault → Type 0
-IsFirstFault entries held roots limit (fault.TooLarge k l) = IsFirstAtFault (nodes_of entries) entries held roots limit k
-IsFirstFault entries held roots limit (fault.NotFound k) = IsFirstAtFault (nodes_of entries) entries held roots limit k
-IsFirstFault entries held roots limit (fault.Fetch k e) = IsFirstAtFault (nodes_of entries) entries held roots limit k
-IsFirstFault entries held roots limit (fault.Manifest k e) = IsFirstAtFault (nodes_of entries) entries held roots limit k
+IsFirstFault entries held roots limit (fault.TooLarge k l) = IsNextVisited (nodes_of entries) entries held roots limit k
+IsFirstFault entries held roots limit (fault.NotFound k) = IsNextVisited (nodes_of entries) entries held roots limit k
+IsFirstFault entries held roots limit (fault.Fetch k e) = IsNextVisited (nodes_of entries) entries held roots limit k
+IsFirstFault entries held roots limit (fault.Manifest k e) = IsNextVisited (nodes_of entries) entries held roots limit k
 IsFirstFault entries held roots limit (fault.Cycle keys) = IsCycleOutside entries held roots limit keys.items
 IsFirstFault entries held roots limit fault.Memory = Unit {0}
 IsFirstFault entries held roots limit fault.TooMany = HasTooMany entries held roots limit
