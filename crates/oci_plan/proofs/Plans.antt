@@ -20,7 +20,7 @@ use Rattle.oci_plan.specs.Outside.{IsOutside, IsKeyCycle}
 use Rattle.oci_plan.specs.Visiting.{successors_at, is_fresh, IsSoundItem}
 use Rattle.oci_plan.specs.Plan.{Number, HasEdges, FollowsListed}
 use Rattle.oci_plan.specs.Refusal.{IsFirstFault}
-use Rattle.oci_plan.specs.Walk.{IsListOf, IsPassed, IsWalk, IsTellable, IsTold, IsNamedCycle}
+use Rattle.oci_plan.specs.Walk.{IsListOf, IsPassed, IsWalk, IsTellable, TellsKeys, IsNamedCycle}
 use Rattle.oci_plan.specs.declared.fault.OrderFault.{OrderFault}
 use Rattle.oci_plan.specs.declared.fault.OrderFault.TheVariants as ordering
 use Rattle.oci_plan.specs.declared.fault.PlanFault.{PlanFault}
@@ -265,7 +265,7 @@ module _ (honest : Type 0) (entries : List Entry) (held : List Node) (roots : Ke
       sound_item honest entries held roots limit h k (All-contains (IsPassed honest entries limit) keys k walk.passed there)
 
   -- what is told of an order's fault is a cause against the plan
-  pub told_first : (f : OrderFault) (e : PlanFault) → IsCauseOf (lists_of lists) f → IsTold keys f e → honest → IsFirstFault entries held roots limit e
+  pub told_first : (f : OrderFault) (e : PlanFault) → IsCauseOf (lists_of lists) f → TellsKeys keys f e → honest → IsFirstFault entries held roots limit e
   told_first (ordering.Cycle numbers) e cause told h = go e told
     where
       outside : (named : Keys) → Number keys numbers.items named → All (IsOutside source held roots) named
