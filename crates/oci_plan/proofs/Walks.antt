@@ -1,5 +1,5 @@
 -- The walk: its start, one more key, its end, and what a refusal says.
-use Rattle.std.proofs.Common.{◌≡◌, ℕ, ◌<◌, ◌≤◌, Bool, true, false, ◌⊎◌, inl, inr, List, [], ◌∷◌, ◌++◌, length, take, Some, Ok, refl, sym, ap, subst, ◌∙◌, arith, append-nil}
+use Rattle.std.proofs.Common.{◌≡◌, ℕ, ◌<◌, ◌≤◌, true, false, ◌⊎◌, inl, inr, List, [], ◌∷◌, ◌++◌, length, take, Some, Ok, refl, sym, ap, subst, ◌∙◌, arith, append-nil}
 use Rattle.std.specs.Prelude.{Contains}
 use Rattle.std.specs.Global.{Vec}
 use Rattle.std.specs.List.{filter, slice_get, All, AllZip, IsDistinct}
@@ -16,7 +16,7 @@ use Rattle.oci_store.specs.Graph.{Node, nodes_of}
 use Rattle.oci_plan.specs.Outside.{IsOutside}
 use Rattle.oci_plan.specs.Visiting.{successors_at, candidates, is_fresh, with_keys, IsVisiting, start, next, IsSoundItem, IsNextVisited}
 use Rattle.oci_plan.specs.Plan.{Number}
-use Rattle.oci_plan.specs.Refusal.{IsKeyFault, IsOfKey, IsFirstFault}
+use Rattle.oci_plan.specs.Refusal.{IsOfKey, IsFirstFault}
 use Rattle.oci_plan.specs.Walk.{IsListOf, IsPassed, IsWalk, IsNumberFault}
 use Rattle.oci_plan.specs.declared.fault.PlanFault.{PlanFault}
 use Rattle.oci_plan.specs.declared.fault.PlanFault.TheVariants as fault
@@ -244,13 +244,3 @@ module _ (honest : Type 0) (entries : List Entry) (held : List Node) (roots : Ke
       number_first (with_keys keys (filter (is_fresh held) successors)) (take (length lists) keys ++ k ∷ []) e fault (walk_visiting keys lists (length lists) k walk at h)
       (All-push (IsSoundItem entries limit) (take (length lists) keys) k (all_sound h (take (length lists) keys) walk.passed) (sound_item h k passed))
       (found_more keys (take (length lists) keys) successors k (walk.found h) (own h))
-
--- a want of numbers names no key
-pub number_cause : (honest : Type 0) (fails : Descriptor → Bool) (entries : List Entry) (limit : ℕ) (keys : Keys) (e : PlanFault) → IsNumberFault keys e → IsKeyFault honest fails entries limit e
-number_cause honest fails entries limit keys (fault.TooLarge named l) h = absurd h
-number_cause honest fails entries limit keys (fault.NotFound named) h = absurd h
-number_cause honest fails entries limit keys (fault.Fetch named f) h = absurd h
-number_cause honest fails entries limit keys (fault.Manifest named f) h = absurd h
-number_cause honest fails entries limit keys (fault.Cycle ks) h = tt
-number_cause honest fails entries limit keys fault.Memory h = tt
-number_cause honest fails entries limit keys fault.TooMany h = tt
