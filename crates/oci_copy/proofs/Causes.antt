@@ -1,15 +1,12 @@
 -- Why a planned key is not pushed.
-use Rattle.std.proofs.Common.{◌≡◌, ℕ, ◌-◌, ◌^◌, ◌<◌, ◌≤◌, ◌⊎◌, inl, inr, Bool, false, List, [], ◌∷◌, Option, Some, None, Result, Ok, Err, refl, sym, ap, subst, ◌∙◌, arith}
+use Rattle.std.proofs.Common.{◌≡◌, ℕ, ◌-◌, ◌^◌, ◌<◌, ◌≤◌, ◌⊎◌, inl, inr, Bool, false, List, Option, Some, None, Result, Ok, Err, refl, sym, ap, subst, ◌∙◌, arith}
 use Rattle.std.specs.Prelude.{Contains}
-use Rattle.std.specs.List.{All}
-use Rattle.std.proofs.lemmas.List.Elements.{All-nil, All-cons}
 use Rattle.oci_manifest.specs.Descriptor.{Descriptor}
 use Rattle.oci_manifest.specs.Fault.{Fault}
 use Rattle.oci_store.specs.Keyed.{has_key, HasAll, first_missing}
 use Rattle.oci_store.specs.Content.{Entry, Matches, succ_of}
 use Rattle.oci_store.specs.Graph.{Node, nodes_of}
-use Rattle.oci_store.specs.Closed.{IsClosed, with_holder, open_in, first_open}
-use Rattle.oci_store.proofs.Lookups.{HasAll-from_first_missing}
+use Rattle.oci_store.specs.Closed.{IsClosed}
 use Rattle.oci_plan.specs.Outside.{IsOutside}
 use Rattle.oci_plan.specs.Refusal.{IsKeyFault, IsFirstFault}
 use Rattle.oci_plan.specs.declared.fault.PlanFault.{PlanFault}
@@ -18,7 +15,7 @@ use Rattle.oci_store.specs.declared.fault.PushFault.{PushFault}
 use Rattle.oci_store.specs.declared.fault.PushFault.TheVariants as push
 use Rattle.oci_copy.specs.declared.fault.CopyFault.{CopyFault}
 use Rattle.oci_copy.specs.declared.fault.CopyFault.TheVariants as fault
-use Rattle.oci_copy.specs.Fault.{IsPushCause, IsStepCause, IsRunCause, IsPlanCause, IsOpenCause, IsStartCause, Refused as Refuses, IsEarly, TellsPlan, TellsPush}
+use Rattle.oci_copy.specs.Fault.{IsPushCause, IsStepCause, IsRunCause, IsPlanCause, IsOpenCause, IsStartCause, Refused as Refuses, TellsPlan, TellsPush}
 use Rattle.oci_copy.proofs.Checks.{closed_check-matching, closed_check-ready}
 
 -- a cause that is looked at after the size and the digest
@@ -121,20 +118,6 @@ start_from_open honest fails source limit opening roots (fault.DestinationOpen h
 start_from_open honest fails source limit opening roots fault.Memory cause = tt
 start_from_open honest fails source limit opening roots other cause = absurd cause
 
--- a graph in which nothing is open is closed
-pub closed-from_first_open : (nodes : List Node) → first_open nodes ≡ None → IsClosed nodes
-closed-from_first_open nodes none = go nodes none
-  where
-    both : (holder : Descriptor) (o : Option Descriptor) (rest : Option (Descriptor × Descriptor)) → with_holder holder o rest ≡ None → (o ≡ None) × (rest ≡ None)
-    both holder None rest h = (refl, h)
-    both holder (Some m) rest h = cc h
-
-    go : (ns : List Node) → open_in nodes ns ≡ None → All (λ (n : Node). HasAll nodes n.1) ns
-    go [] h = All-nil (λ (n : Node). HasAll nodes n.1)
-    go (n ∷ ns) h =
-        let it = both n.0 (first_missing nodes n.1) (open_in nodes ns) h in
-        All-cons (λ (n : Node). HasAll nodes n.1) n ns (HasAll-from_first_missing nodes n.1 it.0) (go ns it.1)
-
 -- why a copy is refused once it has a plan
 pub refused-from_run : (honest halted : Type 0) (fails : Descriptor → Bool) (source : List Entry) (limit : ℕ) (opening : List Node) (roots planned : List Descriptor) (before after : ℕ) (told : CopyFault)
     → IsClosed opening → (honest → (k : Descriptor) → Contains planned k → IsOutside (nodes_of source) opening roots k)
@@ -152,11 +135,3 @@ refused-from_start honest halted fails source limit opening roots before after (
 refused-from_start honest halted fails source limit opening roots before after (fault.Plan e) cause = cause
 refused-from_start honest halted fails source limit opening roots before after fault.Memory cause = tt
 refused-from_start honest halted fails source limit opening roots before after other cause = absurd cause
-
--- a run is refused after its first push may have come
-pub late-from_run : (honest halted : Type 0) (fails : Descriptor → Bool) (before after : ℕ) (planned : List Descriptor) (told : CopyFault) → IsRunCause honest halted fails before after planned told → IsEarly told → ⊥
-late-from_run honest halted fails before after planned (fault.DestinationOpen holder missing) cause early = cause
-late-from_run honest halted fails before after planned (fault.Plan e) cause early = cause
-late-from_run honest halted fails before after planned fault.BadWorkers cause early = cause
-late-from_run honest halted fails before after planned (fault.Reference e) cause early = cause
-late-from_run honest halted fails before after planned other cause early = early

@@ -1,29 +1,17 @@
 -- A push keeps what a run keeps.
 use Rattle.std.proofs.Common.{◌≡◌, ◌≤◌, ◌<◌, ◌-◌, ◌^◌, inl, inr, ℕ, true, List, [], ◌∷◌, ◌++◌, Some, sym, ap, ◌∙◌, append_assoc, append-nil, subst, arith}
-use Rattle.std.specs.Prelude.{Contains}
+use Rattle.std.specs.Prelude.{Contains, option_map}
 use Rattle.std.specs.List.{All}
 use Rattle.std.proofs.lemmas.List.Elements.{All-nil, All-weaker, All-push}
-use Rattle.oci_manifest.specs.Descriptor.{Descriptor, same_key}
-use Rattle.oci_manifest.proofs.Keys.{Decides-same_key, cases}
+use Rattle.oci_manifest.specs.Descriptor.{Descriptor}
 use Rattle.oci_store.specs.Keyed.{value_at, has_key, HasAll}
 use Rattle.oci_store.specs.Content.{Entry, successors_in}
 use Rattle.oci_store.specs.Graph.{Node, node_of, nodes_of}
 use Rattle.oci_store.specs.Push.{IsCalm, IsUndisturbed, AgreesAt}
 use Rattle.oci_store.proofs.Lookups.{All-value_at, value_at-append_cases, has_key-append_left}
+use Rattle.oci_plan.proofs.Items.{value_at-nodes_of}
 use Rattle.oci_copy.specs.Grown.{IsTold}
 use Rattle.oci_copy.specs.Kept.{Keeps, IsOpeningAnd}
-
--- the graph of a content has the nodes of its pairs
-pub value_at-nodes_of : (entries : List Entry) (k : Descriptor) (bytes : List ℕ) → value_at entries k ≡ Some bytes → value_at (nodes_of entries) k ≡ Some (successors_in k bytes)
-value_at-nodes_of [] k bytes h = cc h
-value_at-nodes_of (e ∷ entries) k bytes h =
-    elim (cases (same_key e.0 k)) [
-      | inl same ↦
-          let key = (Decides-same_key e.0 k).0 same in
-          let value : e.1 ≡ bytes = cc (rw same at h) in
-          rw same (ap (λ (l : List Descriptor). Some l) (ap (λ (d : Descriptor). successors_in d e.1) key ∙ ap (successors_in k) value))
-      | inr other ↦ rw other (value_at-nodes_of entries k bytes (rw other at h))
-    ]
 
 -- what is held stays held
 pub HasAll-append : {X : Type 0} (a b : List (Descriptor × X)) (ks : List Descriptor) → HasAll a ks → HasAll (a ++ b) ks
@@ -80,7 +68,7 @@ module _ (honest shares : Type 0) (source : List Entry) (planned : List Descript
             (All-push (Listed (nodes ++ node ∷ [])) keeps.added node
             (All-weaker (Listed nodes) (Listed (nodes ++ node ∷ [])) (λ n h. HasAll-append nodes (node ∷ []) n.1 h) keeps.added keeps.supported)
             (HasAll-append nodes (node ∷ []) node.1 held));
-        own = λ h. All-push (λ (n : Node). value_at (nodes_of source) n.0 ≡ Some n.1) keeps.added node (keeps.own h) (value_at-nodes_of source k bytes (from h));
+        own = λ h. All-push (λ (n : Node). value_at (nodes_of source) n.0 ≡ Some n.1) keeps.added node (keeps.own h) (value_at-nodes_of source k ∙ ap (option_map (successors_in k)) (from h));
         rising = (let u = keeps.rising in omega arith);
         told = λ t.
             let b = told_before f f' keeps.rising up t in

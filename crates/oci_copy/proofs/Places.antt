@@ -1,6 +1,6 @@
 -- Which keys have been pushed at a place of a plan's order.
 use Rattle.std.proofs.Common.{◌≡◌, ℕ, ◌+◌, ◌<◌, ◌≤◌, ◌⊎◌, inl, inr, true, false, List, [], ◌∷◌, ◌++◌, length, get_or, take, Option, Some, None, Result, Ok, Err, refl, sym, ap, subst, ◌∙◌, arith, length-append}
-use Rattle.std.specs.Prelude.{Contains, slice_get, filter_map, unwrap_or, IsOk}
+use Rattle.std.specs.Prelude.{Contains, slice_get, filter_map, option_map, unwrap_or, IsOk}
 use Rattle.std.specs.List.{All, IsDistinct}
 use Rattle.std.specs.Map.{keys_of}
 use Rattle.std.specs.Result.{result_unwrap_or}
@@ -19,7 +19,7 @@ use Rattle.oci_store.proofs.Lookups.{has_key-from_Contains, Contains-from_has_ke
 use Rattle.oci_plan.specs.Order.{IsOrder}
 use Rattle.oci_plan.specs.Plan.{Planned, IsPlan, FollowsListed, keys_before}
 use Rattle.oci_plan.specs.Visiting.{successors_at}
-use Rattle.oci_copy.proofs.Growth.{value_at-nodes_of}
+use Rattle.oci_plan.proofs.Items.{value_at-nodes_of}
 
 length-keys_of : {X : Type 0} (pairs : List (Descriptor × X)) → length (keys_of pairs) ≡ length pairs
 length-keys_of [] = refl
@@ -155,7 +155,7 @@ module _ (p : Planned) (plan : IsPlan p) (order : IsOrder p.order) where
   ready_at source opening now place n k bytes reads follows keys at is own = from_read (succ_of k bytes) refl (All-contains (λ d. (b : List ℕ) → value_at source d ≡ Some b → IsOk (succ_of d b)) p.keys k reads (Contains-from_slice_get p.keys n k is) bytes own)
     where
       lists : successors_at (nodes_of source) k ≡ successors_in k bytes
-      lists = ap (λ (o : Option (List Descriptor)). unwrap_or o []) (value_at-nodes_of source k bytes own)
+      lists = ap (λ (o : Option (List Descriptor)). unwrap_or o []) (value_at-nodes_of source k ∙ ap (option_map (successors_in k)) own)
 
       held : (to : Descriptor) → (has_key opening to ≡ true) ⊎ Contains (keys_before place p) to → has_key now to ≡ true
       held to (inl old) = has_key-from_Contains now to (subst (λ (ks : List Descriptor). Contains ks to) (sym keys) (Contains-append_left (keys_of opening) (keys_before place p) to (Contains-from_has_key opening to old)))

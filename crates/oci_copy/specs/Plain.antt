@@ -1,24 +1,23 @@
 -- Why a copy is refused where neither store fails.
 use Rattle.std.specs.Prelude.{◌≡◌, ℕ, false, List}
-use Rattle.std.specs.List.{All}
 use Rattle.oci_manifest.specs.Descriptor.{Descriptor}
 use Rattle.oci_store.specs.Keyed.{has_key}
 use Rattle.oci_store.specs.Content.{Entry}
 use Rattle.oci_store.specs.Graph.{Node, nodes_of}
 use Rattle.oci_plan.specs.declared.fault.PlanFault.{PlanFault}
 use Rattle.oci_plan.specs.declared.fault.PlanFault.TheVariants as plan
-use Rattle.oci_plan.specs.Outside.{IsOutside, IsKeyCycle}
-use Rattle.oci_plan.specs.Refusal.{IsTooLarge, HasTooMany}
-use Rattle.oci_plan.specs.Visiting.{IsFirstAtFault}
+use Rattle.oci_plan.specs.Refusal.{IsTooLarge, IsCycleOutside, HasTooMany}
+use Rattle.oci_plan.specs.Visiting.{IsNextVisited}
 use Rattle.oci_copy.specs.declared.fault.CopyFault.{CopyFault}
 use Rattle.oci_copy.specs.declared.fault.CopyFault.TheVariants as fault
 
--- why there is no plan: the first visited key that is at fault is not there or too large, a cycle is outside, or too many keys are
+-- why there is no plan: the first visited key that is at fault is not there or too large; or a cycle is outside and every key
+-- outside is sound; or too many keys are outside and those visited so far are sound
 abbrev pub NotPlanned : List Entry → ℕ → List Node → List Descriptor → PlanFault → Type 0
-NotPlanned source limit opening roots (plan.NotFound k) = IsFirstAtFault (nodes_of source) source opening roots limit k × (has_key source k ≡ false)
-NotPlanned source limit opening roots (plan.TooLarge k l) = IsFirstAtFault (nodes_of source) source opening roots limit k × (l ≡ limit) × IsTooLarge limit k
-NotPlanned source limit opening roots (plan.Cycle keys) = IsKeyCycle (nodes_of source) keys.items × All (IsOutside (nodes_of source) opening roots) keys.items
-NotPlanned source limit opening roots plan.TooMany = HasTooMany (nodes_of source) opening roots
+NotPlanned source limit opening roots (plan.NotFound k) = IsNextVisited (nodes_of source) source opening roots limit k × (has_key source k ≡ false)
+NotPlanned source limit opening roots (plan.TooLarge k l) = IsNextVisited (nodes_of source) source opening roots limit k × (l ≡ limit) × IsTooLarge limit k
+NotPlanned source limit opening roots (plan.Cycle keys) = IsCycleOutside source opening roots limit keys.items
+NotPlanned source limit opening roots plan.TooMany = HasTooMany source opening roots limit
 NotPlanned source limit opening roots e = ⊥
 
 -- where neither store fails and the destination is closed, a copy is refused for its plan, or for want of memory

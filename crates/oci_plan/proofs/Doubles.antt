@@ -1,12 +1,11 @@
 -- Lists without doubles.
 use Rattle.std.proofs.Common.{◌≡◌, ◌≢◌, ℕ, inl, inr, Bool, true, false, cond, not, eqb, List, [], ◌∷◌, ◌++◌, refl, sym, ap, ◌∙◌, arith, append-nil}
-use Rattle.std.specs.Prelude.{All, Contains, filter}
+use Rattle.std.specs.Prelude.{All, filter}
 use Rattle.std.proofs.lemmas.Bool.{eqb-true}
 use Rattle.std.proofs.lemmas.Bool.Decides.{eqb_tells, Decides-eqb}
-use Rattle.std.proofs.lemmas.List.Elements.{filter-append, filter_passes, All-cons, All-tail, All-head, All-filter, All-weaker, All-contains, All-contains_itself}
+use Rattle.std.proofs.lemmas.List.Elements.{filter-append, filter_passes, All-cons, All-tail, All-head, All-filter, All-weaker}
 use Rattle.std.proofs.lemmas.List.Kept.{AllPairs-cons, AllPairs-filter}
-use Rattle.std.proofs.lemmas.Map.Views.{any-filter_same, Contains-from_any, list_any-from_Contains}
-use Rattle.std.proofs.lemmas.Cmp.{nat_eq_equiv}
+use Rattle.std.proofs.lemmas.Map.Views.{any-filter_same}
 use Rattle.oci_plan.specs.Graph.{without_doubles, IsDistinct}
 use Rattle.oci_plan.specs.Doubles.{has, with_number}
 
@@ -59,25 +58,10 @@ pub All-without_doubles : (P : ℕ → Type 0) (ns : List ℕ) → All P ns → 
 All-without_doubles P [] all = all
 All-without_doubles P (n ∷ ns) all = All-cons P n (others n (without_doubles ns)) (All-head P n ns all) (All-filter (λ m. not (eqb n m)) P (without_doubles ns) (All-without_doubles P ns (All-tail P n ns all)))
 
--- what is left was there
-pub Contains-without_doubles : (ns : List ℕ) (n : ℕ) → Contains (without_doubles ns) n → Contains ns n
-Contains-without_doubles ns n here = All-contains (Contains ns) (without_doubles ns) n (All-without_doubles (Contains ns) ns (All-contains_itself ns)) here
-
--- and no number is left twice
+-- no number is left twice
 pub IsDistinct-without_doubles : (ns : List ℕ) → IsDistinct (without_doubles ns)
 IsDistinct-without_doubles [] = λ i j d lt below. absurd (omega arith)
 IsDistinct-without_doubles (n ∷ ns) =
     AllPairs-cons (λ x y. x ≢ y) n (others n (without_doubles ns))
     (All-weaker (λ m. not (eqb n m) ≡ true) (λ m. n ≢ m) (λ m passes e. (let same : eqb n m ≡ true = (Decides-eqb n m).1 e in let no : not true ≡ true = ap not (sym same) ∙ passes in cc)) (others n (without_doubles ns)) (filter_passes (λ m. not (eqb n m)) (without_doubles ns)))
     (AllPairs-filter (λ x y. x ≢ y) (λ m. not (eqb n m)) (without_doubles ns) (IsDistinct-without_doubles ns))
-
-has-without_doubles : (ns : List ℕ) (n : ℕ) → has n (without_doubles ns) ≡ has n ns
-has-without_doubles [] n = refl
-has-without_doubles (m ∷ ns) n = elim (eqb_tells m n) [
-  | inl same ↦ (let back : eqb n m ≡ true = flipped m n true same.0 in rw back refl)
-  | inr other ↦ (let back : eqb n m ≡ false = flipped m n false other.0 in rw back (has-others m n (without_doubles ns) other.0 ∙ has-without_doubles ns n))
-]
-
--- and none is lost
-pub without_doubles-Contains : (ns : List ℕ) (n : ℕ) → Contains ns n → Contains (without_doubles ns) n
-without_doubles-Contains ns n here = Contains-from_any {eq = eqb} eqb-true n (without_doubles ns) (has-without_doubles ns n ∙ list_any-from_Contains nat_eq_equiv n ns here)

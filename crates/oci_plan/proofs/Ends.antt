@@ -26,20 +26,6 @@ past_end xs k none = elim (cases_lt k (length xs)) [
   | inr past ↦ past
 ]
 
--- a list with no last number is empty
-pub empty_by_last : (path : List ℕ) → slice_get path (length path - 1) ≡ None → path ≡ []
-empty_by_last [] none = refl
-empty_by_last (n ∷ path) none =
-    let past : length (n ∷ path) ≤ length (n ∷ path) - 1 = past_end (n ∷ path) (length (n ∷ path) - 1) none in
-    absurd (omega arith)
-
--- a list ends with its last number
-pub EndsWith-last : (path : List ℕ) (n : ℕ) → slice_get path (length path - 1) ≡ Some n → EndsWith path n
-EndsWith-last path n found =
-    let within : length path - 1 < length path = slice_get_within path (length path - 1) n found in
-    let read : Some (get_or path (length path - 1) 0) ≡ Some n = sym (slice_get-get_or path (length path - 1) 0 within) ∙ found in
-    record { some = omega arith; last = cc }
-
 -- a read of the progress at a number
 pub read_progress : (progress : List Progress) (n : ℕ) (p : Progress) → n < length progress → p ≡ get_or progress n p → progress_of progress n ≡ p
 read_progress progress n p below read = sym (unwrap_or-slice_get progress n New) ∙ ap (λ o. unwrap_or o New) (slice_get_read progress (length progress) n p refl below read)

@@ -77,15 +77,6 @@ numbered_more p old before after successors numbers i n k lt is passes keys name
       names = subst (λ (t : Keys). Number after (numbers ++ n ∷ []) t) (sym step) (Number-push after numbers (filter p (take i successors)) n k grows at);
     }
 
-pub numbered_same : (p : Descriptor → Bool) (old ks successors : Keys) (numbers : List ℕ) (i : ℕ) (k : Descriptor) → i < length successors → k ≡ get_or successors i k → p k ≡ false
-    → ks ≡ with_keys old (filter p (take i successors)) → Number ks numbers (filter p (take i successors)) → IsNumbered p old ks successors numbers (i + 1)
-numbered_same p old ks successors numbers i k lt is drops keys names =
-    let step = filter-drops p successors i k lt is drops in
-    record {
-      keys = keys ∙ ap (with_keys old) (sym step);
-      names = subst (λ (t : Keys). Number ks numbers t) (sym step) names;
-    }
-
 -- too many keys after some of the successors are too many after all of them
 pub IsNumberFault-all : (p : Descriptor → Bool) (old before successors : Keys) (i : ℕ) (k : Descriptor) (e : PlanFault) → i < length successors → k ≡ get_or successors i k → p k ≡ true
     → before ≡ with_keys old (filter p (take i successors)) → IsNumberFault (with_key before k) e → IsNumberFault (with_keys old (filter p successors)) e

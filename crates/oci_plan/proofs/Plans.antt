@@ -17,10 +17,10 @@ use Rattle.oci_plan.specs.Graph.{lists_of, successors_of, without_doubles, HasEd
 use Rattle.oci_plan.specs.Order.{Ordered, IsOrder}
 use Rattle.oci_plan.specs.Fault.{IsCauseOf}
 use Rattle.oci_plan.specs.Outside.{IsOutside, IsKeyCycle}
-use Rattle.oci_plan.specs.Visiting.{successors_at, is_fresh}
+use Rattle.oci_plan.specs.Visiting.{successors_at, is_fresh, IsSoundItem}
 use Rattle.oci_plan.specs.Plan.{Number, HasEdges, FollowsListed}
 use Rattle.oci_plan.specs.Refusal.{IsFirstFault}
-use Rattle.oci_plan.specs.Walk.{IsListOf, IsWalk, IsTellable, IsTold, IsNamedCycle}
+use Rattle.oci_plan.specs.Walk.{IsListOf, IsPassed, IsWalk, IsTellable, TellsKeys, IsNamedCycle}
 use Rattle.oci_plan.specs.declared.fault.OrderFault.{OrderFault}
 use Rattle.oci_plan.specs.declared.fault.OrderFault.TheVariants as ordering
 use Rattle.oci_plan.specs.declared.fault.PlanFault.{PlanFault}
@@ -28,6 +28,7 @@ use Rattle.oci_plan.specs.declared.fault.PlanFault.TheVariants as fault
 use Rattle.oci_plan.proofs.Places.{Keys, Contains-from_among, among_from_Contains, among-filter, among_filter_from, among_from_place, place_from_among, All-from_among, one_place}
 use Rattle.oci_plan.proofs.Visits.{found_outside, outside_found, successors_at-edge}
 use Rattle.oci_plan.proofs.Names.{first_two}
+use Rattle.oci_plan.proofs.Walks.{sound_item}
 
 -- ---- numbers and the keys that they name
 
@@ -257,8 +258,14 @@ module _ (honest : Type 0) (entries : List Entry) (held : List Node) (roots : Ke
                 absurd (cycle.distinct i j 0 lt (omega (arith, within, same_len)) one)
           ]
 
+  -- all were visited, so every key outside is sound
+  outside_sound : honest → (k : Descriptor) → IsOutside source held roots k → IsSoundItem entries limit k
+  outside_sound h k outside =
+      let there = Contains-from_among keys k (outside_found source held roots keys (walk.found h) k outside) in
+      sound_item honest entries held roots limit h k (All-contains (IsPassed honest entries limit) keys k walk.passed there)
+
   -- what is told of an order's fault is a cause against the plan
-  pub told_first : (f : OrderFault) (e : PlanFault) → IsCauseOf (lists_of lists) f → IsTold keys f e → honest → IsFirstFault entries held roots limit e
+  pub told_first : (f : OrderFault) (e : PlanFault) → IsCauseOf (lists_of lists) f → TellsKeys keys f e → honest → IsFirstFault entries held roots limit e
   told_first (ordering.Cycle numbers) e cause told h = go e told
     where
       outside : (named : Keys) → Number keys numbers.items named → All (IsOutside source held roots) named
@@ -271,7 +278,7 @@ module _ (honest : Type 0) (entries : List Entry) (held : List Node) (roots : Ke
       go (fault.NotFound k) told' = absurd told'
       go (fault.Fetch k x) told' = absurd told'
       go (fault.Manifest k x) told' = absurd told'
-      go (fault.Cycle named) told' = (named_cycle numbers.items named.items cause.1 told' h, outside named.items told')
+      go (fault.Cycle named) told' = (named_cycle numbers.items named.items cause.1 told' h, outside named.items told', outside_sound h)
       go fault.Memory told' = tt
       go fault.TooMany told' = absurd told'
   told_first (ordering.BadNumber list number) e cause told h = absurd told

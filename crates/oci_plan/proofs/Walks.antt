@@ -1,8 +1,8 @@
 -- The walk: its start, one more key, its end, and what a refusal says.
-use Rattle.std.proofs.Common.{◌≡◌, ℕ, ◌<◌, ◌≤◌, Bool, true, false, ◌⊎◌, inl, inr, List, [], ◌∷◌, ◌++◌, length, take, Some, Ok, refl, sym, ap, subst, ◌∙◌, arith, append-nil}
+use Rattle.std.proofs.Common.{◌≡◌, ℕ, ◌<◌, ◌≤◌, true, false, ◌⊎◌, inl, inr, List, [], ◌∷◌, ◌++◌, length, take, Some, Ok, refl, sym, ap, subst, ◌∙◌, arith, append-nil}
 use Rattle.std.specs.Prelude.{Contains}
 use Rattle.std.specs.Global.{Vec}
-use Rattle.std.specs.List.{filter, slice_get, AllZip, IsDistinct}
+use Rattle.std.specs.List.{filter, slice_get, All, AllZip, IsDistinct}
 use Rattle.std.proofs.lemmas.Bool.{not-true}
 use Rattle.std.proofs.lemmas.List.{take_all, take_more, take-append-le, length_push}
 use Rattle.std.proofs.lemmas.List.Elements.{All-nil, All-push, All-weaker, filter-append}
@@ -14,9 +14,9 @@ use Rattle.oci_store.specs.Keyed.{has_key}
 use Rattle.oci_store.specs.Content.{Entry, succ_of}
 use Rattle.oci_store.specs.Graph.{Node, nodes_of}
 use Rattle.oci_plan.specs.Outside.{IsOutside}
-use Rattle.oci_plan.specs.Visiting.{successors_at, candidates, is_fresh, with_keys, IsVisiting, start, next, IsSoundItem, IsFirstAtFault}
+use Rattle.oci_plan.specs.Visiting.{successors_at, candidates, is_fresh, with_keys, IsVisiting, start, next, IsSoundItem, IsNextVisited}
 use Rattle.oci_plan.specs.Plan.{Number}
-use Rattle.oci_plan.specs.Refusal.{IsKeyFault, IsOfKey, IsFirstFault}
+use Rattle.oci_plan.specs.Refusal.{IsOfKey, IsFirstFault}
 use Rattle.oci_plan.specs.Walk.{IsListOf, IsPassed, IsWalk, IsNumberFault}
 use Rattle.oci_plan.specs.declared.fault.PlanFault.{PlanFault}
 use Rattle.oci_plan.specs.declared.fault.PlanFault.TheVariants as fault
@@ -190,16 +190,19 @@ module _ (honest : Type 0) (entries : List Entry) (held : List Node) (roots : Ke
             rw reads refl;
       }
 
+  all_sound : honest → (ks : Keys) → All (IsPassed honest entries limit) ks → All (IsSoundItem entries limit) ks
+  all_sound h ks passed = All-weaker (IsPassed honest entries limit) (IsSoundItem entries limit) (sound_item h) ks passed
+
   -- a fault of the next key is the first
   pub item_first : (keys : Keys) (lists : List (Vec ℕ)) (i : ℕ) (k : Descriptor) (e : PlanFault) → IsWalk honest entries held roots limit keys (take i keys) lists → slice_get keys i ≡ Some k
       → IsOfKey k e → honest → IsFirstFault entries held roots limit e
   item_first keys lists i k e walk at of_key h = go e of_key
     where
-      first : (named : Descriptor) → named ≡ k → IsFirstAtFault source entries held roots limit named
+      first : (named : Descriptor) → named ≡ k → IsNextVisited source entries held roots limit named
       first named same = (
         take i keys,
         subst (λ (x : Descriptor). IsVisiting source held roots (take i keys ++ x ∷ [])) (sym same) (walk_visiting keys lists i k walk at h),
-        All-weaker (IsPassed honest entries limit) (IsSoundItem entries limit) (sound_item h) (take i keys) walk.passed,
+        all_sound h (take i keys) walk.passed,
       )
 
       go : (e : PlanFault) → IsOfKey k e → IsFirstFault entries held roots limit e
@@ -212,37 +215,32 @@ module _ (honest : Type 0) (entries : List Entry) (held : List Node) (roots : Ke
       go fault.TooMany same = absurd same
 
   -- where numbers are refused there are too many keys outside
-  pub number_first : (keys visited : Keys) (e : PlanFault) → IsNumberFault keys e → IsVisiting source held roots visited → keys ≡ first_places (filter (is_fresh held) (candidates source roots visited))
+  pub number_first : (keys visited : Keys) (e : PlanFault) → IsNumberFault keys e → IsVisiting source held roots visited → All (IsSoundItem entries limit) visited → keys ≡ first_places (filter (is_fresh held) (candidates source roots visited))
       → IsFirstFault entries held roots limit e
-  number_first keys visited (fault.TooLarge named l) h visiting found = absurd h
-  number_first keys visited (fault.NotFound named) h visiting found = absurd h
-  number_first keys visited (fault.Fetch named f) h visiting found = absurd h
-  number_first keys visited (fault.Manifest named f) h visiting found = absurd h
-  number_first keys visited (fault.Cycle ks) h visiting found = absurd h
-  number_first keys visited fault.Memory h visiting found = tt
-  number_first keys visited fault.TooMany h visiting found = (
-    keys,
-    h,
-    subst (λ (t : Keys). IsDistinct same_key t) (sym found) (IsDistinct-places (filter (is_fresh held) (candidates source roots visited))),
-    All-from_among (IsOutside source held roots) keys (λ k there. found_outside source held roots visited k visiting (sym (ap (λ (t : Keys). is_among t k) found) ∙ there)),
-  )
+  number_first keys visited (fault.TooLarge named l) h visiting sound found = absurd h
+  number_first keys visited (fault.NotFound named) h visiting sound found = absurd h
+  number_first keys visited (fault.Fetch named f) h visiting sound found = absurd h
+  number_first keys visited (fault.Manifest named f) h visiting sound found = absurd h
+  number_first keys visited (fault.Cycle ks) h visiting sound found = absurd h
+  number_first keys visited fault.Memory h visiting sound found = tt
+  number_first keys visited fault.TooMany h visiting sound found = record {
+    visited = visited;
+    visiting = visiting;
+    sound = sound;
+    keys = keys;
+    found = found;
+    many = h;
+    distinct = subst (λ (t : Keys). IsDistinct same_key t) (sym found) (IsDistinct-places (filter (is_fresh held) (candidates source roots visited)));
+    outside = All-from_among (IsOutside source held roots) keys (λ k there. found_outside source held roots visited k visiting (sym (ap (λ (t : Keys). is_among t k) found) ∙ there));
+  }
 
   -- the same for the roots, and for the successors of the next key
   pub roots_first : (e : PlanFault) → IsNumberFault (with_keys [] (filter (is_fresh held) roots)) e → IsFirstFault entries held roots limit e
-  roots_first e h = number_first (with_keys [] (filter (is_fresh held) roots)) [] e h start (started (with_keys [] (filter (is_fresh held) roots)) refl)
+  roots_first e h = number_first (with_keys [] (filter (is_fresh held) roots)) [] e h start (All-nil (IsSoundItem entries limit)) (started (with_keys [] (filter (is_fresh held) roots)) refl)
 
   pub successors_first : (keys successors : Keys) (lists : List (Vec ℕ)) (k : Descriptor) (e : PlanFault) → IsWalk honest entries held roots limit keys (take (length lists) keys) lists → slice_get keys (length lists) ≡ Some k
-      → (honest → successors ≡ successors_at source k) → IsNumberFault (with_keys keys (filter (is_fresh held) successors)) e → honest → IsFirstFault entries held roots limit e
-  successors_first keys successors lists k e walk at own fault h =
+      → IsPassed honest entries limit k → (honest → successors ≡ successors_at source k) → IsNumberFault (with_keys keys (filter (is_fresh held) successors)) e → honest → IsFirstFault entries held roots limit e
+  successors_first keys successors lists k e walk at passed own fault h =
       number_first (with_keys keys (filter (is_fresh held) successors)) (take (length lists) keys ++ k ∷ []) e fault (walk_visiting keys lists (length lists) k walk at h)
+      (All-push (IsSoundItem entries limit) (take (length lists) keys) k (all_sound h (take (length lists) keys) walk.passed) (sound_item h k passed))
       (found_more keys (take (length lists) keys) successors k (walk.found h) (own h))
-
--- a want of numbers names no key
-pub number_cause : (honest : Type 0) (fails : Descriptor → Bool) (entries : List Entry) (limit : ℕ) (keys : Keys) (e : PlanFault) → IsNumberFault keys e → IsKeyFault honest fails entries limit e
-number_cause honest fails entries limit keys (fault.TooLarge named l) h = absurd h
-number_cause honest fails entries limit keys (fault.NotFound named) h = absurd h
-number_cause honest fails entries limit keys (fault.Fetch named f) h = absurd h
-number_cause honest fails entries limit keys (fault.Manifest named f) h = absurd h
-number_cause honest fails entries limit keys (fault.Cycle ks) h = tt
-number_cause honest fails entries limit keys fault.Memory h = tt
-number_cause honest fails entries limit keys fault.TooMany h = tt

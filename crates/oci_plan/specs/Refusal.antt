@@ -1,7 +1,8 @@
 -- When a plan is refused, and what the refusal says.
-use Rattle.std.specs.Prelude.{◌≡◌, ◌≢◌, ℕ, ◌<◌, Bool, true, false, List, length, Some, Err}
+use Rattle.std.specs.Prelude.{◌≡◌, ◌≢◌, ℕ, ◌<◌, Bool, true, false, List, length, filter, Some, Err}
 use Rattle.std.specs.List.{All, IsDistinct}
 use Rattle.oci_manifest.specs.Descriptor.{Descriptor, same_key}
+use Rattle.oci_manifest.specs.Manifest.{first_places}
 use Rattle.oci_manifest.specs.MediaTypes.{kind_of}
 use Rattle.oci_manifest.specs.Fault.{Fault, IsFault}
 use Rattle.oci_manifest.specs.declared.kind.Kind.TheVariants.{Leaf}
@@ -12,7 +13,7 @@ use Rattle.oci_store.specs.Graph.{Node, nodes_of}
 use Rattle.oci_store.specs.declared.fault.FetchFault.{FetchFault}
 use Rattle.oci_store.specs.declared.fault.FetchFault.TheVariants as fetch
 use Rattle.oci_plan.specs.Outside.{IsOutside, IsKeyCycle}
-use Rattle.oci_plan.specs.Visiting.{IsWithin, IsFirstAtFault}
+use Rattle.oci_plan.specs.Visiting.{candidates, is_fresh, IsVisiting, IsWithin, IsSoundItem, IsNextVisited}
 use Rattle.oci_plan.specs.declared.fault.PlanFault.{PlanFault}
 use Rattle.oci_plan.specs.declared.fault.PlanFault.TheVariants as fault
 
@@ -66,17 +67,31 @@ IsOfKey k (fault.Cycle keys) = ⊥
 IsOfKey k fault.Memory = Unit {0}
 IsOfKey k fault.TooMany = ⊥
 
--- there are more distinct keys outside than numbers
-abbrev pub HasTooMany : List Node → List Node → List Descriptor → Type 0
-HasTooMany source held roots = (keys : List Descriptor) × (4294967295 < length keys) × IsDistinct same_key keys × All (IsOutside source held roots) keys
+-- the keys are a cycle of the source, all of them are outside, and every key outside is sound
+abbrev pub IsCycleOutside : List Entry → List Node → List Descriptor → ℕ → List Descriptor → Type 0
+IsCycleOutside entries held roots limit keys = IsKeyCycle (nodes_of entries) keys × All (IsOutside (nodes_of entries) held roots) keys
+    × ((k : Descriptor) → IsOutside (nodes_of entries) held roots k → IsSoundItem entries limit k)
 
--- Of what an honest source lists, where the plan is refused: a fault that names a key is of the first visited key that is
--- not sound, a cycle is one of keys outside, and too many keys are outside.
+-- Every key visited so far is sound, and there are more keys than numbers that are not held among the roots and what the
+-- visited keys list, each taken once: all these are outside.
+pub record HasTooMany (entries : List Entry) (held : List Node) (roots : List Descriptor) (limit : ℕ) : Type 0 where
+  pub visited : List Descriptor
+  pub visiting : IsVisiting (nodes_of entries) held roots visited
+  pub sound : All (IsSoundItem entries limit) visited
+  pub keys : List Descriptor
+  pub found : keys ≡ first_places (filter (is_fresh held) (candidates (nodes_of entries) roots visited))
+  pub many : 4294967295 < length keys
+  pub distinct : IsDistinct same_key keys
+  pub outside : All (IsOutside (nodes_of entries) held roots) keys
+
+-- Where the plan is refused, of what an honest source lists: every key visited before the key that a fault names is sound; a
+-- cycle is one of keys outside, and every key outside is sound; where there are too many keys, they are outside, and every
+-- key visited so far is sound.
 abbrev pub IsFirstFault : List Entry → List Node → List Descriptor → ℕ → PlanFault → Type 0
-IsFirstFault entries held roots limit (fault.TooLarge k l) = IsFirstAtFault (nodes_of entries) entries held roots limit k
-IsFirstFault entries held roots limit (fault.NotFound k) = IsFirstAtFault (nodes_of entries) entries held roots limit k
-IsFirstFault entries held roots limit (fault.Fetch k e) = IsFirstAtFault (nodes_of entries) entries held roots limit k
-IsFirstFault entries held roots limit (fault.Manifest k e) = IsFirstAtFault (nodes_of entries) entries held roots limit k
-IsFirstFault entries held roots limit (fault.Cycle keys) = IsKeyCycle (nodes_of entries) keys.items × All (IsOutside (nodes_of entries) held roots) keys.items
+IsFirstFault entries held roots limit (fault.TooLarge k l) = IsNextVisited (nodes_of entries) entries held roots limit k
+IsFirstFault entries held roots limit (fault.NotFound k) = IsNextVisited (nodes_of entries) entries held roots limit k
+IsFirstFault entries held roots limit (fault.Fetch k e) = IsNextVisited (nodes_of entries) entries held roots limit k
+IsFirstFault entries held roots limit (fault.Manifest k e) = IsNextVisited (nodes_of entries) entries held roots limit k
+IsFirstFault entries held roots limit (fault.Cycle keys) = IsCycleOutside entries held roots limit keys.items
 IsFirstFault entries held roots limit fault.Memory = Unit {0}
-IsFirstFault entries held roots limit fault.TooMany = HasTooMany (nodes_of entries) held roots
+IsFirstFault entries held roots limit fault.TooMany = HasTooMany entries held roots limit

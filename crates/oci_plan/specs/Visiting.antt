@@ -48,7 +48,7 @@ pub record IsSoundItem (entries : List Entry) (limit : ℕ) (k : Descriptor) : T
   pub within : IsWithin limit k
   pub reads : (bytes : List ℕ) → value_at entries k ≡ Some bytes → IsOk (succ_of k bytes)
 
--- the key is the last of a visiting list whose earlier keys are all sound
-abbrev pub IsFirstAtFault : List Node → List Entry → List Node → List Descriptor → ℕ → Descriptor → Type 0
-IsFirstAtFault source entries held roots limit k = (earlier : List Descriptor)
+-- the key is the next to visit: it is the last of a visiting list, and every key visited before it is sound
+abbrev pub IsNextVisited : List Node → List Entry → List Node → List Descriptor → ℕ → Descriptor → Type 0
+IsNextVisited source entries held roots limit k = (earlier : List Descriptor)
     × IsVisiting source held roots (earlier ++ k ∷ []) × All (IsSoundItem entries limit) earlier

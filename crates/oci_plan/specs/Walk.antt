@@ -19,7 +19,7 @@ use Rattle.oci_plan.specs.declared.fault.OrderFault.TheVariants as ordering
 use Rattle.oci_plan.specs.declared.fault.PlanFault.{PlanFault}
 use Rattle.oci_plan.specs.declared.fault.PlanFault.TheVariants as fault
 
--- the numbers are the places of keys that no list has twice, and of an honest source these are what it lists and is not held
+-- the numbers name distinct keys; of an honest source these are the listed keys that are not held
 pub record IsListOf (honest : Type 0) (entries : List Entry) (held : List Node) (keys : List Descriptor) (k : Descriptor) (numbers : Vec ℕ) : Type 0 where
   pub named : List Descriptor
   pub numbers_name : Number keys numbers.items named
@@ -95,8 +95,8 @@ IsTellable keys (ordering.Cycle numbers) = All (λ n. n < length keys) numbers.i
 IsTellable keys (ordering.BadNumber list number) = ⊥
 IsTellable keys ordering.Memory = Unit {0}
 
--- what an order's fault is of keys
-abbrev pub IsTold : List Descriptor → OrderFault → PlanFault → Type 0
-IsTold keys (ordering.Cycle numbers) e = IsNamedCycle keys numbers.items e
-IsTold keys (ordering.BadNumber list number) e = ⊥
-IsTold keys ordering.Memory e = e ≡ fault.Memory
+-- an order's fault is told of keys as this fault of a plan
+abbrev pub TellsKeys : List Descriptor → OrderFault → PlanFault → Type 0
+TellsKeys keys (ordering.Cycle numbers) e = IsNamedCycle keys numbers.items e
+TellsKeys keys (ordering.BadNumber list number) e = ⊥
+TellsKeys keys ordering.Memory e = e ≡ fault.Memory

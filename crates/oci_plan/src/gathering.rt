@@ -9,7 +9,7 @@ ghost use Rattle.oci_plan.specs.Outside.{IsOutside};
 ghost use Rattle.oci_plan.specs.Visiting.{IsWithin, IsSoundItem};
 ghost use Rattle.oci_plan.specs.Plan.{IsPlan, HasEdges, FollowsListed};
 ghost use Rattle.oci_plan.specs.Refusal.{IsKeyFault, IsFirstFault};
-ghost use Rattle.oci_plan.specs.Walk.{IsTellable, IsTold};
+ghost use Rattle.oci_plan.specs.Walk.{IsTellable, TellsKeys};
 
 mod cycle;
 mod item;
@@ -30,7 +30,7 @@ use walk::{Visited, visit};
 /// An order's fault, told of the keys.
 fn told(alloc: Global, keys: &[Key], fault: OrderFault) -> PlanFault
     requires { IsTellable keys.now fault }
-    ensures { IsTold keys.now fault result }
+    ensures { TellsKeys keys.now fault result }
 {
     match fault {
         OrderFault::Cycle(numbers) => match keys_of(alloc, keys, &numbers) {

@@ -42,7 +42,7 @@ returns-in_err-numbers-clause-first g c =
     let at : slice_get c.loop-key.keys (length c.loop-key.lists.items) ≡ Some c.in-Some.key.now = subst (λ (n : ℕ). slice_get c.loop-key.keys n ≡ Some c.in-Some.key.now) placed (sym c.in-Some.ensures) in
     let fault = rw c.deref.ensures.value at c.in_err-numbers.ensures.refused in
     rw (p.1, p.2) (successors_first (g.A.Store.is_honest c.args.source.now) (g.A.Store.entries c.args.source.now) (g.D.Store.nodes c.args.destination.now) c.args.roots.now c.args.limit c.loop-key.keys c.in_ok-successors.successors.items c.loop-key.lists.items c.in-Some.key.now c.in_err-numbers.field-0.0
-    c.loop-key.invariant.walk at c.in_ok-successors.ensures.listed fault)
+    c.loop-key.invariant.walk at c.in_ok-successors.ensures.passed c.in_ok-successors.ensures.listed fault)
 
 pub loop-key-smaller : goal.loop-key-smaller
 loop-key-smaller g c =
