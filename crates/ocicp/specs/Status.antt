@@ -29,4 +29,5 @@ is_memory e = false
 -- the status: 2 where the words are no use of the program, 3 for want of memory, and 1 for every other fault
 abbrev pub status_of : Ending → ℕ
 status_of (ending.Usage error) = 2
+status_of ending.NotUtf8 = 2
 status_of (ending.Fault e) = if is_memory e then 3 else 1

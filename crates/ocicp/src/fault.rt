@@ -1,4 +1,6 @@
-ghost use Rattle.std.specs.Prelude.{◌≡◌};
+ghost use Rattle.std.specs.Prelude.{◌≡◌, ◌↔◌, IsTrue};
+ghost use Rattle.std.specs.IoError.{error_kind};
+ghost use Rattle.std.specs.declared.io.ErrorKind.TheVariants.{OutOfMemory};
 ghost use Rattle.ocicp.specs.Status.{is_memory, status_of};
 
 use oci_copy::CopyFault;
@@ -6,7 +8,8 @@ use oci_digest::NoMemory;
 use oci_manifest::KeyFault;
 use oci_store::PushFault;
 use std::alloc::{AllocError, AllocFailed};
-use std::fmt;
+use std::io::Write;
+use std::{fmt, io};
 use thiserror::Error;
 
 /// Why the program is refused.
@@ -67,24 +70,45 @@ impl<T: Drop> From<AllocFailed<T>> for ProgramFault {
     }
 }
 
+/// What a writer's error means for the run: want of memory where its kind says so, and otherwise `Output`.
+pub(crate) fn output_fault(error: io::Error) -> ProgramFault
+    ensures { IsTrue (is_memory result) ↔ (error_kind error ≡ OutOfMemory) }
+{
+    match error.kind() {
+        io::ErrorKind::OutOfMemory => ProgramFault::Memory,
+        _ => ProgramFault::Output,
+    }
+}
+
 /// Why a run ends before it is done. It prints what the error output shows.
 #[derive(Drop)]
 pub enum Ending {
     /// The words are no use of the program: the text says how it is used.
     Usage(clap::Error),
+    /// A word is not UTF-8, which is no use of the program either.
+    NotUtf8,
     /// What was asked for is refused.
     Fault(ProgramFault),
 }
 
 impl Ending {
-    /// The status of the run: 2 for `Usage`, 3 for want of memory, and otherwise 1.
+    /// The status of the run: 2 for `Usage` and `NotUtf8`, 3 for want of memory, and otherwise 1.
     pub fn status(&self) -> u8
         ensures { result ≡ status_of self.now }
     {
         match self {
             Ending::Usage(_) => 2,
+            Ending::NotUtf8 => 2,
             Ending::Fault(fault) => { if fault.is_memory() { 3 } else { 1 } }
         }
+    }
+
+    /// Writes the ending on `err`, and answers its status, also where `err` cannot be written.
+    pub fn tell<X: Write>(&self, err: &mut X) -> u8
+        ensures { result ≡ status_of self.now }
+    {
+        let _ = write!(err, "{self}");
+        self.status()
     }
 }
 
@@ -92,6 +116,7 @@ impl fmt::Display for Ending {
     fn fmt<W: fmt::Write>(&self, f: &mut fmt::Formatter<W>) -> fmt::Result {
         match self {
             Ending::Usage(usage) => write!(f, "{usage}"),
+            Ending::NotUtf8 => writeln!(f, "error: a word is not UTF-8"),
             Ending::Fault(fault) if fault.is_memory() => writeln!(f, "ocicp: memory"),
             Ending::Fault(fault) => writeln!(f, "ocicp: {fault}"),
         }
