@@ -1,7 +1,7 @@
 ghost use Rattle.std.specs.Prelude.{◌≡◌, ◌↔◌, IsTrue};
 ghost use Rattle.std.specs.IoError.{error_kind};
 ghost use Rattle.std.specs.declared.io.ErrorKind.TheVariants.{OutOfMemory};
-ghost use Rattle.ocicp.specs.Status.{is_memory, status_of};
+ghost use Rattle.ocicp.specs.Status.{is_memory, program_number, status_of};
 
 use oci_copy::CopyFault;
 use oci_digest::NoMemory;
@@ -48,6 +48,22 @@ impl ProgramFault {
             ProgramFault::Copy(fault) => matches!(fault, CopyFault::Memory),
             ProgramFault::Memory => true,
             _ => false,
+        }
+    }
+
+    /// The number that the fault's printed text begins with: of a fault from below its own, and of want of memory in
+    /// the program itself none.
+    pub fn number(&self) -> Option<u8>
+        ensures { result ≡ program_number self.now }
+    {
+        match self {
+            ProgramFault::BadItem(_) => Some(92),
+            ProgramFault::File(_) => Some(93),
+            ProgramFault::Output => Some(94),
+            ProgramFault::Key(fault) => Some(fault.number()),
+            ProgramFault::Push(fault) => Some(fault.number()),
+            ProgramFault::Copy(fault) => Some(fault.number()),
+            ProgramFault::Memory => None,
         }
     }
 }
