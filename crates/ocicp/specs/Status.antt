@@ -1,5 +1,8 @@
--- The status that a run ends with.
-use Rattle.std.specs.Prelude.{ℕ, Bool, true, false, if◌then◌else◌}
+-- The status that a run ends with, and the number of its refusal.
+use Rattle.std.specs.Prelude.{ℕ, Bool, true, false, if◌then◌else◌, Option, Some, None}
+use Rattle.oci_copy.specs.Fault.{number_of}
+use Rattle.oci_manifest.specs.Fault.{key_number_of}
+use Rattle.oci_store.specs.Numbers.{push_number}
 use Rattle.oci_copy.specs.declared.fault.CopyFault.{CopyFault}
 use Rattle.oci_copy.specs.declared.fault.CopyFault.TheVariants as copy
 use Rattle.oci_store.specs.declared.fault.PushFault.{PushFault}
@@ -29,4 +32,15 @@ is_memory e = false
 -- the status: 2 where the words are no use of the program, 3 for want of memory, and 1 for every other fault
 abbrev pub status_of : Ending → ℕ
 status_of (ending.Usage error) = 2
+status_of ending.NotUtf8 = 2
 status_of (ending.Fault e) = if is_memory e then 3 else 1
+
+-- the number that a fault's printed text begins with: of a fault from below its own, and of want of memory in the program none
+abbrev pub program_number : ProgramFault → Option ℕ
+program_number (fault.BadItem item) = Some 92
+program_number (fault.File path) = Some 93
+program_number fault.Output = Some 94
+program_number (fault.Key e) = Some (key_number_of e)
+program_number (fault.Push e) = Some (push_number e)
+program_number (fault.Copy e) = Some (number_of e)
+program_number fault.Memory = None

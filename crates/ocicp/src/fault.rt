@@ -1,12 +1,15 @@
-ghost use Rattle.std.specs.Prelude.{◌≡◌};
-ghost use Rattle.ocicp.specs.Status.{is_memory, status_of};
+ghost use Rattle.std.specs.Prelude.{◌≡◌, ◌↔◌, IsTrue};
+ghost use Rattle.std.specs.IoError.{error_kind};
+ghost use Rattle.std.specs.declared.io.ErrorKind.TheVariants.{OutOfMemory};
+ghost use Rattle.ocicp.specs.Status.{is_memory, program_number, status_of};
 
 use oci_copy::CopyFault;
 use oci_digest::NoMemory;
 use oci_manifest::KeyFault;
 use oci_store::PushFault;
 use std::alloc::{AllocError, AllocFailed};
-use std::fmt;
+use std::io::Write;
+use std::{fmt, io};
 use thiserror::Error;
 
 /// Why the program is refused.
@@ -47,6 +50,22 @@ impl ProgramFault {
             _ => false,
         }
     }
+
+    /// The number that the fault's printed text begins with: of a fault from below its own, and of want of memory in
+    /// the program itself none.
+    pub fn number(&self) -> Option<u8>
+        ensures { result ≡ program_number self.now }
+    {
+        match self {
+            ProgramFault::BadItem(_) => Some(92),
+            ProgramFault::File(_) => Some(93),
+            ProgramFault::Output => Some(94),
+            ProgramFault::Key(fault) => Some(fault.number()),
+            ProgramFault::Push(fault) => Some(fault.number()),
+            ProgramFault::Copy(fault) => Some(fault.number()),
+            ProgramFault::Memory => None,
+        }
+    }
 }
 
 impl From<AllocError> for ProgramFault {
@@ -67,24 +86,45 @@ impl<T: Drop> From<AllocFailed<T>> for ProgramFault {
     }
 }
 
+/// What a writer's error means for the run: want of memory where its kind says so, and otherwise `Output`.
+pub(crate) fn output_fault(error: io::Error) -> ProgramFault
+    ensures { IsTrue (is_memory result) ↔ (error_kind error ≡ OutOfMemory) }
+{
+    match error.kind() {
+        io::ErrorKind::OutOfMemory => ProgramFault::Memory,
+        _ => ProgramFault::Output,
+    }
+}
+
 /// Why a run ends before it is done. It prints what the error output shows.
 #[derive(Drop)]
 pub enum Ending {
     /// The words are no use of the program: the text says how it is used.
     Usage(clap::Error),
+    /// A word is not UTF-8, which is no use of the program either.
+    NotUtf8,
     /// What was asked for is refused.
     Fault(ProgramFault),
 }
 
 impl Ending {
-    /// The status of the run: 2 for `Usage`, 3 for want of memory, and otherwise 1.
+    /// The status of the run: 2 for `Usage` and `NotUtf8`, 3 for want of memory, and otherwise 1.
     pub fn status(&self) -> u8
         ensures { result ≡ status_of self.now }
     {
         match self {
             Ending::Usage(_) => 2,
+            Ending::NotUtf8 => 2,
             Ending::Fault(fault) => { if fault.is_memory() { 3 } else { 1 } }
         }
+    }
+
+    /// Writes the ending on `err`, and answers its status, also where `err` cannot be written.
+    pub fn tell<X: Write>(&self, err: &mut X) -> u8
+        ensures { result ≡ status_of self.now }
+    {
+        let _ = write!(err, "{self}");
+        self.status()
     }
 }
 
@@ -92,6 +132,7 @@ impl fmt::Display for Ending {
     fn fmt<W: fmt::Write>(&self, f: &mut fmt::Formatter<W>) -> fmt::Result {
         match self {
             Ending::Usage(usage) => write!(f, "{usage}"),
+            Ending::NotUtf8 => writeln!(f, "error: a word is not UTF-8"),
             Ending::Fault(fault) if fault.is_memory() => writeln!(f, "ocicp: memory"),
             Ending::Fault(fault) => writeln!(f, "ocicp: {fault}"),
         }

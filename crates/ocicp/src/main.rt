@@ -11,24 +11,33 @@ mod item;
 mod mem;
 mod run;
 
+use fault::{Ending, ProgramFault, output_fault};
 pub use run::run_words;
 use std::io::BufWriter;
 use std::process::ExitCode;
 use std::{env, io};
 
-/// The status where memory is wanting.
-const MEMORY: u8 = 3;
-
 fn main(rt: HostRuntime) -> ExitCode {
-    ExitCode::from(status(&rt).unwrap_or(MEMORY))
+    match status(&rt) {
+        Ok(status) => ExitCode::from(status),
+        Err(ending) => ExitCode::from(ending.tell(&mut rt.stderr())),
+    }
 }
 
 /// The status of the words that the process was given.
-fn status(rt: &HostRuntime) -> io::Result<u8> {
+fn status(rt: &HostRuntime) -> Result<u8, Ending> {
     let alloc = rt.alloc();
-    let words: Vec<String> = env::args(rt)?.skip(1).collect(alloc)?;
-    let mut out = BufWriter::new(alloc, rt.stdout())?;
+    let words: Vec<String> = env::args(rt).map_err(unread)?.skip(1).collect(alloc)?;
+    let mut out = BufWriter::new(alloc, rt.stdout()).map_err(output_fault)?;
     Ok(run_words(rt, &words, &mut out, &mut rt.stderr()))
+}
+
+/// Why the words could not be read: one of them is not UTF-8, or memory was wanting.
+fn unread(error: io::Error) -> Ending {
+    match error.kind() {
+        io::ErrorKind::InvalidData => Ending::NotUtf8,
+        _ => Ending::Fault(ProgramFault::Memory),
+    }
 }
 
 #[cfg(test)]

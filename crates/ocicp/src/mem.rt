@@ -1,4 +1,4 @@
-use crate::fault::ProgramFault;
+use crate::fault::{ProgramFault, output_fault};
 use crate::item::Item;
 use oci_copy::{Options, copy_memory};
 use oci_manifest::Key;
@@ -27,7 +27,7 @@ pub(crate) fn mem<R: Files + AllocGlobal, W: Write>(
     let (copied, report) = copy_memory(alloc, &source, empty, &roots, &Options::default());
     let report = report.map_err(ProgramFault::Copy)?;
     print_keys(alloc, copied.memory(), out)?;
-    writeln!(out, "{report}").map_err(|_| ProgramFault::Output)
+    writeln!(out, "{report}").map_err(output_fault)
 }
 
 /// Prints the key of each entry, in key order.
@@ -44,7 +44,7 @@ fn print_keys<W: Write>(
     }
     keys.sort()?;
     for key in &keys {
-        writeln!(out, "{key}").map_err(|_| ProgramFault::Output)?;
+        writeln!(out, "{key}").map_err(output_fault)?;
     }
     Ok(())
 }

@@ -1,7 +1,7 @@
 ghost use Rattle.std.specs.Prelude.{◌≤◌};
 
 use crate::command::Request;
-use crate::fault::{Ending, ProgramFault};
+use crate::fault::{Ending, output_fault};
 use crate::mem::mem;
 use std::io::Write;
 use std::rt::Files;
@@ -21,10 +21,7 @@ pub fn run_words<R: Files + AllocGlobal, W: Write, X: Write>(
 {
     match run(rt, words, out) {
         Ok(()) => 0,
-        Err(ending) => {
-            let _ = write!(err, "{ending}");
-            ending.status()
-        }
+        Err(ending) => ending.tell(err),
     }
 }
 
@@ -35,9 +32,9 @@ fn run<R: Files + AllocGlobal, W: Write>(
     out: &mut W,
 ) -> Result<(), Ending> {
     match Request::parse(rt.alloc(), words)? {
-        Request::Help(text) => write!(out, "{text}").map_err(|_| ProgramFault::Output)?,
+        Request::Help(text) => write!(out, "{text}").map_err(output_fault)?,
         Request::Mem(items) => mem(rt, &items, out)?,
     }
-    out.flush().map_err(|_| ProgramFault::Output)?;
+    out.flush().map_err(output_fault)?;
     Ok(())
 }

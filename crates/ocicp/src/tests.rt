@@ -69,13 +69,15 @@ impl Folder {
     }
 }
 
-/// A writer whose writes fail.
+/// A writer whose writes fail with errors of this kind.
 #[derive(Drop)]
-struct Broken;
+struct Broken {
+    kind: io::ErrorKind,
+}
 
 impl Write for Broken {
     fn write(&mut self, _bytes: &[u8]) -> io::Result<usize> {
-        Err(io::Error::from(io::ErrorKind::BrokenPipe))
+        Err(io::Error::from(self.kind))
     }
 
     fn flush(&mut self) -> io::Result<()> {
@@ -138,13 +140,29 @@ fn mem_command_with_a_failing_output(rt: HostRuntime) -> Result<(), Fail> {
     let abc = folder.item(&rt, "text/plain", "abc.txt", "abc")?;
     let words = strings(rt.alloc(), &["mem", abc.as_str()])?;
     let mut told = Vec::new(rt.alloc());
-    assert_eq!(rt; run_words(&rt, &words, &mut Broken, &mut told), 1);
+    let mut broken = Broken {
+        kind: io::ErrorKind::BrokenPipe,
+    };
+    assert_eq!(rt; run_words(&rt, &words, &mut broken, &mut told), 1);
     assert_eq!(rt; told.as_slice(), b"ocicp: 94 Output\n".as_slice());
     let help = strings(rt.alloc(), &["--help"])?;
     told.clear();
-    assert_eq!(rt; run_words(&rt, &help, &mut Broken, &mut told), 1);
+    assert_eq!(rt; run_words(&rt, &help, &mut broken, &mut told), 1);
     assert_eq!(rt; told.as_slice(), b"ocicp: 94 Output\n".as_slice());
     folder.remove(&rt)
+}
+
+/// A writer's want of memory is want of memory of the run.
+#[test]
+fn output_without_memory(rt: HostRuntime) -> Result<(), Fail> {
+    let help = strings(rt.alloc(), &["--help"])?;
+    let mut told = Vec::new(rt.alloc());
+    let mut starved = Broken {
+        kind: io::ErrorKind::OutOfMemory,
+    };
+    assert_eq!(rt; run_words(&rt, &help, &mut starved, &mut told), 3);
+    assert_eq!(rt; told.as_slice(), b"ocicp: memory\n".as_slice());
+    Ok(())
 }
 
 /// Runs the program on words that are no use of it: status 2, and the usage on the error output alone.
