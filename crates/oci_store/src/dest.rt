@@ -1,4 +1,5 @@
 ghost use Rattle.std.specs.Prelude.{◌≡◌, ◌≤◌, ◌<◌, ◌-◌, ◌^◌, ◌⊎◌, [], ◌∷◌, ◌++◌, length, IfOk, OnOk, OnErr, IsErrOf};
+ghost use Rattle.std.specs.Result.{IsErr};
 ghost use Rattle.oci_store.specs.Closed.{first_open};
 ghost use Rattle.oci_store.specs.Content.{IsContent};
 ghost use Rattle.oci_store.specs.Graph.{node_of};
@@ -40,13 +41,15 @@ pub trait Dest: Store {
     ///
     /// Refused in this order with `AlreadyExists`, `SizeMismatch`, `DigestMismatch`,
     /// `BadManifest`, `MissingSuccessor` (the first one not held), `Memory` (at any point),
-    /// `Device` where a put failed, and `Halted`. A refusal leaves the held keys as they were;
-    /// a put that failed may have left anything under the key's digest.
+    /// `Device` where a put failed, and `Halted`. A refusal leaves the held keys as they were, and
+    /// where one of the first five causes stands, the whole store; a put that failed may have left
+    /// anything under the key's digest.
     fn push_closed(&mut self, key: &Key, content: Bytes) -> Result<usize, PushFault>
         ensures place { IfOk result (λ place. place ≡ length (Self.nodes self.old)) }
         ensures pushed { OnOk result (Self.nodes self.new ≡ Self.nodes self.old ++ node_of (key.now, content) ∷ []) }
         ensures refused { OnErr result (Self.nodes self.new ≡ Self.nodes self.old) }
         ensures checked { Answers result (closed_check (Self.nodes self.old) key.now content) }
+        ensures untouched { IsErr (closed_check (Self.nodes self.old) key.now content) → self.new ≡ self.old }
 
         // Of bytes, where nothing disturbed the push.
         ensures bytes { OnOk result (IsUndisturbed (Self.is_sound self.old) shares (Self.failure_count self.old) (Self.failure_count self.new) (Self.entries self.old) key.now content
