@@ -19,7 +19,7 @@ pub trait Dest: Store {
     /// Keys of one digest share their bytes, as those of a directory with a file a digest do.
     ghost shares: { Type 0 };
 
-    /// It takes nothing any more.
+    /// It takes nothing any more. A push makes it so only where it answers `Memory`.
     ghost is_halted: { Self → Type 0 };
 
     /// Whether the key is held.
@@ -63,7 +63,7 @@ pub trait Dest: Store {
         ensures device { IsErrOf result PushFault.Device
             → (Self.failure_count self.old < Self.failure_count self.new) ⊎ (Self.failure_count self.new ≡ 2 ^ 64 - 1) }
         ensures halted { IsErrOf result PushFault.Halted → is_halted self.old }
-        ensures running { OnOk result (is_halted self.new → is_halted self.old) }
+        ensures running { is_halted self.new → is_halted self.old ⊎ IsErrOf result PushFault.Memory }
         ensures tags { Self.tags self.new ≡ Self.tags self.old }
         ensures name { Self.name self.new ≡ Self.name self.old };
 
