@@ -94,6 +94,8 @@ impl Store for DeviceStore {
 
     ghost same_keys = { λ s. keys_of-nodes_of s.0 ∙ sym (keys_of-written s.1 s.0) };
 
+    ghost trusted = { λ s _. tt };
+
     ghost listed = { λ s sound. ap nodes_of (sym sound) };
 }
 
