@@ -57,6 +57,8 @@ impl Store for FailingStore {
 
     ghost same_keys = { λ s. keys_of-nodes_of s.store.entries };
 
+    ghost trusted = { λ s _. tt };
+
     ghost listed = { λ s _. refl };
 }
 
