@@ -11,7 +11,8 @@ use Rattle.oci_store.specs.Graph.{Node, nodes_of}
 use Rattle.oci_store.specs.Closed.{IsClosed, open_in, first_open}
 use Rattle.oci_store.specs.declared.fault.PushFault.{PushFault}
 use Rattle.oci_store.specs.declared.fault.PushFault.TheVariants as push
-use Rattle.oci_store.proofs.Lookups.{All-value_at, first_missing-from_HasAll}
+use Rattle.oci_store.proofs.ClosedGraphs.{first_open-from_IsClosed}
+use Rattle.oci_store.proofs.Lookups.{All-value_at}
 use Rattle.oci_plan.specs.declared.fault.PlanFault.{PlanFault}
 use Rattle.oci_plan.specs.declared.fault.PlanFault.TheVariants as plan
 use Rattle.oci_copy.specs.declared.fault.CopyFault.{CopyFault}
@@ -19,16 +20,6 @@ use Rattle.oci_copy.specs.declared.fault.CopyFault.TheVariants as fault
 use Rattle.oci_copy.specs.Fault.{IsPlanCause, IsPushCause, Refused}
 use Rattle.oci_copy.specs.Grown.{IsTold}
 use Rattle.oci_copy.specs.Plain.{NotPlanned, RefusedForPlan}
-
--- in a closed graph nothing is open
-first_open-from_closed : (nodes : List Node) → IsClosed nodes → first_open nodes ≡ None
-first_open-from_closed nodes closed = go nodes closed
-  where
-    go : (ns : List Node) → All (λ (n : Node). HasAll nodes n.1) ns → open_in nodes ns ≡ None
-    go [] h = refl
-    go (n ∷ ns) h =
-        let here : first_missing nodes n.1 ≡ None = first_missing-from_HasAll nodes n.1 (All-head (λ (n : Node). HasAll nodes n.1) n ns h) in
-        rw here (go ns (All-tail (λ (n : Node). HasAll nodes n.1) n ns h))
 
 not_err : {X F : Type 0} (r : Result X F) (f : F) → r ≡ Err f → IsOk r → ⊥
 not_err (Ok x) f e ok = cc e
@@ -60,7 +51,7 @@ module _ (honest halted : Type 0) (fails : Descriptor → Bool) (source : List E
 
   pub refused_for_plan : (told : CopyFault) → Refused honest halted fails source limit opening roots before after told → RefusedForPlan source limit opening roots told
   refused_for_plan (fault.DestinationOpen holder missing) cause =
-      let both : Some (holder, missing) ≡ None = sym cause ∙ first_open-from_closed opening closed in
+      let both : Some (holder, missing) ≡ None = sym cause ∙ first_open-from_IsClosed opening closed in
       cc both
   refused_for_plan (fault.Plan e) cause = not_planned e cause.1
   refused_for_plan (fault.Fetch k e) cause = absurd (false≢true (sym (never k) ∙ cause.2))

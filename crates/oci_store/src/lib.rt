@@ -21,13 +21,14 @@
 //!
 //! Each refusal has a number. [`FetchFault`]: 20 to 23. [`PushFault`]: 30 to 34 and 42 to 44.
 //! [`RefFault`]: 35 to 38. [`OpenFault`]: 40 and 41. After a refusal a store in memory is as it was.
-//! Want of memory is answered where a growth was refused.
+//! Want of memory is answered where a growth was refused, which no clause says.
 //!
 //! Contents are shared: neither a push nor a fetch copies them. Look-ups of keys and names take time
 //! in the logarithm of the number of entries; `resolve` of a digest goes over the entries.
 //!
-//! [`holds_reached`], [`graph_grows_to_copy`] and [`content_grows_to_copy`] do nothing when they run:
-//! their contracts are laws on stores that copies stand on.
+//! [`closed_where_nothing_is_missing`], [`holds_reached`], [`graph_grows_to_copy`] and
+//! [`content_grows_to_copy`] do nothing when they run: their contracts are laws on stores that
+//! copies stand on.
 #![tactic(auto)]
 
 mod closed;
@@ -44,7 +45,9 @@ pub use closed::ClosedStore;
 pub use dest::Dest;
 pub use fault::{FetchFault, OpenFault, PushFault, RefFault};
 pub use graph_source::GraphSource;
-pub use laws::{content_grows_to_copy, graph_grows_to_copy, holds_reached};
+pub use laws::{
+    closed_where_nothing_is_missing, content_grows_to_copy, graph_grows_to_copy, holds_reached,
+};
 pub use memory::MemoryStore;
 pub use source::Source;
 pub use store::Store;

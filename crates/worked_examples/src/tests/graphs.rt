@@ -2,8 +2,8 @@ use crate::contents::Sample;
 use crate::contents::Sample::{Empty, Foo, Image0, Image2, Index3, Index4, Referrer};
 use crate::tests::stores::{assert_holds, keys, memory};
 use oci_store::{
-    ClosedStore, Dest, GraphSource, MemoryStore, content_grows_to_copy, graph_grows_to_copy,
-    holds_reached,
+    ClosedStore, Dest, GraphSource, MemoryStore, closed_where_nothing_is_missing,
+    content_grows_to_copy, graph_grows_to_copy, holds_reached,
 };
 use std::alloc::Global;
 use std::process::Abort;
@@ -97,6 +97,7 @@ fn open_and_closed(rt: HostRuntime) -> Result<(), Fail> {
 /// The laws do nothing when they run.
 #[test]
 fn laws() {
+    closed_where_nothing_is_missing();
     holds_reached();
     graph_grows_to_copy();
     content_grows_to_copy();
