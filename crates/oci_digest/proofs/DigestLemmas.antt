@@ -1,19 +1,15 @@
 -- Laws of digest texts.
-use Rattle.std.proofs.Common.{◌≡◌, ℕ, ◌*◌, List, Decides, refl, sym, ap, ◌∙◌}
+use Rattle.std.proofs.Common.{◌≡◌, ℕ, ◌*◌, List, refl, sym, ap, ◌∙◌}
 use Rattle.std.specs.Str.{bytes_eq}
 use Rattle.std.proofs.lemmas.Bool.Decides.{same_from_decides}
 use Rattle.std.proofs.lemmas.Slice.Eq.{bytes_eq-Decides}
 use Rattle.sha2.specs.Sha256.{sha256}
 use Rattle.hex.specs.Hex.{IsBytes, encode_lower, lower_digits}
 use Rattle.hex.proofs.HexLemmas.{length-encode_with}
-use Rattle.oci_digest.specs.Digest.{IsSha256, IsDigest, Verifies, digest_of, sha256_text, bytes_of_text, verifies}
+use Rattle.oci_digest.specs.Digest.{IsSha256, IsDigest, digest_of, sha256_text, bytes_of_text}
 use Rattle.oci_digest.specs.DigestLaws.{bytes_of_text-sha256_text}
 use Rattle.oci_digest.proofs.HexText.{AllPass-encode_lower}
 use Rattle.oci_digest.proofs.Sha256Bytes.{IsSha256-sha256}
-
--- `verifies` is the test of `Verifies`
-pub Decides-verifies : (digest bytes : List ℕ) → Decides (verifies digest bytes) (Verifies digest bytes)
-Decides-verifies digest bytes = bytes_eq-Decides digest (digest_of bytes)
 
 -- equal bytes are equal texts
 pub bytes_eq-sha256_text : (xs ys : List ℕ) → IsBytes xs → IsBytes ys → bytes_eq xs ys ≡ bytes_eq (sha256_text xs) (sha256_text ys)

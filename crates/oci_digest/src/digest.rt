@@ -75,7 +75,7 @@ impl Digest {
         *self == Digest::of(content)
     }
 
-    /// The digest's text, which [`Digest::parse`] reads back as this digest.
+    /// The digest's text, which [`Digest::parse`] reads back as this digest. [`NoMemory`] where memory is refused.
     pub fn text(&self, alloc: Global) -> Result<String, NoMemory>
         ensures text { IfOk result (λ text. string_bytes text ≡ self.now) }
         ensures parses { IsDigest self.now }

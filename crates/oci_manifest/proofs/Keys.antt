@@ -114,15 +114,3 @@ pub IsDistinct-first_places : (ks : List Descriptor) → IsDistinct same_key (fi
 unfolding IsDistinct
 IsDistinct-first_places [] = tt
 IsDistinct-first_places (k ∷ ks) = (others-differ k (first_places ks), IsDistinct-filter (λ other. not (same_key k other)) (first_places ks) (IsDistinct-first_places ks))
-
-others-all : (k : Descriptor) (ks : List Descriptor) → AllByRecursion (λ y. same_key k y ≡ false) ks → others k ks ≡ ks
-others-all k [] h = refl
-others-all k (j ∷ ks) h =
-    let other : same_key k j ≡ false = h.0 in
-    rw other (ap (λ (t : List Descriptor). j ∷ t) (others-all k ks h.1))
-
--- where no key stands twice each stands at its first place
-pub first_places-distinct : (ks : List Descriptor) → IsDistinct same_key ks → first_places ks ≡ ks
-unfolding IsDistinct
-first_places-distinct [] h = refl
-first_places-distinct (k ∷ ks) h = ap (λ (t : List Descriptor). k ∷ t) (ap (others k) (first_places-distinct ks h.1) ∙ others-all k ks h.0)

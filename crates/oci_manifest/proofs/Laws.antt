@@ -8,7 +8,7 @@ use Rattle.serde_json.specs.Data.{Data, object, Members}
 use Rattle.serde_json.specs.Find.{as_object}
 use Rattle.oci_manifest.specs.Descriptor.{Descriptor, same_key}
 use Rattle.oci_manifest.specs.Fault.{Fails, Gives, Refuses, Fault, not_json, not_object, no_config, bad_list, bad_descriptor}
-use Rattle.oci_manifest.specs.Manifest.{FirstFault, HasReading, Lists, Reads, Breaks, fields_of, first_places, is_distributed, distributed_once}
+use Rattle.oci_manifest.specs.Manifest.{FirstFault, HasReading, Lists, Reads, Breaks, fields_of, is_distributed, distributed_once}
 use Rattle.oci_manifest.specs.Reading.{or_fault, reading, manifest_keys, successors_of, ◌>>=◌}
 use Rattle.oci_manifest.specs.declared.fault.ManifestFault.{ManifestFault}
 use Rattle.oci_manifest.specs.declared.fault.ManifestFault.TheVariants as fault
@@ -16,7 +16,7 @@ use Rattle.oci_manifest.specs.declared.kind.Kind.{Kind}
 use Rattle.oci_manifest.specs.declared.kind.Kind.TheVariants.{Image, Index, DockerImage, DockerList, Artifact, Leaf}
 use Rattle.oci_manifest.proofs.Chains.{bind_ok, bind_err, or_ok, or_err, apart, some_or_none}
 use Rattle.oci_manifest.proofs.Descriptors.{object_some}
-use Rattle.oci_manifest.proofs.Keys.{cases, IsDistinct-first_places, first_places-distinct}
+use Rattle.oci_manifest.proofs.Keys.{cases, IsDistinct-first_places}
 use Rattle.oci_manifest.proofs.Members.{all_keys-sound, all_keys-complete, all_keys-fault, all_keys-broken}
 
 -- ---- the bytes
@@ -177,10 +177,6 @@ successors_of-distinct Index bytes L h = once-distinct (manifest_keys Index byte
 successors_of-distinct DockerImage bytes L h = once-distinct (manifest_keys DockerImage bytes) L h
 successors_of-distinct DockerList bytes L h = once-distinct (manifest_keys DockerList bytes) L h
 successors_of-distinct Artifact bytes L h = once-distinct (manifest_keys Artifact bytes) L h
-
--- and so each stands at its first place
-pub first_places-successors_of : (kind : Kind) (bytes : List ℕ) (L : List Descriptor) → successors_of kind bytes ≡ Ok L → first_places L ≡ L
-first_places-successors_of kind bytes L h = first_places-distinct L (successors_of-distinct kind bytes L h)
 
 -- ---- what an answer of the program says
 

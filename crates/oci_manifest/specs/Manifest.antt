@@ -88,7 +88,8 @@ pub record Lists (kind : Kind) (manifest : Data) (successors : List Descriptor) 
   pub holds : HoldsAll manifest (fields_of kind) keys
   pub once : successors ≡ distributed_once keys
 
--- the bytes are the UTF-8 of a JSON text (RFC 8259), and the text is this value
+-- the bytes are the UTF-8 of a JSON text (RFC 8259) that `serde_json` reads, and the text is this value: a text that
+-- nests deeper than 127 has no reading, nor has one with a number that is too large for a float, as 1e400
 abbrev pub HasReading : List ℕ → Data → Type 0
 HasReading bytes value = IsUtf8 bytes × (read bytes ≡ Some value)
 

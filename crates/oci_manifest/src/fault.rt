@@ -26,11 +26,12 @@ impl KeyFault {
 
 /// Why the successors of a content cannot be told.
 ///
-/// The rules are looked at in the order of the variants, member by member and element by element, and the first that
-/// is broken is told. It prints as its number, its name and what it carries, as in `14 BadDescriptor layers 0`.
+/// It tells the first broken rule, in the order that [`successors`](crate::successors) tells. It prints as its number, its
+/// name and what it carries, as in `14 BadDescriptor layers 0`.
 #[derive(Clone, Copy, Debug, PartialEq, Eq, Error)]
 pub enum ManifestFault {
-    /// The bytes are no JSON text (RFC 8259), or nest deeper than 127.
+    /// The bytes are no JSON text (RFC 8259) that `serde_json` reads. Of the texts of RFC 8259 it does not read those that
+    /// nest deeper than 127, and those with a number that is too large for a float, as `1e400`.
     #[error("10 NotJson")]
     NotJson,
     /// The JSON value is no object.

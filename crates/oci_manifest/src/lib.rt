@@ -21,8 +21,10 @@
 //! which tells the first broken rule. Reading takes time by the length of the bytes and n log n by the number of
 //! descriptors, and nothing recurses deeper than the JSON text nests, which is at most 127.
 //!
-//! The contract of [`successors`] says all of this twice: by relations that can be read (`specs/Manifest.antt`), and by
-//! a function that crates above compute with (`specs/Reading.antt`). Each is proved to be the other.
+//! The contract of [`successors`] says which keys and which refusal the bytes have, that no key is answered twice, and
+//! that a leaf is never refused; it says nothing of time and depth. Keys and refusals are told twice: by relations that
+//! can be read (`specs/Manifest.antt`), and by a function that crates above compute with (`specs/Reading.antt`). Each is
+//! proved to be the other.
 #![tactic(auto)]
 
 mod fault;

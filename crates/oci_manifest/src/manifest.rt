@@ -68,7 +68,8 @@ fn answer(alloc: Global, kind: Kind, bytes: &[u8]) -> Result<Vec<Key>, ManifestF
 /// not distributed are left out, in whatever member they stand, once their descriptors were found to be well formed.
 ///
 /// The rules are looked at in this order, and the first that is broken is told:
-/// 1. [10] NotJson: the bytes are no JSON text, or nest deeper than 127.
+/// 1. [10] NotJson: the bytes are no JSON text (RFC 8259), or they nest deeper than 127 or have a number that is too
+///    large for a float, as `1e400`, which `serde_json` does not read.
 /// 2. [11] NotObject: the value is no object.
 /// 3. Then member by member, in the kind's order. `subject`, where it is there: [14] BadDescriptor where it is no
 ///    descriptor. `config`: [12] NoConfig where it is absent, [14] where it is no descriptor. `layers`, `manifests` or
