@@ -29,6 +29,8 @@ impl Store for MemoryStore {
 
     ghost same_keys = { λ s. keys_of-nodes_of s.entries };
 
+    ghost trusted = { λ s _. tt };
+
     ghost listed = { λ s _. refl };
 }
 

@@ -67,6 +67,8 @@ impl Store for FailingStore {
 
     ghost same_keys = { λ s. keys_of-nodes_of s.0.entries };
 
+    ghost trusted = { λ s _. tt };
+
     ghost listed = { λ s _. refl };
 }
 
