@@ -102,15 +102,6 @@ unchanged old new listed set same updates was keys other key =
       | inr apart ↦ rw apart refl
     ]
 
--- where a key has no set there is nothing to forget
-pub nothing_forgotten : (old : KeySets) (holder listed : Descriptor) → get key_cmp old listed ≡ None
-    → (other key : Descriptor) → is_holder old other key ≡ (is_holder old other key && not (same_key holder other && same_key key listed))
-nothing_forgotten old holder listed none other key =
-    elim (cases (same_key key listed)) [
-      | inl same ↦ rw (ap (get key_cmp old) (tied key listed same) ∙ none) refl
-      | inr apart ↦ rw apart (and_not-same (is_holder old other key) ∙ ap (λ (b : Bool). is_holder old other key && not b) (none_and (same_key holder other)))
-    ]
-
 -- ---- several keys
 -- the test may be put the other way round
 is_among-turned : (ks : List Descriptor) (k : Descriptor) → is_among ks k ≡ list_any (same_key k) ks
@@ -150,12 +141,6 @@ IsNotedAt old new holder listed = (other key : Descriptor) → is_holder new oth
 -- what is held after some keys were forgotten
 abbrev pub IsForgottenAt : KeySets → KeySets → Descriptor → List Descriptor → Type 0
 IsForgottenAt old new holder listed = (other key : Descriptor) → is_holder new other key ≡ (is_holder old other key && not (same_key holder other && is_among listed key))
-
-pub IsNotedAt-none : (sets : KeySets) (holder : Descriptor) → IsNotedAt sets sets holder []
-IsNotedAt-none sets holder other key = and_or-same (is_holder sets other key) ∙ ap (λ (b : Bool). is_holder sets other key || b) (none_and (same_key holder other))
-
-pub IsForgottenAt-none : (sets : KeySets) (holder : Descriptor) → IsForgottenAt sets sets holder []
-IsForgottenAt-none sets holder other key = and_not-same (is_holder sets other key) ∙ ap (λ (b : Bool). is_holder sets other key && not b) (none_and (same_key holder other))
 
 pub IsNotedAt-more : (old mid new : KeySets) (holder : Descriptor) (listed : List Descriptor) (i : ℕ) (k : Descriptor) → i < length listed → k ≡ get_or listed i k
     → IsNotedAt old mid holder (take i listed) → ((other key : Descriptor) → is_holder new other key ≡ (is_holder mid other key || (same_key holder other && same_key key k)))
@@ -228,9 +213,6 @@ pub AreTold-some : (sets : KeySets) (listed : Descriptor) (set : BTreeSet Descri
 AreTold-some sets listed set keys there same holder =
     let iff = btree_set_contains_iff key_cmp_total key_cmp_exact set holder in
     rw (there, same) (iff.1, iff.0)
-
-pub AreTold-none : (sets : KeySets) (listed : Descriptor) → get key_cmp sets listed ≡ None → AreTold sets listed []
-AreTold-none sets listed none holder = rw none (λ h. absurd (omega (arith, h.1)), λ h. cc h)
 
 -- those that the map tells are those that the graph has
 pub IsBefore-from_told : (graph : List Node) (sets : KeySets) (k : Descriptor) (keys : List Descriptor) → AreHolders graph sets → AreTold sets k keys → IsStrictlySortedBy key_cmp keys → IsBefore graph k keys

@@ -1,5 +1,5 @@
 -- What a reference stands for.
-use Rattle.std.proofs.Common.{◌≡◌, ◌≢◌, ℕ, true, false, List, [], ◌∷◌, ◌++◌, Option, Some, None, IfSome, Result, Ok, Err, refl, sym, ap, subst, ◌∙◌}
+use Rattle.std.proofs.Common.{◌≡◌, ◌≢◌, ℕ, true, false, List, [], ◌∷◌, ◌++◌, Option, Some, None, IfSome, Result, Ok, Err, sym, ap, subst, ◌∙◌}
 use Rattle.std.specs.Prelude.{Contains}
 use Rattle.std.specs.List.{All}
 use Rattle.std.specs.Result.{IsErrAnd, IsErrOf}
@@ -18,13 +18,9 @@ use Rattle.oci_store.specs.declared.fault.RefFault.TheVariants as fault
 use Rattle.oci_store.specs.Graph.{Node, node_of, nodes_of}
 use Rattle.oci_store.specs.GraphLaws.{keys_of-nodes_of}
 use Rattle.oci_store.specs.Keyed.{has_key}
-use Rattle.oci_store.specs.Tags.{Tags, AreNames, tag_at, set_tag, Resolves, IsResolved, IsLeastOf, IsLeastWith}
+use Rattle.oci_store.specs.Tags.{Tags, AreNames, tag_at, set_tag, IsResolved, IsLeastOf, IsLeastWith}
 use Rattle.oci_store.proofs.Lookups.{has_key-append_left, has_key-from_Contains}
 use Rattle.oci_digest.proofs.DigestLemmas.{IsDigest-digest_of}
-
--- a tag of that name decides
-pub IsResolved-tag : (keys : List Descriptor) (tags : Tags) (reference : List ℕ) (k : Descriptor) → tag_at tags reference ≡ Some k → IsResolved keys tags reference (Some k)
-IsResolved-tag keys tags reference k h = rw h refl
 
 none_with : (keys : List Descriptor) (digest : List ℕ) (k : Descriptor) → All (λ (other : Descriptor). other.digest ≢ digest) keys → IsLeastWith keys digest k → ⊥
 none_with keys digest k h least = All-contains (λ (other : Descriptor). other.digest ≢ digest) keys k h least.there least.same_digest
