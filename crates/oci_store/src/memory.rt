@@ -1,4 +1,4 @@
-ghost use Rattle.std.specs.Prelude.{◌≡◌, ◌++◌, ◌∷◌, [], ◌↔◌, IsTrue, length, option_map, IfOk, OnOk, OnErr, IfErr, IfSome, is_some, slice_get};
+ghost use Rattle.std.specs.Prelude.{◌≡◌, ◌++◌, ◌∷◌, [], ◌↔◌, IsTrue, length, option_map, Ok, IfOk, OnOk, OnErr, IfErr, IfSome, is_some, slice_get};
 ghost use Rattle.std.specs.Option.{option_copied};
 ghost use Rattle.std.specs.Cmp.Lexicographic.{slice_cmp};
 ghost use Rattle.std.specs.List.Sorted.{IsStrictlySortedBy};
@@ -108,11 +108,8 @@ impl MemoryStore {
         ensures checked { Answers result (push_check (nodes_of self.old.entries) key.now content) }
         ensures plain { IfErr result IsPlain }
     {
-        let place = self.entries.len();
         let successors = check(self.alloc, &self.entries, key, &content)?;
-        let held = Held::new(key, content, successors)?;
-        put(self.alloc, &mut self.entries, &mut self.holders, held)?;
-        Ok(place)
+        Ok(self.put_checked(key, content, successors)?)
     }
 
     /// The same, where each successor has to be held.
@@ -123,8 +120,23 @@ impl MemoryStore {
         ensures checked { Answers result (closed_check (nodes_of self.old.entries) key.now content) }
         ensures plain { IfErr result IsPlain }
     {
-        let place = self.entries.len();
         let successors = check_closed(self.alloc, &self.entries, key, &content)?;
+        Ok(self.put_checked(key, content, successors)?)
+    }
+
+    /// Puts content that passed the check, with its successors, and gives its place.
+    fn put_checked(
+        &mut self,
+        key: &Key,
+        content: Bytes,
+        successors: Vec<Key>,
+    ) -> Result<usize, NoMemory>
+        requires { push_check (nodes_of self.old.entries) key.now content ≡ Ok successors.items }
+        ensures place { IfOk result (λ place. place ≡ length self.old.entries) }
+        ensures pushed { OnOk result (self.new ≡ record self.old { entries = self.old.entries ++ (key.now, content) ∷ [] }) }
+        ensures refused { OnErr result (self.new ≡ self.old) }
+    {
+        let place = self.entries.len();
         let held = Held::new(key, content, successors)?;
         put(self.alloc, &mut self.entries, &mut self.holders, held)?;
         Ok(place)

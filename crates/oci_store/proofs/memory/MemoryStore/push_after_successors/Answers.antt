@@ -1,36 +1,7 @@
-use Rattle.std.proofs.Common.{[], ◌∷◌, ◌++◌, ap, ◌∙◌}
-use Rattle.oci_store.specs.Content.{Entry}
 use Rattle.oci_store.specs.Graph.{nodes_of}
-use Rattle.oci_store.specs.Keyed.{has_key}
-use Rattle.oci_store.proofs.Contents.{IsNew-from_check, IsNew-successors, IsContent-pushed, closed_check-ok}
-use Rattle.oci_store.proofs.References.{AreNames-pushed}
+use Rattle.oci_store.proofs.Contents.{closed_check-ok}
 use Rattle.oci_store.proofs.memory.MemoryStore.push_after_successors.Goals as goal
 
-pub new-requires : goal.new-requires
-new-requires c =
-    let graph = nodes_of c.self.inside.entries in
-    let keys = c.in_ok-successors.successors.items in
-    let checked = closed_check-ok graph c.args.key.now c.args.content keys c.in_ok-successors.ensures.checked in
-    let passed = IsNew-from_check graph c.args.key.now c.args.content keys checked.0 in
-    IsNew-successors graph c.args.key.now c.args.content keys passed
-
-pub put-requires-clause-new : goal.put-requires-clause-new
-put-requires-clause-new c =
-    let graph = nodes_of c.self.inside.entries in
-    let keys = c.in_ok-successors.successors.items in
-    let checked = closed_check-ok graph c.args.key.now c.args.content keys c.in_ok-successors.ensures.checked in
-    let passed = IsNew-from_check graph c.args.key.now c.args.content keys checked.0 in
-    ap (λ (e : Entry). has_key graph e.0) c.in_ok-held.ensures ∙ passed.absent
-
-pub invariant_of-self-2 : goal.invariant_of-self-2
-invariant_of-self-2 c =
-    let entries = c.self.inside.entries in
-    let graph = nodes_of entries in
-    let keys = c.in_ok-successors.successors.items in
-    let checked = closed_check-ok graph c.args.key.now c.args.content keys c.in_ok-successors.ensures.checked in
-    let passed = IsNew-from_check graph c.args.key.now c.args.content keys checked.0 in
-    record {
-      content = IsContent-pushed entries c.put.new.entries c.args.key.now c.args.content keys c.self.invariant.content passed (c.in_ok-put.ensures.pushed ∙ ap (λ (e : Entry). entries ++ e ∷ []) c.in_ok-held.ensures);
-      holders = c.in_ok-put.ensures.holders;
-      names = AreNames-pushed entries c.put.new.entries c.in_ok-held.held c.self.inside.names c.self.invariant.names c.in_ok-put.ensures.pushed;
-    }
+pub put_checked-requires : goal.put_checked-requires
+put_checked-requires c =
+    rw (← c.self.view_is) (closed_check-ok (nodes_of c.self.inside.entries) c.args.key.now c.args.content c.in_ok-successors.successors.items c.in_ok-successors.ensures.checked).0
