@@ -1,7 +1,3 @@
-ghost use Rattle.std.specs.Prelude.{◌≡◌};
-ghost use Rattle.std.specs.Option.{ForSome};
-ghost use Rattle.oci_store.specs.Graph.{nodes_of};
-
 use crate::contents::Sample::{Bar, Empty, Foo, Image2, Image3, Index1};
 use crate::tests::copies::copied;
 use crate::tests::stores::{assert_holds, keys, memory};
@@ -10,6 +6,7 @@ use oci_digest::NoMemory;
 use oci_manifest::Key;
 use oci_store::{ClosedStore, Dest, PushFault, Store};
 use std::alloc::Global;
+use std::marker::Model;
 use std::process::Abort;
 use std::test::Fail;
 
@@ -22,7 +19,19 @@ struct FailingStore {
     store: ClosedStore,
     spare: Option<ClosedStore>,
     passing: u64,
-    ghost same: { ForSome spare (λ s. nodes_of s.entries ≡ nodes_of store.entries) },
+}
+
+impl Model for FailingStore {
+    ghost use Rattle.std.specs.Prelude.{◌≡◌, Bool, is_some};
+    ghost use Rattle.std.specs.Option.{ForSome};
+    ghost use Rattle.oci_store.specs.Contents.{Contents};
+    ghost use Rattle.oci_store.specs.Graph.{nodes_of};
+
+    ghost Value = { Contents × Bool };
+
+    ghost view = { λ s. (s.store, is_some s.spare) };
+
+    ghost invariant = { λ s. ForSome s.spare (λ spare. nodes_of spare.entries ≡ nodes_of s.store.entries) };
 }
 
 impl FailingStore {
@@ -37,15 +46,16 @@ impl FailingStore {
 }
 
 impl Store for FailingStore {
-    ghost use Rattle.std.specs.Prelude.{[], ⊤, cond, is_some};
+    ghost use Rattle.std.specs.Prelude.{[], ⊤, cond};
     ghost use Rattle.std.proofs.Common.{refl};
+    ghost use Rattle.oci_store.specs.Graph.{nodes_of};
     ghost use Rattle.oci_store.specs.GraphLaws.{keys_of-nodes_of};
 
-    ghost nodes = { λ s. nodes_of s.store.entries };
+    ghost nodes = { λ s. nodes_of s.0.entries };
 
-    ghost entries = { λ s. s.store.entries };
+    ghost entries = { λ s. s.0.entries };
 
-    ghost tags = { λ s. s.store.tags };
+    ghost tags = { λ s. s.0.tags };
 
     ghost name = { λ s. [] };
 
@@ -53,9 +63,11 @@ impl Store for FailingStore {
 
     ghost is_sound = { λ s. ⊤ };
 
-    ghost failure_count = { λ s. cond (is_some s.spare) 0 1 };
+    ghost failure_count = { λ s. cond s.1 0 1 };
 
-    ghost same_keys = { λ s. keys_of-nodes_of s.store.entries };
+    ghost same_keys = { λ s. keys_of-nodes_of s.0.entries };
+
+    ghost trusted = { λ s _. tt };
 
     ghost trusted = { λ s _. tt };
 
