@@ -69,8 +69,6 @@ impl Store for FailingStore {
 
     ghost trusted = { λ s _. tt };
 
-    ghost trusted = { λ s _. tt };
-
     ghost listed = { λ s _. refl };
 }
 
