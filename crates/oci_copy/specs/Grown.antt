@@ -20,7 +20,7 @@ abbrev pub SameByDigest : List Entry → List Entry → Type 0
 SameByDigest a b = (k other : Descriptor) (x y : List ℕ) → value_at a k ≡ Some x → value_at b other ≡ Some y → other.digest ≡ k.digest → y ≡ x
 
 -- The bytes of a copy can be told: the source is honest, the destination was sound, none of its puts failed meanwhile and
--- none could fail uncounted, and where the destination keeps one file a digest, keys of one digest have the same bytes.
+-- none could fail uncounted, and where the destination keeps one file per digest, keys of one digest have the same bytes.
 pub record IsTold (honest sound shares : Type 0) (failures_before failures_after : ℕ) (source old : List Entry) : Type 0 where
   pub is_honest : honest
   pub is_sound : sound
