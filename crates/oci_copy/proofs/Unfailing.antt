@@ -1,14 +1,11 @@
 -- Why a copy is refused where neither store fails.
 use Rattle.std.proofs.Common.{◌≡◌, ℕ, inl, inr, Bool, false, List, [], ◌∷◌, Some, None, Result, Ok, Err, refl, sym, ◌∙◌, arith}
 use Rattle.std.specs.Prelude.{IsOk, length}
-use Rattle.std.specs.List.{All}
 use Rattle.std.proofs.lemmas.Bool.{false≢true}
-use Rattle.std.proofs.lemmas.List.Elements.{All-head, All-tail}
 use Rattle.oci_manifest.specs.Descriptor.{Descriptor}
-use Rattle.oci_store.specs.Keyed.{HasAll, first_missing}
 use Rattle.oci_store.specs.Content.{Entry, IsContent, succ_of}
 use Rattle.oci_store.specs.Graph.{Node, nodes_of}
-use Rattle.oci_store.specs.Closed.{IsClosed, open_in, first_open}
+use Rattle.oci_store.specs.Closed.{IsClosed}
 use Rattle.oci_store.specs.declared.fault.PushFault.{PushFault}
 use Rattle.oci_store.specs.declared.fault.PushFault.TheVariants as push
 use Rattle.oci_store.proofs.ClosedGraphs.{first_open-from_IsClosed}
