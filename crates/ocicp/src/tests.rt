@@ -13,23 +13,7 @@ const IMAGE: &str = "application/vnd.oci.image.manifest.v1+json";
 const M0: &str =
     "{\"schemaVersion\":2,\"mediaType\":\"application/vnd.oci.image.manifest.v1+json\",\"config\":{\"mediaType\":\"application/vnd.oci.empty.v1+json\",\"digest\":\"sha256:44136fa355b3678a1146ad16f7e8649e94fb4fc21fe77e8310c060f61caaff8a\",\"size\":2},\"layers\":null}";
 
-const LAYER: &str = "application/vnd.oci.image.layer.v1.tar";
-
-const INDEX: &str = "application/vnd.oci.image.index.v1+json";
-
 const DOCKER_IMAGE: &str = "application/vnd.docker.distribution.manifest.v2+json";
-
-const M1: &str =
-    "{\"schemaVersion\":2,\"mediaType\":\"application/vnd.oci.image.manifest.v1+json\",\"config\":{\"mediaType\":\"application/vnd.oci.empty.v1+json\",\"digest\":\"sha256:44136fa355b3678a1146ad16f7e8649e94fb4fc21fe77e8310c060f61caaff8a\",\"size\":2},\"layers\":[{\"mediaType\":\"application/vnd.oci.image.layer.v1.tar\",\"digest\":\"sha256:2c26b46b68ffc68ff99b453c1d30413413422d706483bfa0f98a5e886266e7ae\",\"size\":3},{\"mediaType\":\"application/vnd.oci.image.layer.v1.tar\",\"digest\":\"sha256:2c26b46b68ffc68ff99b453c1d30413413422d706483bfa0f98a5e886266e7ae\",\"size\":3}]}";
-
-const M2: &str =
-    "{\"schemaVersion\":2,\"mediaType\":\"application/vnd.oci.image.manifest.v1+json\",\"config\":{\"mediaType\":\"application/vnd.oci.empty.v1+json\",\"digest\":\"sha256:44136fa355b3678a1146ad16f7e8649e94fb4fc21fe77e8310c060f61caaff8a\",\"size\":2},\"layers\":[{\"mediaType\":\"application/vnd.oci.image.layer.v1.tar\",\"digest\":\"sha256:2c26b46b68ffc68ff99b453c1d30413413422d706483bfa0f98a5e886266e7ae\",\"size\":3}]}";
-
-const M3: &str =
-    "{\"schemaVersion\":2,\"mediaType\":\"application/vnd.oci.image.manifest.v1+json\",\"config\":{\"mediaType\":\"application/vnd.oci.empty.v1+json\",\"digest\":\"sha256:44136fa355b3678a1146ad16f7e8649e94fb4fc21fe77e8310c060f61caaff8a\",\"size\":2},\"layers\":[{\"mediaType\":\"application/vnd.oci.image.layer.v1.tar\",\"digest\":\"sha256:2c26b46b68ffc68ff99b453c1d30413413422d706483bfa0f98a5e886266e7ae\",\"size\":3},{\"mediaType\":\"application/vnd.oci.image.layer.v1.tar\",\"digest\":\"sha256:fcde2b2edba56bf408601fb721fe9b5c338d10ee429ea04fae5511b68fbf8fb9\",\"size\":3}]}";
-
-const I1: &str =
-    "{\"schemaVersion\":2,\"manifests\":[{\"mediaType\":\"application/vnd.oci.image.manifest.v1+json\",\"digest\":\"sha256:7e1df211bc4556d2a9db939a81721c52e5e53c59e3dfb45a57205a794dd412b7\",\"size\":385},{\"mediaType\":\"application/vnd.oci.image.manifest.v1+json\",\"digest\":\"sha256:3f167608abdb6f3e8f7a3c6ac3957c7da7b621d2536c484e8419ae104fba9b34\",\"size\":532}]}";
 
 const DM: &str =
     "{\"schemaVersion\":2,\"config\":{\"mediaType\":\"application/vnd.oci.empty.v1+json\",\"digest\":\"sha256:44136fa355b3678a1146ad16f7e8649e94fb4fc21fe77e8310c060f61caaff8a\",\"size\":2},\"layers\":[{\"mediaType\":\"application/vnd.docker.image.rootfs.foreign.diff.tar.gzip\",\"digest\":\"sha256:fcde2b2edba56bf408601fb721fe9b5c338d10ee429ea04fae5511b68fbf8fb9\",\"size\":3}]}";
@@ -221,60 +205,8 @@ fn first_run(rt: HostRuntime) -> Result<(), Fail> {
     folder.remove(&rt)
 }
 
-/// An image that lists one layer twice.
-#[test]
-fn doubled_layer(rt: HostRuntime) -> Result<(), Fail> {
-    let folder = Folder::new(&rt, "doubled_layer")?;
-    let e = folder.item(&rt, EMPTY, "e", "{}")?;
-    let foo = folder.item(&rt, LAYER, "foo", "foo")?;
-    let m1 = folder.item(&rt, IMAGE, "m1", M1)?;
-    let listed =
-        "sha256:44136fa355b3678a1146ad16f7e8649e94fb4fc21fe77e8310c060f61caaff8a 2 application/vnd.oci.empty.v1+json\n\
-         sha256:2c26b46b68ffc68ff99b453c1d30413413422d706483bfa0f98a5e886266e7ae 3 application/vnd.oci.image.layer.v1.tar\n\
-         sha256:d80fa97ca0539dfbfd206b1c8ebe52025d1994c7f1b9b187c4cad1371ab9a585 532 application/vnd.oci.image.manifest.v1+json\n\
-         planned 3 pushed 3 skipped 0\n";
-    assert_run(
-        &rt,
-        &["mem", e.as_str(), foo.as_str(), m1.as_str()],
-        0,
-        listed,
-        "",
-    )?;
-    folder.remove(&rt)
-}
-
-/// An index of two images that share a layer.
-#[test]
-fn two_images(rt: HostRuntime) -> Result<(), Fail> {
-    let folder = Folder::new(&rt, "two_images")?;
-    let e = folder.item(&rt, EMPTY, "e", "{}")?;
-    let foo = folder.item(&rt, LAYER, "foo", "foo")?;
-    let bar = folder.item(&rt, LAYER, "bar", "bar")?;
-    let m2 = folder.item(&rt, IMAGE, "m2", M2)?;
-    let m3 = folder.item(&rt, IMAGE, "m3", M3)?;
-    let i1 = folder.item(&rt, INDEX, "i1", I1)?;
-    let listed =
-        "sha256:44136fa355b3678a1146ad16f7e8649e94fb4fc21fe77e8310c060f61caaff8a 2 application/vnd.oci.empty.v1+json\n\
-         sha256:8ede3797b5d175cf105016f170f6e4a175a141a2865be8e6822edd38acd70711 339 application/vnd.oci.image.index.v1+json\n\
-         sha256:2c26b46b68ffc68ff99b453c1d30413413422d706483bfa0f98a5e886266e7ae 3 application/vnd.oci.image.layer.v1.tar\n\
-         sha256:fcde2b2edba56bf408601fb721fe9b5c338d10ee429ea04fae5511b68fbf8fb9 3 application/vnd.oci.image.layer.v1.tar\n\
-         sha256:3f167608abdb6f3e8f7a3c6ac3957c7da7b621d2536c484e8419ae104fba9b34 532 application/vnd.oci.image.manifest.v1+json\n\
-         sha256:7e1df211bc4556d2a9db939a81721c52e5e53c59e3dfb45a57205a794dd412b7 385 application/vnd.oci.image.manifest.v1+json\n\
-         planned 6 pushed 6 skipped 0\n";
-    let words = [
-        "mem",
-        e.as_str(),
-        foo.as_str(),
-        bar.as_str(),
-        m2.as_str(),
-        m3.as_str(),
-        i1.as_str(),
-    ];
-    assert_run(&rt, &words, 0, listed, "")?;
-    folder.remove(&rt)
-}
-
-/// The only layer of a Docker image stays where it is, which is nowhere.
+/// What arrived is listed in key order, which is not the order in which it came. The only layer of a Docker image stays where it
+/// is, which is nowhere.
 #[test]
 fn foreign_layer(rt: HostRuntime) -> Result<(), Fail> {
     let folder = Folder::new(&rt, "foreign_layer")?;
@@ -285,17 +217,5 @@ fn foreign_layer(rt: HostRuntime) -> Result<(), Fail> {
          sha256:44136fa355b3678a1146ad16f7e8649e94fb4fc21fe77e8310c060f61caaff8a 2 application/vnd.oci.empty.v1+json\n\
          planned 2 pushed 2 skipped 0\n";
     assert_run(&rt, &["mem", e.as_str(), dm.as_str()], 0, listed, "")?;
-    folder.remove(&rt)
-}
-
-/// An image without its layer is not copied.
-#[test]
-fn missing_layer(rt: HostRuntime) -> Result<(), Fail> {
-    let folder = Folder::new(&rt, "missing_layer")?;
-    let e = folder.item(&rt, EMPTY, "e", "{}")?;
-    let m2 = folder.item(&rt, IMAGE, "m2", M2)?;
-    let refused =
-        "ocicp: 81 Plan 53 NotFound sha256:2c26b46b68ffc68ff99b453c1d30413413422d706483bfa0f98a5e886266e7ae 3 application/vnd.oci.image.layer.v1.tar\n";
-    assert_run(&rt, &["mem", e.as_str(), m2.as_str()], 1, "", refused)?;
     folder.remove(&rt)
 }
