@@ -72,8 +72,8 @@ abbrev pub IsCycleOutside : List Entry → List Node → List Descriptor → ℕ
 IsCycleOutside entries held roots limit keys = IsKeyCycle (nodes_of entries) keys × All (IsOutside (nodes_of entries) held roots) keys
     × ((k : Descriptor) → IsOutside (nodes_of entries) held roots k → IsSoundItem entries limit k)
 
--- Every key visited so far is sound, and there are more keys than numbers that are not held among the roots and what the
--- visited keys list, each taken once: all these are outside.
+-- Every key visited so far is sound; and of the roots and what the visited keys list, each taken once, more are not held than
+-- there are numbers: all these are outside.
 pub record HasTooMany (entries : List Entry) (held : List Node) (roots : List Descriptor) (limit : ℕ) : Type 0 where
   pub visited : List Descriptor
   pub visiting : IsVisiting (nodes_of entries) held roots visited
