@@ -1,5 +1,5 @@
 //! A digest: made, verified, printed, compared.
-ghost use Rattle.std.specs.Prelude.{◌≡◌, ◌↔◌, ◌++◌, codes, Some, IsTrue, IsOk, IfOk, IsErrOf, is_ok, string_bytes};
+ghost use Rattle.std.specs.Prelude.{◌≡◌, ◌↔◌, ◌++◌, take, drop, codes, Some, IsTrue, IsOk, IfOk, IsErrOf, is_ok, string_bytes};
 ghost use Rattle.oci_digest.specs.Digest.{digest_of, sha256_text, IsDigest, is_digest, Verifies};
 ghost use Rattle.oci_digest.specs.Refusals.{IsBadForm, HasUnknownAlgorithm, HasBadEncoding};
 
@@ -73,6 +73,35 @@ impl Digest {
         ensures { IsTrue result ↔ Verifies self.now content.now }
     {
         *self == Digest::of(content)
+    }
+
+    /// Every digest's text is a digest text. It does nothing when it runs.
+    pub fn is_digest_text(&self)
+        ensures { IsDigest self.now }
+    {
+        let _ = &self.bytes;
+    }
+
+    /// The part of its text before the colon.
+    pub fn algorithm(&self) -> &'static str
+        ensures { result.now ≡ take 6 self.now }
+    {
+        let _ = &self.bytes;
+        "sha256"
+    }
+
+    /// The part of its text after the colon. [`NoMemory`] where memory is refused.
+    pub fn encoded(&self, alloc: Global) -> Result<String, NoMemory>
+        ensures { IfOk result (λ text. string_bytes text ≡ drop 7 self.now) }
+    {
+        let mut digits = [0u8; 64];
+        let Ok(()) = hex::encode_to_slice(self.bytes, &mut digits) else {
+            unreachable!();
+        };
+        let Ok(digits) = str::from_utf8(&digits) else {
+            unreachable!();
+        };
+        Ok(String::from_str(alloc, digits)?)
     }
 
     /// The digest's text, which [`Digest::parse`] reads back as this digest. [`NoMemory`] where memory is refused.

@@ -1,6 +1,0 @@
-use Rattle.std.proofs.Common.{take}
-use Rattle.oci_store.proofs.Holders.{IsNotedAt}
-use Rattle.oci_store.proofs.memory.holders.Holders.note_all.Given as goal
-
-abbrev pub invariant-loop-key : goal.invariant-loop-key
-invariant-loop-key l = IsNotedAt l.fn.self.sets l.self.sets l.holder (take l.key-index l.listed)
