@@ -1,5 +1,5 @@
 -- What a digest is to a contract: its text.
-use Rattle.std.specs.Prelude.{Bool, ◌&&◌, ◌==◌, take, drop, length, ◌≡◌, ℕ, List, [], ◌++◌, codes}
+use Rattle.std.specs.Prelude.{Bool, ◌&&◌, ◌==◌, take, drop, length, ◌≡◌, ℕ, List, [], ◌∷◌, ◌++◌, codes, if◌then◌else◌}
 use Rattle.std.specs.Result.{result_unwrap_or}
 use Rattle.std.specs.List.{list_all}
 use Rattle.std.specs.Str.{bytes_eq}
@@ -31,6 +31,16 @@ IsDigest text = (encoded : List ℕ) × (text ≡ codes "sha256:" ++ encoded) ×
 -- the test of that
 abbrev pub is_digest : List ℕ → Bool
 is_digest text = bytes_eq (take 7 text) (codes "sha256:") && (length (drop 7 text) == 64) && list_all is_lower_hex (drop 7 text)
+
+-- the part of a digest's text before its first colon (58)
+abbrev pub algorithm_of : List ℕ → List ℕ
+algorithm_of [] = []
+algorithm_of (c ∷ text) = if c == 58 then [] else c ∷ algorithm_of text
+
+-- the part after it
+abbrev pub encoded_of : List ℕ → List ℕ
+encoded_of [] = []
+encoded_of (c ∷ text) = if c == 58 then text else encoded_of text
 
 -- the digest is the one that its own algorithm gives of the bytes (descriptor.md, "Verification")
 abbrev pub Verifies : List ℕ → List ℕ → Type 0

@@ -1,6 +1,6 @@
 //! A digest: made, verified, printed, compared.
-ghost use Rattle.std.specs.Prelude.{◌≡◌, ◌↔◌, ◌++◌, take, drop, codes, Some, IsTrue, IsOk, IfOk, IsErrOf, is_ok, string_bytes};
-ghost use Rattle.oci_digest.specs.Digest.{digest_of, sha256_text, IsDigest, is_digest, Verifies};
+ghost use Rattle.std.specs.Prelude.{◌≡◌, ◌↔◌, ◌++◌, codes, Some, IsTrue, IsOk, IfOk, IsErrOf, is_ok, string_bytes};
+ghost use Rattle.oci_digest.specs.Digest.{digest_of, sha256_text, algorithm_of, encoded_of, IsDigest, is_digest, Verifies};
 ghost use Rattle.oci_digest.specs.Refusals.{IsBadForm, HasUnknownAlgorithm, HasBadEncoding};
 
 use crate::fault::{DigestFault, NoMemory};
@@ -75,24 +75,20 @@ impl Digest {
         *self == Digest::of(content)
     }
 
-    /// Every digest's text is a digest text. It does nothing when it runs.
-    pub fn is_digest_text(&self)
-        ensures { IsDigest self.now }
-    {
-        let _ = &self.bytes;
-    }
-
-    /// The part of its text before the colon.
+    /// The part of its text before the colon, as `sha256` (descriptor.md, "Digests").
     pub fn algorithm(&self) -> &'static str
-        ensures { result.now ≡ take 6 self.now }
+        ensures part { result.now ≡ algorithm_of self.now }
+        ensures joined { self.now ≡ result.now ++ codes ":" ++ encoded_of self.now }
+        ensures digest { IsDigest self.now }
     {
+        // A look at a field tells the proof what every digest keeps, which `digest` hands on.
         let _ = &self.bytes;
         "sha256"
     }
 
     /// The part of its text after the colon. [`NoMemory`] where memory is refused.
     pub fn encoded(&self, alloc: Global) -> Result<String, NoMemory>
-        ensures { IfOk result (λ text. string_bytes text ≡ drop 7 self.now) }
+        ensures { IfOk result (λ text. string_bytes text ≡ encoded_of self.now) }
     {
         let mut digits = [0u8; 64];
         let Ok(()) = hex::encode_to_slice(self.bytes, &mut digits) else {

@@ -1,17 +1,23 @@
 -- Descriptors, which name contents (OCI image-spec 1.1, descriptor.md, "Properties").
-use Rattle.std.specs.Prelude.{ℕ, Bool, ◌&&◌, ◌==◌, List, ◌++◌, codes}
+use Rattle.std.specs.Prelude.{ℕ, ◌<◌, ◌^◌, Bool, ◌&&◌, ◌==◌, List, ◌++◌, codes}
 use Rattle.std.specs.declared.cmp.Ordering.{Ordering}
 use Rattle.std.specs.List.{list_any}
 use Rattle.std.specs.Str.{bytes_eq}
 use Rattle.std.specs.Fmt.{decimal}
 use Rattle.std.specs.Ordering.{nat_cmp, on, then_cmp}
 use Rattle.std.specs.Cmp.Lexicographic.{slice_cmp}
+use Rattle.oci_digest.specs.Digest.{IsDigest}
 
 -- a content's media type and digest text, as bytes, and its size (descriptor.md, `mediaType`, `digest` and `size`)
 pub record Descriptor : Type 0 where
   pub media_type : List ℕ
   pub digest : List ℕ
   pub size : ℕ
+
+-- what every key keeps: its digest is one, and its size is below 2^63 (descriptor.md, "Properties")
+pub record IsKey (k : Descriptor) : Type 0 where
+  pub is_digest : IsDigest k.digest
+  pub fits : k.size < 2 ^ 63
 
 -- whether two descriptors have one media type, one digest and one size
 abbrev pub same_key : Descriptor → Descriptor → Bool

@@ -1,4 +1,5 @@
 ghost use Rattle.std.specs.Prelude.{◌≡◌, ◌<◌, ◌^◌, ◌↔◌, Some, IsOk, IfOk, IfErr, string_bytes};
+ghost use Rattle.oci_manifest.specs.Descriptor.{IsKey};
 ghost use Rattle.oci_manifest.specs.declared.fault.KeyFault.TheVariants.{BadSize};
 
 use crate::fault::KeyFault;
@@ -73,7 +74,10 @@ impl Key {
     pub fn size(&self) -> u64
         ensures size { result ≡ self.now.size }
         ensures fits { result < 2 ^ 63 }
+        ensures key { IsKey self.now }
     {
+        // Its algorithm tells the proof what every digest keeps, which `key` hands on.
+        let _ = self.digest.algorithm();
         self.size
     }
 
