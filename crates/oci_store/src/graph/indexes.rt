@@ -1,0 +1,98 @@
+ghost use Rattle.std.specs.Prelude.{◌≡◌, ◌||◌, ◌&&◌, false, List, [], ◌∷◌, ◌++◌, OnOk, OnErr};
+ghost use Rattle.std.specs.BTreeSet.{contains};
+ghost use Rattle.oci_manifest.specs.Descriptor.{Descriptor, IsKey, same_key, is_among};
+ghost use Rattle.oci_store.specs.ByDigest.{digest_cmp};
+ghost use Rattle.oci_store.specs.Graph.{Node};
+ghost use Rattle.oci_store.specs.Holders.{is_holder};
+ghost use Rattle.oci_store.specs.Indexed.{IsIndexed};
+ghost use Rattle.oci_store.specs.Keyed.{has_key};
+
+use crate::graph::by_digest::ByDigest;
+use crate::graph::holders::Holders;
+use crate::graph::node::Listing;
+use oci_digest::NoMemory;
+use oci_manifest::Key;
+use std::alloc::Global;
+use std::collections::BTreeMap;
+
+/// By what a graph finds its keys: the place of each, those that list each, and those of a digest.
+#[derive(Drop)]
+pub(crate) struct Indexes {
+    pub(crate) places: BTreeMap<Key, usize>,
+    pub(crate) holders: Holders,
+    pub(crate) by_digest: ByDigest,
+}
+
+impl Indexes {
+    pub(crate) fn new(alloc: Global) -> Indexes
+        ensures { IsIndexed [] result.places result.holders.sets result.by_digest.keys }
+    {
+        Indexes {
+            places: BTreeMap::new(alloc),
+            holders: Holders::new(alloc),
+            by_digest: ByDigest::new(alloc),
+        }
+    }
+
+    /// Notes a node that comes after these. A refusal takes back what was noted.
+    pub(crate) fn note(
+        &mut self,
+        alloc: Global,
+        nodes: &[Listing],
+        node: &Listing,
+    ) -> Result<(), NoMemory>
+        requires indexed { IsIndexed nodes.now self.old.places self.old.holders.sets self.old.by_digest.keys }
+        requires new { has_key nodes.now node.now.0 ≡ false }
+        requires key { IsKey node.now.0 }
+        ensures noted { OnOk result (IsIndexed (nodes.now ++ node.now ∷ []) self.new.places self.new.holders.sets self.new.by_digest.keys) }
+        ensures refused { OnErr result (IsIndexed nodes.now self.new.places self.new.holders.sets self.new.by_digest.keys) }
+    {
+        let key = node.key().try_clone()?;
+        self.places.insert(key, nodes.len())?;
+        match note_key(&mut self.holders, &mut self.by_digest, alloc, node) {
+            Ok(()) => Ok(()),
+            Err(refused) => {
+                self.places.remove(node.key());
+                Err(refused)
+            }
+        }
+    }
+
+    /// Takes back the last node. It needs no memory.
+    pub(crate) fn forget(&mut self, node: Listing)
+        ensures { (graph : List Node) → IsIndexed (graph ++ node ∷ []) self.old.places self.old.holders.sets self.old.by_digest.keys
+            → IsIndexed graph self.new.places self.new.holders.sets self.new.by_digest.keys }
+    {
+        self.places.remove(node.key());
+        self.holders.forget_all(node.key(), node.successors());
+        self.by_digest.remove(node.into_key());
+    }
+}
+
+/// Notes a key under each key that it lists, and under its digest. A refusal takes back what was
+/// noted.
+fn note_key(
+    holders: &mut Holders,
+    by_digest: &mut ByDigest,
+    alloc: Global,
+    node: &Listing,
+) -> Result<(), NoMemory>
+    requires { (key : Descriptor) → is_holder holders.old.sets node.now.0 key ≡ false }
+    ensures listed { OnOk result ((other key : Descriptor) → is_holder holders.new.sets other key
+        ≡ (is_holder holders.old.sets other key || (same_key node.now.0 other && is_among node.now.1 key))) }
+    ensures digest { OnOk result ((k : Descriptor) → contains digest_cmp by_digest.new.keys k
+        ≡ (contains digest_cmp by_digest.old.keys k || same_key node.now.0 k)) }
+    ensures unlisted { OnErr result ((other key : Descriptor) → is_holder holders.new.sets other key
+        ≡ is_holder holders.old.sets other key) }
+    ensures no_digest { OnErr result ((k : Descriptor) → contains digest_cmp by_digest.new.keys k
+        ≡ contains digest_cmp by_digest.old.keys k) }
+{
+    holders.note_all(alloc, node.key(), node.successors())?;
+    match by_digest.insert(node.key()) {
+        Ok(()) => Ok(()),
+        Err(refused) => {
+            holders.forget_all(node.key(), node.successors());
+            Err(refused)
+        }
+    }
+}
