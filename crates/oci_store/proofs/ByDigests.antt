@@ -1,5 +1,5 @@
 -- Keys by their digests, one key at a time.
-use Rattle.std.proofs.Common.{◌≡◌, ◌≢◌, ℕ, zero, suc, ◌==◌, Bool, true, false, cond, not, ◌&&◌, ◌||◌, inl, inr, List, [], ◌∷◌, ◌++◌, Less, Equal, Greater, Option, Some, None, refl, sym, ap, subst, ◌∙◌, rules, arith}
+use Rattle.std.proofs.Common.{◌≡◌, ◌≢◌, ℕ, zero, suc, ◌==◌, Bool, true, false, cond, not, ◌&&◌, ◌||◌, inl, inr, List, [], ◌∷◌, Less, Equal, Greater, Some, None, refl, sym, ap, subst, ◌∙◌, rules, arith}
 use Rattle.std.specs.Prelude.{Contains}
 use Rattle.std.specs.BTreeMap.Range.{range_contains}
 use Rattle.std.specs.BTreeSet.{BTreeSet, contains}

@@ -1,6 +1,7 @@
-ghost use Rattle.std.specs.Prelude.{◌≡◌, ◌||◌, ◌&&◌, false, List, [], ◌∷◌, ◌++◌, OnOk, OnErr};
+ghost use Rattle.std.specs.Prelude.{◌≡◌, ◌||◌, ◌&&◌, false, List, [], ◌∷◌, ◌++◌, None, OnOk, OnErr};
+ghost use Rattle.std.specs.BTreeMap.{Updates};
 ghost use Rattle.std.specs.BTreeSet.{contains};
-ghost use Rattle.oci_manifest.specs.Descriptor.{Descriptor, IsKey, same_key, is_among};
+ghost use Rattle.oci_manifest.specs.Descriptor.{Descriptor, IsKey, key_cmp, same_key, is_among};
 ghost use Rattle.oci_store.specs.ByDigest.{digest_cmp};
 ghost use Rattle.oci_store.specs.Graph.{Node};
 ghost use Rattle.oci_store.specs.Holders.{is_holder};
@@ -52,7 +53,7 @@ impl Indexes {
         match note_key(&mut self.holders, &mut self.by_digest, alloc, node) {
             Ok(()) => Ok(()),
             Err(refused) => {
-                self.places.remove(node.key());
+                forget_place(&mut self.places, node.key());
                 Err(refused)
             }
         }
@@ -63,10 +64,17 @@ impl Indexes {
         ensures { (graph : List Node) → IsIndexed (graph ++ node ∷ []) self.old.places self.old.holders.sets self.old.by_digest.keys
             → IsIndexed graph self.new.places self.new.holders.sets self.new.by_digest.keys }
     {
-        self.places.remove(node.key());
+        forget_place(&mut self.places, node.key());
         self.holders.forget_all(node.key(), node.successors());
         self.by_digest.remove(node.into_key());
     }
+}
+
+/// Takes the place of a key away.
+fn forget_place(places: &mut BTreeMap<Key, usize>, key: &Key)
+    ensures { Updates key_cmp places.old places.new key.now None }
+{
+    places.remove(key);
 }
 
 /// Notes a key under each key that it lists, and under its digest. A refusal takes back what was

@@ -1,5 +1,4 @@
 use Rattle.std.proofs.Common.{◌≡◌, false, List, take, sym, ap, subst, ◌∙◌, arith}
-use Rattle.oci_manifest.specs.Descriptor.{Descriptor}
 use Rattle.oci_store.specs.Graph.{Node}
 use Rattle.oci_store.specs.Keyed.{has_key, HasDistinctKeys}
 use Rattle.oci_store.proofs.Indexes.{absent_before}

@@ -1,4 +1,3 @@
-use Rattle.std.proofs.Common.{[]}
 use Rattle.oci_store.proofs.References.{AreNames-nil}
 use Rattle.oci_store.proofs.memory.MemoryStore.from_entries.Goals as goal
 
