@@ -53,6 +53,13 @@ impl Plan {
         self.keys.is_empty()
     }
 
+    /// The keys to bring, by number.
+    pub fn keys(&self) -> &[Key]
+        ensures { result.now ≡ self.now.keys }
+    {
+        &self.keys
+    }
+
     /// The key of a number, from 0 on; nothing for what is no number of the plan.
     pub fn key(&self, number: u32) -> Option<&Key>
         ensures { option_copied result ≡ slice_get self.now.keys number }
