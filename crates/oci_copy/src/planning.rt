@@ -19,11 +19,11 @@ pub(crate) fn plan_copy<A: Source, D: Dest>(
     roots: &[Key],
     options: &Options,
 ) -> Result<Plan, CopyFault>
-    ensures closed { OnOk result (IsClosed (D.nodes destination.now)) }
-    ensures plan { IfOk result (IsPlanOf (A.is_honest source.now) (A.entries source.now) (limit_of options.now)
-        (D.nodes destination.now) roots.now) }
-    ensures cause { IfErr result (IsStartCause (A.is_honest source.now) (A.fails_at source.now) (A.entries source.now)
-        (limit_of options.now) (D.nodes destination.now) roots.now) }
+    ensures closed { OnOk result (IsClosed (D.state destination.now).nodes) }
+    ensures plan { IfOk result (IsPlanOf (A.state source.now).is_honest (A.state source.now).entries (limit_of options.now)
+        (D.state destination.now).nodes roots.now) }
+    ensures cause { IfErr result (IsStartCause (A.state source.now).is_honest (A.state source.now).fails_at (A.state source.now).entries
+        (limit_of options.now) (D.state destination.now).nodes roots.now) }
 {
     check_closed(destination)?;
     let limit = options.metadata_limit();
@@ -35,8 +35,8 @@ pub(crate) fn plan_copy<A: Source, D: Dest>(
 
 /// A copy goes to a closed destination alone.
 fn check_closed<D: Dest>(destination: &D) -> Result<(), CopyFault>
-    ensures closed { OnOk result (IsClosed (D.nodes destination.now)) }
-    ensures open { IfErr result (IsOpenCause (D.nodes destination.now)) }
+    ensures closed { OnOk result (IsClosed (D.state destination.now).nodes) }
+    ensures open { IfErr result (IsOpenCause (D.state destination.now).nodes) }
 {
     match destination.missing() {
         Ok(None) => Ok(()),

@@ -16,25 +16,25 @@ pub(crate) fn push_planned<A: Source, D: Dest>(
     destination: &mut D,
     key: &Key,
 ) -> Result<(), CopyFault>
-    requires there { has_key (A.entries source.now) key.now ≡ true }
-    requires fresh { has_key (D.nodes destination.old) key.now ≡ false }
-    requires ready { A.is_honest source.now → (bytes : List ℕ) → value_at (A.entries source.now) key.now ≡ Some bytes
-        → (listed : List Descriptor) × (succ_of key.now bytes ≡ Ok listed) × HasAll (D.nodes destination.old) listed }
-    ensures pushed { OnOk result (keys_of (D.nodes destination.new) ≡ keys_of (D.nodes destination.old) ++ key.now ∷ []) }
-    ensures refused { OnErr result (D.nodes destination.new ≡ D.nodes destination.old) }
+    requires there { has_key (A.state source.now).entries key.now ≡ true }
+    requires fresh { has_key (D.state destination.old).nodes key.now ≡ false }
+    requires ready { (A.state source.now).is_honest → (bytes : List ℕ) → value_at (A.state source.now).entries key.now ≡ Some bytes
+        → (listed : List Descriptor) × (succ_of key.now bytes ≡ Ok listed) × HasAll (D.state destination.old).nodes listed }
+    ensures pushed { OnOk result (keys_of (D.state destination.new).nodes ≡ keys_of (D.state destination.old).nodes ++ key.now ∷ []) }
+    ensures refused { OnErr result ((D.state destination.new).nodes ≡ (D.state destination.old).nodes) }
     ensures keeps { (planned : List Descriptor) (opening : D) → Contains planned key.now
-        → Keeps (A.is_honest source.now) D.shares (A.entries source.now) planned
-        (D.is_sound opening) (D.nodes opening) (D.entries opening) (D.failure_count opening)
-        (D.is_sound destination.old) (D.nodes destination.old) (D.entries destination.old) (D.failure_count destination.old)
-        → Keeps (A.is_honest source.now) D.shares (A.entries source.now) planned
-        (D.is_sound opening) (D.nodes opening) (D.entries opening) (D.failure_count opening)
-        (D.is_sound destination.new) (D.nodes destination.new) (D.entries destination.new) (D.failure_count destination.new) }
-    ensures cause { IfErr result (IsStepCause (A.is_honest source.now) (D.is_halted destination.old) (A.fails_at source.now)
-        (D.failure_count destination.old) (D.failure_count destination.new) key.now) }
-    ensures running { OnOk result (D.is_halted destination.new → D.is_halted destination.old) }
-    ensures failures { D.failure_count destination.old ≤ D.failure_count destination.new }
-    ensures tags { D.tags destination.new ≡ D.tags destination.old }
-    ensures name { D.name destination.new ≡ D.name destination.old }
+        → Keeps (A.state source.now).is_honest D.shares (A.state source.now).entries planned
+        (D.state opening).is_sound (D.state opening).nodes (D.state opening).entries (D.state opening).failures
+        (D.state destination.old).is_sound (D.state destination.old).nodes (D.state destination.old).entries (D.state destination.old).failures
+        → Keeps (A.state source.now).is_honest D.shares (A.state source.now).entries planned
+        (D.state opening).is_sound (D.state opening).nodes (D.state opening).entries (D.state opening).failures
+        (D.state destination.new).is_sound (D.state destination.new).nodes (D.state destination.new).entries (D.state destination.new).failures }
+    ensures cause { IfErr result (IsStepCause (A.state source.now).is_honest (D.state destination.old).is_halted (A.state source.now).fails_at
+        (D.state destination.old).failures (D.state destination.new).failures key.now) }
+    ensures running { OnOk result ((D.state destination.new).is_halted → (D.state destination.old).is_halted) }
+    ensures failures { (D.state destination.old).failures ≤ (D.state destination.new).failures }
+    ensures tags { (D.state destination.new).tags ≡ (D.state destination.old).tags }
+    ensures name { (D.state destination.new).name ≡ (D.state destination.old).name }
 {
     let content = match source.fetch(key) {
         Ok(content) => content,

@@ -18,16 +18,16 @@ pub(crate) fn push_all<A: Source, D: Dest>(
     destination: &mut D,
     plan: &Plan,
 ) -> Result<(), CopyFault>
-    requires { CanPush (A.is_honest source.now) (A.entries source.now) (D.nodes destination.old) plan.now }
-    ensures held { OnOk result (HasAll (D.nodes destination.new) plan.now.keys) }
-    ensures count { OnOk result (length (D.nodes destination.new) ≡ length (D.nodes destination.old) + length plan.now.keys) }
-    ensures keeps { Keeps (A.is_honest source.now) D.shares (A.entries source.now) plan.now.keys
-        (D.is_sound destination.old) (D.nodes destination.old) (D.entries destination.old) (D.failure_count destination.old)
-        (D.is_sound destination.new) (D.nodes destination.new) (D.entries destination.new) (D.failure_count destination.new) }
-    ensures cause { IfErr result (IsRunCause (A.is_honest source.now) (D.is_halted destination.old) (A.fails_at source.now)
-        (D.failure_count destination.old) (D.failure_count destination.new) plan.now.keys) }
-    ensures tags { D.tags destination.new ≡ D.tags destination.old }
-    ensures name { D.name destination.new ≡ D.name destination.old }
+    requires { CanPush (A.state source.now).is_honest (A.state source.now).entries (D.state destination.old).nodes plan.now }
+    ensures held { OnOk result (HasAll (D.state destination.new).nodes plan.now.keys) }
+    ensures count { OnOk result (length (D.state destination.new).nodes ≡ length (D.state destination.old).nodes + length plan.now.keys) }
+    ensures keeps { Keeps (A.state source.now).is_honest D.shares (A.state source.now).entries plan.now.keys
+        (D.state destination.old).is_sound (D.state destination.old).nodes (D.state destination.old).entries (D.state destination.old).failures
+        (D.state destination.new).is_sound (D.state destination.new).nodes (D.state destination.new).entries (D.state destination.new).failures }
+    ensures cause { IfErr result (IsRunCause (A.state source.now).is_honest (D.state destination.old).is_halted (A.state source.now).fails_at
+        (D.state destination.old).failures (D.state destination.new).failures plan.now.keys) }
+    ensures tags { (D.state destination.new).tags ≡ (D.state destination.old).tags }
+    ensures name { (D.state destination.new).name ≡ (D.state destination.old).name }
 {
     for place in 0..plan.len() {
         push_planned(source, destination, key_at(plan, place))?;

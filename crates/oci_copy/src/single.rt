@@ -42,46 +42,46 @@ pub fn copy_one<A: Source, D: Dest>(
     options: &Options,
 ) -> (D, Result<Report, CopyFault>)
     // What the destination then has: what it had, and what the source reaches from the roots.
-    ensures graph { OnOk result.1 (A.is_honest source.now → Agree (nodes_of (A.entries source.now)) (D.nodes destination)
-        → IsCopied (nodes_of (A.entries source.now)) (nodes_of (A.entries source.now)) roots.now (D.nodes destination) (D.nodes result.0)) }
-    ensures reached { OnOk result.1 (A.is_honest source.now → Agree (nodes_of (A.entries source.now)) (D.nodes destination)
-        → (k : Descriptor) → Reaches (nodes_of (A.entries source.now)) roots.now k → has_key (D.nodes result.0) k ≡ true) }
+    ensures graph { OnOk result.1 ((A.state source.now).is_honest → Agree (nodes_of (A.state source.now).entries) (D.state destination).nodes
+        → IsCopied (nodes_of (A.state source.now).entries) (nodes_of (A.state source.now).entries) roots.now (D.state destination).nodes (D.state result.0).nodes) }
+    ensures reached { OnOk result.1 ((A.state source.now).is_honest → Agree (nodes_of (A.state source.now).entries) (D.state destination).nodes
+        → (k : Descriptor) → Reaches (nodes_of (A.state source.now).entries) roots.now k → has_key (D.state result.0).nodes k ≡ true) }
     ensures content { OnOk result.1 (
-        IsTold (A.is_honest source.now) (D.is_sound destination) D.shares (D.failure_count destination) (D.failure_count result.0) (A.entries source.now) (D.entries destination)
-        → Agree (A.entries source.now) (D.entries destination)
-        → IsCopied (nodes_of (A.entries source.now)) (A.entries source.now) roots.now (D.entries destination) (D.entries result.0)) }
-    ensures roots { OnOk result.1 (HasAll (D.nodes result.0) roots.now) }
-    ensures was_closed { OnOk result.1 (IsClosed (D.nodes destination)) }
-    ensures was_sound { OnOk result.1 (A.is_honest source.now → (k : Descriptor)
-        → IsOutside (nodes_of (A.entries source.now)) (D.nodes destination) roots.now k → IsSoundItem (A.entries source.now) (limit_of options.now) k) }
+        IsTold (A.state source.now).is_honest (D.state destination).is_sound D.shares (D.state destination).failures (D.state result.0).failures (A.state source.now).entries (D.state destination).entries
+        → Agree (A.state source.now).entries (D.state destination).entries
+        → IsCopied (nodes_of (A.state source.now).entries) (A.state source.now).entries roots.now (D.state destination).entries (D.state result.0).entries) }
+    ensures roots { OnOk result.1 (HasAll (D.state result.0).nodes roots.now) }
+    ensures was_closed { OnOk result.1 (IsClosed (D.state destination).nodes) }
+    ensures was_sound { OnOk result.1 ((A.state source.now).is_honest → (k : Descriptor)
+        → IsOutside (nodes_of (A.state source.now).entries) (D.state destination).nodes roots.now k → IsSoundItem (A.state source.now).entries (limit_of options.now) k) }
 
     // The report.
-    ensures planned { IfOk result.1 (λ report. A.is_honest source.now
-        → IsOutsideCount (nodes_of (A.entries source.now)) (D.nodes destination) roots.now report.planned) }
+    ensures planned { IfOk result.1 (λ report. (A.state source.now).is_honest
+        → IsOutsideCount (nodes_of (A.state source.now).entries) (D.state destination).nodes roots.now report.planned) }
     ensures pushed { IfOk result.1 (λ report. (report.planned ≡ report.pushed)
-        × (length (D.nodes result.0) ≡ length (D.nodes destination) + report.pushed)) }
-    ensures skipped { IfOk result.1 (λ report. report.skipped ≡ held_count (D.nodes destination) roots.now) }
+        × (length (D.state result.0).nodes ≡ length (D.state destination).nodes + report.pushed)) }
+    ensures skipped { IfOk result.1 (λ report. report.skipped ≡ held_count (D.state destination).nodes roots.now) }
 
     // What holds after a refusal too.
-    ensures begins { BeginsWith (D.nodes destination) (D.nodes result.0) }
-    ensures grown { A.is_honest source.now
-        → IsGrown (nodes_of (A.entries source.now)) (nodes_of (A.entries source.now)) roots.now (D.nodes destination) (D.nodes result.0) }
-    ensures grown_content { IsTold (A.is_honest source.now) (D.is_sound destination) D.shares (D.failure_count destination) (D.failure_count result.0) (A.entries source.now) (D.entries destination)
-        → IsGrown (nodes_of (A.entries source.now)) (A.entries source.now) roots.now (D.entries destination) (D.entries result.0) }
-    ensures sound { IsTold (A.is_honest source.now) (D.is_sound destination) D.shares (D.failure_count destination) (D.failure_count result.0) (A.entries source.now) (D.entries destination)
-        → D.is_sound result.0 }
-    ensures closed { IsClosed (D.nodes destination) → IsClosed (D.nodes result.0) }
-    ensures failures { D.failure_count destination ≤ D.failure_count result.0 }
-    ensures tags { D.tags result.0 ≡ D.tags destination }
-    ensures name { D.name result.0 ≡ D.name destination }
+    ensures begins { BeginsWith (D.state destination).nodes (D.state result.0).nodes }
+    ensures grown { (A.state source.now).is_honest
+        → IsGrown (nodes_of (A.state source.now).entries) (nodes_of (A.state source.now).entries) roots.now (D.state destination).nodes (D.state result.0).nodes }
+    ensures grown_content { IsTold (A.state source.now).is_honest (D.state destination).is_sound D.shares (D.state destination).failures (D.state result.0).failures (A.state source.now).entries (D.state destination).entries
+        → IsGrown (nodes_of (A.state source.now).entries) (A.state source.now).entries roots.now (D.state destination).entries (D.state result.0).entries }
+    ensures sound { IsTold (A.state source.now).is_honest (D.state destination).is_sound D.shares (D.state destination).failures (D.state result.0).failures (A.state source.now).entries (D.state destination).entries
+        → (D.state result.0).is_sound }
+    ensures closed { IsClosed (D.state destination).nodes → IsClosed (D.state result.0).nodes }
+    ensures failures { (D.state destination).failures ≤ (D.state result.0).failures }
+    ensures tags { (D.state result.0).tags ≡ (D.state destination).tags }
+    ensures name { (D.state result.0).name ≡ (D.state destination).name }
 
     // Each refusal comes for its cause.
-    ensures refused { IfErr result.1 (Refused (A.is_honest source.now) (D.is_halted destination)
-        (A.fails_at source.now) (A.entries source.now) (limit_of options.now) (D.nodes destination) roots.now
-        (D.failure_count destination) (D.failure_count result.0)) }
-    ensures plain { IfErr result.1 (λ fault. A.is_honest source.now → IsContent (A.entries source.now) → ((k : Descriptor) → A.fails_at source.now k ≡ false)
-        → IsClosed (D.nodes destination) → (D.is_halted destination → ⊥) → D.failure_count result.0 ≡ 0
-        → RefusedForPlan (A.entries source.now) (limit_of options.now) (D.nodes destination) roots.now fault) }
+    ensures refused { IfErr result.1 (Refused (A.state source.now).is_honest (D.state destination).is_halted
+        (A.state source.now).fails_at (A.state source.now).entries (limit_of options.now) (D.state destination).nodes roots.now
+        (D.state destination).failures (D.state result.0).failures) }
+    ensures plain { IfErr result.1 (λ fault. (A.state source.now).is_honest → IsContent (A.state source.now).entries → ((k : Descriptor) → (A.state source.now).fails_at k ≡ false)
+        → IsClosed (D.state destination).nodes → ((D.state destination).is_halted → ⊥) → (D.state result.0).failures ≡ 0
+        → RefusedForPlan (A.state source.now).entries (limit_of options.now) (D.state destination).nodes roots.now fault) }
     ensures unchanged { IfErr result.1 (λ fault. IsEarly fault → result.0 ≡ destination) }
 {
     let plan = match plan_copy(alloc, source, &destination, roots, options) {

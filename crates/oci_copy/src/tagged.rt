@@ -42,51 +42,51 @@ pub fn copy<A: Source + Tagger, D: Dest + Tagger>(
     options: &Options,
 ) -> (D, Result<(Key, Report), CopyFault>)
     // What is copied and tagged.
-    ensures root { IfOk result.1 (λ it. Resolves (keys_of (A.nodes source.now)) (A.tags source.now) source_reference.now it.0) }
-    ensures tagged { IfOk result.1 (λ it. D.tags result.0 ≡ set_tag (D.tags destination) (name_of source_reference.now destination_reference.now) it.0) }
-    ensures held { IfOk result.1 (λ it. has_key (D.nodes result.0) it.0 ≡ true) }
-    ensures untagged { OnErr result.1 (D.tags result.0 ≡ D.tags destination) }
+    ensures root { IfOk result.1 (λ it. Resolves (keys_of (A.state source.now).nodes) (A.state source.now).tags source_reference.now it.0) }
+    ensures tagged { IfOk result.1 (λ it. (D.state result.0).tags ≡ set_tag (D.state destination).tags (name_of source_reference.now destination_reference.now) it.0) }
+    ensures held { IfOk result.1 (λ it. has_key (D.state result.0).nodes it.0 ≡ true) }
+    ensures untagged { OnErr result.1 ((D.state result.0).tags ≡ (D.state destination).tags) }
     ensures workers { OnOk result.1 (options.now.workers ≤ 64) }
 
     // What the destination then has: what it had, and what the source reaches from the root.
-    ensures graph { IfOk result.1 (λ it. A.is_honest source.now → Agree (nodes_of (A.entries source.now)) (D.nodes destination)
-        → IsCopied (nodes_of (A.entries source.now)) (nodes_of (A.entries source.now)) (it.0 ∷ []) (D.nodes destination) (D.nodes result.0)) }
-    ensures reached { IfOk result.1 (λ it. A.is_honest source.now → Agree (nodes_of (A.entries source.now)) (D.nodes destination)
-        → (k : Descriptor) → Reaches (nodes_of (A.entries source.now)) (it.0 ∷ []) k → has_key (D.nodes result.0) k ≡ true) }
+    ensures graph { IfOk result.1 (λ it. (A.state source.now).is_honest → Agree (nodes_of (A.state source.now).entries) (D.state destination).nodes
+        → IsCopied (nodes_of (A.state source.now).entries) (nodes_of (A.state source.now).entries) (it.0 ∷ []) (D.state destination).nodes (D.state result.0).nodes) }
+    ensures reached { IfOk result.1 (λ it. (A.state source.now).is_honest → Agree (nodes_of (A.state source.now).entries) (D.state destination).nodes
+        → (k : Descriptor) → Reaches (nodes_of (A.state source.now).entries) (it.0 ∷ []) k → has_key (D.state result.0).nodes k ≡ true) }
     ensures content { IfOk result.1 (λ it.
-        IsTold (A.is_honest source.now) (D.is_sound destination) D.shares (D.failure_count destination) (D.failure_count result.0) (A.entries source.now) (D.entries destination)
-        → Agree (A.entries source.now) (D.entries destination)
-        → IsCopied (nodes_of (A.entries source.now)) (A.entries source.now) (it.0 ∷ []) (D.entries destination) (D.entries result.0)) }
-    ensures was_closed { OnOk result.1 (IsClosed (D.nodes destination)) }
-    ensures was_sound { IfOk result.1 (λ it. A.is_honest source.now → (k : Descriptor)
-        → IsOutside (nodes_of (A.entries source.now)) (D.nodes destination) (it.0 ∷ []) k → IsSoundItem (A.entries source.now) (limit_of options.now) k) }
+        IsTold (A.state source.now).is_honest (D.state destination).is_sound D.shares (D.state destination).failures (D.state result.0).failures (A.state source.now).entries (D.state destination).entries
+        → Agree (A.state source.now).entries (D.state destination).entries
+        → IsCopied (nodes_of (A.state source.now).entries) (A.state source.now).entries (it.0 ∷ []) (D.state destination).entries (D.state result.0).entries) }
+    ensures was_closed { OnOk result.1 (IsClosed (D.state destination).nodes) }
+    ensures was_sound { IfOk result.1 (λ it. (A.state source.now).is_honest → (k : Descriptor)
+        → IsOutside (nodes_of (A.state source.now).entries) (D.state destination).nodes (it.0 ∷ []) k → IsSoundItem (A.state source.now).entries (limit_of options.now) k) }
 
     // The report.
-    ensures planned { IfOk result.1 (λ it. A.is_honest source.now
-        → IsOutsideCount (nodes_of (A.entries source.now)) (D.nodes destination) (it.0 ∷ []) it.1.planned) }
+    ensures planned { IfOk result.1 (λ it. (A.state source.now).is_honest
+        → IsOutsideCount (nodes_of (A.state source.now).entries) (D.state destination).nodes (it.0 ∷ []) it.1.planned) }
     ensures pushed { IfOk result.1 (λ it. (it.1.planned ≡ it.1.pushed)
-        × (length (D.nodes result.0) ≡ length (D.nodes destination) + it.1.pushed)) }
-    ensures skipped { IfOk result.1 (λ it. it.1.skipped ≡ held_count (D.nodes destination) (it.0 ∷ [])) }
+        × (length (D.state result.0).nodes ≡ length (D.state destination).nodes + it.1.pushed)) }
+    ensures skipped { IfOk result.1 (λ it. it.1.skipped ≡ held_count (D.state destination).nodes (it.0 ∷ [])) }
 
     // What holds after a refusal too.
-    ensures begins { BeginsWith (D.nodes destination) (D.nodes result.0) }
-    ensures grown { A.is_honest source.now → (roots : List Descriptor)
-        × IsRootOf (keys_of (A.nodes source.now)) (A.tags source.now) source_reference.now roots
-        × IsGrown (nodes_of (A.entries source.now)) (nodes_of (A.entries source.now)) roots (D.nodes destination) (D.nodes result.0) }
-    ensures grown_content { IsTold (A.is_honest source.now) (D.is_sound destination) D.shares (D.failure_count destination) (D.failure_count result.0) (A.entries source.now) (D.entries destination)
-        → (roots : List Descriptor) × IsRootOf (keys_of (A.nodes source.now)) (A.tags source.now) source_reference.now roots
-        × IsGrown (nodes_of (A.entries source.now)) (A.entries source.now) roots (D.entries destination) (D.entries result.0) }
-    ensures sound { IsTold (A.is_honest source.now) (D.is_sound destination) D.shares (D.failure_count destination) (D.failure_count result.0) (A.entries source.now) (D.entries destination)
-        → D.is_sound result.0 }
-    ensures closed { IsClosed (D.nodes destination) → IsClosed (D.nodes result.0) }
-    ensures failures { D.failure_count destination ≤ D.failure_count result.0 }
-    ensures name { D.name result.0 ≡ D.name destination }
+    ensures begins { BeginsWith (D.state destination).nodes (D.state result.0).nodes }
+    ensures grown { (A.state source.now).is_honest → (roots : List Descriptor)
+        × IsRootOf (keys_of (A.state source.now).nodes) (A.state source.now).tags source_reference.now roots
+        × IsGrown (nodes_of (A.state source.now).entries) (nodes_of (A.state source.now).entries) roots (D.state destination).nodes (D.state result.0).nodes }
+    ensures grown_content { IsTold (A.state source.now).is_honest (D.state destination).is_sound D.shares (D.state destination).failures (D.state result.0).failures (A.state source.now).entries (D.state destination).entries
+        → (roots : List Descriptor) × IsRootOf (keys_of (A.state source.now).nodes) (A.state source.now).tags source_reference.now roots
+        × IsGrown (nodes_of (A.state source.now).entries) (A.state source.now).entries roots (D.state destination).entries (D.state result.0).entries }
+    ensures sound { IsTold (A.state source.now).is_honest (D.state destination).is_sound D.shares (D.state destination).failures (D.state result.0).failures (A.state source.now).entries (D.state destination).entries
+        → (D.state result.0).is_sound }
+    ensures closed { IsClosed (D.state destination).nodes → IsClosed (D.state result.0).nodes }
+    ensures failures { (D.state destination).failures ≤ (D.state result.0).failures }
+    ensures name { (D.state result.0).name ≡ (D.state destination).name }
 
     // Each refusal comes for its cause.
-    ensures refused { IfErr result.1 (RefusedByReference (keys_of (A.nodes source.now)) (A.tags source.now) source_reference.now options.now.workers
-        (λ roots. Refused (A.is_honest source.now) (D.is_halted destination)
-        (A.fails_at source.now) (A.entries source.now) (limit_of options.now) (D.nodes destination) roots
-        (D.failure_count destination) (D.failure_count result.0))) }
+    ensures refused { IfErr result.1 (RefusedByReference (keys_of (A.state source.now).nodes) (A.state source.now).tags source_reference.now options.now.workers
+        (λ roots. Refused (A.state source.now).is_honest (D.state destination).is_halted
+        (A.state source.now).fails_at (A.state source.now).entries (limit_of options.now) (D.state destination).nodes roots
+        (D.state destination).failures (D.state result.0).failures)) }
     ensures unchanged { IfErr result.1 (λ fault. IsEarly fault → result.0 ≡ destination) }
 {
     let root = match source.resolve(source_reference) {

@@ -4,6 +4,7 @@ ghost use Rattle.oci_manifest.specs.declared.fault.KeyFault.TheVariants.{BadSize
 
 use crate::fault::KeyFault;
 use oci_digest::{Digest, NoMemory};
+use std::alloc::Global;
 use std::cmp::Ordering;
 use std::fmt;
 use std::marker::Model;
@@ -79,6 +80,11 @@ impl Key {
         // Its algorithm tells the proof what every digest keeps, which `key` hands on.
         let _ = self.digest.algorithm();
         self.size
+    }
+
+    /// The allocator that its media type is kept by.
+    pub fn allocator(&self) -> Global {
+        *self.media_type.allocator()
     }
 
     /// An equal key, which takes memory for its media type.

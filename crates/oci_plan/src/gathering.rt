@@ -63,22 +63,22 @@ pub fn gather<A: Source, D: Dest>(
     // What is planned.
     ensures plan { IfOk result IsPlan }
     ensures order { IfOk result (λ p. IsOrder p.order) }
-    ensures fresh { IfOk result (λ p. All (λ k. has_key (D.nodes destination.now) k ≡ false) p.keys) }
-    ensures there { IfOk result (λ p. HasAll (A.entries source.now) p.keys) }
+    ensures fresh { IfOk result (λ p. All (λ k. has_key (D.state destination.now).nodes k ≡ false) p.keys) }
+    ensures there { IfOk result (λ p. HasAll (A.state source.now).entries p.keys) }
     ensures within { IfOk result (λ p. All (IsWithin limit) p.keys) }
-    ensures roots { IfOk result (λ p. All (λ k. (has_key (D.nodes destination.now) k ≡ true) ⊎ Contains p.keys k) roots.now) }
-    ensures skipped { IfOk result (λ p. p.skipped ≡ first_places (filter (has_key (D.nodes destination.now)) roots.now)) }
+    ensures roots { IfOk result (λ p. All (λ k. (has_key (D.state destination.now).nodes k ≡ true) ⊎ Contains p.keys k) roots.now) }
+    ensures skipped { IfOk result (λ p. p.skipped ≡ first_places (filter (has_key (D.state destination.now).nodes) roots.now)) }
 
     // What is planned, where the source's bytes can be told.
-    ensures outside { IfOk result (λ p. A.is_honest source.now
-        → (k : Descriptor) → Contains p.keys k ↔ IsOutside (nodes_of (A.entries source.now)) (D.nodes destination.now) roots.now k) }
-    ensures sound { IfOk result (λ p. A.is_honest source.now → All (IsSoundItem (A.entries source.now) limit) p.keys) }
-    ensures edges { IfOk result (λ p. A.is_honest source.now → HasEdges (nodes_of (A.entries source.now)) (D.nodes destination.now) p) }
-    ensures follows { IfOk result (λ p. A.is_honest source.now → FollowsListed (nodes_of (A.entries source.now)) (D.nodes destination.now) p) }
+    ensures outside { IfOk result (λ p. (A.state source.now).is_honest
+        → (k : Descriptor) → Contains p.keys k ↔ IsOutside (nodes_of (A.state source.now).entries) (D.state destination.now).nodes roots.now k) }
+    ensures sound { IfOk result (λ p. (A.state source.now).is_honest → All (IsSoundItem (A.state source.now).entries limit) p.keys) }
+    ensures edges { IfOk result (λ p. (A.state source.now).is_honest → HasEdges (nodes_of (A.state source.now).entries) (D.state destination.now).nodes p) }
+    ensures follows { IfOk result (λ p. (A.state source.now).is_honest → FollowsListed (nodes_of (A.state source.now).entries) (D.state destination.now).nodes p) }
 
     // Why nothing is planned.
-    ensures cause { IfErr result (IsKeyFault (A.is_honest source.now) (A.fails_at source.now) (A.entries source.now) limit) }
-    ensures first { IfErr result (λ e. A.is_honest source.now → IsFirstFault (A.entries source.now) (D.nodes destination.now) roots.now limit e) }
+    ensures cause { IfErr result (IsKeyFault (A.state source.now).is_honest (A.state source.now).fails_at (A.state source.now).entries limit) }
+    ensures first { IfErr result (λ e. (A.state source.now).is_honest → IsFirstFault (A.state source.now).entries (D.state destination.now).nodes roots.now limit e) }
 {
     let skipped = held_roots(alloc, destination, roots)?;
     let Visited { keys, lists } = visit(alloc, source, destination, roots, limit)?;

@@ -19,7 +19,7 @@ pub(crate) fn mem<R: Files + AllocGlobal, W: Write>(
     let mut roots = Vec::new(alloc);
     for item in items {
         let Item { key, content } = Item::read(rt, item)?;
-        source.push(&key, content).map_err(ProgramFault::Push)?;
+        source.push_content(content).map_err(ProgramFault::Push)?;
         roots.clear();
         roots.push(key)?;
     }

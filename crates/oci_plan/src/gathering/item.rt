@@ -28,9 +28,9 @@ fn is_within(kind: Kind, size: u64, limit: u64) -> bool
 
 /// Looks at the size of a manifest, and then whether the source has the key.
 fn check<A: Source>(source: &A, key: &Key, limit: u64) -> Result<(), PlanFault>
-    ensures there { OnOk result (has_key (A.entries source.now) key.now ≡ true) }
+    ensures there { OnOk result (has_key (A.state source.now).entries key.now ≡ true) }
     ensures within { OnOk result (IsWithin limit key.now) }
-    ensures cause { IfErr result (IsKeyFault (A.is_honest source.now) (A.fails_at source.now) (A.entries source.now) limit) }
+    ensures cause { IfErr result (IsKeyFault (A.state source.now).is_honest (A.state source.now).fails_at (A.state source.now).entries limit) }
     ensures named { IfErr result (IsOfKey key.now) }
 {
     if !is_within(Kind::of(key.media_type()), key.size(), limit) {
@@ -57,11 +57,11 @@ fn fetch_fault(key: Key, fault: FetchFault) -> PlanFault
 /// The bytes of a key that passed its checks.
 #[tactic(auto, using(crate::proofs::Items::fetch_refused))]
 fn fetch<A: Source>(source: &A, key: &Key, limit: u64) -> Result<Bytes, PlanFault>
-    requires there { has_key (A.entries source.now) key.now ≡ true }
+    requires there { has_key (A.state source.now).entries key.now ≡ true }
     requires within { IsWithin limit key.now }
     ensures matching { IfOk result (λ bytes. Matches key.now bytes) }
-    ensures own { IfOk result (λ bytes. A.is_honest source.now → value_at (A.entries source.now) key.now ≡ Some bytes) }
-    ensures cause { IfErr result (IsKeyFault (A.is_honest source.now) (A.fails_at source.now) (A.entries source.now) limit) }
+    ensures own { IfOk result (λ bytes. (A.state source.now).is_honest → value_at (A.state source.now).entries key.now ≡ Some bytes) }
+    ensures cause { IfErr result (IsKeyFault (A.state source.now).is_honest (A.state source.now).fails_at (A.state source.now).entries limit) }
     ensures named { IfErr result (IsOfKey key.now) }
 {
     match source.fetch(key) {
@@ -108,10 +108,10 @@ pub(crate) fn item_successors<A: Source>(
     key: &Key,
     limit: u64,
 ) -> Result<Vec<Key>, PlanFault>
-    ensures passed { OnOk result (IsPassed (A.is_honest source.now) (A.entries source.now) limit key.now) }
-    ensures listed { IfOk result (λ keys. A.is_honest source.now → keys.items ≡ successors_at (nodes_of (A.entries source.now)) key.now) }
+    ensures passed { OnOk result (IsPassed (A.state source.now).is_honest (A.state source.now).entries limit key.now) }
+    ensures listed { IfOk result (λ keys. (A.state source.now).is_honest → keys.items ≡ successors_at (nodes_of (A.state source.now).entries) key.now) }
     ensures distinct { IfOk result (λ keys. IsDistinct same_key keys.items) }
-    ensures cause { IfErr result (IsKeyFault (A.is_honest source.now) (A.fails_at source.now) (A.entries source.now) limit) }
+    ensures cause { IfErr result (IsKeyFault (A.state source.now).is_honest (A.state source.now).fails_at (A.state source.now).entries limit) }
     ensures named { IfErr result (IsOfKey key.now) }
 {
     check(source, key, limit)?;

@@ -41,10 +41,10 @@ fn number_fresh<D: Dest>(
     successors: &[Key],
 ) -> Result<Vec<u32>, PlanFault>
     requires { length keys.old ≤ 4294967295 }
-    ensures keys { OnOk result (keys.new ≡ with_keys keys.old (filter (is_fresh (D.nodes destination.now)) successors.now)) }
-    ensures numbers { IfOk result (λ numbers. Number keys.new numbers.items (filter (is_fresh (D.nodes destination.now)) successors.now)) }
+    ensures keys { OnOk result (keys.new ≡ with_keys keys.old (filter (is_fresh (D.state destination.now).nodes) successors.now)) }
+    ensures numbers { IfOk result (λ numbers. Number keys.new numbers.items (filter (is_fresh (D.state destination.now).nodes) successors.now)) }
     ensures few { OnOk result (length keys.new ≤ 4294967295) }
-    ensures refused { IfErr result (IsNumberFault (with_keys keys.old (filter (is_fresh (D.nodes destination.now)) successors.now))) }
+    ensures refused { IfErr result (IsNumberFault (with_keys keys.old (filter (is_fresh (D.state destination.now).nodes) successors.now))) }
 {
     let mut numbers = Vec::new(alloc);
     for key in successors {
@@ -64,10 +64,10 @@ pub(crate) fn visit<A: Source, D: Dest>(
     roots: &[Key],
     limit: u64,
 ) -> Result<Visited, PlanFault>
-    ensures walked { IfOk result (λ w. IsWalk (A.is_honest source.now) (A.entries source.now) (D.nodes destination.now) roots.now limit w.keys.items w.keys.items w.lists.items) }
+    ensures walked { IfOk result (λ w. IsWalk (A.state source.now).is_honest (A.state source.now).entries (D.state destination.now).nodes roots.now limit w.keys.items w.keys.items w.lists.items) }
     ensures distinct { IfOk result (λ w. IsDistinct same_key w.keys.items) }
-    ensures cause { IfErr result (IsKeyFault (A.is_honest source.now) (A.fails_at source.now) (A.entries source.now) limit) }
-    ensures first { IfErr result (λ e. A.is_honest source.now → IsFirstFault (A.entries source.now) (D.nodes destination.now) roots.now limit e) }
+    ensures cause { IfErr result (IsKeyFault (A.state source.now).is_honest (A.state source.now).fails_at (A.state source.now).entries limit) }
+    ensures first { IfErr result (λ e. (A.state source.now).is_honest → IsFirstFault (A.state source.now).entries (D.state destination.now).nodes roots.now limit e) }
 {
     let mut keys = KeyList::new(alloc);
     let _ = number_fresh(alloc, destination, &mut keys, roots)?;

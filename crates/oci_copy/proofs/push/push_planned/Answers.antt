@@ -19,5 +19,5 @@ pub returns-in-Err-push_closed-clause-cause : goal.returns-in-Err-push_closed-cl
 returns-in-Err-push_closed-clause-cause g c =
     let did = c.in-Err-push_closed.ensures in
     let fetched = c.in-Ok.ensures in
-    step_cause (g.A.Store.is_honest c.args.source.now) (g.D.Dest.is_halted c.args.destination.now) (g.A.Source.fails_at c.args.source.now) (g.D.Store.failure_count c.args.destination.now) (g.D.Store.failure_count c.push_closed.new.self) (g.D.Store.nodes c.args.destination.now) c.args.key.now c.in-Ok.content c.requires.fresh fetched.matching (λ h. c.requires.ready h c.in-Ok.content (fetched.honest h)) c.in-Err-push_closed.fault c.push_fault.result did.checked
+    step_cause (g.A.Store.state c.args.source.now).is_honest (g.D.Store.state c.args.destination.now).is_halted (g.A.Store.state c.args.source.now).fails_at (g.D.Store.state c.args.destination.now).failures (g.D.Store.state c.push_closed.new.self).failures (g.D.Store.state c.args.destination.now).nodes c.args.key.now c.in-Ok.content c.requires.fresh fetched.matching (λ h. c.requires.ready h c.in-Ok.content (fetched.honest h)) c.in-Err-push_closed.fault c.push_fault.result did.checked
     (λ same. did.device (cc)) (λ same. did.halted (cc)) c.push_fault.ensures

@@ -14,8 +14,8 @@ pub loop-place-init : goal.loop-place-init
 loop-place-init g c = record {
   keys = sym (append-nil _);
   count = omega arith;
-  keeps = keeps_start (g.A.Store.is_honest c.args.source.now) g.D.Dest.shares (g.A.Store.entries c.args.source.now) c.args.plan.now.keys
-      (g.D.Store.is_sound c.args.destination.now) (g.D.Store.nodes c.args.destination.now) (g.D.Store.entries c.args.destination.now) (g.D.Store.failure_count c.args.destination.now);
+  keeps = keeps_start (g.A.Store.state c.args.source.now).is_honest g.D.Dest.shares (g.A.Store.state c.args.source.now).entries c.args.plan.now.keys
+      (g.D.Store.state c.args.destination.now).is_sound (g.D.Store.state c.args.destination.now).nodes (g.D.Store.state c.args.destination.now).entries (g.D.Store.state c.args.destination.now).failures;
   running = λ halted. halted;
   tags = refl;
   name = refl;
@@ -24,19 +24,19 @@ loop-place-init g c = record {
 pub push_planned-requires-clause-there : goal.push_planned-requires-clause-there
 push_planned-requires-clause-there g c =
     let at = c.key_at.ensures in
-    All-contains (λ (k : Descriptor). has_key (g.A.Store.entries c.args.source.now) k ≡ true) c.args.plan.now.keys c.key_at.result.now c.requires.there
+    All-contains (λ (k : Descriptor). has_key (g.A.Store.state c.args.source.now).entries k ≡ true) c.args.plan.now.keys c.key_at.result.now c.requires.there
     (Contains-from_slice_get c.args.plan.now.keys at.0 c.key_at.result.now at.2)
 
 pub push_planned-requires-clause-fresh : goal.push_planned-requires-clause-fresh
 push_planned-requires-clause-fresh g c =
     let at = c.key_at.ensures in
-    fresh_at c.args.plan.now c.requires.plan c.requires.order (g.D.Store.nodes c.args.destination.now) (g.D.Store.nodes c.loop-place.destination) c.loop-place.place at.0 c.key_at.result.now
+    fresh_at c.args.plan.now c.requires.plan c.requires.order (g.D.Store.state c.args.destination.now).nodes (g.D.Store.state c.loop-place.destination).nodes c.loop-place.place at.0 c.key_at.result.now
     c.requires.fresh c.loop-place.invariant.keys at.1 at.2
 
 pub push_planned-requires-clause-ready : goal.push_planned-requires-clause-ready
 push_planned-requires-clause-ready g c honest bytes own =
     let at = c.key_at.ensures in
-    ready_at c.args.plan.now c.requires.plan c.requires.order (g.A.Store.entries c.args.source.now) (g.D.Store.nodes c.args.destination.now) (g.D.Store.nodes c.loop-place.destination)
+    ready_at c.args.plan.now c.requires.plan c.requires.order (g.A.Store.state c.args.source.now).entries (g.D.Store.state c.args.destination.now).nodes (g.D.Store.state c.loop-place.destination).nodes
     c.loop-place.place at.0 c.key_at.result.now bytes (c.requires.reads honest) (c.requires.follows honest) c.loop-place.invariant.keys at.1 at.2 own
 
 pub returns-in_err-push_planned-clause-keeps : goal.returns-in_err-push_planned-clause-keeps
@@ -48,8 +48,8 @@ pub returns-in_err-push_planned-clause-cause : goal.returns-in_err-push_planned-
 returns-in_err-push_planned-clause-cause g c =
     let at = c.key_at.ensures in
     let p = err_from_is_err_and c.from_residual.result c.from_residual.ensures.1 in
-    rw (p.1, p.2) (run_from_step (g.A.Store.is_honest c.args.source.now) (g.D.Dest.is_halted c.loop-place.destination) (g.D.Dest.is_halted c.args.destination.now) (g.A.Source.fails_at c.args.source.now)
-    (g.D.Store.failure_count c.args.destination.now) (g.D.Store.failure_count c.loop-place.destination) (g.D.Store.failure_count c.push_planned.new.destination)
+    rw (p.1, p.2) (run_from_step (g.A.Store.state c.args.source.now).is_honest (g.D.Store.state c.loop-place.destination).is_halted (g.D.Store.state c.args.destination.now).is_halted (g.A.Store.state c.args.source.now).fails_at
+    (g.D.Store.state c.args.destination.now).failures (g.D.Store.state c.loop-place.destination).failures (g.D.Store.state c.push_planned.new.destination).failures
     c.args.plan.now.keys c.key_at.result.now _ (Contains-from_slice_get c.args.plan.now.keys at.0 c.key_at.result.now at.2)
     c.loop-place.invariant.running c.loop-place.invariant.keeps.rising c.in_err-push_planned.ensures.cause)
 
@@ -57,10 +57,10 @@ pub loop-place-preserved : goal.loop-place-preserved
 loop-place-preserved g c =
     let at = c.key_at.ensures in
     let pushed = c.in_ok-push_planned.ensures.pushed in
-    let more = length-more (g.D.Store.nodes c.loop-place.destination) (g.D.Store.nodes c.push_planned.new.destination) c.key_at.result.now pushed in
+    let more = length-more (g.D.Store.state c.loop-place.destination).nodes (g.D.Store.state c.push_planned.new.destination).nodes c.key_at.result.now pushed in
     record {
       keys = pushed ∙ (ap (λ (ks : List Descriptor). ks ++ c.key_at.result.now ∷ []) c.loop-place.invariant.keys
-          ∙ (append_assoc (keys_of (g.D.Store.nodes c.args.destination.now)) (keys_before c.loop-place.place c.args.plan.now) (c.key_at.result.now ∷ []) ∙ ap (λ (ks : List Descriptor). keys_of (g.D.Store.nodes c.args.destination.now) ++ ks)
+          ∙ (append_assoc (keys_of (g.D.Store.state c.args.destination.now).nodes) (keys_before c.loop-place.place c.args.plan.now) (c.key_at.result.now ∷ []) ∙ ap (λ (ks : List Descriptor). keys_of (g.D.Store.state c.args.destination.now).nodes ++ ks)
           (sym (keys_before-more c.args.plan.now c.requires.plan c.requires.order c.loop-place.place at.0 c.key_at.result.now at.1 at.2))));
       count = omega (arith, more, c.loop-place.invariant.count);
       keeps = c.push_planned.ensures.keeps c.args.plan.now.keys c.args.destination.now (Contains-from_slice_get c.args.plan.now.keys at.0 c.key_at.result.now at.2) c.loop-place.invariant.keeps;
@@ -71,5 +71,5 @@ loop-place-preserved g c =
 
 pub returns-clause-held : goal.returns-clause-held
 returns-clause-held g c =
-    all_held c.args.plan.now c.requires.plan c.requires.order (g.D.Store.nodes c.args.destination.now) (g.D.Store.nodes c.loop-place.destination) c.loop-place.place
+    all_held c.args.plan.now c.requires.plan c.requires.order (g.D.Store.state c.args.destination.now).nodes (g.D.Store.state c.loop-place.destination).nodes c.loop-place.place
     (omega (arith, c.len-place-end.ensures.len)) c.loop-place.invariant.keys

@@ -6,12 +6,12 @@ use Rattle.oci_copy.proofs.pushing.push_all.Given as goal
 
 abbrev pub invariant-loop-place : goal.invariant-loop-place
 invariant-loop-place g l = record {
-  keys : keys_of (g.D.Store.nodes l.destination) ≡ keys_of (g.D.Store.nodes l.initial.destination) ++ keys_before l.place l.plan;
-  count : length (g.D.Store.nodes l.destination) ≡ length (g.D.Store.nodes l.initial.destination) + l.place;
-  keeps : Keeps (g.A.Store.is_honest l.source) g.D.Dest.shares (g.A.Store.entries l.source) l.plan.keys
-      (g.D.Store.is_sound l.initial.destination) (g.D.Store.nodes l.initial.destination) (g.D.Store.entries l.initial.destination) (g.D.Store.failure_count l.initial.destination)
-      (g.D.Store.is_sound l.destination) (g.D.Store.nodes l.destination) (g.D.Store.entries l.destination) (g.D.Store.failure_count l.destination);
-  running : g.D.Dest.is_halted l.destination → g.D.Dest.is_halted l.initial.destination;
-  tags : g.D.Store.tags l.destination ≡ g.D.Store.tags l.initial.destination;
-  name : g.D.Store.name l.destination ≡ g.D.Store.name l.initial.destination;
+  keys : keys_of (g.D.Store.state l.destination).nodes ≡ keys_of (g.D.Store.state l.initial.destination).nodes ++ keys_before l.place l.plan;
+  count : length (g.D.Store.state l.destination).nodes ≡ length (g.D.Store.state l.initial.destination).nodes + l.place;
+  keeps : Keeps (g.A.Store.state l.source).is_honest g.D.Dest.shares (g.A.Store.state l.source).entries l.plan.keys
+      (g.D.Store.state l.initial.destination).is_sound (g.D.Store.state l.initial.destination).nodes (g.D.Store.state l.initial.destination).entries (g.D.Store.state l.initial.destination).failures
+      (g.D.Store.state l.destination).is_sound (g.D.Store.state l.destination).nodes (g.D.Store.state l.destination).entries (g.D.Store.state l.destination).failures;
+  running : (g.D.Store.state l.destination).is_halted → (g.D.Store.state l.initial.destination).is_halted;
+  tags : (g.D.Store.state l.destination).tags ≡ (g.D.Store.state l.initial.destination).tags;
+  name : (g.D.Store.state l.destination).name ≡ (g.D.Store.state l.initial.destination).name;
 }

@@ -31,7 +31,7 @@ returns-in-Ok-push_all-clause-closed g c was = closed c.in-Ok.ensures.plan c.pus
 
 pub returns-in-Ok-push_all-clause-was_sound : goal.returns-in-Ok-push_all-clause-was_sound
 returns-in-Ok-push_all-clause-was_sound g c h k outside =
-    All-contains (IsSoundItem (g.A.Store.entries c.args.source.now) (limit_of c.args.options.now)) c.in-Ok.plan.keys k (c.in-Ok.ensures.plan.sound h) ((c.in-Ok.ensures.plan.outside h k).1 outside)
+    All-contains (IsSoundItem (g.A.Store.state c.args.source.now).entries (limit_of c.args.options.now)) c.in-Ok.plan.keys k (c.in-Ok.ensures.plan.sound h) ((c.in-Ok.ensures.plan.outside h k).1 outside)
 
 pub returns-clause-grown : goal.returns-clause-grown
 returns-clause-grown g c h = grown c.in-Ok.ensures.plan c.push_all.ensures.keeps h
@@ -44,26 +44,26 @@ returns-clause-closed g c was = closed c.in-Ok.ensures.plan c.push_all.ensures.k
 
 pub returns-clause-refused : goal.returns-clause-refused
 returns-clause-refused g c =
-    refused-from_run (g.A.Store.is_honest c.args.source.now) (g.D.Dest.is_halted c.args.destination)
-    (g.A.Source.fails_at c.args.source.now) (g.A.Store.entries c.args.source.now) (limit_of c.args.options.now) (g.D.Store.nodes c.args.destination) c.args.roots.now c.in-Ok.plan.keys
-    (g.D.Store.failure_count c.args.destination) (g.D.Store.failure_count c.push_all.new.destination) c.in-Err-push_all.fault
+    refused-from_run (g.A.Store.state c.args.source.now).is_honest (g.D.Store.state c.args.destination).is_halted
+    (g.A.Store.state c.args.source.now).fails_at (g.A.Store.state c.args.source.now).entries (limit_of c.args.options.now) (g.D.Store.state c.args.destination).nodes c.args.roots.now c.in-Ok.plan.keys
+    (g.D.Store.state c.args.destination).failures (g.D.Store.state c.push_all.new.destination).failures c.in-Err-push_all.fault
     c.in-Ok.ensures.closed (λ h k there. (c.in-Ok.ensures.plan.outside h k).0 there) c.in-Err-push_all.ensures.cause
 
 pub returns-clause-plain : goal.returns-clause-plain
 returns-clause-plain g c h content never was_closed not_halted none =
-    let halted = g.D.Dest.is_halted c.args.destination in
-    refused_for_plan (g.A.Store.is_honest c.args.source.now) halted (g.A.Source.fails_at c.args.source.now) (g.A.Store.entries c.args.source.now) (limit_of c.args.options.now)
-    (g.D.Store.nodes c.args.destination) c.args.roots.now (g.D.Store.failure_count c.args.destination) (g.D.Store.failure_count c.push_all.new.destination)
+    let halted = (g.D.Store.state c.args.destination).is_halted in
+    refused_for_plan (g.A.Store.state c.args.source.now).is_honest halted (g.A.Store.state c.args.source.now).fails_at (g.A.Store.state c.args.source.now).entries (limit_of c.args.options.now)
+    (g.D.Store.state c.args.destination).nodes c.args.roots.now (g.D.Store.state c.args.destination).failures (g.D.Store.state c.push_all.new.destination).failures
     h not_halted never content was_closed none c.in-Err-push_all.fault
-    (refused-from_run (g.A.Store.is_honest c.args.source.now) halted (g.A.Source.fails_at c.args.source.now) (g.A.Store.entries c.args.source.now) (limit_of c.args.options.now)
-    (g.D.Store.nodes c.args.destination) c.args.roots.now c.in-Ok.plan.keys (g.D.Store.failure_count c.args.destination) (g.D.Store.failure_count c.push_all.new.destination)
+    (refused-from_run (g.A.Store.state c.args.source.now).is_honest halted (g.A.Store.state c.args.source.now).fails_at (g.A.Store.state c.args.source.now).entries (limit_of c.args.options.now)
+    (g.D.Store.state c.args.destination).nodes c.args.roots.now c.in-Ok.plan.keys (g.D.Store.state c.args.destination).failures (g.D.Store.state c.push_all.new.destination).failures
     c.in-Err-push_all.fault c.in-Ok.ensures.closed (λ h k there. (c.in-Ok.ensures.plan.outside h k).0 there) c.in-Err-push_all.ensures.cause)
 
 pub returns-in-Err-clause-plain : goal.returns-in-Err-clause-plain
 returns-in-Err-clause-plain g c h content never was_closed not_halted none =
-    let halted = g.D.Dest.is_halted c.args.destination in
-    refused_for_plan (g.A.Store.is_honest c.args.source.now) halted (g.A.Source.fails_at c.args.source.now) (g.A.Store.entries c.args.source.now) (limit_of c.args.options.now)
-    (g.D.Store.nodes c.args.destination) c.args.roots.now (g.D.Store.failure_count c.args.destination) (g.D.Store.failure_count c.args.destination)
+    let halted = (g.D.Store.state c.args.destination).is_halted in
+    refused_for_plan (g.A.Store.state c.args.source.now).is_honest halted (g.A.Store.state c.args.source.now).fails_at (g.A.Store.state c.args.source.now).entries (limit_of c.args.options.now)
+    (g.D.Store.state c.args.destination).nodes c.args.roots.now (g.D.Store.state c.args.destination).failures (g.D.Store.state c.args.destination).failures
     h not_halted never content was_closed none c.in-Err.fault
-    (refused-from_start (g.A.Store.is_honest c.args.source.now) halted (g.A.Source.fails_at c.args.source.now) (g.A.Store.entries c.args.source.now) (limit_of c.args.options.now)
-    (g.D.Store.nodes c.args.destination) c.args.roots.now (g.D.Store.failure_count c.args.destination) (g.D.Store.failure_count c.args.destination) c.in-Err.fault c.in-Err.ensures.cause)
+    (refused-from_start (g.A.Store.state c.args.source.now).is_honest halted (g.A.Store.state c.args.source.now).fails_at (g.A.Store.state c.args.source.now).entries (limit_of c.args.options.now)
+    (g.D.Store.state c.args.destination).nodes c.args.roots.now (g.D.Store.state c.args.destination).failures (g.D.Store.state c.args.destination).failures c.in-Err.fault c.in-Err.ensures.cause)

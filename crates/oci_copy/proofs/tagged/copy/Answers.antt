@@ -18,16 +18,16 @@ returns-in-Err-copied-clause-grown_content g c told =
 
 pub returns-in-Err-copied-clause-refused : goal.returns-in-Err-copied-clause-refused
 returns-in-Err-copied-clause-refused g c =
-    refused_by_root (keys_of (g.A.Store.nodes c.args.source.now)) (g.A.Store.tags c.args.source.now) c.args.source_reference.now c.args.options.now.workers
-    (λ (roots : List Descriptor). Refused (g.A.Store.is_honest c.args.source.now) (g.D.Dest.is_halted c.args.destination)
-    (g.A.Source.fails_at c.args.source.now) (g.A.Store.entries c.args.source.now) (limit_of c.args.options.now) (g.D.Store.nodes c.args.destination) roots
-    (g.D.Store.failure_count c.args.destination) (g.D.Store.failure_count c.copy_one-destination.result.0))
+    refused_by_root (keys_of (g.A.Store.state c.args.source.now).nodes) (g.A.Store.state c.args.source.now).tags c.args.source_reference.now c.args.options.now.workers
+    (λ (roots : List Descriptor). Refused (g.A.Store.state c.args.source.now).is_honest (g.D.Store.state c.args.destination).is_halted
+    (g.A.Store.state c.args.source.now).fails_at (g.A.Store.state c.args.source.now).entries (limit_of c.args.options.now) (g.D.Store.state c.args.destination).nodes roots
+    (g.D.Store.state c.args.destination).failures (g.D.Store.state c.copy_one-destination.result.0).failures)
     c.in-Ok.root c.from_ref-roots.result.now c.in-Err-copied.fault c.in-Ok.ensures.found c.if-workers-gt-MAX_WORKERS.false c.from_ref-roots.ensures.value (λ x. x) (λ r x. x)
     (rw c.in-Err-copied.is at c.copy_one-destination.ensures.refused)
 
 pub returns-in-Ok-tag-clause-held : goal.returns-in-Ok-tag-clause-held
 returns-in-Ok-tag-clause-held g c =
-    let nodes = g.D.Store.nodes c.copy_one-destination.result.0 in
+    let nodes = (g.D.Store.state c.copy_one-destination.result.0).nodes in
     let done = rw c.in-Ok-copied.is at c.copy_one-destination.ensures.roots in
     rw c.tag.ensures.nodes (All-head (λ k. has_key nodes k ≡ true) c.in-Ok.root [] (rw c.from_ref-roots.ensures.value at done))
 

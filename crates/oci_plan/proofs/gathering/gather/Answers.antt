@@ -28,21 +28,21 @@ told-requires g c =
 
 pub returns-in-Ok-clause-roots : goal.returns-in-Ok-clause-roots
 returns-in-Ok-clause-roots g c =
-    subst (λ (p : Planned). All (λ k. (has_key (g.D.Store.nodes c.args.destination.now) k ≡ true) ⊎ Contains p.keys k) c.args.roots.now) (sym c.new.ensures) c.in_ok-keys.ensures.walked.has_roots
+    subst (λ (p : Planned). All (λ k. (has_key (g.D.Store.state c.args.destination.now).nodes k ≡ true) ⊎ Contains p.keys k) c.args.roots.now) (sym c.new.ensures) c.in_ok-keys.ensures.walked.has_roots
 
 pub returns-in-Ok-clause-outside : goal.returns-in-Ok-clause-outside
 returns-in-Ok-clause-outside g c = λ h k.
-    subst (λ (p : Planned). (Contains p.keys k → IsOutside (nodes_of (g.A.Store.entries c.args.source.now)) (g.D.Store.nodes c.args.destination.now) c.args.roots.now k) × (IsOutside (nodes_of (g.A.Store.entries c.args.source.now)) (g.D.Store.nodes c.args.destination.now) c.args.roots.now k → Contains p.keys k)) (sym c.new.ensures)
+    subst (λ (p : Planned). (Contains p.keys k → IsOutside (nodes_of (g.A.Store.state c.args.source.now).entries) (g.D.Store.state c.args.destination.now).nodes c.args.roots.now k) × (IsOutside (nodes_of (g.A.Store.state c.args.source.now).entries) (g.D.Store.state c.args.destination.now).nodes c.args.roots.now k → Contains p.keys k)) (sym c.new.ensures)
     (outside_exactly _ _ _ _ _ c.in_ok-keys.field-0.keys.items c.in_ok-keys.field-0.lists.items c.in_ok-keys.ensures.walked c.in_ok-keys.ensures.distinct h k)
 
 pub returns-in-Ok-clause-edges : goal.returns-in-Ok-clause-edges
 returns-in-Ok-clause-edges g c = λ h.
-    subst (λ (p : Planned). HasEdges (nodes_of (g.A.Store.entries c.args.source.now)) (g.D.Store.nodes c.args.destination.now) p) (sym c.new.ensures)
+    subst (λ (p : Planned). HasEdges (nodes_of (g.A.Store.state c.args.source.now).entries) (g.D.Store.state c.args.destination.now).nodes p) (sym c.new.ensures)
     (has_edges _ _ _ _ _ c.in_ok-keys.field-0.keys.items c.in_ok-keys.field-0.lists.items c.in_ok-keys.ensures.walked c.in_ok-keys.ensures.distinct c.in-Ok.order c.in-Ok.ensures.lists h c.in_ok-skipped.skipped.items)
 
 pub returns-in-Ok-clause-follows : goal.returns-in-Ok-clause-follows
 returns-in-Ok-clause-follows g c = λ h.
-    subst (λ (p : Planned). FollowsListed (nodes_of (g.A.Store.entries c.args.source.now)) (g.D.Store.nodes c.args.destination.now) p) (sym c.new.ensures)
+    subst (λ (p : Planned). FollowsListed (nodes_of (g.A.Store.state c.args.source.now).entries) (g.D.Store.state c.args.destination.now).nodes p) (sym c.new.ensures)
     (follows_listed _ _ _ _ _ c.in_ok-keys.field-0.keys.items c.in_ok-keys.field-0.lists.items c.in_ok-keys.ensures.walked c.in_ok-keys.ensures.distinct c.in-Ok.order c.in-Ok.ensures.lists h c.in-Ok.ensures.order c.in_ok-skipped.skipped.items)
 
 pub returns-in-Err-clause-first : goal.returns-in-Err-clause-first

@@ -14,7 +14,7 @@ returns-in-Leaf-clause-passed g c =
 pub returns-in-Leaf-clause-listed : goal.returns-in-Leaf-clause-listed
 returns-in-Leaf-clause-listed g c = λ _.
     let leaf : kind_of c.args.key.now.media_type ≡ Leaf = cc in
-    c.new.ensures.items ∙ leaf_lists (g.A.Store.entries c.args.source.now) c.args.key.now leaf c.in_ok-check.ensures.there
+    c.new.ensures.items ∙ leaf_lists (g.A.Store.state c.args.source.now).entries c.args.key.now leaf c.in_ok-check.ensures.there
 
 pub returns-in-Leaf-clause-distinct : goal.returns-in-Leaf-clause-distinct
 unfolding IsDistinct
@@ -22,7 +22,7 @@ returns-in-Leaf-clause-distinct g c = subst (λ (ks : List Descriptor). IsDistin
 
 pub returns-in_ok-bytes-in_default : goal.returns-in_ok-bytes-in_default
 returns-in_ok-bytes-in_default g c =
-    let it = item_answer (g.A.Store.is_honest c.args.source.now) (g.A.Source.fails_at c.args.source.now) (g.A.Store.entries c.args.source.now) c.args.limit c.args.key.now c.in_ok-bytes-in_default.bytes c.read.result
+    let it = item_answer (g.A.Store.state c.args.source.now).is_honest (g.A.Store.state c.args.source.now).fails_at (g.A.Store.state c.args.source.now).entries c.args.limit c.args.key.now c.in_ok-bytes-in_default.bytes c.read.result
     c.in_ok-check.ensures.within c.in_ok-check.ensures.there c.in_ok-bytes-in_default.ensures.matching c.in_ok-bytes-in_default.ensures.own
     (rw c.deref.ensures at c.read.ensures.listed) (rw c.deref.ensures at c.read.ensures.refused) in
     record { passed = it.passed; listed = it.listed; distinct = it.distinct; cause = it.cause; named = it.named }

@@ -6,4 +6,4 @@ use Rattle.oci_plan.proofs.gathering.skipped.held_roots.Given as goal
 
 -- the held keys of the roots so far
 abbrev pub invariant-loop-root : goal.invariant-loop-root
-invariant-loop-root g l = l.held ≡ first_places (filter (has_key (g.D.Store.nodes l.destination)) (take l.root-index l.roots))
+invariant-loop-root g l = l.held ≡ first_places (filter (has_key (g.D.Store.state l.destination).nodes) (take l.root-index l.roots))
