@@ -1,3 +1,4 @@
+pub mod Climbs
 pub mod Cycles
 pub mod Doubles
 pub mod Ends
@@ -10,6 +11,7 @@ pub mod Orders
 pub mod Places
 pub mod Plans
 pub mod Progress
+pub mod Sorts
 pub mod Steps
 pub mod Visits
 pub mod Walks

@@ -1,3 +1,4 @@
+pub mod Climb
 pub mod Doubles
 pub mod Fault
 pub mod Graph
@@ -7,5 +8,6 @@ pub mod Outside
 pub mod Plan
 pub mod Refusal
 pub mod Search
+pub mod Up
 pub mod Visiting
 pub mod Walk

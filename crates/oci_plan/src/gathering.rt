@@ -13,7 +13,6 @@ ghost use Rattle.oci_plan.specs.Walk.{IsTellable, TellsKeys};
 
 mod cycle;
 mod item;
-mod key_list;
 mod skipped;
 mod walk;
 

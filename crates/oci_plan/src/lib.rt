@@ -1,4 +1,4 @@
-//! Plans of a copy: which contents it has to bring, and in which order they may be pushed.
+//! Plans of a copy: which contents it has to bring, in which order they may be pushed, and from which roots.
 //!
 //! [`gather`] visits what a source has under some roots and a destination lacks, and answers a [`Plan`]: the keys, each
 //! with a number, and an [`Order`] of the numbers in which each key comes after those that it lists. It answers a
@@ -8,15 +8,20 @@
 //! successors. It answers an [`Order`], or an [`OrderFault`] that says why there is none: a list holds what is no number
 //! of the graph, or the graph has a cycle, which the fault carries.
 //!
+//! [`climb`] finds the roots of an extended copy: a key, and every key from which a path within a depth leads to it.
+//!
 //! No call recurses along the graph, so a chain of any length needs no deep stack.
 #![tactic(auto)]
 
+mod climbing;
 mod fault;
 mod gathering;
+mod key_list;
 mod ordering;
 mod plan;
 mod spaced;
 
+pub use climbing::climb;
 pub use fault::{OrderFault, PlanFault};
 pub use gathering::gather;
 pub use ordering::Order;

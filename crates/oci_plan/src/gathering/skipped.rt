@@ -3,7 +3,7 @@ ghost use Rattle.oci_manifest.specs.Manifest.{first_places};
 ghost use Rattle.oci_store.specs.Keyed.{has_key};
 ghost use Rattle.oci_plan.specs.Visiting.{with_key};
 
-use super::key_list::KeyList;
+use crate::key_list::KeyList;
 use oci_digest::NoMemory;
 use oci_manifest::Key;
 use oci_store::Dest;

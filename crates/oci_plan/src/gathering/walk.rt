@@ -7,8 +7,8 @@ ghost use Rattle.oci_plan.specs.Visiting.{is_fresh, with_key, with_keys};
 ghost use Rattle.oci_plan.specs.Walk.{IsNumberFault, IsWalk};
 
 use super::item::item_successors;
-use super::key_list::KeyList;
 use crate::fault::PlanFault;
+use crate::key_list::KeyList;
 use oci_manifest::Key;
 use oci_store::{Dest, Source};
 use std::alloc::Global;

@@ -6,7 +6,7 @@ use Rattle.oci_plan.specs.KeyList.{IsIndexOf}
 use Rattle.oci_plan.specs.Visiting.{with_key}
 use Rattle.oci_plan.proofs.KeyLists.{with_key-there, with_key-new, IsIndexOf-push}
 use Rattle.oci_plan.proofs.Places.{slice_get-push}
-use Rattle.oci_plan.proofs.gathering.key_list.KeyList.place.Goals as goal
+use Rattle.oci_plan.proofs.key_list.KeyList.place.Goals as goal
 
 pub returns-in-Some-clause-keys : goal.returns-in-Some-clause-keys
 returns-in-Some-clause-keys c =

@@ -1,0 +1,49 @@
+ghost use Rattle.std.specs.Prelude.{◌≡◌, ◌≤◌, ◌<◌, length, OnOk};
+ghost use Rattle.oci_plan.specs.Climb.{IsClimbed, IsRaised, IsStep};
+ghost use Rattle.oci_plan.specs.Visiting.{with_keys};
+
+use crate::key_list::KeyList;
+use oci_digest::NoMemory;
+use oci_manifest::Key;
+use oci_store::GraphSource;
+
+/// Puts each of these keys to the end of what was found, where it is new.
+fn find_all(found: &mut KeyList, keys: &[Key]) -> Result<(), NoMemory>
+    ensures { OnOk result (found.new ≡ with_keys found.old keys.now) }
+{
+    for key in keys {
+        found.place(key)?;
+    }
+    Ok(())
+}
+
+/// Finds what lists the key at this place.
+fn climb_from<G: GraphSource>(source: &G, found: &mut KeyList, place: usize) -> Result<(), NoMemory>
+    requires { place < length found.old }
+    ensures { OnOk result (IsStep (G.state source.now).nodes place found.old found.new) }
+{
+    let Some(key) = found.get(place) else {
+        unreachable!()
+    };
+    let predecessors = source.predecessors(key)?;
+    find_all(found, &predecessors)
+}
+
+/// Finds what lists the keys from one place to before another.
+pub(crate) fn climb_level<G: GraphSource>(
+    source: &G,
+    found: &mut KeyList,
+    start: usize,
+    end: usize,
+) -> Result<(), NoMemory>
+    requires order { start ≤ end }
+    requires there { end ≤ length found.old }
+    requires climbed { IsClimbed (G.state source.now).nodes start found.old }
+    ensures climbed { OnOk result (IsClimbed (G.state source.now).nodes end found.new) }
+    ensures raised { OnOk result (IsRaised (G.state source.now).nodes found.old found.new) }
+{
+    for place in start..end {
+        climb_from(source, found, place)?;
+    }
+    Ok(())
+}
