@@ -1,10 +1,9 @@
 -- How a climb goes on, and what it has found at its end.
-use Rattle.std.proofs.Common.{◌≡◌, ◌≢◌, ℕ, zero, suc, ◌+◌, ◌<◌, ◌≤◌, true, false, ◌⊎◌, inl, inr, List, [], ◌∷◌, ◌++◌, length, take, get_or, Some, refl, sym, ap, subst, ◌∙◌, arith}
+use Rattle.std.proofs.Common.{◌≡◌, ◌≢◌, ℕ, zero, suc, ◌+◌, ◌<◌, ◌≤◌, true, ◌⊎◌, inl, inr, List, [], ◌∷◌, ◌++◌, length, take, get_or, Some, refl, sym, ap, subst, ◌∙◌, arith}
 use Rattle.std.specs.Prelude.{Contains, ◌↔◌}
-use Rattle.std.proofs.Math.Dec.{ltb}
 use Rattle.std.specs.List.{slice_get}
 use Rattle.std.specs.List.Sorted.{IsStrictlySortedBy}
-use Rattle.std.proofs.lemmas.Bool.{or_cases, or_left, cases_lt, cases_order, false≢true, lt-ltb}
+use Rattle.std.proofs.lemmas.Bool.{or_cases, or_left, cases_lt, cases_order}
 use Rattle.std.proofs.lemmas.List.{take_more}
 use Rattle.std.proofs.lemmas.Option.{slice_get_within, slice_get-get_or}
 use Rattle.oci_manifest.specs.Descriptor.{Descriptor, same_key, key_cmp, is_among}
@@ -164,11 +163,6 @@ all_found graph k found climbed there (suc edges) from path =
 -- the climb ended where nothing was left, or at its depth
 abbrev pub HasEnded : ℕ → ℕ → ℕ → Keys → Type 0
 HasEnded depth edges climbed found = (climbed ≡ length found) ⊎ ((depth ≢ 0) × (edges ≡ depth))
-
--- what may not go deeper is at its depth
-pub at_depth : (depth edges climbed : ℕ) (found : Keys) → depth ≢ 0 → ltb edges depth ≡ false → IsWithinDepth depth edges → HasEnded depth edges climbed found
-at_depth depth edges climbed found limited full deep =
-    elim (cases_lt edges depth) [ inl less ↦ absurd (false≢true (sym full ∙ lt-ltb edges depth less)) | inr le ↦ inr (limited, omega (arith, le, deep limited)) ]
 
 pub up_found : (graph : List Node) (k : Descriptor) (depth edges climbed : ℕ) (found keys : Keys) → IsWithin graph k edges found → IsClimbed graph climbed found → IsWithinDepth depth edges → HasEnded depth edges climbed found
     → ((from : Descriptor) → Contains keys from ↔ Contains found from) → IsStrictlySortedBy key_cmp keys → IsUp graph k depth keys

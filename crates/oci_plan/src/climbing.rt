@@ -1,10 +1,12 @@
 ghost use Rattle.std.specs.Prelude.{IfOk};
 ghost use Rattle.oci_plan.specs.Up.{IsUp};
 
+mod depth;
 mod level;
 mod sorted;
 
 use crate::key_list::KeyList;
+use depth::goes_on;
 use level::climb_level;
 use oci_digest::NoMemory;
 use oci_manifest::Key;
@@ -32,7 +34,7 @@ pub fn climb<G: GraphSource>(
     found.place(key)?;
     let mut climbed = 0;
     let mut edges = 0;
-    while climbed < found.len() && (depth == 0 || edges < depth as usize) {
+    while climbed < found.len() && goes_on(depth, edges) {
         let end = found.len();
         climb_level(source, &mut found, climbed, end)?;
         climbed = end;
