@@ -1,5 +1,6 @@
-ghost use Rattle.std.specs.Prelude.{◌≡◌, ◌==◌, ℕ, List, [], length, slice_get};
+ghost use Rattle.std.specs.Prelude.{◌≡◌, ◌==◌, ℕ, List, [], length, slice_get, unwrap_or};
 ghost use Rattle.std.specs.Option.{option_copied};
+ghost use Rattle.oci_plan.specs.Graph.{successors_of};
 ghost use Rattle.oci_plan.specs.Order.{IsOrder};
 
 mod doubles;
@@ -54,6 +55,7 @@ impl Order {
     /// The successors of a number, each once, as the graph lists them; nothing for what is no number of the graph.
     pub fn successors(&self, number: u32) -> Option<&[u32]>
         ensures successors { option_copied result ≡ slice_get self.now.lists number }
+        ensures list { unwrap_or (option_copied result) [] ≡ successors_of self.now.lists number }
         ensures order { IsOrder self.now }
     {
         let list = self.lists.get(number as usize)?;

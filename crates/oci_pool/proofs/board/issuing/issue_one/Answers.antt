@@ -1,0 +1,14 @@
+use Rattle.std.proofs.Common.{◌<◌, length, vec_capacity, arith, subst, List, ℕ, Bool, set, sym, true}
+use Rattle.oci_pool.specs.Kept.{IsListed}
+use Rattle.oci_pool.proofs.Marks.{IsListed-push, room_for}
+use Rattle.oci_pool.proofs.board.issuing.issue_one.Goals as goal
+
+pub push_reserved-requires : goal.push_reserved-requires
+push_reserved-requires c =
+    let room : length c.args.issue.now.items < length c.args.issued.now.items =
+    room_for c.args.issue.now.items (length c.args.issued.now.items) c.args.number c.requires.listed.once c.requires.listed.numbers c.requires.fresh c.requires.number in
+    omega (arith, room, c.requires.listed.room, c.args.issue.now.ok.0)
+
+pub returns-clause-listed : goal.returns-clause-listed
+returns-clause-listed c =
+    rw (c.push_reserved.ensures.items, c.push_reserved.ensures.capacity) (IsListed-push c.args.issue.now.items (vec_capacity c.args.issue.now) c.args.issued.now.items c.args.number c.requires.listed c.requires.fresh c.requires.number)

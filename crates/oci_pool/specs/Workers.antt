@@ -1,0 +1,37 @@
+-- What a worker hands back.
+use Rattle.std.specs.Prelude.{ℕ, ◌<◌, ◌≤◌, List, length, slice_index_or, Option, Some, None, IfSome, IsSome, All}
+use Rattle.oci_pool.specs.declared.fault.PoolFault.{PoolFault}
+use Rattle.oci_pool.specs.declared.fault.PoolFault.TheVariants.{Job, Incomplete, BadWorkers, Memory}
+
+-- a worker tells that a job of a number failed, or want of memory
+abbrev pub MayCome : {F : Type 0} → ℕ → (ℕ → F → Type 0) → Option (PoolFault F) → Type 0
+MayCome count fails None = Unit {0}
+MayCome count fails (Some (Job k f)) = (k < count) × fails k f
+MayCome count fails (Some (Incomplete k)) = ⊥
+MayCome count fails (Some BadWorkers) = ⊥
+MayCome count fails (Some Memory) = Unit {0}
+
+-- the fault of a job with at most this number is told
+abbrev pub IsJobUpTo : {F : Type 0} → ℕ → Option (PoolFault F) → Type 0
+IsJobUpTo k None = ⊥
+IsJobUpTo k (Some (Job m g)) = m ≤ k
+IsJobUpTo k (Some (Incomplete m)) = ⊥
+IsJobUpTo k (Some BadWorkers) = ⊥
+IsJobUpTo k (Some Memory) = ⊥
+
+-- a fault that came gives way to what is told: one of a job to that of a job with at most its number, another to any
+abbrev pub GivesWay : {F : Type 0} → Option (PoolFault F) → Option (PoolFault F) → Type 0
+GivesWay None told = Unit {0}
+GivesWay (Some (Job k f)) told = IsJobUpTo k told
+GivesWay (Some (Incomplete k)) told = IsSome told
+GivesWay (Some BadWorkers) told = IsSome told
+GivesWay (Some Memory) told = IsSome told
+
+-- each result stands at its number
+abbrev pub InPlace : {O : Type 0} → (ℕ → O → Type 0) → List (Option O) → Type 0
+InPlace {O} answers table = (k : ℕ) (d : Option O) → k < length table → IfSome (slice_index_or table k d) (answers k)
+
+-- what a worker hands back: results of their numbers, and a fault that may come
+pub record Worked {O F : Type 0} (count : ℕ) (answers : ℕ → O → Type 0) (fails : ℕ → F → Type 0) (done : List (ℕ × O)) (fault : Option (PoolFault F)) : Type 0 where
+  pub done_is : All (λ (p : ℕ × O). answers p.0 p.1) done
+  pub fault_is : MayCome count fails fault

@@ -1,0 +1,27 @@
+use oci_manifest::Key;
+
+/// What a copy calls for each key. The calls answer nothing and change nothing of the copy; they are taken to return.
+///
+/// Workers call them, so a copy by workers asks for `Hooks + Sync`.
+pub trait Hooks {
+    /// Called by a worker before the key's content is fetched.
+    fn pre_copy(&self, key: &Key);
+
+    /// Called by a worker after the key was pushed.
+    fn post_copy(&self, key: &Key);
+
+    /// Called on the calling thread for each distinct root that the destination has, before any other hook.
+    fn skipped(&self, key: &Key);
+}
+
+/// Hooks that do nothing.
+#[derive(Debug, Drop)]
+pub struct NoHooks;
+
+impl Hooks for NoHooks {
+    fn pre_copy(&self, _key: &Key) {}
+
+    fn post_copy(&self, _key: &Key) {}
+
+    fn skipped(&self, _key: &Key) {}
+}

@@ -1,0 +1,31 @@
+ghost use Rattle.std.specs.Prelude.{◌≡◌};
+
+use crate::fault::PoolFault;
+use crate::job::Job;
+
+/// What a run that stopped has done, and why it stopped.
+#[derive(Drop)]
+pub struct Stopped<J: Job> {
+    /// Each result that a job answered, with its number, by rising numbers.
+    pub done: Vec<(u32, J::Out)>,
+    /// Why the run stopped.
+    pub fault: PoolFault<J::Fault>,
+}
+
+impl<J: Job> Stopped<J> {
+    /// Why the run stopped; the results are let go.
+    pub fn into_fault(self) -> PoolFault<J::Fault>
+        ensures { result ≡ self.fault }
+    {
+        self.fault
+    }
+
+    /// The results, and why the run stopped.
+    pub fn into_parts(self) -> (Vec<(u32, J::Out)>, PoolFault<J::Fault>)
+        ensures done { result.0 ≡ self.done }
+        ensures fault { result.1 ≡ self.fault }
+    {
+        let Stopped { done, fault } = self;
+        (done, fault)
+    }
+}
