@@ -1,5 +1,4 @@
-use Rattle.std.proofs.Common.{◌<◌, length, vec_capacity, arith, subst, List, ℕ, Bool, set, sym, true}
-use Rattle.oci_pool.specs.Kept.{IsListed}
+use Rattle.std.proofs.Common.{◌<◌, length, vec_capacity, arith}
 use Rattle.oci_pool.proofs.Marks.{IsListed-push, room_for}
 use Rattle.oci_pool.proofs.board.issuing.issue_one.Goals as goal
 

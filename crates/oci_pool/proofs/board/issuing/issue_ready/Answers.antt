@@ -1,4 +1,4 @@
-use Rattle.std.proofs.Common.{ℕ, List, eqb, get_or, ap, false, ◌∙◌}
+use Rattle.std.proofs.Common.{eqb, get_or, ap, ◌∙◌}
 use Rattle.oci_plan.specs.Doubles.{has}
 use Rattle.oci_pool.proofs.Marks.{fresh_more}
 use Rattle.oci_pool.proofs.board.issuing.issue_ready.Goals as goal

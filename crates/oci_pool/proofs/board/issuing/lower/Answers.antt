@@ -1,7 +1,5 @@
-use Rattle.std.proofs.Common.{◌≡◌, ◌≤◌, ◌-◌, ℕ, get_or, set, length, sym, subst, ap, ◌∙◌}
+use Rattle.std.proofs.Common.{◌≡◌, ◌≤◌, ◌-◌, ℕ, get_or, sym, subst, ◌∙◌}
 use Rattle.std.proofs.lemmas.List.{length-set}
-use Rattle.std.proofs.lemmas.Grind.{get_or_default_zero}
-use Rattle.oci_plan.specs.Doubles.{has}
 use Rattle.oci_pool.proofs.Marks.{lower_fits, lower_more, lower_reads}
 use Rattle.oci_pool.proofs.board.issuing.lower.Goals as goal
 

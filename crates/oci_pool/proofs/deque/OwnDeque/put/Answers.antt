@@ -1,4 +1,3 @@
-use Rattle.std.proofs.Common.{[], ◌∷◌}
 use Rattle.oci_pool.proofs.Balances.{puts}
 use Rattle.oci_pool.proofs.deque.OwnDeque.put.Goals as goal
 

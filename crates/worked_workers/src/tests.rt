@@ -1,0 +1,4 @@
+mod boards;
+mod flags;
+mod meetings;
+mod runs;
