@@ -1,4 +1,4 @@
-ghost use Rattle.std.specs.Prelude.{◌≡◌, All, IfOk};
+ghost use Rattle.std.specs.Prelude.{All, IfOk};
 ghost use Rattle.oci_pool.specs.Workers.{Worked};
 
 use crate::deque::{OtherDeque, OwnDeque};
