@@ -1,0 +1,56 @@
+//! Runs jobs that count to a fixed number over a graph of one shape, with so many workers: `bench/pool` times it.
+//!
+//! The words are the shape (`chain`, `star` or `layers`), how many numbers the graph has, how many workers run, and to how
+//! much each job counts. What is printed is how many jobs were run.
+#![tactic(auto)]
+
+mod counting;
+mod shapes;
+
+use counting::Counts;
+use oci_plan::{Order, order};
+use oci_pool::run;
+use std::process::ExitCode;
+use std::{env, io};
+
+/// What the words ask for.
+#[derive(Drop)]
+struct Task {
+    order: Order,
+    workers: u32,
+    steps: u64,
+}
+
+fn main(rt: HostRuntime) -> io::Result<ExitCode> {
+    let words: Vec<String> = env::args(&rt)?.skip(1).collect(rt.alloc())?;
+    let Some(task) = read_task(&rt, &words) else {
+        return Ok(ExitCode::from(2));
+    };
+    let job = Counts::new(task.steps);
+    match run(&rt, rt.alloc(), &task.order, task.workers, &job) {
+        Ok(all) => {
+            println!(rt; "{}", all.len())?;
+            Ok(ExitCode::from(0))
+        }
+        Err(stopped) => Ok(ExitCode::from(stopped.fault.number())),
+    }
+}
+
+/// The number that a word tells.
+fn number(words: &[String], place: usize) -> Option<u32> {
+    words.get(place)?.as_str().parse().ok()
+}
+
+/// What the words ask for, if they can be read.
+fn read_task(rt: &HostRuntime, words: &[String]) -> Option<Task> {
+    let count = number(words, 1)?;
+    let lists = shapes::lists(rt.alloc(), words.first()?.as_str(), count)?;
+    if lists.len() > 4294967295 {
+        return None;
+    }
+    Some(Task {
+        order: order(lists).ok()?,
+        workers: number(words, 2)?,
+        steps: u64::from(number(words, 3)?),
+    })
+}
