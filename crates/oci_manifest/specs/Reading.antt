@@ -106,6 +106,12 @@ manifest_keys kind bytes = do
   members ← or_fault not_object (as_object manifest)
   all_keys manifest (fields_of kind)
 
+-- the keys of an index's `manifests`, or the first rule that it breaks
+unfoldable pub index_keys : Data → Result (List Descriptor) Fault
+index_keys index = do
+  members ← or_fault not_object (as_object index)
+  keys_of index (listed (codes "manifests"))
+
 -- the successors of a content, or the first rule that it breaks
 unfoldable pub successors_of : Kind → List ℕ → Result (List Descriptor) Fault
 successors_of Leaf bytes = Ok []

@@ -35,4 +35,4 @@ mod manifest;
 pub use fault::{KeyFault, ManifestFault};
 pub use key::{Key, MAX_SIZE};
 pub use kind::Kind;
-pub use manifest::successors;
+pub use manifest::{index_keys, read_json, successors};

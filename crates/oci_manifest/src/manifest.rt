@@ -4,7 +4,7 @@ ghost use Rattle.serde_json.specs.View.{view};
 ghost use Rattle.oci_manifest.specs.Descriptor.{Descriptor, same_key};
 ghost use Rattle.oci_manifest.specs.Fault.{Fault, Gives, Refuses, not_json};
 ghost use Rattle.oci_manifest.specs.Manifest.{Reads, Breaks};
-ghost use Rattle.oci_manifest.specs.Reading.{reading, or_fault, manifest_keys, successors_of};
+ghost use Rattle.oci_manifest.specs.Reading.{reading, or_fault, index_keys, manifest_keys, successors_of};
 ghost use Rattle.oci_manifest.specs.declared.kind.Kind.TheVariants.{Leaf};
 
 mod descriptor;
@@ -15,12 +15,12 @@ use crate::fault::ManifestFault;
 use crate::key::Key;
 use crate::kind::Kind;
 use distinct::keep_distributed;
-use member::{fields, push_fields};
+use member::{fields, push_fields, push_manifests};
 use serde_json::Value;
 use std::alloc::Global;
 
-/// The value that the bytes are.
-fn read(alloc: Global, bytes: &[u8]) -> Result<Value, ManifestFault>
+/// The value that the bytes are, where they are JSON.
+pub fn read_json(alloc: Global, bytes: &[u8]) -> Result<Value, ManifestFault>
     ensures { Gives view result (or_fault not_json (reading bytes.now)) }
 {
     match Value::from_slice(alloc, bytes) {
@@ -38,12 +38,26 @@ fn read(alloc: Global, bytes: &[u8]) -> Result<Value, ManifestFault>
 fn keys(alloc: Global, kind: Kind, bytes: &[u8]) -> Result<Vec<Key>, ManifestFault>
     ensures { Gives (λ keys. keys.items) result (manifest_keys kind bytes.now) }
 {
-    let manifest = read(alloc, bytes)?;
+    let manifest = read_json(alloc, bytes)?;
     if !manifest.is_object() {
         return Err(ManifestFault::NotObject);
     }
     let mut found = Vec::new(alloc);
     push_fields(alloc, fields(kind), &manifest, &mut found)?;
+    Ok(found)
+}
+
+/// The keys of the `manifests` of an index, in their order, doubled ones and those of
+/// undistributed layers too. No other member is looked at.
+#[tactic(auto, unfolding(crate::specs::Reading::index_keys))]
+pub fn index_keys(alloc: Global, index: &Value) -> Result<Vec<Key>, ManifestFault>
+    ensures { Gives (λ keys. keys.items) result (index_keys (view index.now)) }
+{
+    if !index.is_object() {
+        return Err(ManifestFault::NotObject);
+    }
+    let mut found = Vec::new(alloc);
+    push_manifests(alloc, index, &mut found)?;
     Ok(found)
 }
 

@@ -1,7 +1,7 @@
-ghost use Rattle.std.specs.Prelude.{◌≡◌, map, option_map};
+ghost use Rattle.std.specs.Prelude.{◌≡◌, map, codes, option_map};
 ghost use Rattle.serde_json.specs.View.{view};
 ghost use Rattle.oci_manifest.specs.Reading.{keys_of, all_keys, field_of, Adds};
-ghost use Rattle.oci_manifest.specs.Manifest.{fields_of, member_of};
+ghost use Rattle.oci_manifest.specs.Manifest.{fields_of, member_of, listed};
 
 use super::descriptor::{push_list, push_single};
 use crate::fault::ManifestFault;
@@ -96,4 +96,15 @@ pub(crate) fn push_fields(
         push_field(alloc, *field, manifest, found)?;
     }
     Ok(())
+}
+
+/// Adds the keys of the member `manifests`.
+pub(crate) fn push_manifests(
+    alloc: Global,
+    index: &Value,
+    found: &mut Vec<Key>,
+) -> Result<(), ManifestFault>
+    ensures { Adds found.old.items found.new.items result (keys_of (view index.now) (listed (codes "manifests"))) }
+{
+    push_field(alloc, MANIFESTS, index, found)
 }
