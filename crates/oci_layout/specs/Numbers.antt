@@ -1,0 +1,23 @@
+-- The numbers of the refusals.
+use Rattle.std.specs.Prelude.{ℕ}
+use Rattle.oci_layout.specs.declared.fault.DirFault.{DirFault}
+use Rattle.oci_layout.specs.declared.fault.DirFault.TheVariants as dir
+use Rattle.oci_layout.specs.declared.fault.LayoutFault.{LayoutFault}
+use Rattle.oci_layout.specs.declared.fault.LayoutFault.TheVariants as layout
+
+-- the number of a refused read or put
+abbrev pub dir_number : DirFault → ℕ
+dir_number dir.Failed = 90
+dir_number dir.Memory = 91
+
+-- the number of a refused layout
+abbrev pub layout_number : LayoutFault → ℕ
+layout_number layout.NoLayoutFile = 70
+layout_number layout.BadLayoutFile = 71
+layout_number layout.BadVersion = 72
+layout_number (layout.BadIndex e) = 73
+layout_number layout.Device = 74
+layout_number (layout.Corrupt k) = 75
+layout_number layout.Memory = 76
+layout_number (layout.BadManifest k e) = 77
+layout_number layout.AlreadyLayout = 78

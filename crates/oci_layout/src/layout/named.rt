@@ -1,0 +1,53 @@
+ghost use Rattle.std.specs.Prelude.{◌≡◌, [], map, IfOk, OnOk};
+ghost use Rattle.oci_layout.specs.Opened.{named, tag_with, text_of};
+ghost use Rattle.oci_store.specs.Tags.{AreNames};
+
+use oci_digest::NoMemory;
+use oci_manifest::Key;
+use oci_store::{Graph, Names};
+use std::alloc::Global;
+
+/// The tags that entries give, where their keys are held.
+pub(crate) fn tags_of(
+    alloc: Global,
+    graph: &Graph,
+    keys: &[Key],
+    names: &[Option<String>],
+) -> Result<Names, NoMemory>
+    ensures tags { IfOk result (λ tags. tags ≡ named graph.now keys.now (map text_of names.now) []) }
+    ensures names { IfOk result (λ tags. AreNames graph.now tags) }
+{
+    let mut tags = Names::new(alloc);
+    for place in 0..keys.len() {
+        let Some(name) = names.get(place) else {
+            return Ok(tags);
+        };
+        tag_one(graph, &keys[place], name, &mut tags)?;
+    }
+    Ok(tags)
+}
+
+/// Sets the tag that an entry gives, where its key is held.
+fn tag_one(
+    graph: &Graph,
+    key: &Key,
+    name: &Option<String>,
+    tags: &mut Names,
+) -> Result<(), NoMemory>
+    requires names { AreNames graph.now tags.old }
+    ensures set { OnOk result (tags.new ≡ tag_with graph.now key.now (text_of name.now) tags.old) }
+    ensures names { AreNames graph.now tags.new }
+{
+    let Some(name) = name else {
+        return Ok(());
+    };
+    let text = name.as_str();
+    if text.is_empty() {
+        return Ok(());
+    }
+    if !graph.holds(key) {
+        return Ok(());
+    }
+    tags.set(text, key)?;
+    Ok(())
+}
