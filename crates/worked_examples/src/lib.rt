@@ -4,12 +4,10 @@
 //! says: that a call succeeds where memory is there, that the numbers, sizes and digests of known contents come out as
 //! other tools have them, and how a refusal prints.
 //!
-//! `contents` makes the contents, and `tests` has a module for each part of the library: `manifests` (what a manifest
+//! `worked_contents` makes the contents, and `tests` has a module for each part of the library: `manifests` (what a manifest
 //! lists); `pushes`, `graphs` and `tags` (stores); `orders` and `plans`; `copies`, `references`, `failing` and `large`
 //! (copies); and `faults`, how each refusal prints.
 #![tactic(auto)]
 
-#[cfg(test)]
-mod contents;
 #[cfg(test)]
 mod tests;

@@ -1,8 +1,8 @@
-use crate::contents::Sample::{
+use worked_contents::Sample::{
     Bar, DockerImage, Empty, Foo, Image0, Image0AsLayer, Image1, Image2, Image3, Image4, Index1,
     Index2,
 };
-use crate::contents::{IMAGE, Sample};
+use worked_contents::{IMAGE, Sample};
 use crate::tests::stores::{assert_entry, assert_holds, closed, keys, memory};
 use oci_copy::{CopyFault, Options, Report, copy_memory, copy_one};
 use oci_digest::Digest;

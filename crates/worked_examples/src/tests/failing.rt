@@ -1,4 +1,4 @@
-use crate::contents::Sample::{Bar, Empty, Foo, Image2, Image3, Index1};
+use worked_contents::Sample::{Bar, Empty, Foo, Image2, Image3, Index1};
 use crate::tests::copies::copied;
 use crate::tests::stores::{assert_holds, keys, memory};
 use bytes::Bytes;

@@ -1,6 +1,6 @@
 //! How each refusal prints: its number, its name, and what it carries.
 
-use crate::contents::Sample::{Bar, Foo};
+use worked_contents::Sample::{Bar, Foo};
 use crate::tests::stores::keys;
 use oci_copy::CopyFault;
 use oci_manifest::{KeyFault, ManifestFault};

@@ -1,5 +1,5 @@
-use crate::contents::Sample;
-use crate::contents::Sample::{Empty, Foo, Image0, Image2, Index3, Index4, Referrer};
+use worked_contents::Sample;
+use worked_contents::Sample::{Empty, Foo, Image0, Image2, Index3, Index4, Referrer};
 use crate::tests::stores::{assert_holds, keys, memory};
 use oci_store::{
     ClosedStore, Dest, GraphSource, MemoryStore, closed_where_nothing_is_missing,

@@ -1,5 +1,5 @@
-use crate::contents::Sample::Empty;
-use crate::contents::{Content, LAYER, image, image_0, index};
+use worked_contents::Sample::Empty;
+use worked_contents::{Content, LAYER, image, image_0, index};
 use crate::tests::copies::copied;
 use crate::tests::stores::{closed, memory, push};
 use bytes::Bytes;

@@ -1,4 +1,4 @@
-use crate::contents::{
+use worked_contents::{
     Content, EMPTY, FOREIGN, IMAGE, INDEX, LAYER, Sample, bar, docker_image, empty, foo, image_0,
     image_1, index_1, referrer,
 };
@@ -183,7 +183,7 @@ fn undistributed_layers(rt: HostRuntime) -> Result<(), Fail> {
         FOREIGN,
     ] {
         let key = bar.key_as(alloc, media_type)?;
-        let layer = crate::contents::descriptor(alloc, &key)?;
+        let layer = worked_contents::descriptor(alloc, &key)?;
         let text = format!(in alloc; "{{\"subject\":{layer},\"manifests\":[{layer}]}}")?;
         expect_made(&rt, alloc, Kind::Index, text, "")?;
     }

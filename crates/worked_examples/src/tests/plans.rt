@@ -1,5 +1,5 @@
-use crate::contents::Sample;
-use crate::contents::Sample::{Bar, Empty, Foo, Image2, Image3, Index1};
+use worked_contents::Sample;
+use worked_contents::Sample::{Bar, Empty, Foo, Image2, Image3, Index1};
 use crate::tests::stores::{closed, keys, memory};
 use bytes::Bytes;
 use oci_manifest::Key;

@@ -1,5 +1,5 @@
-use crate::contents::Sample::{Empty, Image0};
-use crate::contents::{EMPTY, IMAGE, Sample};
+use worked_contents::Sample::{Empty, Image0};
+use worked_contents::{EMPTY, IMAGE, Sample};
 use crate::tests::stores::{assert_holds, closed, memory, push, push_closed};
 use bytes::Bytes;
 use oci_digest::Digest;

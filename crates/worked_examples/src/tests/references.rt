@@ -1,5 +1,5 @@
-use crate::contents::Sample;
-use crate::contents::Sample::{Empty, Image0};
+use worked_contents::Sample;
+use worked_contents::Sample::{Empty, Image0};
 use crate::tests::stores::{assert_holds, closed, memory};
 use crate::tests::tags::{assert_names, tag};
 use oci_copy::{CopyFault, Options, Report, copy};

@@ -1,5 +1,5 @@
-use crate::contents::Sample;
-use crate::contents::Sample::{Empty, Foo, Image0};
+use worked_contents::Sample;
+use worked_contents::Sample::{Empty, Foo, Image0};
 use crate::tests::stores::memory;
 use oci_manifest::Key;
 use oci_store::{MemoryStore, Tagger};

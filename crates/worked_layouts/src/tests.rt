@@ -1,0 +1,6 @@
+mod changing;
+mod fuses;
+mod layouts;
+mod openings;
+mod pushes;
+mod round_trips;
