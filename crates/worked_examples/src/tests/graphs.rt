@@ -1,6 +1,6 @@
 use worked_contents::Sample;
-use worked_contents::Sample::{Empty, Foo, Image0, Image2, Index3, Index4, Referrer};
-use crate::tests::stores::{assert_holds, keys, memory};
+use worked_contents::Sample::{Bar, Empty, Foo, Image0, Image1, Image2, Image3, Index3, Index4, Referrer};
+use crate::tests::stores::{assert_holds, closed, keys, memory};
 use oci_store::{
     ClosedStore, Dest, GraphSource, MemoryStore, closed_where_nothing_is_missing,
     content_grows_to_copy, graph_grows_to_copy, holds_reached,
@@ -27,6 +27,16 @@ fn referrers(rt: HostRuntime) -> Result<(), Fail> {
     let store = memory(rt.alloc(), &[Empty, Foo, Image2, Referrer, Index3, Index4])?;
     assert_predecessors(&rt, &store, Image2, &[Index3, Referrer])?;
     assert_predecessors(&rt, &store, Index4, &[])
+}
+
+/// Three images list one layer, in an open and in a closed store.
+#[test]
+fn predecessors_of_a_shared_layer(rt: HostRuntime) -> Result<(), Fail> {
+    let samples = [Empty, Foo, Bar, Image3, Image1, Image2];
+    // By their digests, which begin with 3f, 7e and d8.
+    let holders = [Image3, Image2, Image1];
+    assert_predecessors(&rt, &memory(rt.alloc(), &samples)?, Foo, &holders)?;
+    assert_predecessors(&rt, &closed(rt.alloc(), &samples)?, Foo, &holders)
 }
 
 /// The listed key need not be held.

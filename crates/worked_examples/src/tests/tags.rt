@@ -1,6 +1,6 @@
 use worked_contents::Sample;
-use worked_contents::Sample::{Empty, Foo, Image0};
-use crate::tests::stores::memory;
+use worked_contents::Sample::{Empty, Foo, Image0, Image0AsLayer};
+use crate::tests::stores::{closed, memory};
 use oci_manifest::Key;
 use oci_store::{MemoryStore, Tagger};
 use std::alloc::Global;
@@ -119,6 +119,17 @@ fn references(rt: HostRuntime) -> Result<(), Fail> {
     assert_resolves(&rt, &store, digest.as_str(), Empty)?;
     assert_unresolved(&rt, &store, "x", "36 UnknownReference")?;
     assert_unresolved(&rt, &store, "", "35 EmptyReference")
+}
+
+/// Of two keys of one digest the least stands for it, by the bytes of the media type.
+#[test]
+fn least_key_of_a_digest(rt: HostRuntime) -> Result<(), Fail> {
+    let samples = [Empty, Image0, Image0AsLayer];
+    let digest = Image0.key(rt.alloc())?.digest().to_string(rt.alloc())?;
+    let open = memory(rt.alloc(), &samples)?;
+    assert_resolves(&rt, &open, digest.as_str(), Image0AsLayer)?;
+    let closed = closed(rt.alloc(), &samples)?;
+    assert_resolves(&rt, &closed, digest.as_str(), Image0AsLayer)
 }
 
 /// A name that is there is moved, and a name comes before a digest.
