@@ -1,137 +1,137 @@
--- Why a planned key is not pushed.
-use Rattle.std.proofs.Common.{◌≡◌, ℕ, ◌-◌, ◌^◌, ◌<◌, ◌≤◌, ◌⊎◌, inl, inr, Bool, false, List, Option, Some, None, Result, Ok, Err, refl, sym, ap, subst, ◌∙◌, arith}
-use Rattle.std.specs.Prelude.{Contains}
+-- Why a planned key is not pushed, and what that says of the copy.
+use Rattle.std.proofs.Common.{◌≡◌, ◌∙◌, ℕ, ◌<◌, ◌≤◌, ◌⊎◌, inl, inr, true, false, List, [], Option, Some, None, Result, Ok, Err, refl, sym, ap, subst, arith}
+use Rattle.std.specs.Prelude.{Contains, IsOk, option_map, unwrap_or}
+use Rattle.std.specs.Result.{result_unwrap_or}
 use Rattle.oci_manifest.specs.Descriptor.{Descriptor}
-use Rattle.oci_manifest.specs.Fault.{Fault}
-use Rattle.oci_store.specs.Keyed.{has_key, HasAll, first_missing}
-use Rattle.oci_store.specs.Content.{Entry, Matches, succ_of}
-use Rattle.oci_store.specs.Graph.{Node, nodes_of}
+use Rattle.oci_manifest.specs.Fault.{Fault, IsFault}
 use Rattle.oci_store.specs.Closed.{IsClosed}
-use Rattle.oci_plan.specs.Outside.{IsOutside}
-use Rattle.oci_plan.specs.Refusal.{IsKeyFault, IsFirstFault}
-use Rattle.oci_plan.specs.declared.fault.PlanFault.{PlanFault}
-use Rattle.oci_store.specs.Push.{Refusal, Refused, closed_check, read_check, held_check, successors_check, already_exists, size_mismatch, digest_mismatch, bad_manifest, missing_successor}
+use Rattle.oci_store.specs.Graph.{Node, nodes_of}
+use Rattle.oci_store.specs.Keyed.{value_at, has_key, HasAll, first_missing}
+use Rattle.oci_store.specs.Content.{Entry, Matches, IsChecked, succ_of, successors_in}
+use Rattle.oci_store.specs.State.{State}
+use Rattle.oci_store.specs.Push.{Refusal, Refused, Answers, IsPlain, closed_check, read_check, held_check, already_exists, size_mismatch, digest_mismatch, bad_manifest, missing_successor}
+use Rattle.oci_store.specs.declared.fault.FetchFault.{FetchFault}
+use Rattle.oci_store.specs.declared.fault.FetchFault.TheVariants as fetch
 use Rattle.oci_store.specs.declared.fault.PushFault.{PushFault}
 use Rattle.oci_store.specs.declared.fault.PushFault.TheVariants as push
+use Rattle.oci_store.proofs.Lookups.{first_missing-from_HasAll}
+use Rattle.oci_plan.specs.Outside.{IsOutside}
+use Rattle.oci_plan.specs.Plan.{Planned}
+use Rattle.oci_plan.specs.Refusal.{IsKeyFault, IsFirstFault}
+use Rattle.oci_plan.specs.Visiting.{successors_at}
+use Rattle.oci_plan.specs.declared.fault.PlanFault.{PlanFault}
+use Rattle.oci_plan.proofs.Items.{value_at-nodes_of}
 use Rattle.oci_copy.specs.declared.fault.CopyFault.{CopyFault}
 use Rattle.oci_copy.specs.declared.fault.CopyFault.TheVariants as fault
-use Rattle.oci_copy.specs.Fault.{IsPushCause, IsStepCause, IsRunCause, IsPlanCause, IsOpenCause, IsStartCause, Refused as Refuses, TellsPlan, TellsPush}
-use Rattle.oci_copy.proofs.Checks.{closed_check-matching, closed_check-ready}
+use Rattle.oci_copy.specs.Cause.{HasFailed, IsPlanCause, IsContentCause, IsPushCause, IsTooEarly, IsStepCause, IsRunCause, IsOpenCause, IsStartCause, IsRefusal, IsReadCause, IsFetchCause}
+use Rattle.oci_copy.specs.Fault.{IsStuck, IsOtherPush, TellsPlan, TellsFetch, TellsPush}
+use Rattle.oci_copy.specs.Grown.{graph_of}
+use Rattle.oci_copy.specs.Planned.{CanBeRead, IsPlanOf}
+use Rattle.oci_copy.proofs.Checks.{closed_check-read}
 
--- a cause that is looked at after the size and the digest
-abbrev IsLate : Refusal → Type 0
-IsLate already_exists = ⊥
-IsLate size_mismatch = ⊥
-IsLate digest_mismatch = ⊥
-IsLate (bad_manifest f) = Unit {0}
-IsLate (missing_successor k) = Unit {0}
+-- what the source's bytes list is what the source lists
+pub listed_at : (entries : List Entry) (k : Descriptor) (bytes : List ℕ) (listed : List Descriptor) → value_at entries k ≡ Some bytes → succ_of k bytes ≡ Ok listed
+    → successors_at (nodes_of entries) k ≡ listed
+listed_at entries k bytes listed own reads =
+    ap (λ (o : Option (List Descriptor)). unwrap_or o []) (value_at-nodes_of entries k ∙ ap (option_map (successors_in k)) own)
+    ∙ ap (λ (r : Result (List Descriptor) Fault). result_unwrap_or r []) reads
 
-late-held : (ks : List Descriptor) (o : Option Descriptor) (r : Refusal) → held_check ks o ≡ Err r → IsLate r
-late-held ks None r e = cc e
-late-held ks (Some m) r e = let same : missing_successor m ≡ r = cc e in subst IsLate same tt
+-- what is refused is not read
+pub not_err : {X F : Type 0} (r : Result X F) (f : F) → r ≡ Err f → IsOk r → ⊥
+not_err (Ok x) f e ok = cc e
+not_err (Err g) f e ok = cc ok
 
-late-read : (graph : List Node) (read : Result (List Descriptor) Fault) (r : Refusal) → successors_check graph (read_check read) ≡ Err r → IsLate r
-late-read graph (Ok ks) r e = late-held ks (first_missing graph ks) r e
-late-read graph (Err f) r e = let same : bad_manifest f ≡ r = cc e in subst IsLate same tt
+module _ (source before now : State) (k : Descriptor) (bytes : List ℕ) (listed : List Descriptor)
+    (fresh : has_key before.nodes k ≡ false) (checked : IsChecked k bytes listed) (own : source.is_honest → value_at source.entries k ≡ Some bytes)
+    (ready : source.is_honest → HasAll before.nodes (successors_at (graph_of source) k)) (same : now.nodes ≡ before.nodes) where
+  check : closed_check before.nodes k bytes ≡ held_check listed (first_missing before.nodes listed)
+  check = closed_check-read before.nodes k bytes listed fresh checked
 
-module _ (honest halted : Type 0) (fails : Descriptor → Bool) (before after : ℕ) (graph : List Node) (k : Descriptor) (bytes : List ℕ)
-    (fresh : has_key graph k ≡ false) (matching : Matches k bytes)
-    (ready : honest → (listed : List Descriptor) × (succ_of k bytes ≡ Ok listed) × HasAll graph listed) where
-  late : (r : Refusal) → closed_check graph k bytes ≡ Err r → IsLate r
-  late r e = late-read graph (succ_of k bytes) r (sym (closed_check-matching graph k bytes fresh matching) ∙ e)
+  -- the only cause that is left: the first of the listed keys that is not held
+  missing_first : (o : Option Descriptor) (r : Refusal) → held_check listed o ≡ Err r → (m : Descriptor) × (o ≡ Some m) × (r ≡ missing_successor m)
+  missing_first None r e = cc e
+  missing_first (Some m) r e = let is : missing_successor m ≡ r = cc e in (m, refl, sym is)
 
-  passes : (r : Refusal) → closed_check graph k bytes ≡ Err r → honest → ⊥
-  passes r e h =
-      let it = ready h in
-      let passed = closed_check-ready graph k bytes it.0 fresh matching it.1 it.2 in
-      let both : Ok it.0 ≡ Err r = sym passed ∙ e in
+  only : (r : Refusal) → closed_check before.nodes k bytes ≡ Err r → (m : Descriptor) × (first_missing before.nodes listed ≡ Some m) × (r ≡ missing_successor m)
+  only r e = missing_first (first_missing before.nodes listed) r (sym check ∙ e)
+
+  not_honest : (m : Descriptor) → first_missing before.nodes listed ≡ Some m → source.is_honest → ⊥
+  not_honest m first h =
+      let held : HasAll before.nodes listed = subst (HasAll before.nodes) (listed_at source.entries k bytes listed (own h) checked.reads) (ready h) in
+      let both : None ≡ Some m = sym (first_missing-from_HasAll before.nodes listed held) ∙ first in
       cc both
 
-  push_cause-at : (e : PushFault) → Refused e (closed_check graph k bytes) → (e ≡ push.Device → (before < after) ⊎ (after ≡ 2 ^ 64 - 1)) → (e ≡ push.Halted → halted)
-      → TellsPush k e (fault.Push k e) → IsPushCause honest halted before after e
-  push_cause-at push.AlreadyExists refused device halt tells = tells.2
-  push_cause-at push.SizeMismatch refused device halt tells = late size_mismatch refused
-  push_cause-at push.DigestMismatch refused device halt tells = late digest_mismatch refused
-  push_cause-at (push.BadManifest m) refused device halt tells = (passes (bad_manifest refused.0) refused.1, (refused.0, refused.2))
-  push_cause-at push.Memory refused device halt tells = tells.2
-  push_cause-at (push.MissingSuccessor m) refused device halt tells = tells.2
-  push_cause-at push.Device refused device halt tells = device refl
-  push_cause-at push.Halted refused device halt tells = halt refl
+  too_early : (m : Descriptor) → first_missing before.nodes listed ≡ Some m → IsTooEarly source now k
+  too_early m first = record {
+    bytes = bytes;
+    listed = listed;
+    missing = m;
+    matching = checked.matching;
+    reads = checked.reads;
+    first = subst (λ (graph : List Node). first_missing graph listed ≡ Some m) (sym same) first;
+    dishonest = not_honest m first;
+  }
 
-  stuck_cause : (e : PushFault) → Refused e (closed_check graph k bytes) → TellsPush k e (fault.Stuck k) → honest → ⊥
-  stuck_cause push.AlreadyExists refused tells = λ h. late already_exists refused
-  stuck_cause push.SizeMismatch refused tells = λ h. tells.1
-  stuck_cause push.DigestMismatch refused tells = λ h. tells.1
-  stuck_cause (push.BadManifest m) refused tells = λ h. tells.1
-  stuck_cause push.Memory refused tells = λ h. tells.1
-  stuck_cause (push.MissingSuccessor m) refused tells = passes (missing_successor m) refused
-  stuck_cause push.Device refused tells = λ h. tells.1
-  stuck_cause push.Halted refused tells = λ h. tells.1
+  push_cause : (e : PushFault) → Refused e (closed_check before.nodes k bytes) → (e ≡ push.Device → HasFailed before now) → (e ≡ push.Halted → before.is_halted) → IsOtherPush e
+      → IsPushCause source before now k e
+  push_cause push.AlreadyExists refused device halt other = absurd other
+  push_cause push.SizeMismatch refused device halt other = let it = only size_mismatch refused in cc (it.2)
+  push_cause push.DigestMismatch refused device halt other = let it = only digest_mismatch refused in cc (it.2)
+  push_cause (push.BadManifest m) refused device halt other = let it = only (bad_manifest refused.0) refused.1 in cc (it.2)
+  push_cause push.Memory refused device halt other = absurd other
+  push_cause (push.MissingSuccessor m) refused device halt other = absurd other
+  push_cause push.Device refused device halt other = device refl
+  push_cause push.Halted refused device halt other = halt refl
+
+  stuck_cause : (e : PushFault) → Refused e (closed_check before.nodes k bytes) → IsStuck e → IsTooEarly source now k
+  stuck_cause push.AlreadyExists refused stuck = let it = only already_exists refused in cc (it.2)
+  stuck_cause (push.MissingSuccessor m) refused stuck = let it = only (missing_successor m) refused in too_early it.0 it.1
+  stuck_cause other refused stuck = absurd stuck
 
   -- what a refused push is told as has its cause
-  pub step_cause : (e : PushFault) (told : CopyFault) → Refused e (closed_check graph k bytes) → (e ≡ push.Device → (before < after) ⊎ (after ≡ 2 ^ 64 - 1)) → (e ≡ push.Halted → halted)
-      → TellsPush k e told → IsStepCause honest halted fails before after k told
-  step_cause e (fault.Push named t) refused device halt tells =
-      (tells.0, subst (IsPushCause honest halted before after) (sym tells.1) (push_cause-at e refused device halt (refl, refl, tells.2)))
-  step_cause e (fault.Stuck named) refused device halt tells = (tells.0, stuck_cause e refused (refl, tells.1))
+  pub step_cause : (e : PushFault) (told : CopyFault) → Refused e (closed_check before.nodes k bytes) → (e ≡ push.Device → HasFailed before now) → (e ≡ push.Halted → before.is_halted)
+      → TellsPush k e told → IsStepCause source before now k told
+  step_cause e (fault.Push named t) refused device halt tells = (tells.0, subst (IsPushCause source before now k) (sym tells.1) (push_cause e refused device halt tells.2))
+  step_cause e (fault.Stuck named) refused device halt tells = (tells.0, stuck_cause e refused tells.1)
   step_cause e fault.Memory refused device halt tells = tt
   step_cause e other refused device halt tells = absurd tells
 
--- a cause at one key is a cause in a run of planned keys that began earlier
-pub run_from_step : (honest halted halted' : Type 0) (fails : Descriptor → Bool) (start before after : ℕ) (planned : List Descriptor) (k : Descriptor) (told : CopyFault)
-    → Contains planned k → (halted → halted') → start ≤ before → IsStepCause honest halted fails before after k told → IsRunCause honest halted' fails start after planned told
-run_from_step honest halted halted' fails start before after planned k told there halts earlier cause = go told cause
+-- a cause at one key's turn is a cause since an earlier opening
+pub step_earlier : (source opening before now : State) (k : Descriptor) (told : CopyFault) → (before.is_halted → opening.is_halted) → opening.failures ≤ before.failures
+    → IsStepCause source before now k told → IsStepCause source opening now k told
+step_earlier source opening before now k told halts earlier cause = go told cause
   where
-    weaker : (e : PushFault) → IsPushCause honest halted before after e → IsPushCause honest halted' start after e
-    weaker push.AlreadyExists h = h
-    weaker push.SizeMismatch h = h
-    weaker push.DigestMismatch h = h
+    weaker : (e : PushFault) → IsPushCause source before now k e → IsPushCause source opening now k e
     weaker (push.BadManifest m) h = h
-    weaker push.Memory h = h
-    weaker (push.MissingSuccessor m) h = h
     weaker push.Device h = elim h [ inl rose ↦ inl (omega arith) | inr most ↦ inr most ]
     weaker push.Halted h = halts h
+    weaker other h = absurd h
 
-    at : (named : Descriptor) → named ≡ k → Contains planned named
-    at named same = subst (Contains planned) (sym same) there
-
-    go : (t : CopyFault) → IsStepCause honest halted fails before after k t → IsRunCause honest halted' fails start after planned t
-    go (fault.Fetch named e) h = (at named h.0, ap fails h.0 ∙ h.1, h.2)
-    go (fault.Push named e) h = (at named h.0, weaker e h.1)
-    go (fault.Stuck named) h = (at named h.0, h.1)
+    go : (t : CopyFault) → IsStepCause source before now k t → IsStepCause source opening now k t
+    go (fault.Fetch named e) h = h
+    go (fault.Push named e) h = (h.0, weaker e h.1)
+    go (fault.Stuck named) h = h
     go fault.Memory h = tt
     go other h = absurd h
 
--- a refused plan that is told has its cause
-pub start_cause : (honest : Type 0) (fails : Descriptor → Bool) (source : List Entry) (asked limit : ℕ) (opening : List Node) (roots : List Descriptor) (e : PlanFault) (told : CopyFault)
-    → asked ≡ limit → IsClosed opening → IsKeyFault honest fails source asked e → (honest → IsFirstFault source opening roots asked e) → TellsPlan e told → IsStartCause honest fails source limit opening roots told
-start_cause honest fails source asked limit opening roots e (fault.Plan t) same closed named first tells =
-    let cause : IsPlanCause honest fails source asked opening roots e = record { told = tells.1; named = named; first = first } in
-    (closed, subst (λ (l : ℕ). IsPlanCause honest fails source l opening roots t) same (subst (IsPlanCause honest fails source asked opening roots) (sym tells.0) cause))
-start_cause honest fails source asked limit opening roots e fault.Memory same closed named first tells = tt
-start_cause honest fails source asked limit opening roots e other same closed named first tells = absurd tells
-
--- a refused destination is the first cause
-pub start_from_open : (honest : Type 0) (fails : Descriptor → Bool) (source : List Entry) (limit : ℕ) (opening : List Node) (roots : List Descriptor) (told : CopyFault)
-    → IsOpenCause opening told → IsStartCause honest fails source limit opening roots told
-start_from_open honest fails source limit opening roots (fault.DestinationOpen holder missing) cause = cause
-start_from_open honest fails source limit opening roots fault.Memory cause = tt
-start_from_open honest fails source limit opening roots other cause = absurd cause
-
 -- why a copy is refused once it has a plan
-pub refused-from_run : (honest halted : Type 0) (fails : Descriptor → Bool) (source : List Entry) (limit : ℕ) (opening : List Node) (roots planned : List Descriptor) (before after : ℕ) (told : CopyFault)
-    → IsClosed opening → (honest → (k : Descriptor) → Contains planned k → IsOutside (nodes_of source) opening roots k)
-    → IsRunCause honest halted fails before after planned told → Refuses honest halted fails source limit opening roots before after told
-refused-from_run honest halted fails source limit opening roots planned before after (fault.Fetch k e) closed outside cause = (closed, λ h. outside h k cause.0, cause.1, cause.2)
-refused-from_run honest halted fails source limit opening roots planned before after (fault.Push k e) closed outside cause = (closed, λ h. outside h k cause.0, cause.1)
-refused-from_run honest halted fails source limit opening roots planned before after (fault.Stuck k) closed outside cause = (closed, λ h. outside h k cause.0, cause.1)
-refused-from_run honest halted fails source limit opening roots planned before after fault.Memory closed outside cause = tt
-refused-from_run honest halted fails source limit opening roots planned before after other closed outside cause = absurd cause
+pub refused_in_run : {source : State} {limit : ℕ} {opening : State} {roots : List Descriptor} {p : Planned} (now : State) (told : CopyFault) → IsPlanOf source limit opening roots p
+    → IsClosed opening.nodes → IsRunCause source opening now p.keys told → IsRefusal limit source opening roots now told
+refused_in_run {source} {limit} {opening} {roots} {p} now told plan closed cause = go told cause.2
+  where
+    wanted : (named : Descriptor) → named ≡ cause.0 → source.is_honest → IsOutside (graph_of source) opening.nodes roots named
+    wanted named same h = (plan.outside h named).0 (subst (Contains p.keys) (sym same) cause.1)
+
+    go : (t : CopyFault) → IsStepCause source opening now cause.0 t → IsRefusal limit source opening roots now t
+    go (fault.Fetch k e) h = (closed, wanted k h.0, subst (λ (d : Descriptor). IsFetchCause source d e) (sym h.0) h.1)
+    go (fault.Push k e) h = (closed, wanted k h.0, subst (λ (d : Descriptor). IsPushCause source opening now d e) (sym h.0) h.1)
+    go (fault.Stuck k) h = (closed, wanted k h.0, subst (IsTooEarly source now) (sym h.0) h.1)
+    go fault.Memory h = tt
+    go other h = absurd h
 
 -- why a copy is refused that has none
-pub refused-from_start : (honest halted : Type 0) (fails : Descriptor → Bool) (source : List Entry) (limit : ℕ) (opening : List Node) (roots : List Descriptor) (before after : ℕ) (told : CopyFault)
-    → IsStartCause honest fails source limit opening roots told → Refuses honest halted fails source limit opening roots before after told
-refused-from_start honest halted fails source limit opening roots before after (fault.DestinationOpen holder missing) cause = cause
-refused-from_start honest halted fails source limit opening roots before after (fault.Plan e) cause = cause
-refused-from_start honest halted fails source limit opening roots before after fault.Memory cause = tt
-refused-from_start honest halted fails source limit opening roots before after other cause = absurd cause
+pub refused_at_start : (limit : ℕ) (source opening : State) (roots : List Descriptor) (now : State) (told : CopyFault) → IsStartCause limit source opening roots told → IsRefusal limit source opening roots now told
+refused_at_start limit source opening roots now (fault.DestinationOpen holder missing) cause = cause
+refused_at_start limit source opening roots now (fault.Plan e) cause = cause
+refused_at_start limit source opening roots now fault.Memory cause = tt
+refused_at_start limit source opening roots now other cause = absurd cause

@@ -6,14 +6,14 @@ use Rattle.oci_digest.specs.Digest.{verifies, digest_of}
 use Rattle.oci_manifest.specs.Descriptor.{Descriptor}
 use Rattle.oci_manifest.specs.Fault.{Fault}
 use Rattle.oci_store.specs.Keyed.{has_key, HasAll, first_missing}
-use Rattle.oci_store.specs.Content.{Matches, succ_of, successors_in}
+use Rattle.oci_store.specs.Content.{Matches, IsChecked, succ_of, successors_in}
 use Rattle.oci_store.specs.Graph.{Node}
-use Rattle.oci_store.specs.Push.{push_check, closed_check, read_check, held_check, successors_check}
-use Rattle.oci_store.proofs.Lookups.{HasAll-from_first_missing, first_missing-from_HasAll}
+use Rattle.oci_store.specs.Push.{push_check, content_check, closed_check, read_check, held_check, successors_check}
+use Rattle.oci_store.proofs.Lookups.{HasAll-from_first_missing}
 
 -- bytes that match pass the checks of size and digest
 pub push_check-matching : (graph : List Node) (k : Descriptor) (bytes : List ℕ) → has_key graph k ≡ false → Matches k bytes → push_check graph k bytes ≡ read_check (succ_of k bytes)
-unfolding push_check
+unfolding push_check content_check
 push_check-matching graph k bytes fresh matching =
     let size : (length bytes == k.size) ≡ true = eq-eqb (length bytes) k.size matching.0 in
     let digest : verifies k.digest bytes ≡ true = (bytes_eq-Decides k.digest (digest_of bytes)).1 matching.1 in
@@ -24,12 +24,11 @@ pub closed_check-matching : (graph : List Node) (k : Descriptor) (bytes : List �
 unfolding closed_check
 closed_check-matching graph k bytes fresh matching = ap (successors_check graph) (push_check-matching graph k bytes fresh matching)
 
--- where all that is listed is held, a push of matching bytes is not refused by its check
-pub closed_check-ready : (graph : List Node) (k : Descriptor) (bytes : List ℕ) (listed : List Descriptor) → has_key graph k ≡ false → Matches k bytes
-    → succ_of k bytes ≡ Ok listed → HasAll graph listed → closed_check graph k bytes ≡ Ok listed
-closed_check-ready graph k bytes listed fresh matching reads held =
-    closed_check-matching graph k bytes fresh matching ∙ ap (λ (r : Result (List Descriptor) Fault). successors_check graph (read_check r)) reads
-    ∙ ap (held_check listed) (first_missing-from_HasAll graph listed held)
+-- the check of content that matches and reads is whether all that it lists is held
+pub closed_check-read : (graph : List Node) (k : Descriptor) (bytes : List ℕ) (listed : List Descriptor) → has_key graph k ≡ false → IsChecked k bytes listed
+    → closed_check graph k bytes ≡ held_check listed (first_missing graph listed)
+closed_check-read graph k bytes listed fresh checked =
+    closed_check-matching graph k bytes fresh checked.matching ∙ ap (λ (r : Result (List Descriptor) Fault). successors_check graph (read_check r)) checked.reads
 
 -- what passes the check lists keys that are held
 pub held-from_check : (graph : List Node) (k : Descriptor) (bytes : List ℕ) (listed : List Descriptor) → has_key graph k ≡ false → Matches k bytes

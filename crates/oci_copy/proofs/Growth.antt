@@ -1,5 +1,5 @@
 -- A push keeps what a run keeps.
-use Rattle.std.proofs.Common.{◌≡◌, ◌≤◌, ◌<◌, ◌-◌, ◌^◌, inl, inr, ℕ, true, List, [], ◌∷◌, ◌++◌, Some, sym, ap, ◌∙◌, append_assoc, append-nil, subst, arith}
+use Rattle.std.proofs.Common.{◌≡◌, ◌≤◌, ◌<◌, ◌-◌, ◌^◌, inl, inr, ℕ, true, List, [], ◌∷◌, ◌++◌, Some, refl, sym, ap, ◌∙◌, append_assoc, append-nil, subst, arith}
 use Rattle.std.specs.Prelude.{Contains, option_map}
 use Rattle.std.specs.List.{All}
 use Rattle.std.proofs.lemmas.List.Elements.{All-nil, All-weaker, All-push}
@@ -8,96 +8,102 @@ use Rattle.oci_store.specs.Keyed.{value_at, has_key, HasAll}
 use Rattle.oci_store.specs.Content.{Entry, successors_in}
 use Rattle.oci_store.specs.Graph.{Node, node_of, nodes_of}
 use Rattle.oci_store.specs.Push.{IsCalm, IsUndisturbed, AgreesAt}
+use Rattle.oci_store.specs.State.{State}
 use Rattle.oci_store.proofs.Lookups.{All-value_at, value_at-append_cases, has_key-append_left}
 use Rattle.oci_plan.proofs.Items.{value_at-nodes_of}
-use Rattle.oci_copy.specs.Grown.{IsTold}
+use Rattle.oci_copy.specs.Grown.{graph_of, IsTold}
 use Rattle.oci_copy.specs.Kept.{Keeps, IsOpeningAnd}
 
 -- what is held stays held
 pub HasAll-append : {X : Type 0} (a b : List (Descriptor × X)) (ks : List Descriptor) → HasAll a ks → HasAll (a ++ b) ks
 HasAll-append a b ks h = All-weaker (λ k. has_key a k ≡ true) (λ k. has_key (a ++ b) k ≡ true) (λ k held. has_key-append_left a b k held) ks h
 
-module _ (honest shares : Type 0) (source : List Entry) (planned : List Descriptor) (sound0 : Type 0) (nodes0 : List Node) (entries0 : List Entry) (failures0 : ℕ) where
-  abbrev K : Type 0 → List Node → List Entry → ℕ → Type 0
-  K = Keeps honest shares source planned sound0 nodes0 entries0 failures0
+-- a run keeps it as it begins
+pub keeps_start : (shares : Type 0) (source : State) (planned : List Descriptor) (opening : State) → Keeps shares source planned opening opening
+keeps_start shares source planned opening = record {
+  added = [];
+  is = sym (append-nil opening.nodes);
+  planned_keys = All-nil (λ (n : Node). Contains planned n.0);
+  supported = All-nil (λ (n : Node). HasAll opening.nodes n.1);
+  own = λ h. All-nil (λ (n : Node). value_at (graph_of source) n.0 ≡ Some n.1);
+  told = λ t. (t.is_sound, record { added = []; is = sym (append-nil opening.entries); each = All-nil (λ (e : Entry). Contains planned e.0 × (value_at source.entries e.0 ≡ Some e.1)) });
+  rising = omega arith;
+  tags = refl;
+  name = refl;
+}
 
-  abbrev Told : ℕ → Type 0
-  Told f = IsTold honest sound0 shares failures0 f source entries0
-
+module _ (shares : Type 0) (source : State) (planned : List Descriptor) (opening before after : State) (e : Entry)
+    (own : source.is_honest → value_at source.entries e.0 ≡ Some e.1) (rises : before.failures ≤ after.failures)
+    (sound : IsUndisturbed shares before after e → after.is_sound) (tags : after.tags ≡ before.tags) (name : after.name ≡ before.name)
+    (keeps : Keeps shares source planned opening before) where
   -- what could be told after a push could be told before it, and nothing disturbed it
-  told_before : (f f' : ℕ) → failures0 ≤ f → f ≤ f' → Told f' → Told f × IsCalm f f'
-  told_before f f' up on told =
+  told_before : IsTold shares source opening after → IsTold shares source opening before × IsCalm before.failures after.failures
+  told_before told =
       let calm = told.is_calm in
-      let same : f ≡ failures0 = (let e = calm.0 in omega arith) in
-      let less : f < 2 ^ 64 - 1 = (let e = calm.0 in let l = calm.1 in omega arith) in
-      let now : f' ≡ f = (let e = calm.0 in omega arith) in
+      let up = keeps.rising in
+      let same : before.failures ≡ opening.failures = (let e = calm.0 in omega arith) in
+      let less : before.failures < 2 ^ 64 - 1 = (let e = calm.0 in let l = calm.1 in omega arith) in
+      let now : after.failures ≡ before.failures = (let e = calm.0 in omega arith) in
       (record { is_honest = told.is_honest; is_sound = told.is_sound; is_calm = (same, less); same_old = told.same_old; same_source = told.same_source }, (now, calm.1))
 
   -- the pairs of the pushed key's digest have its bytes
-  agrees_at : (entries : List Entry) (f : ℕ) (k : Descriptor) (bytes : List ℕ) → Told f → IsOpeningAnd source planned entries0 entries → value_at source k ≡ Some bytes → shares → AgreesAt entries k bytes
-  agrees_at entries f k bytes told grown own shared other found there same =
-      elim (value_at-append_cases entries0 grown.added other found (subst (λ (l : List Entry). value_at l other ≡ Some found) grown.is there)) [
-        | inl opening ↦ told.same_old shared k other bytes found own opening same
-        | inr added ↦ told.same_source shared k other bytes found own (All-value_at (λ (e : Entry). Contains planned e.0 × (value_at source e.0 ≡ Some e.1)) grown.added other found grown.each added).1 same
+  agrees_at : IsTold shares source opening before → IsOpeningAnd source.entries planned opening.entries before.entries → shares → AgreesAt before.entries e.0 e.1
+  agrees_at told grown shared other found there same =
+      elim (value_at-append_cases opening.entries grown.added other found (subst (λ (l : List Entry). value_at l other ≡ Some found) grown.is there)) [
+        | inl old ↦ told.same_old shared e.0 other e.1 found (own told.is_honest) old same
+        | inr added ↦
+            told.same_source shared e.0 other e.1 found (own told.is_honest)
+            (All-value_at (λ (p : Entry). Contains planned p.0 × (value_at source.entries p.0 ≡ Some p.1)) grown.added other found grown.each added).1 same
       ]
 
-  -- a run keeps it as it begins
-  pub keeps_start : K sound0 nodes0 entries0 failures0
-  keeps_start = record {
-    added = [];
-    is = sym (append-nil nodes0);
-    planned_keys = All-nil (λ (n : Node). Contains planned n.0);
-    supported = All-nil (λ (n : Node). HasAll nodes0 n.1);
-    own = λ h. All-nil (λ (n : Node). value_at (nodes_of source) n.0 ≡ Some n.1);
-    rising = omega arith;
-    told = λ t. (t.is_sound, record { added = []; is = sym (append-nil entries0); each = All-nil (λ (e : Entry). Contains planned e.0 × (value_at source e.0 ≡ Some e.1)) });
-  }
+  undisturbed : IsTold shares source opening after → IsUndisturbed shares before after e
+  undisturbed told =
+      let b = told_before told in
+      let was = keeps.told b.0 in
+      record { is_sound = was.0; is_calm = b.1; agrees = agrees_at b.0 was.1 }
 
-  pub keeps_pushed : (s : Type 0) (nodes : List Node) (entries : List Entry) (f : ℕ) (s' : Type 0) (nodes' : List Node) (entries' : List Entry) (f' : ℕ) (k : Descriptor) (bytes : List ℕ)
-      → Contains planned k → (honest → value_at source k ≡ Some bytes) → nodes' ≡ nodes ++ node_of (k, bytes) ∷ [] → HasAll nodes (successors_in k bytes)
-      → (IsUndisturbed s shares f f' entries k bytes → entries' ≡ entries ++ (k, bytes) ∷ []) → (IsUndisturbed s shares f f' entries k bytes → s') → f ≤ f'
-      → K s nodes entries f → K s' nodes' entries' f'
-  keeps_pushed s nodes entries f s' nodes' entries' f' k bytes plan from did held bytes_are stays up keeps =
-      let node = node_of (k, bytes) in
+  pub keeps_pushed : Contains planned e.0 → after.nodes ≡ before.nodes ++ node_of e ∷ [] → HasAll before.nodes (successors_in e.0 e.1)
+      → (IsUndisturbed shares before after e → after.entries ≡ before.entries ++ e ∷ []) → Keeps shares source planned opening after
+  keeps_pushed plan did held bytes_are =
+      let node = node_of e in
       let Listed : List Node → Node → Type 0 = λ graph n. HasAll graph n.1 in
       record {
         added = keeps.added ++ node ∷ [];
-        is = did ∙ (ap (λ (l : List Node). l ++ node ∷ []) keeps.is ∙ append_assoc nodes0 keeps.added (node ∷ []));
+        is = did ∙ (ap (λ (l : List Node). l ++ node ∷ []) keeps.is ∙ append_assoc opening.nodes keeps.added (node ∷ []));
         planned_keys = All-push (λ (n : Node). Contains planned n.0) keeps.added node keeps.planned_keys plan;
         supported = subst (λ (graph : List Node). All (Listed graph) (keeps.added ++ node ∷ [])) (sym did)
-            (All-push (Listed (nodes ++ node ∷ [])) keeps.added node
-            (All-weaker (Listed nodes) (Listed (nodes ++ node ∷ [])) (λ n h. HasAll-append nodes (node ∷ []) n.1 h) keeps.added keeps.supported)
-            (HasAll-append nodes (node ∷ []) node.1 held));
-        own = λ h. All-push (λ (n : Node). value_at (nodes_of source) n.0 ≡ Some n.1) keeps.added node (keeps.own h) (value_at-nodes_of source k ∙ ap (option_map (successors_in k)) (from h));
-        rising = (let u = keeps.rising in omega arith);
+            (All-push (Listed (before.nodes ++ node ∷ [])) keeps.added node
+            (All-weaker (Listed before.nodes) (Listed (before.nodes ++ node ∷ [])) (λ n h. HasAll-append before.nodes (node ∷ []) n.1 h) keeps.added keeps.supported)
+            (HasAll-append before.nodes (node ∷ []) node.1 held));
+        own = λ h. All-push (λ (n : Node). value_at (graph_of source) n.0 ≡ Some n.1) keeps.added node (keeps.own h)
+            (value_at-nodes_of source.entries e.0 ∙ ap (option_map (successors_in e.0)) (own h));
         told = λ t.
-            let b = told_before f f' keeps.rising up t in
-            let was = keeps.told b.0 in
-            let own = from t.is_honest in
-            let calm : IsUndisturbed s shares f f' entries k bytes = record { is_sound = was.0; is_calm = b.1; agrees = agrees_at entries f k bytes b.0 was.1 own } in (
-              stays calm,
+            let calm = undisturbed t in
+            let was = (keeps.told (told_before t).0).1 in (
+              sound calm,
               record {
-                added = was.1.added ++ (k, bytes) ∷ [];
-                is = bytes_are calm ∙ (ap (λ (l : List Entry). l ++ (k, bytes) ∷ []) was.1.is ∙ append_assoc entries0 was.1.added ((k, bytes) ∷ []));
-                each = All-push (λ (e : Entry). Contains planned e.0 × (value_at source e.0 ≡ Some e.1)) was.1.added (k, bytes) was.1.each (plan, own);
+                added = was.added ++ e ∷ [];
+                is = bytes_are calm ∙ (ap (λ (l : List Entry). l ++ e ∷ []) was.is ∙ append_assoc opening.entries was.added (e ∷ []));
+                each = All-push (λ (p : Entry). Contains planned p.0 × (value_at source.entries p.0 ≡ Some p.1)) was.added e was.each (plan, own t.is_honest);
               },
             );
+        rising = (let u = keeps.rising in omega arith);
+        tags = tags ∙ keeps.tags;
+        name = name ∙ keeps.name;
       }
 
-  pub keeps_refused : (s : Type 0) (nodes : List Node) (entries : List Entry) (f : ℕ) (s' : Type 0) (nodes' : List Node) (entries' : List Entry) (f' : ℕ) (k : Descriptor) (bytes : List ℕ)
-      → (honest → value_at source k ≡ Some bytes) → nodes' ≡ nodes
-      → (IsUndisturbed s shares f f' entries k bytes → entries' ≡ entries) → (IsUndisturbed s shares f f' entries k bytes → s') → f ≤ f'
-      → K s nodes entries f → K s' nodes' entries' f'
-  keeps_refused s nodes entries f s' nodes' entries' f' k bytes from same bytes_are stays up keeps = record {
+  pub keeps_refused : after.nodes ≡ before.nodes → (IsUndisturbed shares before after e → after.entries ≡ before.entries) → Keeps shares source planned opening after
+  keeps_refused same bytes_are = record {
     added = keeps.added;
     is = same ∙ keeps.is;
     planned_keys = keeps.planned_keys;
     supported = subst (λ (graph : List Node). All (λ (n : Node). HasAll graph n.1) keeps.added) (sym same) keeps.supported;
     own = keeps.own;
-    rising = (let u = keeps.rising in omega arith);
     told = λ t.
-        let b = told_before f f' keeps.rising up t in
-        let was = keeps.told b.0 in
-        let calm : IsUndisturbed s shares f f' entries k bytes = record { is_sound = was.0; is_calm = b.1; agrees = agrees_at entries f k bytes b.0 was.1 (from t.is_honest) } in
-        (stays calm, record { added = was.1.added; is = bytes_are calm ∙ was.1.is; each = was.1.each });
+        let calm = undisturbed t in
+        let was = (keeps.told (told_before t).0).1 in
+        (sound calm, record { added = was.added; is = bytes_are calm ∙ was.is; each = was.each });
+    rising = (let u = keeps.rising in omega arith);
+    tags = tags ∙ keeps.tags;
+    name = name ∙ keeps.name;
   }

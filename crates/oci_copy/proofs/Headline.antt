@@ -1,9 +1,9 @@
 -- A run that kept what it owes, and has the roots, made a copy.
-use Rattle.std.proofs.Common.{◌≡◌, ◌⊎◌, inl, inr, ℕ, true, List, [], ◌∷◌, ◌++◌, Some, refl, sym, ap, subst, ◌∙◌}
+use Rattle.std.proofs.Common.{◌≡◌, ◌≤◌, ◌+◌, length, ◌⊎◌, inl, inr, ℕ, true, List, [], ◌∷◌, ◌++◌, Some, refl, sym, ap, subst, ◌∙◌, append-nil, arith}
 use Rattle.std.specs.Prelude.{Contains}
 use Rattle.std.specs.List.{All}
 use Rattle.std.specs.Map.{keys_of}
-use Rattle.std.proofs.lemmas.List.Elements.{All-weaker, All-append, All-contains}
+use Rattle.std.proofs.lemmas.List.Elements.{All-nil, All-weaker, All-append, All-contains}
 use Rattle.std.proofs.lemmas.Option.{same_Some}
 use Rattle.oci_manifest.specs.Descriptor.{Descriptor, same_key}
 use Rattle.oci_manifest.proofs.Keys.{Decides-same_key, cases}
@@ -18,7 +18,10 @@ use Rattle.oci_store.proofs.Copies.{holds_reached, grows_to_copy}
 use Rattle.oci_plan.specs.Outside.{IsOutside}
 use Rattle.oci_plan.specs.Outside as outside
 use Rattle.oci_plan.specs.Plan.{Planned}
-use Rattle.oci_copy.specs.Grown.{IsGrown, IsTold}
+use Rattle.oci_plan.specs.Visiting.{IsSoundItem}
+use Rattle.oci_store.specs.State.{State}
+use Rattle.oci_copy.specs.Copy.{IsCopy, OnlyGrows}
+use Rattle.oci_copy.specs.Grown.{graph_of, BeginsWith, IsGrown, IsTold}
 use Rattle.oci_copy.specs.Kept.{Keeps}
 use Rattle.oci_copy.specs.Planned.{IsPlanOf}
 use Rattle.oci_copy.proofs.Growth.{HasAll-append}
@@ -58,59 +61,94 @@ Agree-grown {X} source old added agree own k x y at_source at_new =
       | inr new ↦ same_Some x y (sym at_source ∙ All-value_at (λ (e : Descriptor × X). value_at source e.0 ≡ Some e.1) added k y own new)
     ]
 
-module _ {honest shares : Type 0} {source : List Entry} {limit : ℕ} {p : Planned} {roots : List Descriptor} {sound0 : Type 0} {nodes0 : List Node} {entries0 : List Entry} {failures0 : ℕ}
-    {sound1 : Type 0} {nodes1 : List Node} {entries1 : List Entry} {failures1 : ℕ}
-    (plan : IsPlanOf honest source limit nodes0 roots p) (keeps : Keeps honest shares source p.keys sound0 nodes0 entries0 failures0 sound1 nodes1 entries1 failures1) where
-  abbrev Told : Type 0
-  Told = IsTold honest sound0 shares failures0 failures1 source entries0
+-- what only grew by nodes all of whose listed keys are held is closed where it was
+pub closed_kept : {shares : Type 0} {source : State} {planned : List Descriptor} {opening now : State} → Keeps shares source planned opening now → IsClosed opening.nodes → IsClosed now.nodes
+closed_kept {shares} {source} {planned} {opening} {now} keeps was =
+    let more : (ks : List Descriptor) → HasAll opening.nodes ks → HasAll now.nodes ks =
+    λ (ks : List Descriptor) (h : HasAll opening.nodes ks). subst (λ (l : List Node). HasAll l ks) (sym keeps.is) (HasAll-append opening.nodes keeps.added ks h) in
+    let old = All-weaker (λ (n : Node). HasAll opening.nodes n.1) (λ (n : Node). HasAll now.nodes n.1) (λ n h. more n.1 h) opening.nodes was in
+    subst (λ (l : List Node). All (λ (n : Node). HasAll now.nodes n.1) l) (sym keeps.is) (All-append (λ (n : Node). HasAll now.nodes n.1) opening.nodes keeps.added old keeps.supported)
 
+module _ {shares : Type 0} {source : State} {limit : ℕ} {opening now : State} {p : Planned} {roots : List Descriptor}
+    (plan : IsPlanOf source limit opening roots p) (keeps : Keeps shares source p.keys opening now) where
   -- what is planned is reached
-  reached : honest → (k : Descriptor) → Contains p.keys k → Reaches (nodes_of source) roots k
-  reached h k there = reached-from_outside (nodes_of source) nodes0 roots k ((plan.outside h k).0 there)
+  reached : source.is_honest → (k : Descriptor) → Contains p.keys k → Reaches (graph_of source) roots k
+  reached h k there = reached-from_outside (graph_of source) opening.nodes roots k ((plan.outside h k).0 there)
 
-  pub closed : IsClosed nodes0 → IsClosed nodes1
-  closed was =
-      let more : (ks : List Descriptor) → HasAll nodes0 ks → HasAll nodes1 ks = λ (ks : List Descriptor) (h : HasAll nodes0 ks). subst (λ (l : List Node). HasAll l ks) (sym keeps.is) (HasAll-append nodes0 keeps.added ks h) in
-      let old = All-weaker (λ (n : Node). HasAll nodes0 n.1) (λ (n : Node). HasAll nodes1 n.1) (λ n h. more n.1 h) nodes0 was in
-      subst (λ (l : List Node). All (λ (n : Node). HasAll nodes1 n.1) l) (sym keeps.is) (All-append (λ (n : Node). HasAll nodes1 n.1) nodes0 keeps.added old keeps.supported)
-
-  each : honest → AreReached (nodes_of source) (nodes_of source) roots keeps.added
+  each : source.is_honest → AreReached (graph_of source) (graph_of source) roots keeps.added
   each h = λ i d lt. (keeps.own h i d lt, reached h _ (keeps.planned_keys i d lt))
 
-  pub grown : honest → IsGrown (nodes_of source) (nodes_of source) roots nodes0 nodes1
-  grown h = (keeps.added, keeps.is, each h)
-
-  pub grown_content : Told → IsGrown (nodes_of source) source roots entries0 entries1
+  grown_content : IsTold shares source opening now → IsGrown (graph_of source) source.entries roots opening.entries now.entries
   grown_content told =
       let was = (keeps.told told).1 in
       (was.added, was.is, λ i d lt. let e = was.each i d lt in (e.1, reached told.is_honest _ e.0))
 
+  -- a run that kept what it owes only grew
+  pub only_grows : OnlyGrows shares source opening roots now
+  only_grows = record {
+    begins = (keeps.added, keeps.is);
+    grown = λ h. (keeps.added, keeps.is, each h);
+    grown_content = grown_content;
+    sound = λ told. (keeps.told told).0;
+    closed = closed_kept keeps;
+    failures = keeps.rising;
+    name = keeps.name;
+  }
+
   -- where the planned keys are held, so are the roots
-  pub roots_held : HasAll nodes1 p.keys → HasAll nodes1 roots
-  roots_held all = All-weaker (λ k. (has_key nodes0 k ≡ true) ⊎ Contains p.keys k) (λ k. has_key nodes1 k ≡ true) held roots plan.roots_held
+  roots_held : HasAll now.nodes p.keys → HasAll now.nodes roots
+  roots_held all = All-weaker (λ k. (has_key opening.nodes k ≡ true) ⊎ Contains p.keys k) (λ k. has_key now.nodes k ≡ true) held roots plan.roots_held
     where
-      held : (k : Descriptor) → (has_key nodes0 k ≡ true) ⊎ Contains p.keys k → has_key nodes1 k ≡ true
-      held k (inl old) = subst (λ (l : List Node). has_key l k ≡ true) (sym keeps.is) (has_key-append_left nodes0 keeps.added k old)
-      held k (inr new) = All-contains (λ d. has_key nodes1 d ≡ true) p.keys k all new
+      held : (k : Descriptor) → (has_key opening.nodes k ≡ true) ⊎ Contains p.keys k → has_key now.nodes k ≡ true
+      held k (inl old) = subst (λ (l : List Node). has_key l k ≡ true) (sym keeps.is) (has_key-append_left opening.nodes keeps.added k old)
+      held k (inr new) = All-contains (λ d. has_key now.nodes d ≡ true) p.keys k all new
 
-  module _ (was_closed : IsClosed nodes0) (all : HasAll nodes1 p.keys) where
-    pub reached_held : honest → Agree (nodes_of source) nodes0 → (k : Descriptor) → Reaches (nodes_of source) roots k → has_key nodes1 k ≡ true
+  module _ (was_closed : IsClosed opening.nodes) (all : HasAll now.nodes p.keys) where
+    agrees : source.is_honest → Agree (graph_of source) opening.nodes → Agree (graph_of source) (opening.nodes ++ keeps.added)
+    agrees h agree = Agree-grown (graph_of source) opening.nodes keeps.added agree (keeps.own h)
+
+    reached_held : source.is_honest → Agree (graph_of source) opening.nodes → (k : Descriptor) → Reaches (graph_of source) roots k → has_key now.nodes k ≡ true
     reached_held h agree =
-        let after : Agree (nodes_of source) nodes1 = subst (Agree (nodes_of source)) (sym keeps.is) (Agree-grown (nodes_of source) nodes0 keeps.added agree (keeps.own h)) in
-        holds_reached (nodes_of source) nodes1 roots after (closed was_closed) (roots_held all)
+        let after : Agree (graph_of source) now.nodes = subst (Agree (graph_of source)) (sym keeps.is) (agrees h agree) in
+        holds_reached (graph_of source) now.nodes roots after (closed_kept keeps was_closed) (roots_held all)
 
-    pub copied : honest → Agree (nodes_of source) nodes0 → IsCopied (nodes_of source) (nodes_of source) roots nodes0 nodes1
+    copied : source.is_honest → Agree (graph_of source) opening.nodes → IsCopied (graph_of source) (graph_of source) roots opening.nodes now.nodes
     copied h agree =
-        subst (λ (l : List Node). IsCopied (nodes_of source) (nodes_of source) roots nodes0 l) (sym keeps.is)
-        (grows_to_copy (List Descriptor) (nodes_of source) (nodes_of source) nodes0 keeps.added roots (Agree-grown (nodes_of source) nodes0 keeps.added agree (keeps.own h)) (each h)
+        subst (λ (l : List Node). IsCopied (graph_of source) (graph_of source) roots opening.nodes l) (sym keeps.is)
+        (grows_to_copy (List Descriptor) (graph_of source) (graph_of source) opening.nodes keeps.added roots (agrees h agree) (each h)
         (λ k r. subst (λ (l : List Node). has_key l k ≡ true) keeps.is (reached_held h agree k r)))
 
-    pub copied_content : (sound0 → nodes0 ≡ nodes_of entries0) → keys_of nodes1 ≡ keys_of entries1 → Told → Agree source entries0 → IsCopied (nodes_of source) source roots entries0 entries1
-    copied_content listed same told agrees =
+    copied_content : (opening.is_sound → opening.nodes ≡ graph_of opening) → keys_of now.nodes ≡ keys_of now.entries → IsTold shares source opening now → Agree source.entries opening.entries
+        → IsCopied (graph_of source) source.entries roots opening.entries now.entries
+    copied_content listed same told agree_entries =
         let was = (keeps.told told).1 in
-        let own : All (λ (e : Entry). value_at source e.0 ≡ Some e.1) was.added = λ i d lt. (was.each i d lt).1 in
-        let agree : Agree (nodes_of source) nodes0 = subst (Agree (nodes_of source)) (sym (listed told.is_sound)) (Agree-nodes_of source entries0 agrees) in
-        let holds : (k : Descriptor) → Reaches (nodes_of source) roots k → has_key entries1 k ≡ true = λ k r. has_key-same_keys nodes1 entries1 k same (reached_held told.is_honest agree k r) in
-        subst (λ (l : List Entry). IsCopied (nodes_of source) source roots entries0 l) (sym was.is)
-        (grows_to_copy (List ℕ) (nodes_of source) source entries0 was.added roots (Agree-grown source entries0 was.added agrees own) (λ i d lt. let e = was.each i d lt in (e.1, reached told.is_honest _ e.0))
+        let own : All (λ (e : Entry). value_at source.entries e.0 ≡ Some e.1) was.added = λ i d lt. (was.each i d lt).1 in
+        let agree : Agree (graph_of source) opening.nodes = subst (Agree (graph_of source)) (sym (listed told.is_sound)) (Agree-nodes_of source.entries opening.entries agree_entries) in
+        let holds : (k : Descriptor) → Reaches (graph_of source) roots k → has_key now.entries k ≡ true = λ k r. has_key-same_keys now.nodes now.entries k same (reached_held told.is_honest agree k r) in
+        subst (λ (l : List Entry). IsCopied (graph_of source) source.entries roots opening.entries l) (sym was.is)
+        (grows_to_copy (List ℕ) (graph_of source) source.entries opening.entries was.added roots (Agree-grown source.entries opening.entries was.added agree_entries own)
+        (λ i d lt. let e = was.each i d lt in (e.1, reached told.is_honest _ e.0))
         (λ k r. subst (λ (l : List Entry). has_key l k ≡ true) was.is (holds k r)))
+
+    -- a run that holds all that is planned made a copy
+    pub is_copy : (opening.is_sound → opening.nodes ≡ graph_of opening) → keys_of now.nodes ≡ keys_of now.entries → IsCopy shares limit source opening roots now
+    is_copy listed same = record {
+      graph = copied;
+      reached = reached_held;
+      content = copied_content listed same;
+      roots_held = roots_held all;
+      was_closed = was_closed;
+      was_sound = λ h k outside. All-contains (IsSoundItem source.entries limit) p.keys k (plan.sound h) ((plan.outside h k).1 outside);
+    }
+
+-- a copy that has no plan changed nothing
+pub unchanged_grows : (shares : Type 0) (source opening : State) (roots : List Descriptor) → OnlyGrows shares source opening roots opening
+unchanged_grows shares source opening roots = record {
+  begins = ([], sym (append-nil opening.nodes));
+  grown = λ h. ([], sym (append-nil opening.nodes), All-nil (λ (e : Node). (value_at (graph_of source) e.0 ≡ Some e.1) × Reaches (graph_of source) roots e.0));
+  grown_content = λ told. ([], sym (append-nil opening.entries), All-nil (λ (e : Entry). (value_at source.entries e.0 ≡ Some e.1) × Reaches (graph_of source) roots e.0));
+  sound = λ told. told.is_sound;
+  closed = λ was. was;
+  failures = omega arith;
+  name = refl;
+}

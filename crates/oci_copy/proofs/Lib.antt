@@ -5,3 +5,4 @@ pub mod Places
 pub mod Headline
 pub mod References
 pub mod Unfailing
+pub mod Tagging

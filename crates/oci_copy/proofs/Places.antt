@@ -147,24 +147,12 @@ module _ (p : Planned) (plan : IsPlan p) (order : IsOrder p.order) where
           let there : Contains (keys_before place p) k = to_filter_map (slice_get p.keys) (take place sequence) c.0 k (subst (λ (ns : List ℕ). Contains ns c.0) (sym whole) listed) is in
           has_key-from_Contains now k (subst (λ (ks : List Descriptor). Contains ks k) (sym keys) (Contains-append_right (keys_of opening) (keys_before place p) k there))
 
-  -- what the key of a place lists is held by then
-  pub ready_at : (source : List Entry) (opening now : List Node) (place n : ℕ) (k : Descriptor) (bytes : List ℕ)
-      → All (λ d. (b : List ℕ) → value_at source d ≡ Some b → IsOk (succ_of d b)) p.keys → FollowsListed (nodes_of source) opening p → keys_of now ≡ keys_of opening ++ keys_before place p
-      → slice_get p.order.sequence place ≡ Some n → slice_get p.keys n ≡ Some k → value_at source k ≡ Some bytes
-      → (listed : List Descriptor) × (succ_of k bytes ≡ Ok listed) × HasAll now listed
-  ready_at source opening now place n k bytes reads follows keys at is own = from_read (succ_of k bytes) refl (All-contains (λ d. (b : List ℕ) → value_at source d ≡ Some b → IsOk (succ_of d b)) p.keys k reads (Contains-from_slice_get p.keys n k is) bytes own)
+  -- what the source lists under the key of a place is held by then
+  pub ready_at : (source opening now : List Node) (place n : ℕ) (k : Descriptor) → FollowsListed source opening p → keys_of now ≡ keys_of opening ++ keys_before place p
+      → slice_get p.order.sequence place ≡ Some n → slice_get p.keys n ≡ Some k → HasAll now (successors_at source k)
+  ready_at source opening now place n k follows keys at is =
+      All-weaker (λ to. (has_key opening to ≡ true) ⊎ Contains (keys_before place p) to) (λ to. has_key now to ≡ true) held (successors_at source k) (follows place n k at is)
     where
-      lists : successors_at (nodes_of source) k ≡ successors_in k bytes
-      lists = ap (λ (o : Option (List Descriptor)). unwrap_or o []) (value_at-nodes_of source k ∙ ap (option_map (successors_in k)) own)
-
       held : (to : Descriptor) → (has_key opening to ≡ true) ⊎ Contains (keys_before place p) to → has_key now to ≡ true
       held to (inl old) = has_key-from_Contains now to (subst (λ (ks : List Descriptor). Contains ks to) (sym keys) (Contains-append_left (keys_of opening) (keys_before place p) to (Contains-from_has_key opening to old)))
       held to (inr before) = has_key-from_Contains now to (subst (λ (ks : List Descriptor). Contains ks to) (sym keys) (Contains-append_right (keys_of opening) (keys_before place p) to before))
-
-      all : HasAll now (successors_in k bytes)
-      all = All-weaker (λ to. (has_key opening to ≡ true) ⊎ Contains (keys_before place p) to) (λ to. has_key now to ≡ true) held (successors_in k bytes)
-          (subst (λ (ks : List Descriptor). All (λ to. (has_key opening to ≡ true) ⊎ Contains (keys_before place p) to) ks) lists (follows place n k at is))
-
-      from_read : (r : Result (List Descriptor) Fault) → succ_of k bytes ≡ r → IsOk r → (listed : List Descriptor) × (succ_of k bytes ≡ Ok listed) × HasAll now listed
-      from_read (Ok listed) read ok = (listed, read, subst (HasAll now) (ap (λ (r : Result (List Descriptor) Fault). result_unwrap_or r []) read) all)
-      from_read (Err f) read ok = cc ok

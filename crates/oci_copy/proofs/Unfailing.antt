@@ -4,8 +4,10 @@ use Rattle.std.specs.Prelude.{IsOk, length}
 use Rattle.std.proofs.lemmas.Bool.{false≢true}
 use Rattle.oci_manifest.specs.Descriptor.{Descriptor}
 use Rattle.oci_store.specs.Content.{Entry, IsContent, succ_of}
-use Rattle.oci_store.specs.Graph.{Node, nodes_of}
+use Rattle.oci_store.specs.Contents.{Contents}
+use Rattle.oci_store.specs.Graph.{nodes_of}
 use Rattle.oci_store.specs.Closed.{IsClosed}
+use Rattle.oci_store.specs.State.{State, in_memory}
 use Rattle.oci_store.specs.declared.fault.PushFault.{PushFault}
 use Rattle.oci_store.specs.declared.fault.PushFault.TheVariants as push
 use Rattle.oci_store.proofs.ClosedGraphs.{first_open-from_IsClosed}
@@ -14,61 +16,47 @@ use Rattle.oci_plan.specs.declared.fault.PlanFault.{PlanFault}
 use Rattle.oci_plan.specs.declared.fault.PlanFault.TheVariants as plan
 use Rattle.oci_copy.specs.declared.fault.CopyFault.{CopyFault}
 use Rattle.oci_copy.specs.declared.fault.CopyFault.TheVariants as fault
-use Rattle.oci_copy.specs.Fault.{IsPlanCause, IsPushCause, Refused}
+use Rattle.oci_copy.specs.Cause.{IsPlanCause, IsPushCause, IsRefusal}
 use Rattle.oci_copy.specs.Grown.{IsTold}
-use Rattle.oci_copy.specs.Plain.{NotPlanned, RefusedForPlan}
+use Rattle.oci_copy.proofs.Causes.{not_err}
+use Rattle.oci_copy.specs.Plain.{IsUnfailing, NotPlanned, RefusedForPlan}
 
-not_err : {X F : Type 0} (r : Result X F) (f : F) → r ≡ Err f → IsOk r → ⊥
-not_err (Ok x) f e ok = cc e
-not_err (Err g) f e ok = cc ok
-
-module _ (honest halted : Type 0) (fails : Descriptor → Bool) (source : List Entry) (limit : ℕ) (opening : List Node) (roots : List Descriptor) (before after : ℕ)
-    (h : honest) (not_halted : halted → ⊥) (never : (k : Descriptor) → fails k ≡ false) (content : IsContent source) (closed : IsClosed opening) (none : after ≡ 0) where
-  not_planned : (e : PlanFault) → IsPlanCause honest fails source limit opening roots e → NotPlanned source limit opening roots e
-  not_planned (plan.NotFound k) cause = (cause.first h, cause.named.1)
-  not_planned (plan.TooLarge k l) cause = (cause.first h, cause.named.0, cause.named.1)
-  not_planned (plan.Cycle keys) cause = cause.first h
-  not_planned (plan.Manifest k e) cause =
+module _ {source opening now : State} (unfailing : IsUnfailing source opening now) where
+  pub not_planned : (limit : ℕ) (roots : List Descriptor) (e : PlanFault) → IsPlanCause source limit opening roots e → NotPlanned source.entries limit opening.nodes roots e
+  not_planned limit roots (plan.NotFound k) cause = (cause.first unfailing.is_honest, cause.named.1)
+  not_planned limit roots (plan.TooLarge k l) cause = (cause.first unfailing.is_honest, cause.named.0, cause.named.1)
+  not_planned limit roots (plan.Cycle keys) cause = cause.first unfailing.is_honest
+  not_planned limit roots (plan.Manifest k e) cause =
       let unread = cause.named.2 in
-      let reads = All-value_at (λ (e : Entry). IsOk (succ_of e.0 e.1)) source k unread.bytes content.readable (unread.own h) in
+      let reads = All-value_at (λ (e : Entry). IsOk (succ_of e.0 e.1)) source.entries k unread.bytes unfailing.content.readable (unread.own unfailing.is_honest) in
       absurd (not_err (succ_of k unread.bytes) unread.cause unread.breaks reads)
-  not_planned (plan.Fetch k e) cause = absurd (false≢true (sym (never k) ∙ cause.named.2))
-  not_planned plan.Memory cause = absurd cause.told
-  not_planned plan.TooMany cause = cause.first h
+  not_planned limit roots (plan.Fetch k e) cause = absurd (false≢true (sym (unfailing.gives k) ∙ cause.named.2))
+  not_planned limit roots plan.Memory cause = absurd cause.told
+  not_planned limit roots plan.TooMany cause = cause.first unfailing.is_honest
 
-  not_refused : (e : PushFault) → IsPushCause honest halted before after e → ⊥
-  not_refused push.AlreadyExists cause = cause
-  not_refused push.SizeMismatch cause = cause
-  not_refused push.DigestMismatch cause = cause
-  not_refused (push.BadManifest m) cause = cause.0 h
-  not_refused push.Memory cause = cause
-  not_refused (push.MissingSuccessor k) cause = cause
-  not_refused push.Device cause = elim cause [ inl rose ↦ omega arith | inr most ↦ omega arith ]
-  not_refused push.Halted cause = not_halted cause
+  not_refused : (k : Descriptor) (e : PushFault) → IsPushCause source opening now k e → ⊥
+  not_refused k (push.BadManifest m) cause = cause.1 unfailing.is_honest
+  not_refused k push.Device cause = let none = unfailing.no_failures in elim cause [ inl rose ↦ omega arith | inr most ↦ omega arith ]
+  not_refused k push.Halted cause = unfailing.takes cause
+  not_refused k other cause = cause
 
-  pub refused_for_plan : (told : CopyFault) → Refused honest halted fails source limit opening roots before after told → RefusedForPlan source limit opening roots told
-  refused_for_plan (fault.DestinationOpen holder missing) cause =
-      let both : Some (holder, missing) ≡ None = sym cause ∙ first_open-from_IsClosed opening closed in
+  pub refused_for_plan : (limit : ℕ) (roots : List Descriptor) (told : CopyFault) → IsRefusal limit source opening roots now told → RefusedForPlan source.entries limit opening.nodes roots told
+  refused_for_plan limit roots (fault.DestinationOpen holder missing) cause =
+      let both : Some (holder, missing) ≡ None = sym cause ∙ first_open-from_IsClosed opening.nodes unfailing.closed in
       cc both
-  refused_for_plan (fault.Plan e) cause = not_planned e cause.1
-  refused_for_plan (fault.Fetch k e) cause = absurd (false≢true (sym (never k) ∙ cause.2))
-  refused_for_plan (fault.Push k e) cause = absurd (not_refused e cause.2)
-  refused_for_plan (fault.Stuck k) cause = absurd (cause.2 h)
-  refused_for_plan (fault.Incomplete k) cause = absurd cause
-  refused_for_plan fault.BadWorkers cause = absurd cause
-  refused_for_plan fault.Memory cause = tt
-  refused_for_plan (fault.Reference e) cause = absurd cause
+  refused_for_plan limit roots (fault.Plan e) cause = not_planned limit roots e cause.1
+  refused_for_plan limit roots (fault.Fetch k e) cause = absurd (false≢true (sym (unfailing.gives k) ∙ cause.2.0))
+  refused_for_plan limit roots (fault.Push k e) cause = absurd (not_refused k e cause.2)
+  refused_for_plan limit roots (fault.Stuck k) cause = absurd (cause.2.dishonest unfailing.is_honest)
+  refused_for_plan limit roots fault.Memory cause = tt
+  refused_for_plan limit roots other cause = absurd cause
 
 -- what is supposed so that bytes can be told holds of stores in memory
-pub told_in_memory : (honest sound shares : Type 0) → honest → sound → (shares → ⊥) → (source old : List Entry) → IsTold honest sound shares 0 0 source old
-told_in_memory honest sound shares h s never source old = record {
-  is_honest = h;
-  is_sound = s;
+pub told_in_memory : (source opening now : Contents) → IsTold ⊥ (in_memory source.entries source.tags) (in_memory opening.entries opening.tags) (in_memory now.entries now.tags)
+told_in_memory source opening now = record {
+  is_honest = tt;
+  is_sound = tt;
   is_calm = (refl, omega arith);
-  same_old = λ shared. absurd (never shared);
-  same_source = λ shared. absurd (never shared);
+  same_old = λ shared. absurd shared;
+  same_source = λ shared. absurd shared;
 }
-
-pub length-nodes_of : (entries : List Entry) → length (nodes_of entries) ≡ length entries
-length-nodes_of [] = refl
-length-nodes_of (e ∷ entries) = omega (arith, length-nodes_of entries)

@@ -3,9 +3,14 @@ use Rattle.std.specs.Prelude.{◌≡◌, ℕ, List, ◌++◌, Some}
 use Rattle.oci_manifest.specs.Descriptor.{Descriptor}
 use Rattle.oci_store.specs.Keyed.{value_at}
 use Rattle.oci_store.specs.Content.{Entry}
-use Rattle.oci_store.specs.Graph.{Node}
+use Rattle.oci_store.specs.Graph.{Node, nodes_of}
 use Rattle.oci_store.specs.Copied.{AreReached}
 use Rattle.oci_store.specs.Push.{IsCalm}
+use Rattle.oci_store.specs.State.{State}
+
+-- the graph that the store's bytes make
+abbrev pub graph_of : State → List Node
+graph_of store = nodes_of store.entries
 
 -- the new list begins with the old one
 abbrev pub BeginsWith : {X : Type 0} → List X → List X → Type 0
@@ -19,11 +24,12 @@ IsGrown {X} graph source roots old new = (added : List (Descriptor × X)) × (ne
 abbrev pub SameByDigest : List Entry → List Entry → Type 0
 SameByDigest a b = (k other : Descriptor) (x y : List ℕ) → value_at a k ≡ Some x → value_at b other ≡ Some y → other.digest ≡ k.digest → y ≡ x
 
--- The bytes of a copy can be told: the source is honest, the destination was sound, none of its puts failed meanwhile and
--- none could fail uncounted, and where the destination keeps one file per digest, keys of one digest have the same bytes.
-pub record IsTold (honest sound shares : Type 0) (failures_before failures_after : ℕ) (source old : List Entry) : Type 0 where
-  pub is_honest : honest
-  pub is_sound : sound
-  pub is_calm : IsCalm failures_before failures_after
-  pub same_old : shares → SameByDigest source old
-  pub same_source : shares → SameByDigest source source
+-- The bytes of a copy can be told: the source is honest, the destination was sound, none of its puts failed from its opening
+-- until now and none could fail uncounted, and where the destination keeps one file per digest, keys of one digest have the
+-- same bytes.
+pub record IsTold (shares : Type 0) (source opening now : State) : Type 0 where
+  pub is_honest : source.is_honest
+  pub is_sound : opening.is_sound
+  pub is_calm : IsCalm opening.failures now.failures
+  pub same_old : shares → SameByDigest source.entries opening.entries
+  pub same_source : shares → SameByDigest source.entries source.entries

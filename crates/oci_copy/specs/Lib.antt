@@ -2,7 +2,9 @@ pub mod Options
 pub mod Grown
 pub mod Kept
 pub mod Planned
-pub mod Fault
+pub mod Copy
 pub mod Report
+pub mod Fault
+pub mod Cause
 pub mod Tagged
 pub mod Plain

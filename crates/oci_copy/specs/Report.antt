@@ -1,11 +1,14 @@
 -- The numbers of a copy's report.
-use Rattle.std.specs.Prelude.{◌≡◌, ℕ, List, length, filter, ◌↔◌, Contains}
+use Rattle.std.specs.Prelude.{◌≡◌, ◌+◌, ℕ, List, length, filter, ◌↔◌, Contains}
 use Rattle.std.specs.List.{IsDistinct}
 use Rattle.oci_manifest.specs.Descriptor.{Descriptor, same_key}
 use Rattle.oci_manifest.specs.Manifest.{first_places}
 use Rattle.oci_store.specs.Keyed.{has_key}
 use Rattle.oci_store.specs.Graph.{Node}
+use Rattle.oci_store.specs.State.{State}
 use Rattle.oci_plan.specs.Outside.{IsOutside}
+use Rattle.oci_copy.specs.Grown.{graph_of}
+use Rattle.oci_copy.specs.declared.report.Report.{Report}
 
 -- this many keys are outside the held ones
 abbrev pub IsOutsideCount : List Node → List Node → List Descriptor → ℕ → Type 0
@@ -15,3 +18,13 @@ IsOutsideCount source held roots n = (keys : List Descriptor) × IsDistinct same
 -- how many distinct roots are held
 abbrev pub held_count : List Node → List Descriptor → ℕ
 held_count held roots = length (first_places (filter (has_key held) roots))
+
+-- what a copy that succeeded tells
+pub record IsReport (source opening : State) (roots : List Descriptor) (now : State) (report : Report) : Type 0 where
+  -- of an honest source as many keys were planned as were outside the destination
+  pub planned : source.is_honest → IsOutsideCount (graph_of source) opening.nodes roots report.planned
+  -- all of them were pushed, and so many keys came
+  pub pushed : report.planned ≡ report.pushed
+  pub gained : length now.nodes ≡ length opening.nodes + report.pushed
+  -- so many distinct roots were held
+  pub skipped : report.skipped ≡ held_count opening.nodes roots

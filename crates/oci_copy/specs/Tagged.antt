@@ -1,7 +1,9 @@
 -- Copies by reference: the root that a reference stands for, and the tag that is set.
 use Rattle.std.specs.Prelude.{◌≡◌, ◌≢◌, ℕ, ◌<◌, ◌≤◌, ◌==◌, length, ◌⊎◌, List, [], ◌∷◌, if◌then◌else◌}
+use Rattle.std.specs.Map.{keys_of}
 use Rattle.oci_manifest.specs.Descriptor.{Descriptor}
-use Rattle.oci_store.specs.Tags.{Tags, Resolves}
+use Rattle.oci_store.specs.State.{State}
+use Rattle.oci_store.specs.Tags.{Resolves}
 use Rattle.oci_store.specs.declared.fault.RefFault.{RefFault}
 use Rattle.oci_store.specs.declared.fault.RefFault.TheVariants as reference
 use Rattle.oci_copy.specs.declared.fault.CopyFault.{CopyFault}
@@ -11,28 +13,32 @@ use Rattle.oci_copy.specs.declared.fault.CopyFault.TheVariants as fault
 abbrev pub name_of : List ℕ → List ℕ → List ℕ
 name_of source_reference destination_reference = if length destination_reference == 0 then source_reference else destination_reference
 
+-- the reference stands for the key in the store
+abbrev pub ResolvesIn : State → List ℕ → Descriptor → Type 0
+ResolvesIn store name k = Resolves (keys_of store.nodes) store.tags name k
+
 -- there is no root as yet, or it is the key that the reference stands for
-abbrev pub IsRootOf : List Descriptor → Tags → List ℕ → List Descriptor → Type 0
-IsRootOf keys tags name roots = (roots ≡ []) ⊎ ((k : Descriptor) × (roots ≡ k ∷ []) × Resolves keys tags name k)
+abbrev pub IsRootOf : State → List ℕ → List Descriptor → Type 0
+IsRootOf store name roots = (roots ≡ []) ⊎ ((k : Descriptor) × (roots ≡ k ∷ []) × ResolvesIn store name k)
 
 -- why a reference does not resolve
-abbrev pub IsReferenceCause : List Descriptor → Tags → List ℕ → RefFault → Type 0
-IsReferenceCause keys tags name reference.EmptyReference = name ≡ []
-IsReferenceCause keys tags name reference.UnknownReference = (name ≢ []) × ((k : Descriptor) → Resolves keys tags name k → ⊥)
-IsReferenceCause keys tags name reference.NotHeld = ⊥
-IsReferenceCause keys tags name reference.Memory = ⊥
+abbrev pub IsReferenceCause : State → List ℕ → RefFault → Type 0
+IsReferenceCause store name reference.EmptyReference = name ≡ []
+IsReferenceCause store name reference.UnknownReference = (name ≢ []) × ((k : Descriptor) → ResolvesIn store name k → ⊥)
+IsReferenceCause store name reference.NotHeld = ⊥
+IsReferenceCause store name reference.Memory = ⊥
 
 -- the reference stands for a key, there are at most 64 workers, and the copy of that key is refused for its cause
-abbrev pub IsRefusedRoot : List Descriptor → Tags → List ℕ → ℕ → (List Descriptor → CopyFault → Type 0) → CopyFault → Type 0
-IsRefusedRoot keys tags name workers cause e = (k : Descriptor) × Resolves keys tags name k × (workers ≤ 64) × cause (k ∷ []) e
+abbrev pub IsRefusedRoot : State → List ℕ → ℕ → (List Descriptor → CopyFault → Type 0) → CopyFault → Type 0
+IsRefusedRoot store name workers cause e = (k : Descriptor) × ResolvesIn store name k × (workers ≤ 64) × cause (k ∷ []) e
 
 -- Why a copy by reference is refused. The causes are looked at in this order: the source's reference does not resolve; there
 -- are too many workers; the copy of the root is refused. Setting the tag can only want memory.
-abbrev pub RefusedByReference : List Descriptor → Tags → List ℕ → ℕ → (List Descriptor → CopyFault → Type 0) → CopyFault → Type 0
-RefusedByReference keys tags name workers cause (fault.Reference e) = IsReferenceCause keys tags name e
-RefusedByReference keys tags name workers cause fault.BadWorkers = (k : Descriptor) × Resolves keys tags name k × (64 < workers)
-RefusedByReference keys tags name workers cause fault.Memory = Unit {0}
-RefusedByReference keys tags name workers cause e = IsRefusedRoot keys tags name workers cause e
+abbrev pub RefusedByReference : State → List ℕ → ℕ → (List Descriptor → CopyFault → Type 0) → CopyFault → Type 0
+RefusedByReference store name workers cause (fault.Reference e) = IsReferenceCause store name e
+RefusedByReference store name workers cause fault.BadWorkers = (k : Descriptor) × ResolvesIn store name k × (64 < workers)
+RefusedByReference store name workers cause fault.Memory = Unit {0}
+RefusedByReference store name workers cause e = IsRefusedRoot store name workers cause e
 
 -- what a refused reference is told as: itself, or want of memory where it was that
 abbrev pub TellsReference : RefFault → CopyFault → Type 0

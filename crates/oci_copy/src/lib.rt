@@ -19,6 +19,7 @@
 #![tactic(auto)]
 
 mod fault;
+mod fetching;
 mod memory;
 mod options;
 mod planning;

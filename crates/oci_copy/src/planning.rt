@@ -1,8 +1,9 @@
-ghost use Rattle.std.specs.Prelude.{◌≡◌, OnOk, IfOk, IfErr};
+ghost use Rattle.std.specs.Prelude.{OnOk, IfOk, IfErr};
 ghost use Rattle.oci_store.specs.Closed.{IsClosed};
+ghost use Rattle.oci_copy.specs.Cause.{IsOpenCause, IsStartCause};
+ghost use Rattle.oci_copy.specs.Fault.{TellsPlan};
 ghost use Rattle.oci_copy.specs.Options.{limit_of};
 ghost use Rattle.oci_copy.specs.Planned.{IsPlanOf};
-ghost use Rattle.oci_copy.specs.Fault.{IsOpenCause, IsStartCause, TellsPlan};
 
 use crate::fault::CopyFault;
 use crate::options::Options;
@@ -20,10 +21,8 @@ pub(crate) fn plan_copy<A: Source, D: Dest>(
     options: &Options,
 ) -> Result<Plan, CopyFault>
     ensures closed { OnOk result (IsClosed (D.state destination.now).nodes) }
-    ensures plan { IfOk result (IsPlanOf (A.state source.now).is_honest (A.state source.now).entries (limit_of options.now)
-        (D.state destination.now).nodes roots.now) }
-    ensures cause { IfErr result (IsStartCause (A.state source.now).is_honest (A.state source.now).fails_at (A.state source.now).entries
-        (limit_of options.now) (D.state destination.now).nodes roots.now) }
+    ensures plan { IfOk result (IsPlanOf (A.state source.now) (limit_of options.now) (D.state destination.now) roots.now) }
+    ensures cause { IfErr result (IsStartCause (limit_of options.now) (A.state source.now) (D.state destination.now) roots.now) }
 {
     check_closed(destination)?;
     let limit = options.metadata_limit();
@@ -36,7 +35,7 @@ pub(crate) fn plan_copy<A: Source, D: Dest>(
 /// A copy goes to a closed destination alone.
 fn check_closed<D: Dest>(destination: &D) -> Result<(), CopyFault>
     ensures closed { OnOk result (IsClosed (D.state destination.now).nodes) }
-    ensures open { IfErr result (IsOpenCause (D.state destination.now).nodes) }
+    ensures open { IfErr result (IsOpenCause (D.state destination.now)) }
 {
     match destination.missing() {
         Ok(None) => Ok(()),

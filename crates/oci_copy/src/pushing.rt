@@ -1,10 +1,10 @@
-ghost use Rattle.std.specs.Prelude.{◌≡◌, ◌+◌, ◌<◌, ◌≤◌, ℕ, Some, length, slice_get, OnOk, IfErr};
+ghost use Rattle.std.specs.Prelude.{◌≡◌, ◌+◌, ◌<◌, ℕ, Some, length, slice_get, OnOk, IfErr};
 ghost use Rattle.oci_store.specs.Keyed.{HasAll};
 ghost use Rattle.oci_plan.specs.Order.{IsOrder};
 ghost use Rattle.oci_plan.specs.Plan.{IsPlan};
+ghost use Rattle.oci_copy.specs.Cause.{IsRunCause};
 ghost use Rattle.oci_copy.specs.Kept.{Keeps};
 ghost use Rattle.oci_copy.specs.Planned.{CanPush};
-ghost use Rattle.oci_copy.specs.Fault.{IsRunCause};
 
 use crate::fault::CopyFault;
 use crate::push::push_planned;
@@ -18,16 +18,11 @@ pub(crate) fn push_all<A: Source, D: Dest>(
     destination: &mut D,
     plan: &Plan,
 ) -> Result<(), CopyFault>
-    requires { CanPush (A.state source.now).is_honest (A.state source.now).entries (D.state destination.old).nodes plan.now }
+    requires { CanPush (A.state source.now) (D.state destination.old) plan.now }
     ensures held { OnOk result (HasAll (D.state destination.new).nodes plan.now.keys) }
     ensures count { OnOk result (length (D.state destination.new).nodes ≡ length (D.state destination.old).nodes + length plan.now.keys) }
-    ensures keeps { Keeps (A.state source.now).is_honest D.shares (A.state source.now).entries plan.now.keys
-        (D.state destination.old).is_sound (D.state destination.old).nodes (D.state destination.old).entries (D.state destination.old).failures
-        (D.state destination.new).is_sound (D.state destination.new).nodes (D.state destination.new).entries (D.state destination.new).failures }
-    ensures cause { IfErr result (IsRunCause (A.state source.now).is_honest (D.state destination.old).is_halted (A.state source.now).fails_at
-        (D.state destination.old).failures (D.state destination.new).failures plan.now.keys) }
-    ensures tags { (D.state destination.new).tags ≡ (D.state destination.old).tags }
-    ensures name { (D.state destination.new).name ≡ (D.state destination.old).name }
+    ensures keeps { Keeps D.shares (A.state source.now) plan.now.keys (D.state destination.old) (D.state destination.new) }
+    ensures cause { IfErr result (IsRunCause (A.state source.now) (D.state destination.old) (D.state destination.new) plan.now.keys) }
 {
     for place in 0..plan.len() {
         push_planned(source, destination, key_at(plan, place))?;

@@ -1,0 +1,101 @@
+-- Why a copy is refused.
+use Rattle.std.specs.Prelude.{◌≡◌, ℕ, ◌-◌, ◌^◌, ◌<◌, ◌⊎◌, true, List, Some, Ok, Contains}
+use Rattle.oci_manifest.specs.Descriptor.{Descriptor}
+use Rattle.oci_manifest.specs.declared.fault.ManifestFault.{ManifestFault}
+use Rattle.oci_store.specs.Keyed.{first_missing}
+use Rattle.oci_store.specs.Closed.{IsClosed, first_open}
+use Rattle.oci_store.specs.Content.{Matches, succ_of}
+use Rattle.oci_store.specs.State.{State}
+use Rattle.oci_store.specs.declared.fault.FetchFault.{FetchFault}
+use Rattle.oci_store.specs.declared.fault.PushFault.{PushFault}
+use Rattle.oci_store.specs.declared.fault.PushFault.TheVariants as push
+use Rattle.oci_plan.specs.Outside.{IsOutside}
+use Rattle.oci_plan.specs.Refusal.{IsDeviceFault, IsUnread, IsKeyFault, IsFirstFault}
+use Rattle.oci_plan.specs.declared.fault.PlanFault.{PlanFault}
+use Rattle.oci_copy.specs.Fault.{IsPlanRefusal}
+use Rattle.oci_copy.specs.Grown.{graph_of}
+use Rattle.oci_copy.specs.declared.fault.CopyFault.{CopyFault}
+use Rattle.oci_copy.specs.declared.fault.CopyFault.TheVariants as fault
+
+-- why there is no plan: what the fault names is at fault, and of an honest source it is the first that is
+pub record IsPlanCause (source : State) (limit : ℕ) (opening : State) (roots : List Descriptor) (e : PlanFault) : Type 0 where
+  pub told : IsPlanRefusal e
+  pub named : IsKeyFault source.is_honest source.fails_at source.entries limit e
+  pub first : source.is_honest → IsFirstFault source.entries opening.nodes roots limit e
+
+-- the copy has to bring the key, as far as the source is honest
+abbrev pub IsWanted : State → State → List Descriptor → Descriptor → Type 0
+IsWanted source opening roots k = source.is_honest → IsOutside (graph_of source) opening.nodes roots k
+
+-- why the fetch of a key is refused: the source's device fails there
+abbrev pub IsFetchCause : State → Descriptor → FetchFault → Type 0
+IsFetchCause source k e = (source.fails_at k ≡ true) × IsDeviceFault e
+
+-- a put failed between the two states, or so many had failed before that no more are counted
+abbrev pub HasFailed : State → State → Type 0
+HasFailed opening now = (opening.failures < now.failures) ⊎ (now.failures ≡ 2 ^ 64 - 1)
+
+-- the bytes that were fetched match the key and do not read, for the reason that is told, which no honest source's do
+abbrev pub IsReadCause : State → Descriptor → ManifestFault → Type 0
+IsReadCause source k e = IsUnread source.is_honest source.entries k e × (source.is_honest → ⊥)
+
+-- why the content of a planned key is not to be had: its fetch is refused, or the bytes do not read
+abbrev pub IsContentCause : State → Descriptor → CopyFault → Type 0
+IsContentCause source k (fault.Fetch named e) = (named ≡ k) × IsFetchCause source k e
+IsContentCause source k (fault.Push named (push.BadManifest e)) = (named ≡ k) × IsReadCause source k e
+IsContentCause source k fault.Memory = Unit {0}
+IsContentCause source k e = ⊥
+
+-- why the push of a planned key is refused: its bytes do not read, a put failed, or the destination took nothing any more
+abbrev pub IsPushCause : State → State → State → Descriptor → PushFault → Type 0
+IsPushCause source opening now k (push.BadManifest e) = IsReadCause source k e
+IsPushCause source opening now k push.Device = HasFailed opening now
+IsPushCause source opening now k push.Halted = opening.is_halted
+IsPushCause source opening now k e = ⊥
+
+-- the bytes that were fetched match the key and list one that the destination does not hold, which no honest source's do at
+-- the key's turn; the first such key is this
+pub record IsTooEarly (source now : State) (k : Descriptor) : Type 0 where
+  pub bytes : List ℕ
+  pub listed : List Descriptor
+  pub missing : Descriptor
+  pub matching : Matches k bytes
+  pub reads : succ_of k bytes ≡ Ok listed
+  pub first : first_missing now.nodes listed ≡ Some missing
+  pub dishonest : source.is_honest → ⊥
+
+-- why a planned key is not pushed at its turn: its fetch or its push is refused, or it comes too early
+abbrev pub IsStepCause : State → State → State → Descriptor → CopyFault → Type 0
+IsStepCause source opening now k (fault.Fetch named e) = (named ≡ k) × IsFetchCause source k e
+IsStepCause source opening now k (fault.Push named e) = (named ≡ k) × IsPushCause source opening now k e
+IsStepCause source opening now k (fault.Stuck named) = (named ≡ k) × IsTooEarly source now k
+IsStepCause source opening now k fault.Memory = Unit {0}
+IsStepCause source opening now k e = ⊥
+
+-- why a run that pushes planned keys in their order stops: one of them is not pushed
+abbrev pub IsRunCause : State → State → State → List Descriptor → CopyFault → Type 0
+IsRunCause source opening now planned e = (k : Descriptor) × Contains planned k × IsStepCause source opening now k e
+
+-- why the destination is refused: the first key that is open, or want of memory
+abbrev pub IsOpenCause : State → CopyFault → Type 0
+IsOpenCause opening (fault.DestinationOpen holder missing) = first_open opening.nodes ≡ Some (holder, missing)
+IsOpenCause opening fault.Memory = Unit {0}
+IsOpenCause opening e = ⊥
+
+-- why a copy does not begin: the destination is open, or there is no plan
+abbrev pub IsStartCause : ℕ → State → State → List Descriptor → CopyFault → Type 0
+IsStartCause limit source opening roots (fault.DestinationOpen holder missing) = first_open opening.nodes ≡ Some (holder, missing)
+IsStartCause limit source opening roots (fault.Plan e) = IsClosed opening.nodes × IsPlanCause source limit opening roots e
+IsStartCause limit source opening roots fault.Memory = Unit {0}
+IsStartCause limit source opening roots e = ⊥
+
+-- Why a copy on one thread is refused. The causes are looked at in this order: the destination is open; there is no plan; a
+-- key that the copy has to bring is not pushed at its turn. Want of memory may come at any point.
+abbrev pub IsRefusal : ℕ → State → State → List Descriptor → State → CopyFault → Type 0
+IsRefusal limit source opening roots now (fault.DestinationOpen holder missing) = first_open opening.nodes ≡ Some (holder, missing)
+IsRefusal limit source opening roots now (fault.Plan e) = IsClosed opening.nodes × IsPlanCause source limit opening roots e
+IsRefusal limit source opening roots now (fault.Fetch k e) = IsClosed opening.nodes × IsWanted source opening roots k × IsFetchCause source k e
+IsRefusal limit source opening roots now (fault.Push k e) = IsClosed opening.nodes × IsWanted source opening roots k × IsPushCause source opening now k e
+IsRefusal limit source opening roots now (fault.Stuck k) = IsClosed opening.nodes × IsWanted source opening roots k × IsTooEarly source now k
+IsRefusal limit source opening roots now fault.Memory = Unit {0}
+IsRefusal limit source opening roots now e = ⊥
