@@ -71,11 +71,11 @@ fn copied_in_memory(
     alloc: Global,
     source: &[Sample],
     destination: &[Sample],
-    root: Sample,
+    roots: &[Sample],
 ) -> Result<(ClosedStore, String), Fail> {
     let source = memory(alloc, source)?;
     let destination = closed(alloc, destination)?;
-    let roots = [root.key(alloc)?];
+    let roots = keys(alloc, roots)?;
     let options = Options::default();
     let (destination, answer) = copy_memory(alloc, &source, destination, &roots, &options);
     let told = line(alloc, &answer)?;
@@ -189,6 +189,35 @@ fn two_images(rt: HostRuntime) -> Result<(), Fail> {
     )
 }
 
+/// Roots are copied whichever way they stand to each other, each key once.
+#[test]
+fn many_roots(rt: HostRuntime) -> Result<(), Fail> {
+    let source = [Empty, Foo, Bar, Image0, Image2, Image3, Index1];
+    assert_copied(
+        &rt,
+        Row {
+            source: &source,
+            destination: &[],
+            roots: &[Image2, Image3],
+            told: "planned 5 pushed 5 skipped 0",
+            copied: &[Empty, Foo, Bar, Image2, Image3],
+        },
+    )?;
+    assert_copied(
+        &rt,
+        Row {
+            source: &source,
+            destination: &[Empty, Foo],
+            roots: &[Image3, Foo, Image2],
+            told: "planned 3 pushed 3 skipped 1",
+            copied: &[Empty, Foo, Bar, Image2, Image3],
+        },
+    )?;
+    let (destination, told) = copied_in_memory(rt.alloc(), &source, &[], &[Image2, Bar, Image3])?;
+    assert_eq!(rt; told.as_str(), "planned 5 pushed 5 skipped 0");
+    assert_holds(&rt, destination.memory(), &[Empty, Foo, Bar, Image2, Image3])
+}
+
 /// One digest under two media types is two keys, and both come.
 #[test]
 fn two_media_types(rt: HostRuntime) -> Result<(), Fail> {
@@ -254,7 +283,7 @@ fn foreign_layer(rt: HostRuntime) -> Result<(), Fail> {
 /// The copy between stores in memory in its plainest words is the same copy.
 #[test]
 fn one_image_in_memory(rt: HostRuntime) -> Result<(), Fail> {
-    let (destination, told) = copied_in_memory(rt.alloc(), &[Empty, Foo, Image0], &[Bar], Image0)?;
+    let (destination, told) = copied_in_memory(rt.alloc(), &[Empty, Foo, Image0], &[Bar], &[Image0])?;
     assert_eq!(rt; told.as_str(), "planned 2 pushed 2 skipped 0");
     assert_holds(&rt, destination.memory(), &[Bar, Empty, Image0])
 }

@@ -1,10 +1,11 @@
+ghost use Rattle.std.specs.Prelude.{◌≡◌, Err, IfOk, OnErr};
+
 use worked_contents::Sample::{Bar, Empty, Foo, Image2, Image3, Index1};
 use crate::tests::copies::copied;
 use crate::tests::stores::{assert_holds, keys, memory};
-use bytes::Bytes;
 use oci_digest::NoMemory;
 use oci_manifest::Key;
-use oci_store::{ClosedStore, Dest, PushFault, Store};
+use oci_store::{CheckedContent, ClosedStore, Dest, PushFault, Store};
 use std::alloc::Global;
 use std::marker::Model;
 use std::process::Abort;
@@ -46,24 +47,12 @@ impl FailingStore {
 }
 
 impl Store for FailingStore {
-    ghost use Rattle.std.specs.Prelude.{[], ⊤, cond};
+    ghost use Rattle.std.specs.Prelude.{cond};
     ghost use Rattle.std.proofs.Common.{refl};
-    ghost use Rattle.oci_store.specs.Graph.{nodes_of};
     ghost use Rattle.oci_store.specs.GraphLaws.{keys_of-nodes_of};
+    ghost use Rattle.oci_store.specs.State.{in_memory};
 
-    ghost nodes = { λ s. nodes_of s.0.entries };
-
-    ghost entries = { λ s. s.0.entries };
-
-    ghost tags = { λ s. s.0.tags };
-
-    ghost name = { λ s. [] };
-
-    ghost is_honest = { λ s. ⊤ };
-
-    ghost is_sound = { λ s. ⊤ };
-
-    ghost failure_count = { λ s. cond s.1 0 1 };
+    ghost state = { λ s. record (in_memory s.0.entries s.0.tags) { failures = cond s.1 0 1 } };
 
     ghost same_keys = { λ s. keys_of-nodes_of s.0.entries };
 
@@ -74,8 +63,6 @@ impl Store for FailingStore {
 
 impl Dest for FailingStore {
     ghost shares = { ⊥ };
-
-    ghost is_halted = { λ s. ⊥ };
 
     fn has(&self, key: &Key) -> bool {
         self.store.has(key)
@@ -89,12 +76,12 @@ impl Dest for FailingStore {
         self.store.missing()
     }
 
-    fn push_closed(&mut self, key: &Key, content: Bytes) -> Result<usize, PushFault> {
-        let again = content.clone().map_err(|_| PushFault::Memory)?;
+    fn push_checked(&mut self, content: CheckedContent) -> Result<usize, PushFault> {
+        let again = same_content(&content)?;
         let Some(mut spare) = self.spare.take() else {
-            return self.store.push_closed(key, content);
+            return self.store.push_checked(content);
         };
-        if let Err(fault) = spare.push_closed(key, again) {
+        if let Err(fault) = spare.push_checked(again) {
             self.spare = Some(spare);
             return Err(fault);
         }
@@ -102,13 +89,27 @@ impl Dest for FailingStore {
             return Err(PushFault::Device);
         }
         self.passing -= 1;
-        let place = self.store.push_closed(key, content)?;
+        let place = self.store.push_checked(content)?;
         self.spare = Some(spare);
         Ok(place)
     }
 
     fn failures(&self) -> u64 {
         if self.spare.is_some() { 0 } else { 1 }
+    }
+}
+
+/// The same content again.
+fn same_content(content: &CheckedContent) -> Result<CheckedContent, PushFault>
+    ensures same { IfOk result (λ again. again ≡ content.now) }
+    ensures memory { OnErr result (result ≡ Err PushFault.Memory) }
+{
+    let Ok(bytes) = content.bytes().clone() else {
+        return Err(PushFault::Memory);
+    };
+    match CheckedContent::of_matching(content.key(), bytes) {
+        Ok(again) => Ok(again),
+        Err(_) => Err(PushFault::Memory),
     }
 }
 

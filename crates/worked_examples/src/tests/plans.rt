@@ -18,24 +18,11 @@ struct Counted<'a> {
 }
 
 impl<'a> Store for Counted<'a> {
-    ghost use Rattle.std.specs.Prelude.{[], ⊤};
     ghost use Rattle.std.proofs.Common.{refl};
-    ghost use Rattle.oci_store.specs.Graph.{nodes_of};
     ghost use Rattle.oci_store.specs.GraphLaws.{keys_of-nodes_of};
+    ghost use Rattle.oci_store.specs.State.{in_memory};
 
-    ghost nodes = { λ s. nodes_of s.store.now.entries };
-
-    ghost entries = { λ s. s.store.now.entries };
-
-    ghost tags = { λ s. s.store.now.tags };
-
-    ghost name = { λ s. [] };
-
-    ghost is_honest = { λ s. ⊤ };
-
-    ghost is_sound = { λ s. ⊤ };
-
-    ghost failure_count = { λ s. 0 };
+    ghost state = { λ s. in_memory s.store.now.entries s.store.now.tags };
 
     ghost same_keys = { λ s. keys_of-nodes_of s.store.now.entries };
 
@@ -45,10 +32,6 @@ impl<'a> Store for Counted<'a> {
 }
 
 impl<'a> Source for Counted<'a> {
-    ghost use Rattle.std.specs.Prelude.{false};
-
-    ghost fails_at = { λ s k. false };
-
     fn exists(&self, key: &Key) -> bool {
         self.store.exists(key)
     }
