@@ -1,8 +1,3 @@
-use worked_contents::Sample::{
-    Bar, DockerImage, Empty, Foo, Image0, Image0AsLayer, Image1, Image2, Image3, Image4, Index1,
-    Index2,
-};
-use worked_contents::{IMAGE, Sample};
 use crate::tests::stores::{assert_entry, assert_holds, closed, keys, memory};
 use oci_copy::{CopyFault, Options, Report, copy_memory, copy_one};
 use oci_digest::Digest;
@@ -11,6 +6,11 @@ use oci_store::{ClosedStore, Dest, Source};
 use std::alloc::Global;
 use std::process::Abort;
 use std::test::Fail;
+use worked_contents::Sample::{
+    Bar, DockerImage, Empty, Foo, Image0, Image0AsLayer, Image1, Image2, Image3, Image4, Index1,
+    Index2,
+};
+use worked_contents::{IMAGE, Sample};
 
 /// A copy between stores in memory, and what comes of it.
 #[derive(Clone, Copy)]
@@ -215,7 +215,11 @@ fn many_roots(rt: HostRuntime) -> Result<(), Fail> {
     )?;
     let (destination, told) = copied_in_memory(rt.alloc(), &source, &[], &[Image2, Bar, Image3])?;
     assert_eq!(rt; told.as_str(), "planned 5 pushed 5 skipped 0");
-    assert_holds(&rt, destination.memory(), &[Empty, Foo, Bar, Image2, Image3])
+    assert_holds(
+        &rt,
+        destination.memory(),
+        &[Empty, Foo, Bar, Image2, Image3],
+    )
 }
 
 /// One digest under two media types is two keys, and both come.
@@ -283,7 +287,12 @@ fn foreign_layer(rt: HostRuntime) -> Result<(), Fail> {
 /// The copy between stores in memory in its plainest words is the same copy.
 #[test]
 fn one_image_in_memory(rt: HostRuntime) -> Result<(), Fail> {
-    let (destination, told) = copied_in_memory(rt.alloc(), &[Empty, Foo, Image0], &[Bar], &[Image0])?;
+    let (destination, told) = copied_in_memory(
+        rt.alloc(),
+        &[Empty, Foo, Image0],
+        &[Bar],
+        &[Image0],
+    )?;
     assert_eq!(rt; told.as_str(), "planned 2 pushed 2 skipped 0");
     assert_holds(&rt, destination.memory(), &[Bar, Empty, Image0])
 }

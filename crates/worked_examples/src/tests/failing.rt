@@ -1,6 +1,5 @@
 ghost use Rattle.std.specs.Prelude.{◌≡◌, Err, IfOk, OnErr};
 
-use worked_contents::Sample::{Bar, Empty, Foo, Image2, Image3, Index1};
 use crate::tests::copies::copied;
 use crate::tests::stores::{assert_holds, keys, memory};
 use oci_digest::NoMemory;
@@ -10,6 +9,7 @@ use std::alloc::Global;
 use std::marker::Model;
 use std::process::Abort;
 use std::test::Fail;
+use worked_contents::Sample::{Bar, Empty, Foo, Image2, Image3, Index1};
 
 /// A store that passes so many pushes to a closed one, fails the next as a device does, and then passes all.
 ///

@@ -1,6 +1,5 @@
 //! How each refusal prints: its number, its name, and what it carries.
 
-use worked_contents::Sample::{Bar, Foo};
 use crate::tests::stores::keys;
 use oci_copy::CopyFault;
 use oci_manifest::{KeyFault, ManifestFault};
@@ -8,6 +7,7 @@ use oci_plan::PlanFault;
 use oci_store::{FetchFault, OpenFault, PushFault, RefFault};
 use std::process::Abort;
 use std::test::Fail;
+use worked_contents::Sample::{Bar, Foo};
 
 /// A printed fault begins with its number.
 fn assert_line<R: AllocGlobal + Abort>(

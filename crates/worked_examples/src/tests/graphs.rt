@@ -1,5 +1,3 @@
-use worked_contents::Sample;
-use worked_contents::Sample::{Bar, Empty, Foo, Image0, Image1, Image2, Image3, Index3, Index4, Referrer};
 use crate::tests::stores::{assert_holds, closed, keys, memory};
 use oci_store::{
     ClosedStore, Dest, GraphSource, MemoryStore, closed_where_nothing_is_missing,
@@ -8,6 +6,10 @@ use oci_store::{
 use std::alloc::Global;
 use std::process::Abort;
 use std::test::Fail;
+use worked_contents::Sample;
+use worked_contents::Sample::{
+    Bar, Empty, Foo, Image0, Image1, Image2, Image3, Index3, Index4, Referrer,
+};
 
 /// The keys that list a sample's key are those of these samples, in this order.
 fn assert_predecessors<R: AllocGlobal + Abort, G: GraphSource>(

@@ -1,5 +1,3 @@
-use worked_contents::Sample::Empty;
-use worked_contents::{Content, LAYER, image, image_0, index};
 use crate::tests::copies::copied;
 use crate::tests::stores::{closed, memory, push};
 use bytes::Bytes;
@@ -8,6 +6,8 @@ use oci_store::MemoryStore;
 use std::alloc::Global;
 use std::process::Abort;
 use std::test::Fail;
+use worked_contents::Sample::Empty;
+use worked_contents::{Content, LAYER, image, image_0, index};
 
 fn put(alloc: Global, store: &mut MemoryStore, content: Content) -> Result<Key, Fail> {
     let key = content.key(alloc)?;

@@ -1,12 +1,12 @@
-use worked_contents::{
-    Content, EMPTY, FOREIGN, IMAGE, INDEX, LAYER, Sample, bar, docker_image, empty, foo, image_0,
-    image_1, index_1, referrer,
-};
 use oci_digest::Digest;
 use oci_manifest::{Key, Kind, MAX_SIZE, successors};
 use std::alloc::Global;
 use std::process::Abort;
 use std::test::Fail;
+use worked_contents::{
+    Content, EMPTY, FOREIGN, IMAGE, INDEX, LAYER, Sample, bar, docker_image, empty, foo, image_0,
+    image_1, index_1, referrer,
+};
 
 /// What `successors` answers, as text: each key and a `;`, or the fault.
 fn answer(alloc: Global, kind: Kind, bytes: &[u8]) -> Result<String, Fail> {

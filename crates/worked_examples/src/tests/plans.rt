@@ -1,5 +1,3 @@
-use worked_contents::Sample;
-use worked_contents::Sample::{Bar, Empty, Foo, Image2, Image3, Index1};
 use crate::tests::stores::{closed, keys, memory};
 use bytes::Bytes;
 use oci_manifest::Key;
@@ -9,6 +7,8 @@ use std::alloc::Global;
 use std::cell::Cell;
 use std::process::Abort;
 use std::test::Fail;
+use worked_contents::Sample;
+use worked_contents::Sample::{Bar, Empty, Foo, Image2, Image3, Index1};
 
 /// A source that counts its fetches.
 #[derive(Drop)]

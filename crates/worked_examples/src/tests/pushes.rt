@@ -1,5 +1,3 @@
-use worked_contents::Sample::{Empty, Image0};
-use worked_contents::{EMPTY, IMAGE, Sample};
 use crate::tests::stores::{assert_holds, closed, memory, push, push_closed};
 use bytes::Bytes;
 use oci_digest::Digest;
@@ -8,6 +6,8 @@ use oci_store::MemoryStore;
 use std::alloc::Global;
 use std::process::Abort;
 use std::test::Fail;
+use worked_contents::Sample::{Empty, Image0};
+use worked_contents::{EMPTY, IMAGE, Sample};
 
 fn key(alloc: Global, media_type: &str, digest: Digest, size: u64) -> Result<Key, Fail> {
     let media_type = String::from_str(alloc, media_type)?;

@@ -1,5 +1,3 @@
-use worked_contents::Sample;
-use worked_contents::Sample::{Empty, Image0};
 use crate::tests::stores::{assert_holds, closed, memory};
 use crate::tests::tags::{assert_names, tag};
 use oci_copy::{CopyFault, Options, Report, copy};
@@ -8,6 +6,8 @@ use oci_store::{ClosedStore, Dest, MemoryStore, Source, Tagger};
 use std::alloc::Global;
 use std::process::Abort;
 use std::test::Fail;
+use worked_contents::Sample;
+use worked_contents::Sample::{Empty, Image0};
 
 /// The store of one image, which has the name `m`.
 fn one_image(alloc: Global) -> Result<MemoryStore, Fail> {

@@ -1,11 +1,11 @@
-use worked_contents::Sample;
-use worked_contents::Sample::{Empty, Foo, Image0, Image0AsLayer};
 use crate::tests::stores::{closed, memory};
 use oci_manifest::Key;
 use oci_store::{MemoryStore, Tagger};
 use std::alloc::Global;
 use std::process::Abort;
 use std::test::Fail;
+use worked_contents::Sample;
+use worked_contents::Sample::{Empty, Foo, Image0, Image0AsLayer};
 
 /// What `tag` answers, as text: nothing, or the fault.
 pub(crate) fn tag<T: Tagger>(
