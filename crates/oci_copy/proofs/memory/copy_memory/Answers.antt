@@ -1,5 +1,5 @@
-use Rattle.std.proofs.Common.{◌≡◌, true}
-use Rattle.std.proofs.lemmas.Result.{IfOk-weaker}
+use Rattle.std.proofs.Common.{◌≡◌, true, refl}
+use Rattle.std.proofs.lemmas.Result.{IfOk-weaker, IfErr-weaker}
 use Rattle.oci_manifest.specs.Descriptor.{Descriptor}
 use Rattle.oci_store.specs.Keyed.{has_key}
 use Rattle.oci_store.specs.Graph.{nodes_of, Reaches}
@@ -9,6 +9,8 @@ use Rattle.oci_store.specs.State.{in_memory}
 use Rattle.oci_store.proofs.Lookups.{has_key-same_keys}
 use Rattle.oci_copy.specs.Copy.{IsCopy}
 use Rattle.oci_copy.specs.Options.{limit_of}
+use Rattle.oci_copy.specs.Plain.{IsUnfailing, RefusedForPlan}
+use Rattle.oci_copy.specs.declared.fault.CopyFault.{CopyFault}
 use Rattle.oci_copy.specs.declared.report.Report.{Report}
 use Rattle.oci_copy.proofs.Headline.{Agree-nodes_of}
 use Rattle.oci_copy.proofs.Unfailing.{told_in_memory}
@@ -34,3 +36,16 @@ returns-clause-reached c =
     (λ (r : Report). Agree s.entries d.entries → (k : Descriptor) → Reaches (nodes_of s.entries) c.args.roots.now k → has_key n.entries k ≡ true)
     (λ r copy agree k there. has_key-same_keys (nodes_of n.entries) n.entries k (keys_of-nodes_of n.entries) (copy.reached tt (Agree-nodes_of s.entries d.entries agree) k there))
     c.copy_one-destination.ensures.copied
+
+pub returns-clause-refused : goal.returns-clause-refused
+returns-clause-refused c =
+    let s = c.args.source.now in
+    let d = c.args.destination in
+    let n = c.copy_one-destination.result.0 in
+    let closed = rw c.memory-closed.ensures.same at c.memory-closed.ensures.closed in
+    let refused = RefusedForPlan s.entries (limit_of c.args.options.now) (nodes_of d.entries) c.args.roots.now in
+    let unfailing : IsUnfailing (in_memory s.entries s.tags) (in_memory d.entries d.tags) (in_memory n.entries n.tags) =
+        record { is_honest = tt; content = c.len-readable.ensures.content; gives = λ k. refl; closed = closed; takes = λ never. never; no_failures = refl } in
+    IfErr-weaker c.copy_one-destination.result.1
+    (λ (e : CopyFault). IsUnfailing (in_memory s.entries s.tags) (in_memory d.entries d.tags) (in_memory n.entries n.tags) → refused e) refused
+    (λ e plain. plain unfailing) c.copy_one-destination.ensures.plain
