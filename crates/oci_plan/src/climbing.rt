@@ -21,7 +21,7 @@ use std::alloc::Global;
 ///
 /// These are the roots of an extended copy, which brings what lists a content along with it (oras-go v2, "ExtendedCopy",
 /// its option "Depth"). The climb goes by levels: the key, then what lists it, then what lists those. It asks for the
-/// predecessors of each key once. The time grows with the keys and what they list, times a logarithm.
+/// predecessors of a key at most once. The time grows with the keys and what they list, times a logarithm.
 pub fn climb<G: GraphSource>(
     alloc: Global,
     source: &G,
