@@ -10,13 +10,25 @@ use oci_store::{ClosedStore, MemoryStore};
 use std::alloc::Global;
 
 const CONFIG: &[u8] = b"{}";
-const MANIFEST: &[u8] = br#"{"schemaVersion":2,"mediaType":"application/vnd.oci.image.manifest.v1+json","config":{"mediaType":"application/vnd.oci.empty.v1+json","digest":"sha256:44136fa355b3678a1146ad16f7e8649e94fb4fc21fe77e8310c060f61caaff8a","size":2},"layers":[]}"#;
+
+const MANIFEST: &[u8] =
+    br#"{"schemaVersion":2,"mediaType":"application/vnd.oci.image.manifest.v1+json","config":{"mediaType":"application/vnd.oci.empty.v1+json","digest":"sha256:44136fa355b3678a1146ad16f7e8649e94fb4fc21fe77e8310c060f61caaff8a","size":2},"layers":[]}"#;
 
 fn main(rt: HostRuntime) -> Result<(), Error> {
     let alloc = rt.alloc();
     let mut source = MemoryStore::new(alloc);
-    put(alloc, &mut source, "application/vnd.oci.empty.v1+json", CONFIG)?;
-    let image = put(alloc, &mut source, "application/vnd.oci.image.manifest.v1+json", MANIFEST)?;
+    put(
+        alloc,
+        &mut source,
+        "application/vnd.oci.empty.v1+json",
+        CONFIG,
+    )?;
+    let image = put(
+        alloc,
+        &mut source,
+        "application/vnd.oci.image.manifest.v1+json",
+        MANIFEST,
+    )?;
 
     let empty = ClosedStore::new(alloc);
     let (copied, report) = copy_memory(alloc, &source, empty, &[image], &Options::default());

@@ -1,3 +1,4 @@
+mod climbs;
 mod copies;
 mod failing;
 mod faults;

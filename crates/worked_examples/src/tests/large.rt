@@ -37,7 +37,7 @@ fn image_on(alloc: Global, subject: &str) -> Result<Content, Fail> {
 }
 
 /// Puts a chain of images into the store, each with the one before as its subject, and gives the key of the last.
-fn put_chain(alloc: Global, store: &mut MemoryStore, length: u32) -> Result<Key, Fail> {
+pub(crate) fn put_chain(alloc: Global, store: &mut MemoryStore, length: u32) -> Result<Key, Fail> {
     let mut last = image_0(alloc)?;
     for _ in 1..length {
         let next = image_on(alloc, last.descriptor(alloc)?.as_str())?;

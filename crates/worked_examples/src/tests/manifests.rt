@@ -97,6 +97,10 @@ fn referrers_and_indexes(rt: HostRuntime) -> Result<(), Fail> {
     expect_key(&rt, alloc, Sample::Index3, INDEX, 186, digits)?;
     let digits = "04b54ec52bc620cd8553bcdfd876570329efa5cc7ead029e4d6b03ae3f4b29dd";
     expect_key(&rt, alloc, Sample::Index4, INDEX, 183, digits)?;
+    let digits = "0106f749c0f4bc273f902f56b26283702b80f7d2f85c0c8e19834d3f847c6015";
+    expect_key(&rt, alloc, Sample::Index5, INDEX, 336, digits)?;
+    let digits = "d3f77871dd08f661484d350b4dfe1f8347ea2548c20ae9812f75f0f69531839e";
+    expect_key(&rt, alloc, Sample::Index6, INDEX, 183, digits)?;
     let digits = "655f703d5da3c83b1f8c9a8bb0cc7d4f6921a4a30b0b9d024a867ed937c03921";
     let media_type = "application/vnd.docker.distribution.manifest.v2+json";
     expect_key(&rt, alloc, Sample::DockerImage, media_type, 347, digits)

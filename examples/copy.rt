@@ -1,0 +1,1 @@
+../crates/example_copy/src/main.rt
