@@ -29,10 +29,7 @@ pub(crate) fn read_index<D: Dir>(
 }
 
 /// The keys of an index, and the name of each, where it has one.
-fn entries(
-    alloc: Global,
-    bytes: &[u8],
-) -> Result<(Vec<Key>, Vec<Option<String>>), LayoutFault>
+fn entries(alloc: Global, bytes: &[u8]) -> Result<(Vec<Key>, Vec<Option<String>>), LayoutFault>
     ensures read { IfOk result (λ p. IsIndex bytes.now p.0.items (map text_of p.1.items)) }
     ensures cause { IfErr result (IsIndexFault (index_in bytes.now)) }
 {

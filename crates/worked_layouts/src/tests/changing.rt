@@ -79,8 +79,7 @@ fn changing(alloc: Global, right: u64) -> Result<ChangingDir<MemDir>, Fail> {
 fn copied<D: Dir>(alloc: Global, source: &Layout<D>) -> Result<(String, bool), Fail> {
     let roots = [Image0.key(alloc)?];
     let destination = ClosedStore::new(alloc);
-    let (destination, answer) =
-        copy_one(alloc, source, destination, &roots, &Options::default());
+    let (destination, answer) = copy_one(alloc, source, destination, &roots, &Options::default());
     let closed = destination.missing()?.is_none();
     match answer {
         Ok(report) => Ok((format!(in alloc; "{report}")?, closed)),

@@ -1,4 +1,6 @@
-use crate::tests::layouts::{assert_text, blob, creating, opening, push_sample, summary, tag, text};
+use crate::tests::layouts::{
+    assert_text, blob, creating, opening, push_sample, summary, tag, text,
+};
 use oci_layout::{Layout, MemDir};
 use std::alloc::Global;
 use std::process::Abort;

@@ -3,9 +3,8 @@ use oci_manifest::Key;
 use std::alloc::Global;
 use std::process::Abort;
 use std::test::Fail;
-use worked_contents::Sample;
 use worked_contents::Sample::{Bar, Empty, Foo, Image0, Image2, Image3, Index1};
-use worked_contents::{IMAGE, descriptor};
+use worked_contents::{IMAGE, Sample, descriptor};
 
 fn assert_opening<R: AllocGlobal + Abort>(
     rt: &R,
@@ -36,8 +35,16 @@ fn index_files(rt: HostRuntime) -> Result<(), Fail> {
     assert_opening(&rt, &list, &[], "73 BadIndex 11 NotObject")?;
     let object = [("oci-layout", LAYOUT), ("index.json", "{\"manifests\":{}}")];
     assert_opening(&rt, &object, &[], "73 BadIndex 13 BadList manifests")?;
-    let number = [("oci-layout", LAYOUT), ("index.json", "{\"manifests\":[7]}")];
-    assert_opening(&rt, &number, &[], "73 BadIndex 14 BadDescriptor manifests 0")?;
+    let number = [
+        ("oci-layout", LAYOUT),
+        ("index.json", "{\"manifests\":[7]}"),
+    ];
+    assert_opening(
+        &rt,
+        &number,
+        &[],
+        "73 BadIndex 14 BadDescriptor manifests 0",
+    )?;
     let none = [("oci-layout", LAYOUT), ("index.json", "{}")];
     assert_opening(&rt, &none, &[], "held 0")
 }
@@ -60,7 +67,11 @@ fn opening_image(alloc: Global, size: u64) -> Result<String, Fail> {
 fn manifests_at_fault(rt: HostRuntime) -> Result<(), Fail> {
     let key = as_image(rt.alloc(), 9223372036854775807)?;
     let want = format!(in rt.alloc(); "75 Corrupt {key}")?;
-    assert_text(&rt, opening_image(rt.alloc(), 9223372036854775807)?, want.as_str())?;
+    assert_text(
+        &rt,
+        opening_image(rt.alloc(), 9223372036854775807)?,
+        want.as_str(),
+    )?;
     let key = as_image(rt.alloc(), 2)?;
     let want = format!(in rt.alloc(); "77 BadManifest {key} 12 NoConfig")?;
     assert_text(&rt, opening_image(rt.alloc(), 2)?, want.as_str())
@@ -72,9 +83,15 @@ fn standard_index(alloc: Global) -> Result<String, Fail> {
     let (index, image, leaf) = (Index1.key(alloc)?, Image0.key(alloc)?, Bar.key(alloc)?);
     Ok(format!(in alloc;
         "{{\n  \"schemaVersion\": 2,\n  \"mediaType\": \"application/vnd.oci.image.index.v1+json\",\n  \"manifests\": [\n    {{\n      \"mediaType\": \"{}\",\n      \"size\": {},\n      \"digest\": \"{}\",\n      \"annotations\": {{\n        \"org.opencontainers.image.ref.name\": \"stable-release\"\n      }}\n    }},\n    {{\n      \"mediaType\": \"{}\",\n      \"size\": {},\n      \"digest\": \"{}\",\n      \"platform\": {{\n        \"architecture\": \"ppc64le\",\n        \"os\": \"linux\"\n      }},\n      \"annotations\": {{\n        \"org.opencontainers.image.ref.name\": \"v1.0\"\n      }}\n    }},\n    {{\n      \"mediaType\": \"{}\",\n      \"size\": {},\n      \"digest\": \"{}\",\n      \"annotations\": {{\n        \"org.freedesktop.specifications.metainfo.version\": \"1.0\",\n        \"org.freedesktop.specifications.metainfo.type\": \"AppStream\"\n      }}\n    }}\n  ],\n  \"annotations\": {{\n    \"com.example.index.revision\": \"r124356\"\n  }}\n}}\n",
-        index.media_type(), index.size(), index.digest(),
-        image.media_type(), image.size(), image.digest(),
-        leaf.media_type(), leaf.size(), leaf.digest()
+        index.media_type(),
+        index.size(),
+        index.digest(),
+        image.media_type(),
+        image.size(),
+        image.digest(),
+        leaf.media_type(),
+        leaf.size(),
+        leaf.digest()
     )?)
 }
 
@@ -83,14 +100,30 @@ fn standard_index(alloc: Global) -> Result<String, Fail> {
 fn index_of_the_standard(rt: HostRuntime) -> Result<(), Fail> {
     let alloc = rt.alloc();
     let index = standard_index(alloc)?;
-    let files = [("oci-layout", "{\"imageLayoutVersion\":\"1.0.0\"}\n"), ("index.json", index.as_str())];
-    let samples = [Empty, Foo, Bar, Image0, Image2, Image3, Index1, Sample::Image4];
+    let files = [
+        ("oci-layout", "{\"imageLayoutVersion\":\"1.0.0\"}\n"),
+        ("index.json", index.as_str()),
+    ];
+    let samples = [
+        Empty,
+        Foo,
+        Bar,
+        Image0,
+        Image2,
+        Image3,
+        Index1,
+        Sample::Image4,
+    ];
     let layout = opened(alloc, dir_of(alloc, &files, &samples)?)?;
     assert_text(&rt, summary(alloc, &layout)?, "held 7 stable-release v1.0")?;
     let want = Image0.key(alloc)?.to_string(alloc)?;
     assert_text(&rt, resolve(alloc, &layout, "v1.0")?, want.as_str())?;
     let want = Index1.key(alloc)?.to_string(alloc)?;
-    assert_text(&rt, resolve(alloc, &layout, "stable-release")?, want.as_str())
+    assert_text(
+        &rt,
+        resolve(alloc, &layout, "stable-release")?,
+        want.as_str(),
+    )
 }
 
 /// The entries of an image: of two with one name the last counts, and two names may stand for one key; a name that is a number,
@@ -100,18 +133,41 @@ fn named_index(alloc: Global) -> Result<String, Fail> {
     let absent = Image3.key(alloc)?;
     let mut index = String::from_str(alloc, "{\"schemaVersion\":2,\"manifests\":[")?;
     for (key, rest) in [
-        (&other, "\"annotations\":{\"org.opencontainers.image.ref.name\":\"latest\"}"),
-        (&image, "\"annotations\":{\"io.containerd.image.name\":\"docker.io/library/a:b\",\"org.opencontainers.image.created\":\"2024-01-01T00:00:00Z\",\"org.opencontainers.image.ref.name\":\"latest\"}"),
-        (&image, "\"artifactType\":\"application/example\",\"data\":\"e30=\",\"urls\":[\"https://example.org\"],\"annotations\":{\"org.opencontainers.image.ref.name\":\"b\"}"),
-        (&image, "\"annotations\":{\"org.opencontainers.image.ref.name\":7}"),
-        (&image, "\"annotations\":{\"org.opencontainers.image.ref.name\":\"\"}"),
+        (
+            &other,
+            "\"annotations\":{\"org.opencontainers.image.ref.name\":\"latest\"}",
+        ),
+        (
+            &image,
+            "\"annotations\":{\"io.containerd.image.name\":\"docker.io/library/a:b\",\"org.opencontainers.image.created\":\"2024-01-01T00:00:00Z\",\"org.opencontainers.image.ref.name\":\"latest\"}",
+        ),
+        (
+            &image,
+            "\"artifactType\":\"application/example\",\"data\":\"e30=\",\"urls\":[\"https://example.org\"],\"annotations\":{\"org.opencontainers.image.ref.name\":\"b\"}",
+        ),
+        (
+            &image,
+            "\"annotations\":{\"org.opencontainers.image.ref.name\":7}",
+        ),
+        (
+            &image,
+            "\"annotations\":{\"org.opencontainers.image.ref.name\":\"\"}",
+        ),
         (&image, "\"annotations\":[]"),
-        (&absent, "\"annotations\":{\"org.opencontainers.image.ref.name\":\"gone\"}"),
+        (
+            &absent,
+            "\"annotations\":{\"org.opencontainers.image.ref.name\":\"gone\"}",
+        ),
     ] {
         if !index.as_str().ends_with('[') {
             index.push_str(",")?;
         }
-        let entry = format!(in alloc; "{{\"mediaType\":\"{}\",\"digest\":\"{}\",\"size\":{},{rest}}}", key.media_type(), key.digest(), key.size())?;
+        let entry = format!(in alloc;
+            "{{\"mediaType\":\"{}\",\"digest\":\"{}\",\"size\":{},{rest}}}",
+            key.media_type(),
+            key.digest(),
+            key.size()
+        )?;
         index.push_str(entry.as_str())?;
     }
     index.push_str("]}")?;
@@ -127,7 +183,11 @@ fn names_of_an_index(rt: HostRuntime) -> Result<(), Fail> {
     let mut layout = opened(alloc, dir_of(alloc, &files, &[Empty, Foo, Image0, Image2])?)?;
     assert_text(&rt, summary(alloc, &layout)?, "held 4 b latest")?;
     let (image, other) = (Image0.key(alloc)?, Image2.key(alloc)?);
-    assert_text(&rt, resolve(alloc, &layout, "latest")?, image.to_string(alloc)?.as_str())?;
+    assert_text(
+        &rt,
+        resolve(alloc, &layout, "latest")?,
+        image.to_string(alloc)?.as_str(),
+    )?;
     layout.save()?;
     let (image, other) = (image.digest(), other.digest());
     let want = format!(in alloc;

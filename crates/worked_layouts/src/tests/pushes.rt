@@ -1,4 +1,6 @@
-use crate::tests::layouts::{assert_text, blob, created, fetch, opened, push, push_sample, summary, tag, text};
+use crate::tests::layouts::{
+    assert_text, blob, created, fetch, opened, push, push_sample, summary, tag, text,
+};
 use oci_layout::{Dir, Layout, MemDir};
 use oci_store::GraphSource;
 use std::alloc::Global;
@@ -14,13 +16,21 @@ fn refused_pushes(rt: HostRuntime) -> Result<(), Fail> {
     let want = format!(in alloc; "42 MissingSuccessor {key}")?;
     assert_text(&rt, push_sample(alloc, &mut layout, Image0)?, want.as_str())?;
     assert_text(&rt, push_sample(alloc, &mut layout, Empty)?, "place 0")?;
-    assert_text(&rt, push_sample(alloc, &mut layout, Empty)?, "30 AlreadyExists")?;
+    assert_text(
+        &rt,
+        push_sample(alloc, &mut layout, Empty)?,
+        "30 AlreadyExists",
+    )?;
     let told = push(alloc, &mut layout, &Foo.key(alloc)?, Empty.bytes(alloc)?)?;
     assert_text(&rt, told, "31 SizeMismatch")?;
     assert_text(&rt, push_sample(alloc, &mut layout, Image0)?, "place 1")?;
     let image = Image0.content(alloc)?;
     let again = image.key_as(alloc, LAYER)?;
-    assert_text(&rt, push(alloc, &mut layout, &again, Image0.bytes(alloc)?)?, "place 2")?;
+    assert_text(
+        &rt,
+        push(alloc, &mut layout, &again, Image0.bytes(alloc)?)?,
+        "place 2",
+    )?;
     assert_text(&rt, summary(alloc, &layout)?, "held 3")?;
     let holders = layout.predecessors(&key)?;
     assert_eq!(rt; holders.len(), 1);

@@ -1,5 +1,6 @@
 use crate::tests::layouts::{
-    LAYOUT, assert_text, blob, created, creating, fetch, memory, opened, resolve, summary, tag, text,
+    LAYOUT, assert_text, blob, created, creating, fetch, memory, opened, resolve, summary, tag,
+    text,
 };
 use oci_copy::{Options, copy};
 use oci_layout::{Dir, FsDir, Layout, MemDir};

@@ -45,7 +45,7 @@ returns-clause-refused c =
     let closed = rw c.memory-closed.ensures.same at c.memory-closed.ensures.closed in
     let refused = RefusedForPlan s.entries (limit_of c.args.options.now) (nodes_of d.entries) c.args.roots.now in
     let unfailing : IsUnfailing (in_memory s.entries s.tags) (in_memory d.entries d.tags) (in_memory n.entries n.tags) =
-        record { is_honest = tt; content = c.len-readable.ensures.content; gives = λ k. refl; closed = closed; takes = λ never. never; no_failures = refl } in
+    record { is_honest = tt; content = c.len-readable.ensures.content; gives = λ k. refl; closed = closed; takes = λ never. never; no_failures = refl } in
     IfErr-weaker c.copy_one-destination.result.1
     (λ (e : CopyFault). IsUnfailing (in_memory s.entries s.tags) (in_memory d.entries d.tags) (in_memory n.entries n.tags) → refused e) refused
     (λ e plain. plain unfailing) c.copy_one-destination.ensures.plain

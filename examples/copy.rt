@@ -1,1 +1,0 @@
-../crates/example_copy/src/main.rt
