@@ -12,10 +12,6 @@ use worked_contents::Sample;
 /// `oci-layout` as this crate makes it.
 pub(crate) const LAYOUT: &str = "{\"imageLayoutVersion\":\"1.0.0\"}";
 
-/// The index without entries.
-pub(crate) const NO_ENTRIES: &str =
-    "{\"manifests\":[],\"mediaType\":\"application/vnd.oci.image.index.v1+json\",\"schemaVersion\":2}";
-
 /// A store in memory to which these samples came, in this order.
 pub(crate) fn memory(alloc: Global, samples: &[Sample]) -> Result<MemoryStore, Fail> {
     let mut store = MemoryStore::new(alloc);
@@ -90,9 +86,10 @@ pub(crate) fn push_sample<D: Dest>(
     push(alloc, layout, &sample.key(alloc)?, sample.bytes(alloc)?)
 }
 
-/// What `fetch` answers, as text: the bytes, which are text, or the fault.
-pub(crate) fn fetch<A: Source>(alloc: Global, layout: &A, key: &Key) -> Result<String, Fail> {
-    match layout.fetch(key) {
+/// What `fetch` of a sample's key answers, as text: the bytes, which are text, or the fault.
+pub(crate) fn fetch<A: Source>(alloc: Global, layout: &A, sample: Sample) -> Result<String, Fail> {
+    let key = sample.key(alloc)?;
+    match layout.fetch(&key) {
         Ok(bytes) => Ok(String::from_str(alloc, str::from_utf8(bytes.as_slice())?)?),
         Err(fault) => Ok(format!(in alloc; "{fault}")?),
     }
@@ -108,6 +105,27 @@ pub(crate) fn resolve<T: Tagger>(
         Ok(key) => Ok(format!(in alloc; "{key}")?),
         Err(fault) => Ok(format!(in alloc; "{fault}")?),
     }
+}
+
+/// A reference stands for a sample's key.
+pub(crate) fn assert_resolves<R: AllocGlobal + Abort, T: Tagger>(
+    rt: &R,
+    layout: &T,
+    reference: &str,
+    sample: Sample,
+) -> Result<(), Fail> {
+    let want = sample.key(rt.alloc())?.to_string(rt.alloc())?;
+    assert_text(rt, resolve(rt.alloc(), layout, reference)?, want.as_str())
+}
+
+/// A reference is refused.
+pub(crate) fn assert_unresolved<R: AllocGlobal + Abort, T: Tagger>(
+    rt: &R,
+    layout: &T,
+    reference: &str,
+    want: &str,
+) -> Result<(), Fail> {
+    assert_text(rt, resolve(rt.alloc(), layout, reference)?, want)
 }
 
 /// Names a sample's key.

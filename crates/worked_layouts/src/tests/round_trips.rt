@@ -1,77 +1,106 @@
 use crate::tests::layouts::{
-    LAYOUT, assert_text, blob, created, creating, fetch, memory, opened, resolve, summary, tag,
-    text,
+    LAYOUT, assert_resolves, assert_text, assert_unresolved, blob, created, creating, fetch,
+    memory, opened, summary, tag, text,
 };
-use oci_copy::{Options, copy};
+use oci_copy::{CopyFault, Options, Report, copy};
 use oci_layout::{Dir, FsDir, Layout, MemDir};
+use oci_manifest::Key;
+use oci_store::{Dest, MemoryStore, Tagger};
 use std::alloc::Global;
 use std::process::Abort;
+use std::rt::Files;
 use std::test::Fail;
+use worked_contents::Sample;
 use worked_contents::Sample::{Empty, Image0};
 
-/// Makes a layout, copies the image that a store in memory calls `m` into it as `v1`, and saves it.
+/// What a copy by reference answers, as text.
+fn line(alloc: Global, answer: &Result<(Key, Report), CopyFault>) -> Result<String, Fail> {
+    Ok(match answer {
+        Ok((key, report)) => format!(in alloc; "{key} {report}")?,
+        Err(fault) => format!(in alloc; "{fault}")?,
+    })
+}
+
+/// Copies what a store in memory calls `m` as `v1`.
+fn copied<D: Dest + Tagger + Drop>(
+    alloc: Global,
+    source: &MemoryStore,
+    destination: D,
+) -> Result<(D, String), Fail> {
+    let options = Options::default();
+    let (destination, answer) = copy(alloc, source, "m", destination, "v1", &options);
+    let told = line(alloc, &answer)?;
+    Ok((destination, told))
+}
+
+/// Makes a layout, copies an image into it, and saves it.
 fn filled<D: Dir + Drop>(alloc: Global, dir: D) -> Result<(D, String), Fail> {
     let mut source = memory(alloc, &[Empty, Image0])?;
     tag(alloc, &mut source, Image0, "m")?;
-    let layout = created(alloc, dir)?;
-    let (mut layout, answer) = copy(alloc, &source, "m", layout, "v1", &Options::default());
-    let told = match answer {
-        Ok((key, report)) => format!(in alloc; "{key} {report}")?,
-        Err(fault) => format!(in alloc; "{fault}")?,
-    };
+    let (mut layout, told) = copied(alloc, &source, created(alloc, dir)?)?;
     layout.save()?;
     Ok((layout.into_dir(), told))
 }
 
 /// The index of one image with the name `v1`.
 fn saved_index(alloc: Global) -> Result<String, Fail> {
-    let key = Image0.key(alloc)?;
-    let digest = key.digest();
+    let digest = Image0.key(alloc)?.digest().to_string(alloc)?;
     Ok(format!(in alloc;
         "{{\"manifests\":[{{\"annotations\":{{\"org.opencontainers.image.ref.name\":\"v1\"}},\"digest\":\"{digest}\",\"mediaType\":\"application/vnd.oci.image.manifest.v1+json\",\"size\":241}}],\"mediaType\":\"application/vnd.oci.image.index.v1+json\",\"schemaVersion\":2}}"
     )?)
 }
 
+/// The file of a sample has its bytes.
+fn assert_blob<D: Dir, R: AllocGlobal + Abort>(
+    rt: &R,
+    dir: &D,
+    sample: Sample,
+) -> Result<(), Fail> {
+    let path = blob(rt.alloc(), sample)?;
+    let content = sample.content(rt.alloc())?;
+    assert_text(
+        rt,
+        text(rt.alloc(), dir, path.as_str())?,
+        content.bytes.as_str(),
+    )
+}
+
 /// The directory has the four files, byte for byte.
 fn assert_files<D: Dir, R: AllocGlobal + Abort>(rt: &R, dir: &D) -> Result<(), Fail> {
-    let alloc = rt.alloc();
-    assert_text(rt, text(alloc, dir, "oci-layout")?, LAYOUT)?;
-    let index = saved_index(alloc)?;
-    assert_text(rt, text(alloc, dir, "index.json")?, index.as_str())?;
-    let path = blob(alloc, Empty)?;
-    assert_text(rt, text(alloc, dir, path.as_str())?, "{}")?;
-    let path = blob(alloc, Image0)?;
-    let image = Image0.content(alloc)?;
-    assert_text(rt, text(alloc, dir, path.as_str())?, image.bytes.as_str())
+    assert_text(rt, text(rt.alloc(), dir, "oci-layout")?, LAYOUT)?;
+    let index = saved_index(rt.alloc())?;
+    assert_text(rt, text(rt.alloc(), dir, "index.json")?, index.as_str())?;
+    assert_blob(rt, dir, Empty)?;
+    assert_blob(rt, dir, Image0)
 }
 
 /// The layout holds the image and its config, and each reference stands for what it should.
 fn assert_layout<D: Dir, R: AllocGlobal + Abort>(rt: &R, layout: &Layout<D>) -> Result<(), Fail> {
-    let alloc = rt.alloc();
-    assert_text(rt, summary(alloc, layout)?, "held 2 v1")?;
-    let image = Image0.key(alloc)?.to_string(alloc)?;
-    assert_text(rt, resolve(alloc, layout, "v1")?, image.as_str())?;
-    let digest = Image0.key(alloc)?.digest().to_string(alloc)?;
-    assert_text(rt, resolve(alloc, layout, digest.as_str())?, image.as_str())?;
-    let empty = Empty.key(alloc)?.to_string(alloc)?;
+    assert_text(rt, summary(rt.alloc(), layout)?, "held 2 v1")?;
+    assert_resolves(rt, layout, "v1", Image0)?;
+    let digest = Image0.key(rt.alloc())?.digest().to_string(rt.alloc())?;
+    assert_resolves(rt, layout, digest.as_str(), Image0)?;
     let digest = "sha256:44136fa355b3678a1146ad16f7e8649e94fb4fc21fe77e8310c060f61caaff8a";
-    assert_text(rt, resolve(alloc, layout, digest)?, empty.as_str())?;
-    assert_text(rt, resolve(alloc, layout, "v2")?, "36 UnknownReference")?;
-    assert_text(rt, resolve(alloc, layout, "")?, "35 EmptyReference")?;
-    assert_text(rt, fetch(alloc, layout, &Empty.key(alloc)?)?, "{}")
+    assert_resolves(rt, layout, digest, Empty)?;
+    assert_unresolved(rt, layout, "v2", "36 UnknownReference")?;
+    assert_unresolved(rt, layout, "", "35 EmptyReference")
+}
+
+/// What the copy of the image tells.
+fn assert_copied<R: AllocGlobal + Abort>(rt: &R, told: String) -> Result<(), Fail> {
+    let key = Image0.key(rt.alloc())?;
+    let want = format!(in rt.alloc(); "{key} planned 2 pushed 2 skipped 0")?;
+    assert_text(rt, told, want.as_str())
 }
 
 /// A layout is made, filled, saved and opened again; then it is no place for another one.
 fn assert_round_trip<D: Dir + Drop, R: AllocGlobal + Abort>(rt: &R, dir: D) -> Result<D, Fail> {
-    let alloc = rt.alloc();
-    let (dir, told) = filled(alloc, dir)?;
-    let key = Image0.key(alloc)?;
-    let want = format!(in alloc; "{key} planned 2 pushed 2 skipped 0")?;
-    assert_text(rt, told, want.as_str())?;
+    let (dir, told) = filled(rt.alloc(), dir)?;
+    assert_copied(rt, told)?;
     assert_files(rt, &dir)?;
-    let layout = opened(alloc, dir)?;
+    let layout = opened(rt.alloc(), dir)?;
     assert_layout(rt, &layout)?;
-    let (dir, told) = creating(alloc, layout.into_dir())?;
+    let (dir, told) = creating(rt.alloc(), layout.into_dir())?;
     assert_text(rt, told, "78 AlreadyLayout")?;
     Ok(dir)
 }
@@ -82,16 +111,54 @@ fn layout_round_trip(rt: HostRuntime) -> Result<(), Fail> {
     Ok(())
 }
 
-/// The same in a folder, which is made with it; nothing stays beside the four files.
+/// The same in a folder, which is made with it.
 #[test]
 fn layout_round_trip_in_a_folder(rt: HostRuntime) -> Result<(), Fail> {
     let _ = std::fs::remove_dir_all(&rt, "round_trip");
     let dir = FsDir::new(&rt, "round_trip")?;
     let dir = assert_round_trip(&rt, dir)?;
-    let path = blob(rt.alloc(), Empty)?;
-    let beside = format!(in rt.alloc(); "{path}.new")?;
-    assert!(rt; !dir.exists(beside.as_str())?);
     assert!(rt; !dir.exists("index.json.new")?);
-    std::fs::remove_dir_all(&rt, "round_trip")?;
+    assert_gone(&rt, dir, "round_trip")
+}
+
+/// A held key whose file is removed is told by its fetch; where the folder is opened again, it is not held.
+fn assert_gone<D: Dir + Drop, R: AllocGlobal + Abort + Files>(
+    rt: &R,
+    dir: D,
+    folder: &str,
+) -> Result<(), Fail> {
+    let path = blob(rt.alloc(), Empty)?;
+    let place = format!(in rt.alloc(); "{folder}/{path}")?;
+    let layout = opened(rt.alloc(), dir)?;
+    std::fs::remove_file(rt, place.as_str())?;
+    assert_text(rt, fetch(rt.alloc(), &layout, Empty)?, "21 Corrupt")?;
+    let layout = opened(rt.alloc(), layout.into_dir())?;
+    assert_text(rt, summary(rt.alloc(), &layout)?, "held 1 v1")?;
+    assert_text(rt, fetch(rt.alloc(), &layout, Empty)?, "20 NotFound")
+}
+
+/// What a read of a folder answers, as text.
+fn reading<D: Dir>(alloc: Global, dir: &D, path: &str) -> Result<String, Fail> {
+    Ok(match dir.read(path) {
+        Ok(Some(_)) => String::from_str(alloc, "some")?,
+        Ok(None) => String::from_str(alloc, "none")?,
+        Err(fault) => format!(in alloc; "{fault}")?,
+    })
+}
+
+/// No path leaves the folder, and one through a file is absent.
+#[test]
+fn paths_of_a_folder(rt: HostRuntime) -> Result<(), Fail> {
+    let _ = std::fs::remove_dir_all(&rt, "paths");
+    let mut dir = FsDir::new(&rt, "paths")?;
+    assert_text(&rt, reading(rt.alloc(), &dir, "a")?, "none")?;
+    dir.put("a", b"foo")?;
+    assert_text(&rt, reading(rt.alloc(), &dir, "a")?, "some")?;
+    assert_text(&rt, reading(rt.alloc(), &dir, "a/b")?, "none")?;
+    for path in ["../paths/a", "/etc/passwd", "b/../a", "./a", ""] {
+        assert_text(&rt, reading(rt.alloc(), &dir, path)?, "90 Failed")?;
+        assert!(rt; dir.put(path, b"foo").is_err());
+    }
+    assert_eq!(rt; dir.failures(), 5);
     Ok(())
 }
