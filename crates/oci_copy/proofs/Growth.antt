@@ -1,18 +1,20 @@
 -- A push keeps what a run keeps.
-use Rattle.std.proofs.Common.{◌≡◌, ◌≤◌, ◌<◌, ◌-◌, ◌^◌, inl, inr, ℕ, true, List, [], ◌∷◌, ◌++◌, Some, refl, sym, ap, ◌∙◌, append_assoc, append-nil, subst, arith}
-use Rattle.std.specs.Prelude.{Contains, option_map}
+use Rattle.std.proofs.Common.{◌≡◌, ◌≤◌, ◌<◌, ◌-◌, ◌^◌, inl, inr, ℕ, true, false, List, [], ◌∷◌, ◌++◌, Some, Result, Ok, Err, refl, sym, ap, ◌∙◌, append_assoc, append-nil, subst, arith}
+use Rattle.std.specs.Prelude.{Contains, option_map, OnOk, OnErr}
 use Rattle.std.specs.List.{All}
 use Rattle.std.proofs.lemmas.List.Elements.{All-nil, All-weaker, All-push}
 use Rattle.oci_manifest.specs.Descriptor.{Descriptor}
 use Rattle.oci_store.specs.Keyed.{value_at, has_key, HasAll}
-use Rattle.oci_store.specs.Content.{Entry, successors_in}
+use Rattle.oci_store.specs.Content.{Entry, IsChecked, successors_in}
 use Rattle.oci_store.specs.Graph.{Node, node_of, nodes_of}
-use Rattle.oci_store.specs.Push.{IsCalm, IsUndisturbed, AgreesAt}
+use Rattle.oci_store.specs.Push.{closed_check, Answers, IsCalm, IsUndisturbed, AgreesAt}
+use Rattle.oci_store.specs.declared.fault.PushFault.{PushFault}
 use Rattle.oci_store.specs.State.{State}
 use Rattle.oci_store.proofs.Lookups.{All-value_at, value_at-append_cases, has_key-append_left}
 use Rattle.oci_plan.proofs.Items.{value_at-nodes_of}
 use Rattle.oci_copy.specs.Grown.{graph_of, IsTold}
 use Rattle.oci_copy.specs.Kept.{Keeps, IsOpeningAnd}
+use Rattle.oci_copy.proofs.Checks.{held-from_check}
 
 -- what is held stays held
 pub HasAll-append : {X : Type 0} (a b : List (Descriptor × X)) (ks : List Descriptor) → HasAll a ks → HasAll (a ++ b) ks
@@ -107,3 +109,12 @@ module _ (shares : Type 0) (source : State) (planned : List Descriptor) (opening
     tags = tags ∙ keeps.tags;
     name = name ∙ keeps.name;
   }
+
+  -- a push keeps it however it is answered
+  pub keeps_answered : (pushed : Result ℕ PushFault) (listed : List Descriptor) → Contains planned e.0 → has_key before.nodes e.0 ≡ false → IsChecked e.0 e.1 listed
+      → Answers pushed (closed_check before.nodes e.0 e.1) → OnOk pushed (after.nodes ≡ before.nodes ++ node_of e ∷ []) → OnErr pushed (after.nodes ≡ before.nodes)
+      → OnOk pushed (IsUndisturbed shares before after e → after.entries ≡ before.entries ++ e ∷ []) → OnErr pushed (IsUndisturbed shares before after e → after.entries ≡ before.entries)
+      → Keeps shares source planned opening after
+  keeps_answered (Ok place) listed plan fresh read checked did refused bytes_are same =
+      keeps_pushed plan did (held-from_check before.nodes e.0 e.1 checked.0 fresh read.matching checked.1) bytes_are
+  keeps_answered (Err fault) listed plan fresh read checked did refused bytes_are same = keeps_refused refused same

@@ -24,6 +24,8 @@ use Rattle.oci_copy.specs.Copy.{IsCopy, OnlyGrows}
 use Rattle.oci_copy.specs.Grown.{graph_of, BeginsWith, IsGrown, IsTold}
 use Rattle.oci_copy.specs.Kept.{Keeps}
 use Rattle.oci_copy.specs.Planned.{IsPlanOf}
+use Rattle.oci_copy.specs.Report.{IsReport}
+use Rattle.oci_copy.specs.declared.report.Report.{Report}
 use Rattle.oci_copy.proofs.Growth.{HasAll-append}
 
 -- what is outside is reached
@@ -140,6 +142,17 @@ module _ {shares : Type 0} {source : State} {limit : ℕ} {opening now : State} 
       was_closed = was_closed;
       was_sound = λ h k outside. All-contains (IsSoundItem source.entries limit) p.keys k (plan.sound h) ((plan.outside h k).1 outside);
     }
+
+-- the report of a run that holds all that is planned
+pub is_report : {source : State} {limit : ℕ} {opening now : State} {p : Planned} {roots : List Descriptor} → IsPlanOf source limit opening roots p → (report : Report)
+    → report.planned ≡ length p.keys → report.pushed ≡ length p.keys → report.skipped ≡ length p.skipped → length now.nodes ≡ length opening.nodes + length p.keys
+    → IsReport source opening roots now report
+is_report {opening = opening} {p = p} plan report planned pushed skipped count = record {
+  planned = λ h. (p.keys, plan.can_push.plan.distinct, plan.outside h, sym planned);
+  pushed = planned ∙ sym pushed;
+  gained = count ∙ ap (λ (n : ℕ). length opening.nodes + n) (sym pushed);
+  skipped = skipped ∙ ap length plan.skipped;
+}
 
 -- a copy that has no plan changed nothing
 pub unchanged_grows : (shares : Type 0) (source opening : State) (roots : List Descriptor) → OnlyGrows shares source opening roots opening

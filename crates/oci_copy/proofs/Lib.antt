@@ -6,3 +6,4 @@ pub mod Headline
 pub mod References
 pub mod Unfailing
 pub mod Tagging
+pub mod Workers

@@ -51,6 +51,18 @@ module _ {source opening now : State} (unfailing : IsUnfailing source opening no
   refused_for_plan limit roots fault.Memory cause = tt
   refused_for_plan limit roots other cause = absurd cause
 
+-- neither store in memory fails
+pub unfailing_in_memory : (source opening now : Contents) → IsContent source.entries → IsClosed (nodes_of opening.entries)
+    → IsUnfailing (in_memory source.entries source.tags) (in_memory opening.entries opening.tags) (in_memory now.entries now.tags)
+unfailing_in_memory source opening now content closed = record {
+  is_honest = tt;
+  content = content;
+  gives = λ k. refl;
+  closed = closed;
+  takes = λ never. never;
+  no_failures = refl;
+}
+
 -- what is supposed so that bytes can be told holds of stores in memory
 pub told_in_memory : (source opening now : Contents) → IsTold ⊥ (in_memory source.entries source.tags) (in_memory opening.entries opening.tags) (in_memory now.entries now.tags)
 told_in_memory source opening now = record {

@@ -46,12 +46,17 @@ IsContentCause source k (fault.Push named (push.BadManifest e)) = (named ≡ k) 
 IsContentCause source k fault.Memory = Unit {0}
 IsContentCause source k e = ⊥
 
--- why the push of a planned key is refused: its bytes do not read, a put failed, or the destination took nothing any more
+-- why the push of a planned key is refused: its bytes do not read, a put failed, which is said by the first type, or the
+-- destination took nothing any more
+abbrev pub IsPushCauseIf : Type 0 → State → State → Descriptor → PushFault → Type 0
+IsPushCauseIf failed source opening k (push.BadManifest e) = IsReadCause source k e
+IsPushCauseIf failed source opening k push.Device = failed
+IsPushCauseIf failed source opening k push.Halted = opening.is_halted
+IsPushCauseIf failed source opening k e = ⊥
+
+-- the same on one thread, where the failed put is counted
 abbrev pub IsPushCause : State → State → State → Descriptor → PushFault → Type 0
-IsPushCause source opening now k (push.BadManifest e) = IsReadCause source k e
-IsPushCause source opening now k push.Device = HasFailed opening now
-IsPushCause source opening now k push.Halted = opening.is_halted
-IsPushCause source opening now k e = ⊥
+IsPushCause source opening now k e = IsPushCauseIf (HasFailed opening now) source opening k e
 
 -- the bytes that were fetched match the key and list one that the destination does not hold, which no honest source's do at
 -- the key's turn; the first such key is this

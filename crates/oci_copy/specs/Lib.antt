@@ -8,3 +8,4 @@ pub mod Fault
 pub mod Cause
 pub mod Tagged
 pub mod Plain
+pub mod Work

@@ -18,20 +18,27 @@
 //! all of it holds but the agreement, which fails only where two contents have one size and one SHA-256.
 #![tactic(auto)]
 
+mod by_workers;
 mod fault;
 mod fetching;
+mod graph;
 mod memory;
 mod options;
 mod planning;
 mod push;
 mod pushing;
 mod report;
+mod running;
 mod single;
 mod tagged;
 
+pub use by_workers::copy_memory_by_workers;
 pub use fault::CopyFault;
+pub use graph::copy_graph;
 pub use memory::copy_memory;
 pub use options::Options;
 pub use report::Report;
+pub use running::guarded::Guarded;
+pub use running::opening::Opening;
 pub use single::copy_one;
 pub use tagged::copy;

@@ -1,3 +1,6 @@
+ghost use Rattle.std.specs.Prelude.{◌≡◌, length};
+
+use oci_plan::Plan;
 use std::fmt;
 use std::fmt::Display;
 
@@ -22,5 +25,19 @@ impl Display for Report {
             skipped,
         } = *self;
         write!(f, "planned {planned} pushed {pushed} skipped {skipped}")
+    }
+}
+
+/// The report of a copy that pushed all that was planned.
+pub(crate) fn report_of(plan: &Plan) -> Report
+    ensures planned { result.planned ≡ length plan.now.keys }
+    ensures pushed { result.pushed ≡ length plan.now.keys }
+    ensures skipped { result.skipped ≡ length plan.now.skipped }
+{
+    let planned = plan.len() as u64;
+    Report {
+        planned,
+        pushed: planned,
+        skipped: plan.skipped().len() as u64,
     }
 }

@@ -1,4 +1,4 @@
-ghost use Rattle.std.specs.Prelude.{◌≡◌, length, OnOk, IfOk, IfErr};
+ghost use Rattle.std.specs.Prelude.{◌≡◌, OnOk, IfOk, IfErr};
 ghost use Rattle.oci_copy.specs.Cause.{IsRefusal};
 ghost use Rattle.oci_copy.specs.Copy.{IsCopy, OnlyGrows};
 ghost use Rattle.oci_copy.specs.Fault.{IsEarly};
@@ -10,9 +10,8 @@ use crate::fault::CopyFault;
 use crate::options::Options;
 use crate::planning::plan_copy;
 use crate::pushing::push_all;
-use crate::report::Report;
+use crate::report::{Report, report_of};
 use oci_manifest::Key;
-use oci_plan::Plan;
 use oci_store::{Dest, Source};
 use std::alloc::Global;
 
@@ -51,19 +50,5 @@ pub fn copy_one<A: Source, D: Dest>(
     match push_all(source, &mut destination, &plan) {
         Ok(()) => (destination, Ok(report_of(&plan))),
         Err(fault) => (destination, Err(fault)),
-    }
-}
-
-/// The report of a copy that pushed all that was planned.
-fn report_of(plan: &Plan) -> Report
-    ensures planned { result.planned ≡ length plan.now.keys }
-    ensures pushed { result.pushed ≡ length plan.now.keys }
-    ensures skipped { result.skipped ≡ length plan.now.skipped }
-{
-    let planned = plan.len() as u64;
-    Report {
-        planned,
-        pushed: planned,
-        skipped: plan.skipped().len() as u64,
     }
 }

@@ -2,24 +2,24 @@ ghost use Rattle.std.specs.Prelude.{◌≡◌, ◌≤◌, [], ◌∷◌, List, t
 ghost use Rattle.oci_manifest.specs.Descriptor.{Descriptor};
 ghost use Rattle.oci_store.specs.Keyed.{has_key};
 ghost use Rattle.oci_store.specs.Tags.{set_tag};
-ghost use Rattle.oci_copy.specs.Cause.{IsRefusal};
 ghost use Rattle.oci_copy.specs.Copy.{IsCopy, OnlyGrows};
 ghost use Rattle.oci_copy.specs.Fault.{IsEarly};
 ghost use Rattle.oci_copy.specs.Options.{limit_of};
 ghost use Rattle.oci_copy.specs.Report.{IsReport};
 ghost use Rattle.oci_copy.specs.Tagged.{name_of, ResolvesIn, IsRootOf, RefusedByReference, TellsReference};
+ghost use Rattle.oci_copy.specs.Work.{CanFail, IsRefusalToWorkers};
 
 use crate::fault::CopyFault;
+use crate::graph::{MAX_WORKERS, copy_graph};
 use crate::options::Options;
 use crate::report::Report;
-use crate::single::copy_one;
 use oci_manifest::Key;
+use oci_pool::Hooks;
 use oci_store::{Dest, RefFault, Source, Tagger};
 use std::alloc::Global;
 use std::slice;
-
-/// The greatest number of workers.
-const MAX_WORKERS: u32 = 64;
+use std::sync::Wait;
+use std::thread::Threads;
 
 /// Copies what a reference of the source stands for, and tags it in the destination (oras-go v2, "Copy").
 ///
@@ -27,14 +27,21 @@ const MAX_WORKERS: u32 = 64;
 /// key that was copied.
 ///
 /// Refused, in this order, with `Reference`, where the source's reference does not resolve; with `BadWorkers`, over 64; and as
-/// `copy_one` of that root. A refusal leaves the tags as they were. With `Memory` the copy may be complete.
-pub fn copy<A: Source + Tagger, D: Dest + Tagger>(
+/// `copy_graph` of that root. A refusal leaves the tags as they were. With `Memory` the copy may be complete.
+pub fn copy<
+    A: Source + Tagger + Sync,
+    D: Dest + Tagger + Drop + Send,
+    R: Threads + Wait + Sync,
+    H: Hooks + Sync,
+>(
+    rt: &R,
     alloc: Global,
     source: &A,
     source_reference: &str,
     destination: D,
     destination_reference: &str,
     options: &Options,
+    hooks: &H,
 ) -> (D, Result<(Key, Report), CopyFault>)
     ensures root { IfOk result.1 (λ it. ResolvesIn (A.state source.now) source_reference.now it.0) }
     ensures copied { IfOk result.1 (λ it. IsCopy D.shares (limit_of options.now) (A.state source.now) (D.state destination) (it.0 ∷ []) (D.state result.0)) }
@@ -46,19 +53,27 @@ pub fn copy<A: Source + Tagger, D: Dest + Tagger>(
         × OnlyGrows D.shares (A.state source.now) (D.state destination) roots (D.state result.0) }
     ensures untagged { OnErr result.1 ((D.state result.0).tags ≡ (D.state destination).tags) }
     ensures refused { IfErr result.1 (RefusedByReference (A.state source.now) source_reference.now options.now.workers
-        (λ roots. IsRefusal (limit_of options.now) (A.state source.now) (D.state destination) roots (D.state result.0))) }
+        (λ roots. IsRefusalToWorkers (CanFail D.state (D.state destination)) (limit_of options.now)
+        (A.state source.now) (D.state destination) roots options.now.workers)) }
     ensures unchanged { IfErr result.1 (λ fault. IsEarly fault → result.0 ≡ destination) }
 {
     let root = match source.resolve(source_reference) {
         Ok(root) => root,
         Err(fault) => return (destination, Err(reference_fault(fault))),
     };
-    let workers = options.workers;
-    if workers > MAX_WORKERS {
+    if options.workers > MAX_WORKERS {
         return (destination, Err(CopyFault::BadWorkers));
     }
     let roots = slice::from_ref(&root);
-    let (mut destination, copied) = copy_one(alloc, source, destination, roots, options);
+    let (mut destination, copied) = copy_graph(
+        rt,
+        alloc,
+        source,
+        destination,
+        roots,
+        options,
+        hooks,
+    );
     let report = match copied {
         Ok(report) => report,
         Err(fault) => return (destination, Err(fault)),

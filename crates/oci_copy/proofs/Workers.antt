@@ -1,0 +1,195 @@
+-- What workers keep of a destination under a lock, how many keys they pushed, and why they fail.
+use Rattle.std.proofs.Common.{◌≡◌, ◌+◌, ◌≤◌, inl, inr, ℕ, Bool, true, false, List, [], ◌∷◌, ◌++◌, length, Option, Some, None, Result, Ok, Err, refl, sym, ap, subst, ◌∙◌, arith, length-append}
+use Rattle.std.specs.Prelude.{Contains, IsErrOf}
+use Rattle.std.specs.List.{All, IsDistinct}
+use Rattle.std.specs.Map.{keys_of}
+use Rattle.std.specs.Set.{is_member}
+use Rattle.std.specs.Result.{result_unwrap_or}
+use Rattle.std.proofs.lemmas.Bool.{false≢true}
+use Rattle.std.proofs.lemmas.List.Elements.{All-contains, Contains-push}
+use Rattle.std.proofs.lemmas.Map.Made.{is_member-Decides, length-le_from_is_member}
+use Rattle.oci_manifest.specs.Descriptor.{Descriptor, same_key}
+use Rattle.oci_manifest.specs.Fault.{Fault}
+use Rattle.oci_manifest.specs.declared.fault.ManifestFault.{ManifestFault}
+use Rattle.oci_manifest.proofs.Keys.{Decides-same_key}
+use Rattle.oci_store.specs.Keyed.{value_at, has_key, HasAll, HasDistinctKeys, first_missing}
+use Rattle.oci_store.specs.Content.{IsChecked, successors_in}
+use Rattle.oci_store.specs.Closed.{IsClosed}
+use Rattle.oci_store.specs.Graph.{Node}
+use Rattle.oci_store.specs.State.{State}
+use Rattle.oci_store.specs.Push.{Refusal, Refused, closed_check, held_check, already_exists, size_mismatch, digest_mismatch, bad_manifest, missing_successor}
+use Rattle.oci_store.specs.declared.fault.PushFault.{PushFault}
+use Rattle.oci_store.specs.declared.fault.PushFault.TheVariants as push
+use Rattle.oci_store.proofs.ClosedGraphs.{first_open-from_IsClosed}
+use Rattle.oci_store.proofs.KeyOrder.{same_key_laws}
+use Rattle.oci_store.proofs.Lookups.{found, has_key-from_value, All-value_at, value_at-append_cases, has_key-from_Contains, Contains-from_has_key, has_key-from_HasAll, first_missing-from_HasAll}
+use Rattle.oci_plan.specs.Outside.{IsOutside}
+use Rattle.oci_plan.specs.Plan.{Planned}
+use Rattle.oci_copy.specs.declared.fault.CopyFault.{CopyFault}
+use Rattle.oci_copy.specs.declared.fault.CopyFault.TheVariants as fault
+use Rattle.oci_copy.specs.Cause.{IsContentCause, IsFetchCause, IsReadCause, IsPushCauseIf, IsStartCause}
+use Rattle.oci_copy.specs.Fault.{TellsPush, IsStuck, IsOtherPush}
+use Rattle.oci_copy.specs.Grown.{graph_of}
+use Rattle.oci_copy.specs.Kept.{Keeps}
+use Rattle.oci_copy.specs.Plain.{IsUnfailing}
+use Rattle.oci_copy.specs.Planned.{IsPlanOf}
+use Rattle.oci_copy.specs.Work.{IsNoted, CanFail, IsWorkCause, IsToldHalt, IsRefusalToWorkers, RefusedForPlanOrWorkers}
+use Rattle.oci_copy.proofs.Checks.{closed_check-read}
+use Rattle.oci_copy.proofs.Unfailing.{not_planned}
+
+keys_of-append : {X : Type 0} (a b : List (Descriptor × X)) → keys_of (a ++ b) ≡ keys_of a ++ keys_of b
+keys_of-append [] b = refl
+keys_of-append (e ∷ a) b = ap (λ (ks : List Descriptor). e.0 ∷ ks) (keys_of-append a b)
+
+length-keys_of : {X : Type 0} (pairs : List (Descriptor × X)) → length (keys_of pairs) ≡ length pairs
+length-keys_of [] = refl
+length-keys_of (p ∷ pairs) = omega (arith, length-keys_of pairs)
+
+-- what was pushed last is held
+pub held_after : {X : Type 0} (old new : List (Descriptor × X)) (k : Descriptor) (x : X) → new ≡ old ++ (k, x) ∷ [] → has_key new k ≡ true
+held_after {X} old new k x more =
+    let there : Contains (keys_of (old ++ (k, x) ∷ [])) k = subst (λ (ks : List Descriptor). Contains ks k) (sym (keys_of-append old ((k, x) ∷ []))) (Contains-push (keys_of old) k) in
+    has_key-from_Contains new k (subst (λ (l : List (Descriptor × X)). Contains (keys_of l) k) (sym more) there)
+
+distinct_right : (a b : List Descriptor) → IsDistinct same_key (a ++ b) → IsDistinct same_key b
+unfolding IsDistinct
+distinct_right [] b d = d
+distinct_right (x ∷ a) b d = distinct_right a b d.1
+
+-- keys that are each there once are no more than those that have them all
+few : (xs ys : List Descriptor) → IsDistinct same_key xs → ((k : Descriptor) → Contains xs k → Contains ys k) → length xs ≤ length ys
+few xs ys distinct within =
+    length-le_from_is_member same_key_laws xs ys distinct (λ k h. (is_member-Decides Decides-same_key ys k).1 (within k ((is_member-Decides Decides-same_key xs k).0 h)))
+
+-- where all that is planned is held, as many nodes came as keys were planned
+pub as_many_pushed : {shares : Type 0} {source : State} {planned : List Descriptor} {opening now : State} → Keeps shares source planned opening now
+    → IsDistinct same_key planned → All (λ k. has_key opening.nodes k ≡ false) planned → HasDistinctKeys now.nodes → HasAll now.nodes planned
+    → length now.nodes ≡ length opening.nodes + length planned
+as_many_pushed {planned = planned} {opening = opening} {now = now} keeps distinct fresh each held =
+    let split : keys_of now.nodes ≡ keys_of opening.nodes ++ keys_of keeps.added = ap keys_of keeps.is ∙ keys_of-append opening.nodes keeps.added in
+    let once : IsDistinct same_key (keys_of keeps.added) = distinct_right (keys_of opening.nodes) (keys_of keeps.added) (subst (IsDistinct same_key) split each) in
+    let at_most : length (keys_of keeps.added) ≤ length planned = few (keys_of keeps.added) planned once is_planned in
+    let at_least : length planned ≤ length (keys_of keeps.added) = few planned (keys_of keeps.added) distinct was_added in
+    let all : length now.nodes ≡ length (opening.nodes ++ keeps.added) = ap length keeps.is in
+    omega (arith, at_most, at_least, all, length-append opening.nodes keeps.added, length-keys_of keeps.added)
+  where
+    is_planned : (k : Descriptor) → Contains (keys_of keeps.added) k → Contains planned k
+    is_planned k there =
+        let it = found keeps.added k (has_key-from_Contains keeps.added k there) in
+        All-value_at (λ (n : Node). Contains planned n.0) keeps.added k it.0 keeps.planned_keys it.1
+
+    was_added : (k : Descriptor) → Contains planned k → Contains (keys_of keeps.added) k
+    was_added k there =
+        let it = found now.nodes k (has_key-from_HasAll now.nodes planned k held there) in
+        elim (value_at-append_cases opening.nodes keeps.added k it.0 (subst (λ (l : List Node). value_at l k ≡ Some it.0) keeps.is it.1)) [
+          | inl old ↦ absurd (false≢true (sym (All-contains (λ d. has_key opening.nodes d ≡ false) planned k fresh there) ∙ has_key-from_value opening.nodes k it.0 old))
+          | inr new ↦ Contains-from_has_key keeps.added k (has_key-from_value keeps.added k it.0 new)
+        ]
+
+-- a want of memory is told as it is
+pub told_memory : (pushed told : Result ℕ PushFault) (wanting : Bool) → IsToldHalt pushed wanting told → IsErrOf pushed push.Memory → IsErrOf told push.Memory
+told_memory pushed told wanting tells memory = let it : IsToldHalt (Err push.Memory) wanting told = subst (λ (r : Result ℕ PushFault). IsToldHalt r wanting told) memory tells in it
+
+module _ (failed : Type 0) (source opening : State) (planned : List Descriptor) (graph : List Node) (k : Descriptor) (bytes : List ℕ) (listed : List Descriptor)
+    (fresh : has_key graph k ≡ false) (checked : IsChecked k bytes listed) (held : HasAll graph (successors_in k bytes)) (there : Contains planned k) where
+  -- nothing is left against the push
+  passes : closed_check graph k bytes ≡ Ok listed
+  passes =
+      let all : HasAll graph listed = subst (HasAll graph) (ap (λ (r : Result (List Descriptor) Fault). result_unwrap_or r []) checked.reads) held in
+      closed_check-read graph k bytes listed fresh checked ∙ ap (held_check listed) (first_missing-from_HasAll graph listed all)
+
+  no_cause : (r : Refusal) → closed_check graph k bytes ≡ Err r → ⊥
+  no_cause r e = let both : Ok listed ≡ Err r = sym passes ∙ e in cc both
+
+  stuck : (e : PushFault) → Refused e (closed_check graph k bytes) → IsStuck e → ⊥
+  stuck push.AlreadyExists refused is = no_cause already_exists refused
+  stuck (push.MissingSuccessor m) refused is = no_cause (missing_successor m) refused
+  stuck other refused is = is
+
+  lock_cause : (e : PushFault) → Refused e (closed_check graph k bytes) → (e ≡ push.Device → failed) → (e ≡ push.Halted → opening.is_halted) → IsOtherPush e → IsPushCauseIf failed source opening k e
+  lock_cause push.AlreadyExists refused device halt other = other
+  lock_cause push.SizeMismatch refused device halt other = no_cause size_mismatch refused
+  lock_cause push.DigestMismatch refused device halt other = no_cause digest_mismatch refused
+  lock_cause (push.BadManifest m) refused device halt other = absurd (no_cause (bad_manifest refused.0) refused.1)
+  lock_cause push.Memory refused device halt other = other
+  lock_cause (push.MissingSuccessor m) refused device halt other = other
+  lock_cause push.Device refused device halt other = device refl
+  lock_cause push.Halted refused device halt other = halt refl
+
+  -- why a push under the lock is refused, once all that the content lists is held
+  pub work_from_push : (e : PushFault) (told : CopyFault) → Refused e (closed_check graph k bytes) → (e ≡ push.Device → failed) → (e ≡ push.Halted → opening.is_halted) → TellsPush k e told
+      → IsWorkCause failed source opening planned told
+  work_from_push e (fault.Push named t) refused device halt tells = (
+    subst (Contains planned) (sym tells.0) there,
+    subst (λ (d : Descriptor). IsPushCauseIf failed source opening d t) (sym tells.0) (subst (IsPushCauseIf failed source opening k) (sym tells.1) (lock_cause e refused device halt tells.2)),
+  )
+  work_from_push e (fault.Stuck named) refused device halt tells = absurd (stuck e refused tells.1)
+  work_from_push e fault.Memory refused device halt tells = tt
+  work_from_push e other refused device halt tells = absurd tells
+
+-- a planned key whose content is not to be had is a worker's cause, of what was noted of the source
+pub work_from_content : (failed : Type 0) (noted now opening : State) (planned : List Descriptor) (k : Descriptor) (told : CopyFault) → IsNoted noted now → Contains planned k
+    → IsContentCause now k told → IsWorkCause failed noted opening planned told
+work_from_content failed noted now opening planned k told same there cause = go told cause
+  where
+    read : (named : Descriptor) (e : ManifestFault) → IsReadCause now named e → IsReadCause noted named e
+    read named e it = (
+      record {
+        bytes = it.0.bytes;
+        cause = it.0.cause;
+        matching = it.0.matching;
+        own = λ h. rw (← same.entries) (it.0.own (same.honest.1 h));
+        breaks = it.0.breaks;
+        tells = it.0.tells;
+      },
+      λ h. it.1 (same.honest.1 h),
+    )
+
+    at : (named : Descriptor) → named ≡ k → Contains planned named
+    at named is = subst (Contains planned) (sym is) there
+
+    go : (t : CopyFault) → IsContentCause now k t → IsWorkCause failed noted opening planned t
+    go (fault.Fetch named e) h = (at named h.0, (ap noted.fails_at h.0 ∙ (ap (λ (f : Descriptor → Bool). f k) (sym same.fails_at) ∙ h.1.0), h.1.1))
+    go (fault.Push named (push.BadManifest e)) h = (at named h.0, read named e (subst (λ (d : Descriptor). IsReadCause now d e) (sym h.0) h.1))
+    go fault.Memory h = tt
+    go other h = absurd h
+
+-- why a copy by workers is refused once it has a plan
+pub refused_in_work : {source : State} {limit : ℕ} {opening : State} {roots : List Descriptor} {p : Planned} (failed : Type 0) (workers : ℕ) (told : CopyFault) → IsPlanOf source limit opening roots p
+    → IsClosed opening.nodes → IsWorkCause failed source opening p.keys told → IsRefusalToWorkers failed limit source opening roots workers told
+refused_in_work failed workers (fault.Fetch k e) plan closed cause = (closed, λ h. (plan.outside h k).0 cause.0, cause.1)
+refused_in_work failed workers (fault.Push k e) plan closed cause = (closed, λ h. (plan.outside h k).0 cause.0, cause.1)
+refused_in_work failed workers fault.Memory plan closed cause = tt
+refused_in_work failed workers other plan closed cause = absurd cause
+
+-- why a copy by workers is refused that has no plan
+pub refused_without_plan : (failed : Type 0) (limit : ℕ) (source opening : State) (roots : List Descriptor) (workers : ℕ) (told : CopyFault)
+    → IsStartCause limit source opening roots told → IsRefusalToWorkers failed limit source opening roots workers told
+refused_without_plan failed limit source opening roots workers (fault.DestinationOpen holder missing) cause = cause
+refused_without_plan failed limit source opening roots workers (fault.Plan e) cause = cause
+refused_without_plan failed limit source opening roots workers fault.Memory cause = tt
+refused_without_plan failed limit source opening roots workers other cause = absurd cause
+
+-- why a copy by workers is refused where neither store fails
+module _ (failed : Type 0) (source opening : State) (not_failed : failed → ⊥) (unfailing : IsUnfailing source opening opening) where
+  not_locked : (k : Descriptor) (e : PushFault) → IsPushCauseIf failed source opening k e → ⊥
+  not_locked k (push.BadManifest m) cause = cause.1 unfailing.is_honest
+  not_locked k push.Device cause = not_failed cause
+  not_locked k push.Halted cause = unfailing.takes cause
+  not_locked k other cause = cause
+
+  pub refused_for_plan_or_workers : (limit : ℕ) (roots : List Descriptor) (workers : ℕ) (told : CopyFault) → IsRefusalToWorkers failed limit source opening roots workers told
+      → RefusedForPlanOrWorkers source.entries limit opening.nodes roots workers told
+  refused_for_plan_or_workers limit roots workers fault.BadWorkers cause = cause
+  refused_for_plan_or_workers limit roots workers (fault.DestinationOpen holder missing) cause =
+      let both : Some (holder, missing) ≡ None = sym cause ∙ first_open-from_IsClosed opening.nodes unfailing.closed in
+      cc both
+  refused_for_plan_or_workers limit roots workers (fault.Plan e) cause = not_planned unfailing limit roots e cause.1
+  refused_for_plan_or_workers limit roots workers (fault.Fetch k e) cause = absurd (false≢true (sym (unfailing.gives k) ∙ cause.2.0))
+  refused_for_plan_or_workers limit roots workers (fault.Push k e) cause = absurd (not_locked k e cause.2)
+  refused_for_plan_or_workers limit roots workers fault.Memory cause = tt
+  refused_for_plan_or_workers limit roots workers other cause = absurd cause
+
+-- where no put of a store of this kind is counted as failed, none can fail
+pub never_fails : {X : Type 0} (state : X → State) (opening : State) → opening.failures ≡ 0 → ((store : X) → (state store).failures ≡ 0) → CanFail state opening → ⊥
+never_fails state opening none never may = elim may.1 [ inl rose ↦ (let n = never may.0 in omega arith) | inr most ↦ (let n = never may.0 in omega arith) ]

@@ -1,0 +1,20 @@
+use Rattle.std.proofs.Common.{◌≡◌, inl, inr, false, List, sym, subst}
+use Rattle.oci_store.specs.Graph.{Node}
+use Rattle.oci_store.specs.Keyed.{has_key}
+use Rattle.oci_copy.proofs.Growth.{keeps_answered}
+use Rattle.oci_copy.proofs.Workers.{told_memory}
+use Rattle.oci_copy.proofs.running.guarded.Guarded.push.Goals as goal
+
+pub invariant_of-self : goal.invariant_of-self
+invariant_of-self g c =
+    let did = c.push_checked-pushed.ensures in
+    let was = c.self.invariant in
+    let read = c.requires.checked in (
+      keeps_answered g.D.Dest.shares g.T.Opening.source g.T.Opening.planned g.T.Opening.opening _ _ c.args.content c.requires.own did.failures did.sound did.tags did.name was.0
+          c.push_checked-pushed.result read.0 c.requires.planned (subst (λ (l : List Node). has_key l c.args.content.0 ≡ false) (sym c.self.view_is) c.requires.fresh) read.1
+          did.checked did.pushed did.refused did.bytes did.same,
+      λ halted. elim (did.running halted) [
+        | inl before ↦ elim (was.1 before) [ inl opening ↦ inl opening | inr wanting ↦ inr (c.still_wanting-self-inside.ensures.before wanting) ]
+        | inr now ↦ inr (c.still_wanting-self-inside.ensures.now (told_memory _ _ _ c.told_halt-told.ensures now))
+      ],
+    )

@@ -1,0 +1,8 @@
+//! The run of a copy by workers, and what stands in its lock.
+
+pub(crate) mod guarded;
+mod job;
+pub(crate) mod opening;
+mod pushing;
+mod waiting;
+pub(crate) mod workers;

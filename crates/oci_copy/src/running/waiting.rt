@@ -1,0 +1,107 @@
+ghost use Rattle.std.specs.Prelude.{◌≡◌, true, List, Some, Contains, IfErr, IsSomeAnd};
+ghost use Rattle.std.specs.Sync.Mutex.{mutex_guard_value};
+ghost use Rattle.oci_manifest.specs.Descriptor.{Descriptor};
+ghost use Rattle.oci_store.specs.Content.{IsChecked};
+ghost use Rattle.oci_store.specs.Keyed.{has_key, value_at, HasAll};
+ghost use Rattle.oci_copy.specs.Work.{IsWorkCause, CanFail};
+
+use super::guarded::Guarded;
+use super::opening::Opening;
+use super::pushing::push_there;
+use crate::fault::CopyFault;
+use oci_manifest::Key;
+use oci_store::{CheckedContent, Dest};
+use std::sync::{Condvar, Mutex, MutexGuard, Wait};
+
+/// Whether all of these keys are held.
+fn has_all<D: Dest, T: Opening>(guarded: &Guarded<D, T>, keys: &[Key]) -> bool
+    ensures { result ≡ true → HasAll guarded.now keys.now }
+{
+    let destination = guarded.destination();
+    for key in keys {
+        if !destination.has(key) {
+            return false;
+        }
+    }
+    true
+}
+
+fn is_ready<D: Dest, T: Opening>(guarded: &Option<Guarded<D, T>>, keys: &[Key]) -> bool
+    ensures { result ≡ true → IsSomeAnd guarded.now (λ g. HasAll g keys.now) }
+{
+    match guarded {
+        Some(guarded) => has_all(guarded, keys),
+        None => false,
+    }
+}
+
+/// Waits until all of these keys are held, and keeps the lock.
+fn wait_for<'b, D: Dest + Drop, T: Opening, R: Wait>(
+    rt: &R,
+    lock: &'b Mutex<Option<Guarded<D, T>>>,
+    pushed: &Condvar,
+    keys: &[Key],
+) -> MutexGuard<'b, Option<Guarded<D, T>>>
+    ensures { IsSomeAnd (mutex_guard_value result) (λ g. HasAll g keys.now) }
+{
+    let mut guard = lock.lock(rt);
+    for _ in rt.forever() {
+        if is_ready(&*guard, keys) {
+            return guard;
+        }
+        guard = pushed.wait(rt, guard);
+    }
+    unreachable!()
+}
+
+/// Pushes a key's content, once all that it lists is held. Nothing is hashed or read while the lock is held.
+pub(crate) fn push_later<D: Dest + Drop, T: Opening, R: Wait>(
+    rt: &R,
+    lock: &Mutex<Option<Guarded<D, T>>>,
+    pushed: &Condvar,
+    key: &Key,
+    content: CheckedContent,
+) -> Result<(), CopyFault>
+    requires same { content.0 ≡ key.now }
+    requires planned { Contains T.planned key.now }
+    requires own { T.source.is_honest → value_at T.source.entries key.now ≡ Some content.1 }
+    ensures { IfErr result (IsWorkCause (CanFail D.state T.opening) T.source T.opening T.planned) }
+{
+    let mut guard = wait_for(rt, lock, pushed, content.successors());
+    let answer = push_there(&mut *guard, key, content);
+    drop(guard);
+    pushed.notify_all();
+    answer
+}
+
+/// Takes the destination out, once all that is planned is held.
+pub(crate) fn take_whole<D: Dest + Drop, T: Opening, R: Wait>(
+    rt: &R,
+    lock: &Mutex<Option<Guarded<D, T>>>,
+    pushed: &Condvar,
+    planned: &[Key],
+) -> Guarded<D, T>
+    ensures { HasAll result planned.now }
+{
+    let mut guard = wait_for(rt, lock, pushed, planned);
+    match guard.take() {
+        Some(guarded) => guarded,
+        None => unreachable!(),
+    }
+}
+
+/// Takes the destination out, as it is.
+pub(crate) fn take_any<D: Dest + Drop, T: Opening, R: Wait>(
+    rt: &R,
+    lock: &Mutex<Option<Guarded<D, T>>>,
+    pushed: &Condvar,
+) -> Guarded<D, T> {
+    let mut guard = lock.lock(rt);
+    for _ in rt.forever() {
+        if let Some(guarded) = guard.take() {
+            return guarded;
+        }
+        guard = pushed.wait(rt, guard);
+    }
+    unreachable!()
+}

@@ -1,0 +1,123 @@
+ghost use Rattle.std.specs.Prelude.{◌≡◌, ◌+◌, ◌≤◌, length, OnOk, IfErr, IfSome};
+ghost use Rattle.oci_store.specs.Keyed.{HasAll, HasDistinctKeys};
+ghost use Rattle.oci_pool.specs.Run.{IsCause};
+ghost use Rattle.oci_copy.specs.Kept.{Keeps};
+ghost use Rattle.oci_copy.specs.Planned.{CanPush};
+ghost use Rattle.oci_copy.specs.Work.{IsNoted, IsWorkCause, CanFail};
+
+use super::guarded::Guarded;
+use super::job::CopyJob;
+use super::opening::Opening;
+use super::waiting::{take_any, take_whole};
+use crate::fault::CopyFault;
+use oci_plan::Plan;
+use oci_pool::{Hooks, PoolFault, run};
+use oci_store::{Dest, Source};
+use std::alloc::Global;
+use std::marker::Brand;
+use std::sync::{Condvar, Mutex, Wait};
+use std::thread::Threads;
+
+/// The destination, with what the lock kept.
+fn finish<D: Dest, T: Opening>(guarded: Guarded<D, T>) -> D
+    ensures nodes { (D.state result).nodes ≡ guarded }
+    ensures distinct { HasDistinctKeys (D.state result).nodes }
+    ensures keeps { Keeps D.shares T.source T.planned T.opening (D.state result) }
+{
+    let destination = guarded.into_destination();
+    let _distinct = destination.count();
+    destination
+}
+
+/// The fault of a copy whose run stopped. A run that is only incomplete goes on by a wait.
+fn told<D: Dest, T: Opening>(workers: u32, fault: PoolFault<CopyFault>) -> Option<CopyFault>
+    requires workers { workers ≤ 64 }
+    requires fault { IsCause workers (λ _ f. IsWorkCause (CanFail D.state T.opening) T.source T.opening T.planned f) fault }
+    ensures { IfSome result (IsWorkCause (CanFail D.state T.opening) T.source T.opening T.planned) }
+{
+    match fault {
+        PoolFault::Job(_, fault) => Some(fault),
+        PoolFault::Incomplete(_) => None,
+        PoolFault::BadWorkers => unreachable!(),
+        PoolFault::Memory => Some(CopyFault::Memory),
+    }
+}
+
+/// Lets workers copy what is planned, over what the run knows from its start on.
+fn work<
+    'a,
+    A: Source + Sync,
+    D: Dest + Drop + Send,
+    T: Opening + Send + Sync,
+    R: Threads + Wait + Sync,
+    H: Hooks + Sync,
+>(
+    rt: &'a R,
+    alloc: Global,
+    source: &'a A,
+    destination: D,
+    plan: &'a Plan,
+    workers: u32,
+    hooks: &'a H,
+) -> (D, Result<(), CopyFault>)
+    requires workers { workers ≤ 64 }
+    requires noted { IsNoted T.source (A.state source.now) }
+    requires planned { plan.now.keys ≡ T.planned }
+    requires can_push { CanPush T.source T.opening plan.now }
+    requires keeps { Keeps D.shares T.source T.planned T.opening (D.state destination) }
+    requires halted { (D.state destination).is_halted → T.opening.is_halted }
+    ensures held { OnOk result.1 (HasAll (D.state result.0).nodes plan.now.keys) }
+    ensures distinct { HasDistinctKeys (D.state result.0).nodes }
+    ensures keeps { Keeps D.shares T.source T.planned T.opening (D.state result.0) }
+    ensures cause { IfErr result.1 (IsWorkCause (CanFail D.state T.opening) T.source T.opening T.planned) }
+{
+    let lock = Mutex::new(Some(Guarded::<D, T>::new(destination)));
+    let pushed = Condvar::new();
+    let job: CopyJob<'_, A, D, T, R, H> = CopyJob {
+        rt,
+        source,
+        lock: &lock,
+        pushed: &pushed,
+        plan,
+        hooks,
+    };
+    let fault = match run(rt, alloc, plan.order(), workers, &job) {
+        Ok(_) => None,
+        Err(stopped) => told::<D, T>(workers, stopped.into_fault()),
+    };
+    match fault {
+        None => {
+            let guarded = take_whole(rt, &lock, &pushed, plan.keys());
+            (finish(guarded), Ok(()))
+        }
+        Some(fault) => {
+            let guarded = take_any(rt, &lock, &pushed);
+            (finish(guarded), Err(fault))
+        }
+    }
+}
+
+/// Lets workers copy what is planned.
+pub(crate) fn copy_planned<
+    A: Source + Sync,
+    D: Dest + Drop + Send,
+    R: Threads + Wait + Sync,
+    H: Hooks + Sync,
+>(
+    rt: &R,
+    alloc: Global,
+    source: &A,
+    destination: D,
+    plan: &Plan,
+    workers: u32,
+    hooks: &H,
+) -> (D, Result<(), CopyFault>)
+    requires workers { workers ≤ 64 }
+    requires can_push { CanPush (A.state source.now) (D.state destination) plan.now }
+    ensures held { OnOk result.1 (HasAll (D.state result.0).nodes plan.now.keys) }
+    ensures count { OnOk result.1 (length (D.state result.0).nodes ≡ length (D.state destination).nodes + length plan.now.keys) }
+    ensures keeps { Keeps D.shares (A.state source.now) plan.now.keys (D.state destination) (D.state result.0) }
+    ensures cause { IfErr result.1 (IsWorkCause (CanFail D.state (D.state destination)) (A.state source.now) (D.state destination) plan.now.keys) }
+{
+    work::<A, D, Brand, R, H>(rt, alloc, source, destination, plan, workers, hooks)
+}
