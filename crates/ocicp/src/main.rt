@@ -1,4 +1,4 @@
-//! `ocicp`: copies OCI content between stores.
+//! `ocicp`: copies OCI content between stores, and looks into image layouts.
 //!
 //! The whole program is [`run_words`]: it takes the words after the program's name and two
 //! writers, and answers the status. `main` calls it with the words, the standard output and the
@@ -6,10 +6,20 @@
 #![tactic(auto)]
 
 mod command;
+mod copy;
+mod dry_run;
 mod fault;
 mod item;
+mod lines;
+mod look;
 mod mem;
+mod opened;
+mod outcome;
+mod predecessors;
+mod resolve;
 mod run;
+mod tags;
+mod verify;
 
 use fault::{Ending, ProgramFault, output_fault};
 pub use run::run_words;

@@ -1,5 +1,7 @@
 use crate::fault::{ProgramFault, output_fault};
 use crate::item::Item;
+use crate::lines::print_lines;
+use crate::outcome::Outcome;
 use oci_copy::{Options, copy_memory};
 use oci_manifest::Key;
 use oci_store::{ClosedStore, MemoryStore};
@@ -13,7 +15,7 @@ pub(crate) fn mem<R: Files + AllocGlobal, W: Write>(
     rt: &R,
     items: &[&str],
     out: &mut W,
-) -> Result<(), ProgramFault> {
+) -> Result<Outcome, ProgramFault> {
     let alloc = rt.alloc();
     let mut source = MemoryStore::new(alloc);
     let mut roots = Vec::new(alloc);
@@ -27,7 +29,8 @@ pub(crate) fn mem<R: Files + AllocGlobal, W: Write>(
     let (copied, report) = copy_memory(alloc, &source, empty, &roots, &Options::default());
     let report = report.map_err(ProgramFault::Copy)?;
     print_keys(alloc, copied.memory(), out)?;
-    writeln!(out, "{report}").map_err(output_fault)
+    writeln!(out, "{report}").map_err(output_fault)?;
+    Ok(Outcome::Good)
 }
 
 /// Prints the key of each entry, in key order.
@@ -43,8 +46,5 @@ fn print_keys<W: Write>(
         }
     }
     keys.sort()?;
-    for key in &keys {
-        writeln!(out, "{key}").map_err(output_fault)?;
-    }
-    Ok(())
+    print_lines(&keys, out)
 }
