@@ -1,9 +1,9 @@
 use crate::copy::CopyWords;
 use crate::fault::{ProgramFault, output_fault};
-use crate::opened::opened;
+use crate::opened::{opened, opened_if_there};
 use crate::outcome::Outcome;
 use oci_copy::CopyFault;
-use oci_layout::{Dir, LayoutFault};
+use oci_layout::Dir;
 use oci_manifest::Key;
 use oci_plan::{Plan, PlanFault, gather};
 use oci_store::{ClosedStore, Dest, Source, Tagger};
@@ -25,12 +25,10 @@ pub(crate) fn dry_run<S: Dir + Drop, D: Dir + Drop, W: Write>(
     let root = source
         .resolve(words.source_reference)
         .map_err(ProgramFault::Reference)?;
-    let plan = match opened(alloc, destination) {
-        Ok(destination) => planned(alloc, &source, &destination, &root, words)?,
-        Err(ProgramFault::Layout(LayoutFault::NoLayoutFile)) => {
-            planned(alloc, &source, &ClosedStore::new(alloc), &root, words)?
-        }
-        Err(fault) => return Err(fault),
+    let destination = opened_if_there(alloc, destination)?;
+    let plan = match &destination {
+        Some(destination) => planned(alloc, &source, destination, &root, words)?,
+        None => planned(alloc, &source, &ClosedStore::new(alloc), &root, words)?,
     };
     print_plan(&plan, out)
 }

@@ -6,11 +6,23 @@ use std::alloc::Global;
 pub(crate) fn opened<D: Dir + Drop>(alloc: Global, dir: D) -> Result<Layout<D>, ProgramFault> {
     match Layout::open(alloc, dir) {
         Ok(layout) => Ok(layout),
-        Err((_, fault)) => Err(ProgramFault::Layout(fault)),
+        Err((_dir, fault)) => Err(ProgramFault::Layout(fault)),
     }
 }
 
-/// The layout that a directory is. Where it has no `oci-layout`, which is so where there is no folder, it is made one.
+/// The layout that a directory is; none where it has no `oci-layout`, which is so where there is no folder.
+pub(crate) fn opened_if_there<D: Dir + Drop>(
+    alloc: Global,
+    dir: D,
+) -> Result<Option<Layout<D>>, ProgramFault> {
+    match Layout::open(alloc, dir) {
+        Ok(layout) => Ok(Some(layout)),
+        Err((_dir, LayoutFault::NoLayoutFile)) => Ok(None),
+        Err((_dir, fault)) => Err(ProgramFault::Layout(fault)),
+    }
+}
+
+/// The layout that a directory is, which is made one where it has no `oci-layout`.
 pub(crate) fn opened_or_made<D: Dir + Drop>(
     alloc: Global,
     dir: D,
@@ -18,13 +30,13 @@ pub(crate) fn opened_or_made<D: Dir + Drop>(
     match Layout::open(alloc, dir) {
         Ok(layout) => Ok(layout),
         Err((dir, LayoutFault::NoLayoutFile)) => made(alloc, dir),
-        Err((_, fault)) => Err(ProgramFault::Layout(fault)),
+        Err((_dir, fault)) => Err(ProgramFault::Layout(fault)),
     }
 }
 
 fn made<D: Dir + Drop>(alloc: Global, dir: D) -> Result<Layout<D>, ProgramFault> {
     match Layout::create(alloc, dir) {
         Ok(layout) => Ok(layout),
-        Err((_, fault)) => Err(ProgramFault::Layout(fault)),
+        Err((_dir, fault)) => Err(ProgramFault::Layout(fault)),
     }
 }

@@ -78,7 +78,10 @@ fn run_copy<R: Files + AllocGlobal, W: Write, X: Write>(
 ) -> u8
     ensures { result ≤ 3 }
 {
-    match (FsDir::new(rt, words.source), FsDir::new(rt, words.destination)) {
+    match (
+        FsDir::new(rt, words.source),
+        FsDir::new(rt, words.destination),
+    ) {
         (Ok(source), Ok(destination)) => {
             end_copy(rt.alloc(), source, destination, words, out, err)
         }
@@ -105,11 +108,7 @@ fn end_copy<S: Dir + Drop, D: Dir + Drop, W: Write, X: Write>(
 }
 
 /// Flushes the output, and answers the status. A fault goes to the error output.
-fn end<W: Write, X: Write>(
-    done: Result<Outcome, ProgramFault>,
-    out: &mut W,
-    err: &mut X,
-) -> u8
+fn end<W: Write, X: Write>(done: Result<Outcome, ProgramFault>, out: &mut W, err: &mut X) -> u8
     ensures { result ≤ 3 }
 {
     match flushed(done, out) {

@@ -46,7 +46,9 @@ fn copy_command<'w>(alloc: Global) -> Result<Command<'w>, AllocError> {
         .value_name("DSTREF")
         .help("The name that it gets in DST; SRCREF where this is left out");
     Command::new(alloc, "copy")
-        .about("Copies what a reference of a layout stands for into another layout, and names it there")
+        .about(
+            "Copies what a reference of a layout stands for into another layout, and names it there",
+        )
         .long_about(
             "Copies what a reference of a layout stands for into another layout, and names it there.\n\n\
              With it comes every content that it reaches: the configuration and the layers of an image, \
@@ -58,14 +60,24 @@ fn copy_command<'w>(alloc: Global) -> Result<Command<'w>, AllocError> {
         )
         .arg(workers(alloc))?
         .arg(dry_run(alloc))?
-        .arg(needed(alloc, "source", "SRC", "The folder of the layout to copy from"))?
+        .arg(needed(
+            alloc,
+            "source",
+            "SRC",
+            "The folder of the layout to copy from",
+        ))?
         .arg(needed(
             alloc,
             "source-reference",
             "SRCREF",
             "What is copied: a name of SRC, or the digest of a content that it holds",
         ))?
-        .arg(needed(alloc, "destination", "DST", "The folder of the layout to copy into"))?
+        .arg(needed(
+            alloc,
+            "destination",
+            "DST",
+            "The folder of the layout to copy into",
+        ))?
         .arg(name)
 }
 
@@ -83,14 +95,18 @@ fn workers<'w>(alloc: Global) -> Arg<'w> {
 fn dry_run<'w>(alloc: Global) -> Arg<'w> {
     Arg::new(alloc, "dry-run")
         .long("dry-run")
-        .help("Changes nothing, and prints each content that would be brought, then how many, how many bytes, and how many are there")
+        .help(
+            "Changes nothing, and prints each content that would be brought, then how many, how many bytes, and how many are there",
+        )
         .action(ArgAction::SetTrue)
 }
 
 /// `tags FOLDER`
 fn tags_command<'w>(alloc: Global) -> Result<Command<'w>, AllocError> {
     Command::new(alloc, "tags")
-        .about("Lists the names of a layout, in byte order, each with the digest, the size and the media type of what it stands for")
+        .about(
+            "Lists the names of a layout, in byte order, each with the digest, the size and the media type of what it stands for",
+        )
         .arg(folder(alloc))
 }
 
@@ -105,7 +121,9 @@ fn resolve_command<'w>(alloc: Global) -> Result<Command<'w>, AllocError> {
 /// `predecessors FOLDER REF`
 fn predecessors_command<'w>(alloc: Global) -> Result<Command<'w>, AllocError> {
     Command::new(alloc, "predecessors")
-        .about("Lists what a layout holds that lists what a reference stands for: indexes, and referrers such as signatures")
+        .about(
+            "Lists what a layout holds that lists what a reference stands for: indexes, and referrers such as signatures",
+        )
         .arg(folder(alloc))?
         .arg(reference(alloc))
 }
@@ -113,7 +131,9 @@ fn predecessors_command<'w>(alloc: Global) -> Result<Command<'w>, AllocError> {
 /// `verify FOLDER`
 fn verify_command<'w>(alloc: Global) -> Result<Command<'w>, AllocError> {
     Command::new(alloc, "verify")
-        .about("Checks a layout: that each file has its digest, and that what each content lists is there")
+        .about(
+            "Checks a layout: that each file has its digest, and that what each content lists is there",
+        )
         .long_about(
             "Checks a layout: that each file has its digest, and that what each content lists is there.\n\n\
              Prints `corrupt` and the content for each that its file does not match, `open` and two \

@@ -35,8 +35,18 @@ fn copy_without_a_name(rt: HostRuntime) -> Result<(), Fail> {
     let folder = with_image(&rt, "copy_without_a_name")?;
     let rows = [
         ("copy --workers 64 @/L v1 @/N", 0, COPIED, ""),
-        ("copy @/L sha256:44136fa355b3678a1146ad16f7e8649e94fb4fc21fe77e8310c060f61caaff8a @/N", 0, "copied <E>\nplanned 0 pushed 0 skipped 1\n", ""),
-        ("tags @/N", 0, "sha256:44136fa355b3678a1146ad16f7e8649e94fb4fc21fe77e8310c060f61caaff8a <E>\nv1 <M0>\n", ""),
+        (
+            "copy @/L sha256:44136fa355b3678a1146ad16f7e8649e94fb4fc21fe77e8310c060f61caaff8a @/N",
+            0,
+            "copied <E>\nplanned 0 pushed 0 skipped 1\n",
+            "",
+        ),
+        (
+            "tags @/N",
+            0,
+            "sha256:44136fa355b3678a1146ad16f7e8649e94fb4fc21fe77e8310c060f61caaff8a <E>\nv1 <M0>\n",
+            "",
+        ),
         ("copy @/L  @/N", 1, "", "ocicp: 35 EmptyReference\n"),
     ];
     assert_rows(&rt, &folder, &rows)?;
@@ -51,8 +61,18 @@ fn copy_into_an_open_layout(rt: HostRuntime) -> Result<(), Fail> {
     folder.remove_blob(&rt, "N", E)?;
     let index = folder.read(&rt, "N/index.json")?;
     let rows = [
-        ("copy @/L v1 @/N x", 1, "", "ocicp: 80 DestinationOpen <M0> <E>\n"),
-        ("copy --dry-run @/L v1 @/N w", 1, "", "ocicp: 80 DestinationOpen <M0> <E>\n"),
+        (
+            "copy @/L v1 @/N w",
+            1,
+            "",
+            "ocicp: 80 DestinationOpen <M0> <E>\n",
+        ),
+        (
+            "copy --dry-run @/L v1 @/N w",
+            1,
+            "",
+            "ocicp: 80 DestinationOpen <M0> <E>\n",
+        ),
         ("verify @/N", 1, "open <M0> <E>\nheld 1\n", ""),
     ];
     assert_rows(&rt, &folder, &rows)?;
@@ -82,7 +102,12 @@ fn copy_of_a_changed_file(rt: HostRuntime) -> Result<(), Fail> {
     let folder = with_image(&rt, "copy_changed")?;
     folder.write_blob(&rt, "L", E, "[]")?;
     let rows = [
-        ("copy @/L v1 @/N w", 1, "", "ocicp: 88 Fetch <E> 21 Corrupt\n"),
+        (
+            "copy @/L v1 @/N w",
+            1,
+            "",
+            "ocicp: 88 Fetch <E> 21 Corrupt\n",
+        ),
         ("tags @/N", 0, "", ""),
     ];
     assert_rows(&rt, &folder, &rows)?;

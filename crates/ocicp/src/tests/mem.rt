@@ -17,8 +17,18 @@ fn mem_command(rt: HostRuntime) -> Result<(), Fail> {
     let rows = [
         ("mem text/plain=@/abc.txt", 0, ABC, ""),
         ("mem abc.txt", 1, "", "ocicp: 92 BadItem abc.txt\n"),
-        ("mem text/plain=@/none.txt", 1, "", "ocicp: 93 File @/none.txt\n"),
-        ("mem text/plain=@/abc.txt text/plain=@/abc.txt", 1, "", "ocicp: 30 AlreadyExists\n"),
+        (
+            "mem text/plain=@/none.txt",
+            1,
+            "",
+            "ocicp: 93 File @/none.txt\n",
+        ),
+        (
+            "mem text/plain=@/abc.txt text/plain=@/abc.txt",
+            1,
+            "",
+            "ocicp: 30 AlreadyExists\n",
+        ),
     ];
     assert_rows(&rt, &folder, &rows)?;
     folder.remove(&rt)
@@ -31,7 +41,12 @@ fn item_with_two_equal_signs(rt: HostRuntime) -> Result<(), Fail> {
     folder.write(&rt, "a=b.txt", "abc")?;
     let rows = [
         ("mem text/plain=@/a=b.txt", 0, ABC, ""),
-        ("mem text/plain=@/b=a.txt", 1, "", "ocicp: 93 File @/b=a.txt\n"),
+        (
+            "mem text/plain=@/b=a.txt",
+            1,
+            "",
+            "ocicp: 93 File @/b=a.txt\n",
+        ),
     ];
     assert_rows(&rt, &folder, &rows)?;
     folder.remove(&rt)
@@ -46,7 +61,11 @@ fn item_that_is_not_reached(rt: HostRuntime) -> Result<(), Fail> {
     folder.write(&rt, "m0", M0.bytes)?;
     let line =
         "mem application/vnd.oci.image.layer.v1.tar=@/foo application/vnd.oci.empty.v1+json=@/e application/vnd.oci.image.manifest.v1+json=@/m0";
-    assert_row(&rt, &folder, (line, 0, "<E>\n<M0>\nplanned 2 pushed 2 skipped 0\n", ""))?;
+    assert_row(
+        &rt,
+        &folder,
+        (line, 0, "<E>\n<M0>\nplanned 2 pushed 2 skipped 0\n", ""),
+    )?;
     folder.remove(&rt)
 }
 

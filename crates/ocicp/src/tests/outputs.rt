@@ -45,11 +45,39 @@ fn failing_outputs(rt: HostRuntime) -> Result<(), Fail> {
         "copy @/L v1 @/N",
     ] {
         let output = "ocicp: 94 Output\n";
-        assert_broken(&rt, &folder, line, (Step::Write, ErrorKind::BrokenPipe), 1, output)?;
-        assert_broken(&rt, &folder, line, (Step::Flush, ErrorKind::StorageFull), 1, output)?;
+        assert_broken(
+            &rt,
+            &folder,
+            line,
+            (Step::Write, ErrorKind::BrokenPipe),
+            1,
+            output,
+        )?;
+        assert_broken(
+            &rt,
+            &folder,
+            line,
+            (Step::Flush, ErrorKind::StorageFull),
+            1,
+            output,
+        )?;
         let memory = "ocicp: memory\n";
-        assert_broken(&rt, &folder, line, (Step::Write, ErrorKind::OutOfMemory), 3, memory)?;
-        assert_broken(&rt, &folder, line, (Step::Flush, ErrorKind::OutOfMemory), 3, memory)?;
+        assert_broken(
+            &rt,
+            &folder,
+            line,
+            (Step::Write, ErrorKind::OutOfMemory),
+            3,
+            memory,
+        )?;
+        assert_broken(
+            &rt,
+            &folder,
+            line,
+            (Step::Flush, ErrorKind::OutOfMemory),
+            3,
+            memory,
+        )?;
     }
     folder.remove(&rt)
 }
@@ -101,13 +129,25 @@ fn files_without_permission(rt: HostRuntime) -> Result<(), Fail> {
     let folder = with_image(&rt, "files_without_permission")?;
     folder.write(&rt, "abc.txt", "abc")?;
     for (line, part, err) in [
-        ("mem text/plain=@/abc.txt", "abc.txt", "ocicp: 93 File @/abc.txt\n"),
+        (
+            "mem text/plain=@/abc.txt",
+            "abc.txt",
+            "ocicp: 93 File @/abc.txt\n",
+        ),
         ("tags @/L", "L/", "ocicp: 74 Device\n"),
         ("verify @/L", "44136fa355b3", "ocicp: 22 Device\n"),
         ("copy @/L v1 @/N", "L/", "ocicp: 74 Device\n"),
         ("copy @/L v1 @/N", "N/", "ocicp: 74 Device\n"),
-        ("copy @/L v1 @/N", "L/blobs/sha256/4413", "ocicp: 88 Fetch <E> 22 Device\n"),
-        ("copy @/L v1 @/N", "N/blobs", "ocicp: 82 Push <E> 43 Device\n"),
+        (
+            "copy @/L v1 @/N",
+            "L/blobs/sha256/4413",
+            "ocicp: 88 Fetch <E> 22 Device\n",
+        ),
+        (
+            "copy @/L v1 @/N",
+            "N/blobs",
+            "ocicp: 82 Push <E> 43 Device\n",
+        ),
     ] {
         let files = (part, ErrorKind::PermissionDenied);
         assert_unreadable(&rt, &folder, line, files, 1, err)?;

@@ -12,7 +12,11 @@ fn no_layouts(rt: HostRuntime) -> Result<(), Fail> {
     let folder = Folder::new(&rt, "no_layouts")?;
     folder.make(&rt, "empty")?;
     folder.write(&rt, "bad/oci-layout", "{}")?;
-    folder.write(&rt, "later/oci-layout", "{\"imageLayoutVersion\":\"1.0.1\"}")?;
+    folder.write(
+        &rt,
+        "later/oci-layout",
+        "{\"imageLayoutVersion\":\"1.0.1\"}",
+    )?;
     folder.write_layout(&rt, "list", "[]", &[])?;
     let rows = [
         ("tags @/none", 1, "", "ocicp: 70 NoLayoutFile\n"),

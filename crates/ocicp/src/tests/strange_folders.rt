@@ -28,7 +28,12 @@ fn folders_that_are_not_there(rt: HostRuntime) -> Result<(), Fail> {
     let folder = with_image(&rt, "not_there")?;
     let rows = [
         ("copy @/a/b/L v1 @/N", 1, "", "ocicp: 70 NoLayoutFile\n"),
-        ("copy @/L v1 @/a/b/N", 0, "copied <M0>\nplanned 2 pushed 2 skipped 0\n", ""),
+        (
+            "copy @/L v1 @/a/b/N",
+            0,
+            "copied <M0>\nplanned 2 pushed 2 skipped 0\n",
+            "",
+        ),
         ("verify @/a/b/N", 0, "held 2\n", ""),
     ];
     assert_rows(&rt, &folder, &rows)?;

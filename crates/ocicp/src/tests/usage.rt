@@ -36,7 +36,10 @@ fn help(rt: HostRuntime) -> Result<(), Fail> {
         (["--help"].as_slice(), "  copy "),
         (["--help"].as_slice(), "  predecessors "),
         (["mem", "--help"].as_slice(), "TYPE=PATH"),
-        (["copy", "--help"].as_slice(), "<SRC> <SRCREF> <DST> [DSTREF]"),
+        (
+            ["copy", "--help"].as_slice(),
+            "<SRC> <SRCREF> <DST> [DSTREF]",
+        ),
         (["copy", "--help"].as_slice(), "--dry-run"),
         (["tags", "--help"].as_slice(), "<FOLDER>"),
         (["resolve", "--help"].as_slice(), "<FOLDER> <REF>"),

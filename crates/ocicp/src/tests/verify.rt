@@ -10,7 +10,11 @@ fn verify_of_changed_files(rt: HostRuntime) -> Result<(), Fail> {
     folder.write_blob(&rt, "L", E, "[]")?;
     assert_row(&rt, &folder, ("verify @/L", 1, "corrupt <E>\nheld 2\n", ""))?;
     folder.remove_blob(&rt, "L", E)?;
-    assert_row(&rt, &folder, ("verify @/L", 1, "open <M0> <E>\nheld 1\n", ""))?;
+    assert_row(
+        &rt,
+        &folder,
+        ("verify @/L", 1, "open <M0> <E>\nheld 1\n", ""),
+    )?;
     folder.remove(&rt)
 }
 
@@ -33,9 +37,16 @@ fn verify_of_several_files(rt: HostRuntime) -> Result<(), Fail> {
     let folder = with_referrers(&rt, "verify_several")?;
     folder.write_blob(&rt, "R", E, "")?;
     folder.write_blob(&rt, "R", FOO, "fooo")?;
-    assert_row(&rt, &folder, ("verify @/R", 1, "corrupt <E>\ncorrupt <FOO>\nheld 6\n", ""))?;
+    assert_row(
+        &rt,
+        &folder,
+        ("verify @/R", 1, "corrupt <E>\ncorrupt <FOO>\nheld 6\n", ""),
+    )?;
     folder.remove_blob(&rt, "R", E)?;
-    folder.make(&rt, "R/blobs/sha256/44136fa355b3678a1146ad16f7e8649e94fb4fc21fe77e8310c060f61caaff8a")?;
+    folder.make(
+        &rt,
+        "R/blobs/sha256/44136fa355b3678a1146ad16f7e8649e94fb4fc21fe77e8310c060f61caaff8a",
+    )?;
     assert_row(&rt, &folder, ("verify @/R", 1, "", "ocicp: 22 Device\n"))?;
     folder.remove(&rt)
 }
