@@ -14,8 +14,8 @@ use crate::command::words::command;
 pub(crate) enum Request<'w> {
     /// The text that `--help` prints.
     Help(Error),
-    /// `mem` with its items, at least one.
-    Mem(Vec<&'w str>),
+    /// `mem` with its items, at least one, and how many workers copy, if it is not one thread.
+    Mem(Vec<&'w str>, Option<u32>),
     /// `copy` with its folders, references and flags.
     Copy(CopyWords<'w>),
     /// A look into the layout of a folder.
@@ -31,7 +31,7 @@ impl<'w> Request<'w> {
         };
         match matches.subcommand() {
             Some((name, matches)) => request_of(alloc, name, matches),
-            None => Ok(Request::Mem(Vec::new(alloc))),
+            None => Ok(Request::Mem(Vec::new(alloc), None)),
         }
     }
 }
@@ -74,7 +74,7 @@ fn of_folder<'w>(matches: &ArgMatches<'w>, look: Look<'w>) -> Request<'w> {
 fn mem_items<'w>(alloc: Global, matches: &ArgMatches<'w>) -> Result<Request<'w>, Ending> {
     let mut items = Vec::new(alloc);
     items.extend_from_slice(matches.get_strs("item").unwrap_or(&[]))?;
-    Ok(Request::Mem(items))
+    Ok(Request::Mem(items, matches.get_one("workers")))
 }
 
 fn copy_words<'w>(matches: &ArgMatches<'w>) -> CopyWords<'w> {

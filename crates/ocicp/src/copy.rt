@@ -4,9 +4,11 @@ use crate::outcome::Outcome;
 use oci_copy::{Options, Report};
 use oci_layout::{Dir, Layout};
 use oci_manifest::Key;
+use oci_pool::NoHooks;
 use oci_store::Tagger;
-use std::alloc::Global;
 use std::io::Write;
+use std::sync::Wait;
+use std::thread::Threads;
 
 /// The words of `copy`.
 #[derive(Clone, Copy)]
@@ -34,37 +36,45 @@ impl<'w> CopyWords<'w> {
 /// `copy SRC SRCREF DST [DSTREF]`: copies what the reference stands for, saves the destination, and prints the key and the
 /// report. The destination is made where it is no layout, once the source is open and the reference resolved. A copy that is
 /// refused does not save.
-pub(crate) fn copy<S: Dir + Drop, D: Dir + Drop, W: Write>(
-    alloc: Global,
+pub(crate) fn copy<
+    R: AllocGlobal + Threads + Wait + Sync,
+    S: Dir + Drop + Sync,
+    D: Dir + Drop + Send,
+    W: Write,
+>(
+    rt: &R,
     source: S,
     destination: D,
     words: &CopyWords<'_>,
     out: &mut W,
 ) -> Result<Outcome, ProgramFault> {
+    let alloc = rt.alloc();
     let source = opened(alloc, source)?;
     let _ = source
         .resolve(words.source_reference)
         .map_err(ProgramFault::Reference)?;
     let destination = opened_or_made(alloc, destination)?;
-    let (root, report) = copied(alloc, &source, destination, words)?;
+    let (root, report) = copied(rt, &source, destination, words)?;
     writeln!(out, "copied {root}\n{report}").map_err(output_fault)?;
     Ok(Outcome::Good)
 }
 
 /// Copies into the destination, and saves it.
-fn copied<S: Dir, D: Dir + Drop>(
-    alloc: Global,
+fn copied<R: AllocGlobal + Threads + Wait + Sync, S: Dir + Sync, D: Dir + Drop + Send>(
+    rt: &R,
     source: &Layout<S>,
     destination: Layout<D>,
     words: &CopyWords<'_>,
 ) -> Result<(Key, Report), ProgramFault> {
     let (mut destination, answer) = oci_copy::copy(
-        alloc,
+        rt,
+        rt.alloc(),
         source,
         words.source_reference,
         destination,
         words.destination_reference,
         &words.options(),
+        &NoHooks,
     );
     let copied = answer.map_err(ProgramFault::Copy)?;
     destination.save().map_err(ProgramFault::Layout)?;

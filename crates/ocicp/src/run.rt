@@ -11,6 +11,8 @@ use oci_layout::{Dir, FsDir};
 use std::alloc::Global;
 use std::io::Write;
 use std::rt::Files;
+use std::sync::Wait;
+use std::thread::Threads;
 
 /// Runs the program on the words after its name, and answers the status.
 ///
@@ -18,7 +20,7 @@ use std::rt::Files;
 /// faults from the outermost to the innermost; or `verify` found something wrong, which is on `out`.
 /// 2: the words are no use of the program, with the usage on `err`. 3: memory was wanting, with the
 /// line `ocicp: memory`.
-pub fn run_words<R: Files + AllocGlobal, W: Write, X: Write>(
+pub fn run_words<R: Files + AllocGlobal + Threads + Wait + Sync, W: Write, X: Write>(
     rt: &R,
     words: &[String],
     out: &mut W,
@@ -28,7 +30,7 @@ pub fn run_words<R: Files + AllocGlobal, W: Write, X: Write>(
 {
     match Request::parse(rt.alloc(), words) {
         Ok(Request::Help(text)) => end(print_help(&text, out), out, err),
-        Ok(Request::Mem(items)) => end(mem(rt, &items, out), out, err),
+        Ok(Request::Mem(items, workers)) => end(mem(rt, &items, workers, out), out, err),
         Ok(Request::Copy(words)) => run_copy(rt, &words, out, err),
         Ok(Request::Look(folder, look)) => run_look(rt, folder, look, out, err),
         Err(ending) => ending.tell(err),
@@ -70,7 +72,7 @@ fn end_look<D: Dir + Drop, W: Write, X: Write>(
 }
 
 /// Copies from folder to folder.
-fn run_copy<R: Files + AllocGlobal, W: Write, X: Write>(
+fn run_copy<R: Files + AllocGlobal + Threads + Wait + Sync, W: Write, X: Write>(
     rt: &R,
     words: &CopyWords<'_>,
     out: &mut W,
@@ -82,28 +84,29 @@ fn run_copy<R: Files + AllocGlobal, W: Write, X: Write>(
         FsDir::new(rt, words.source),
         FsDir::new(rt, words.destination),
     ) {
-        (Ok(source), Ok(destination)) => {
-            end_copy(rt.alloc(), source, destination, words, out, err)
-        }
+        (Ok(source), Ok(destination)) => { end_copy(rt, source, destination, words, out, err) }
         _ => Ending::Fault(ProgramFault::Memory).tell(err),
     }
 }
 
 /// Copies from directory to directory, or only tells what would be copied, and answers the status.
-fn end_copy<S: Dir + Drop, D: Dir + Drop, W: Write, X: Write>(
-    alloc: Global,
-    source: S,
-    destination: D,
-    words: &CopyWords<'_>,
-    out: &mut W,
-    err: &mut X,
-) -> u8
+fn end_copy<
+    R: AllocGlobal + Threads + Wait + Sync,
+    S: Dir + Drop + Sync,
+    D: Dir + Drop + Send,
+    W: Write,
+    X: Write,
+>(rt: &R, source: S, destination: D, words: &CopyWords<'_>, out: &mut W, err: &mut X) -> u8
     ensures { result ≤ 3 }
 {
     if words.is_dry {
-        end(dry_run(alloc, source, destination, words, out), out, err)
+        end(
+            dry_run(rt.alloc(), source, destination, words, out),
+            out,
+            err,
+        )
     } else {
-        end(copy(alloc, source, destination, words, out), out, err)
+        end(copy(rt, source, destination, words, out), out, err)
     }
 }
 

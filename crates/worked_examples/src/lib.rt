@@ -5,8 +5,8 @@
 //! other tools have them, and how a refusal prints.
 //!
 //! `worked_contents` makes the contents, and `tests` has a module for each part of the library: `manifests` (what a manifest
-//! lists); `pushes`, `graphs` and `tags` (stores); `orders`, `plans` and `climbs`; `copies`, `references`, `failing` and `large`
-//! (copies); and `faults`, how each refusal prints.
+//! lists); `pushes`, `graphs` and `tags` (stores); `orders`, `plans` and `climbs`; `copies`, `failing` and `large`
+//! (copies on one thread); and `faults`, how each refusal prints.
 #![tactic(auto)]
 
 #[cfg(test)]

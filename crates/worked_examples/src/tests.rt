@@ -8,6 +8,5 @@ mod manifests;
 mod orders;
 mod plans;
 mod pushes;
-mod references;
 mod stores;
 mod tags;

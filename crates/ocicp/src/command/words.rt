@@ -143,7 +143,7 @@ fn verify_command<'w>(alloc: Global) -> Result<Command<'w>, AllocError> {
         .arg(folder(alloc))
 }
 
-/// `mem TYPE=PATH..`
+/// `mem [--workers N] TYPE=PATH..`
 fn mem_command<'w>(alloc: Global) -> Result<Command<'w>, AllocError> {
     let item = Arg::new(alloc, "item")
         .value_name("TYPE=PATH")
@@ -152,6 +152,11 @@ fn mem_command<'w>(alloc: Global) -> Result<Command<'w>, AllocError> {
         )
         .num_args(1..)
         .required(true);
+    let workers = Arg::new(alloc, "workers")
+        .long("workers")
+        .value_name("N")
+        .help("How many workers copy, at most 64; 0 stands for 3. Without it one thread copies")
+        .value_parser(ValueParser::Unsigned(0, 64));
     Command::new(alloc, "mem")
         .about("Copies between two stores in memory, and lists what arrived")
         .long_about(
@@ -162,5 +167,6 @@ fn mem_command<'w>(alloc: Global) -> Result<Command<'w>, AllocError> {
              index, the subject of a referrer. Prints the digest, the size and the media type of each \
              content that arrived, in key order, and how many were planned, pushed and skipped.",
         )
+        .arg(workers)?
         .arg(item)
 }

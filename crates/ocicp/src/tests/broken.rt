@@ -4,6 +4,8 @@ use std::fs::{Metadata, OpenOptions};
 use std::io;
 use std::io::Write;
 use std::rt::Files;
+use std::sync::Wait;
+use std::thread::Threads;
 
 /// A writer that fails in this way, with errors of this kind.
 #[derive(Drop)]
@@ -104,3 +106,7 @@ impl<'r, R: Files> Files for Unreadable<'r, R> {
         self.rt.remove_dir_all(alloc, path)
     }
 }
+
+impl<'r, R: Files + Threads> Threads for Unreadable<'r, R> {}
+
+impl<'r, R: Files + Wait> Wait for Unreadable<'r, R> {}

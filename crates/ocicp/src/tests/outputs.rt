@@ -8,10 +8,12 @@ use crate::tests::runs::{assert_told, words_of};
 use std::io::ErrorKind;
 use std::process::Abort;
 use std::rt::Files;
+use std::sync::Wait;
 use std::test::Fail;
+use std::thread::Threads;
 
 /// Runs the program with an output that fails in this way, and compares its status and the error output.
-fn assert_broken<R: Files + AllocGlobal + Abort>(
+fn assert_broken<R: Files + AllocGlobal + Threads + Wait + Sync + Abort>(
     rt: &R,
     folder: &Folder,
     line: &str,
@@ -83,7 +85,7 @@ fn failing_outputs(rt: HostRuntime) -> Result<(), Fail> {
 }
 
 /// Runs the program where some files cannot be opened, and compares its status and the error output.
-fn assert_unreadable<R: Files + AllocGlobal + Abort>(
+fn assert_unreadable<R: Files + AllocGlobal + Threads + Wait + Sync + Abort>(
     rt: &R,
     folder: &Folder,
     line: &str,

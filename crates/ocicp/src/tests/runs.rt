@@ -6,7 +6,9 @@ use crate::tests::folder::Folder;
 use std::alloc::Global;
 use std::process::Abort;
 use std::rt::Files;
+use std::sync::Wait;
 use std::test::Fail;
+use std::thread::Threads;
 
 /// The words, the status, and what is on the output and on the error output. Of each text `@` and names in angle brackets are
 /// filled in.
@@ -23,7 +25,7 @@ pub(crate) fn words_of(alloc: Global, folder: &Folder, line: &str) -> Result<Vec
 }
 
 /// Runs the program, and compares its status and all that it wrote.
-pub(crate) fn assert_row<R: Files + AllocGlobal + Abort>(
+pub(crate) fn assert_row<R: Files + AllocGlobal + Threads + Wait + Sync + Abort>(
     rt: &R,
     folder: &Folder,
     row: Row,
@@ -54,7 +56,7 @@ pub(crate) fn assert_told<R: AllocGlobal + Abort>(
 }
 
 /// Runs the program on each row in turn.
-pub(crate) fn assert_rows<R: Files + AllocGlobal + Abort>(
+pub(crate) fn assert_rows<R: Files + AllocGlobal + Threads + Wait + Sync + Abort>(
     rt: &R,
     folder: &Folder,
     rows: &[Row],
@@ -66,7 +68,7 @@ pub(crate) fn assert_rows<R: Files + AllocGlobal + Abort>(
 }
 
 /// Runs the program on words that are no use of it: status 2, and the usage on the error output alone.
-pub(crate) fn assert_usage<R: Files + AllocGlobal + Abort>(
+pub(crate) fn assert_usage<R: Files + AllocGlobal + Threads + Wait + Sync + Abort>(
     rt: &R,
     words: &[&str],
 ) -> Result<(), Fail> {

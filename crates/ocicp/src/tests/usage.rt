@@ -2,7 +2,9 @@ use crate::run_words;
 use crate::tests::runs::{assert_usage, strings};
 use std::process::Abort;
 use std::rt::Files;
+use std::sync::Wait;
 use std::test::Fail;
+use std::thread::Threads;
 
 #[test]
 fn usage_faults(rt: HostRuntime) -> Result<(), Fail> {
@@ -52,7 +54,7 @@ fn help(rt: HostRuntime) -> Result<(), Fail> {
 }
 
 /// Runs the program, which succeeds and prints a text that has this part.
-fn assert_helps<R: Files + AllocGlobal + Abort>(
+fn assert_helps<R: Files + AllocGlobal + Threads + Wait + Sync + Abort>(
     rt: &R,
     words: &[&str],
     part: &str,

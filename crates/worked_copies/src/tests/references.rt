@@ -1,19 +1,42 @@
-use crate::tests::stores::{assert_holds, closed, memory};
-use crate::tests::tags::{assert_names, tag};
-use oci_copy::{CopyFault, Options, Report, copy};
+use crate::tests::stores::{assert_holds, by, closed, memory};
+use oci_copy::{CopyFault, Report, copy};
 use oci_manifest::Key;
+use oci_pool::NoHooks;
 use oci_store::{ClosedStore, Dest, MemoryStore, Source, Tagger};
 use std::alloc::Global;
 use std::process::Abort;
+use std::sync::Wait;
 use std::test::Fail;
+use std::thread::Threads;
 use worked_contents::Sample;
 use worked_contents::Sample::{Empty, Image0};
 
 /// The store of one image, which has the name `m`.
 fn one_image(alloc: Global) -> Result<MemoryStore, Fail> {
     let mut store = memory(alloc, &[Empty, Image0])?;
-    tag(alloc, &mut store, &Image0.key(alloc)?, "m")?;
+    tag(&mut store, &Image0.key(alloc)?, "m");
     Ok(store)
+}
+
+fn tag<D: Tagger>(store: &mut D, key: &Key, name: &str) -> bool {
+    store.tag(key, name).is_ok()
+}
+
+/// The store has this one name, and it is the sample's.
+fn assert_names<R: AllocGlobal + Abort>(
+    rt: &R,
+    store: &MemoryStore,
+    name: &str,
+    sample: Sample,
+) -> Result<(), Fail> {
+    let tags = store.tags()?;
+    assert_eq!(rt; tags.len(), 1);
+    let want = sample.key(rt.alloc())?;
+    for (tagged, key) in &tags {
+        assert_eq!(rt; tagged.as_str(), name);
+        assert!(rt; *key == want, "{key}");
+    }
+    Ok(())
 }
 
 /// What a copy by reference answers, as text.
@@ -24,20 +47,30 @@ fn line(alloc: Global, answer: &Result<(Key, Report), CopyFault>) -> Result<Stri
     })
 }
 
-fn copied<A: Source + Tagger, D: Dest + Tagger + Drop>(
-    alloc: Global,
+fn copied<
+    R: AllocGlobal + Threads + Wait + Sync,
+    A: Source + Tagger + Sync,
+    D: Dest + Tagger + Drop + Send,
+>(
+    rt: &R,
     source: &A,
     from: &str,
     destination: D,
     to: &str,
     workers: u32,
 ) -> Result<(D, String), Fail> {
-    let options = Options {
-        workers,
-        max_metadata_bytes: 0,
-    };
-    let (destination, answer) = copy(alloc, source, from, destination, to, &options);
-    let told = line(alloc, &answer)?;
+    let options = by(workers);
+    let (destination, answer) = copy(
+        rt,
+        rt.alloc(),
+        source,
+        from,
+        destination,
+        to,
+        &options,
+        &NoHooks,
+    );
+    let told = line(rt.alloc(), &answer)?;
     Ok((destination, told))
 }
 
@@ -54,13 +87,19 @@ struct Row<'a> {
 }
 
 /// What the copy leaves in an empty store, and what it tells.
-fn copied_row(alloc: Global, row: Row<'_>) -> Result<(ClosedStore, String), Fail> {
-    let source = one_image(alloc)?;
-    copied(alloc, &source, row.from, closed(alloc, &[])?, row.to, 0)
+fn copied_row<R: AllocGlobal + Threads + Wait + Sync>(
+    rt: &R,
+    row: Row<'_>,
+) -> Result<(ClosedStore, String), Fail> {
+    let source = one_image(rt.alloc())?;
+    copied(rt, &source, row.from, closed(rt.alloc(), &[])?, row.to, 0)
 }
 
-fn assert_copied<R: AllocGlobal + Abort>(rt: &R, row: Row<'_>) -> Result<(), Fail> {
-    let (destination, told) = copied_row(rt.alloc(), row)?;
+fn assert_copied<R: AllocGlobal + Threads + Wait + Sync + Abort>(
+    rt: &R,
+    row: Row<'_>,
+) -> Result<(), Fail> {
+    let (destination, told) = copied_row(rt, row)?;
     let (key, report) = (row.root.key(rt.alloc())?, row.report);
     let want = format!(in rt.alloc(); "{key} {report}")?;
     assert!(rt; told == want, "{told}");
@@ -106,25 +145,25 @@ fn copy_of_a_digest(rt: HostRuntime) -> Result<(), Fail> {
 }
 
 /// What a copy leaves in a store that has one content under the name `e`, and what it tells.
-fn copied_beside(
-    alloc: Global,
+fn copied_beside<R: AllocGlobal + Threads + Wait + Sync>(
+    rt: &R,
     reference: &str,
     workers: u32,
 ) -> Result<(ClosedStore, String), Fail> {
-    let source = one_image(alloc)?;
-    let mut destination = closed(alloc, &[Empty])?;
-    tag(alloc, &mut destination, &Empty.key(alloc)?, "e")?;
-    copied(alloc, &source, reference, destination, "", workers)
+    let source = one_image(rt.alloc())?;
+    let mut destination = closed(rt.alloc(), &[Empty])?;
+    tag(&mut destination, &Empty.key(rt.alloc())?, "e");
+    copied(rt, &source, reference, destination, "", workers)
 }
 
 /// The copy is refused, and the store is as it was.
-fn assert_refused<R: AllocGlobal + Abort>(
+fn assert_refused<R: AllocGlobal + Threads + Wait + Sync + Abort>(
     rt: &R,
     reference: &str,
     workers: u32,
     want: &str,
 ) -> Result<(), Fail> {
-    let (destination, told) = copied_beside(rt.alloc(), reference, workers)?;
+    let (destination, told) = copied_beside(rt, reference, workers)?;
     assert_eq!(rt; told.as_str(), want);
     assert_holds(rt, destination.memory(), &[Empty])?;
     assert_names(rt, destination.memory(), "e", Empty)
