@@ -1,32 +1,28 @@
 -- Why a planned key is not pushed, and what that says of the copy.
-use Rattle.std.proofs.Common.{◌≡◌, ◌∙◌, ℕ, ◌<◌, ◌≤◌, ◌⊎◌, inl, inr, true, false, List, [], Option, Some, None, Result, Ok, Err, refl, sym, ap, subst, arith}
+use Rattle.std.proofs.Common.{◌≡◌, ◌∙◌, ℕ, ◌≤◌, inl, inr, false, List, [], Option, Some, None, Result, Ok, Err, refl, sym, ap, subst, arith}
 use Rattle.std.specs.Prelude.{Contains, IsOk, option_map, unwrap_or}
 use Rattle.std.specs.Result.{result_unwrap_or}
 use Rattle.oci_manifest.specs.Descriptor.{Descriptor}
-use Rattle.oci_manifest.specs.Fault.{Fault, IsFault}
+use Rattle.oci_manifest.specs.Fault.{Fault}
 use Rattle.oci_store.specs.Closed.{IsClosed}
 use Rattle.oci_store.specs.Graph.{Node, nodes_of}
 use Rattle.oci_store.specs.Keyed.{value_at, has_key, HasAll, first_missing}
-use Rattle.oci_store.specs.Content.{Entry, Matches, IsChecked, succ_of, successors_in}
+use Rattle.oci_store.specs.Content.{Entry, IsChecked, succ_of, successors_in}
 use Rattle.oci_store.specs.State.{State}
-use Rattle.oci_store.specs.Push.{Refusal, Refused, Answers, IsPlain, closed_check, read_check, held_check, already_exists, size_mismatch, digest_mismatch, bad_manifest, missing_successor}
-use Rattle.oci_store.specs.declared.fault.FetchFault.{FetchFault}
-use Rattle.oci_store.specs.declared.fault.FetchFault.TheVariants as fetch
+use Rattle.oci_store.specs.Push.{Refusal, Refused, closed_check, held_check, already_exists, size_mismatch, digest_mismatch, bad_manifest, missing_successor}
 use Rattle.oci_store.specs.declared.fault.PushFault.{PushFault}
 use Rattle.oci_store.specs.declared.fault.PushFault.TheVariants as push
 use Rattle.oci_store.proofs.Lookups.{first_missing-from_HasAll}
 use Rattle.oci_plan.specs.Outside.{IsOutside}
 use Rattle.oci_plan.specs.Plan.{Planned}
-use Rattle.oci_plan.specs.Refusal.{IsKeyFault, IsFirstFault}
 use Rattle.oci_plan.specs.Visiting.{successors_at}
-use Rattle.oci_plan.specs.declared.fault.PlanFault.{PlanFault}
 use Rattle.oci_plan.proofs.Items.{value_at-nodes_of}
 use Rattle.oci_copy.specs.declared.fault.CopyFault.{CopyFault}
 use Rattle.oci_copy.specs.declared.fault.CopyFault.TheVariants as fault
-use Rattle.oci_copy.specs.Cause.{HasFailed, IsPlanCause, IsContentCause, IsPushCause, IsTooEarly, IsStepCause, IsRunCause, IsOpenCause, IsStartCause, IsRefusal, IsReadCause, IsFetchCause}
-use Rattle.oci_copy.specs.Fault.{IsStuck, IsOtherPush, TellsPlan, TellsFetch, TellsPush}
+use Rattle.oci_copy.specs.Cause.{HasFailed, IsPushCause, IsTooEarly, IsStepCause, IsRunCause, IsStartCause, IsRefusal, IsFetchCause}
+use Rattle.oci_copy.specs.Fault.{IsStuck, IsOtherPush, TellsPush}
 use Rattle.oci_copy.specs.Grown.{graph_of}
-use Rattle.oci_copy.specs.Planned.{CanBeRead, IsPlanOf}
+use Rattle.oci_copy.specs.Planned.{IsPlanOf}
 use Rattle.oci_copy.proofs.Checks.{closed_check-read}
 
 -- what the source's bytes list is what the source lists

@@ -6,7 +6,7 @@ use Rattle.std.proofs.lemmas.List.Elements.{All-nil, All-weaker, All-push}
 use Rattle.oci_manifest.specs.Descriptor.{Descriptor}
 use Rattle.oci_store.specs.Keyed.{value_at, has_key, HasAll}
 use Rattle.oci_store.specs.Content.{Entry, IsChecked, successors_in}
-use Rattle.oci_store.specs.Graph.{Node, node_of, nodes_of}
+use Rattle.oci_store.specs.Graph.{Node, node_of}
 use Rattle.oci_store.specs.Push.{closed_check, Answers, IsCalm, IsUndisturbed, AgreesAt}
 use Rattle.oci_store.specs.declared.fault.PushFault.{PushFault}
 use Rattle.oci_store.specs.State.{State}

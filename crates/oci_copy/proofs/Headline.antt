@@ -1,5 +1,5 @@
 -- A run that kept what it owes, and has the roots, made a copy.
-use Rattle.std.proofs.Common.{◌≡◌, ◌≤◌, ◌+◌, length, ◌⊎◌, inl, inr, ℕ, true, List, [], ◌∷◌, ◌++◌, Some, refl, sym, ap, subst, ◌∙◌, append-nil, arith}
+use Rattle.std.proofs.Common.{◌≡◌, ◌+◌, length, ◌⊎◌, inl, inr, ℕ, true, List, [], ◌∷◌, ◌++◌, Some, refl, sym, ap, subst, ◌∙◌, append-nil, arith}
 use Rattle.std.specs.Prelude.{Contains}
 use Rattle.std.specs.List.{All}
 use Rattle.std.specs.Map.{keys_of}
@@ -21,7 +21,7 @@ use Rattle.oci_plan.specs.Plan.{Planned}
 use Rattle.oci_plan.specs.Visiting.{IsSoundItem}
 use Rattle.oci_store.specs.State.{State}
 use Rattle.oci_copy.specs.Copy.{IsCopy, OnlyGrows}
-use Rattle.oci_copy.specs.Grown.{graph_of, BeginsWith, IsGrown, IsTold}
+use Rattle.oci_copy.specs.Grown.{graph_of, IsGrown, IsTold}
 use Rattle.oci_copy.specs.Kept.{Keeps}
 use Rattle.oci_copy.specs.Planned.{IsPlanOf}
 use Rattle.oci_copy.specs.Report.{IsReport}

@@ -1,9 +1,8 @@
 -- Which keys have been pushed at a place of a plan's order.
-use Rattle.std.proofs.Common.{◌≡◌, ℕ, ◌+◌, ◌<◌, ◌≤◌, ◌⊎◌, inl, inr, true, false, List, [], ◌∷◌, ◌++◌, length, get_or, take, Option, Some, None, Result, Ok, Err, refl, sym, ap, subst, ◌∙◌, arith, length-append}
-use Rattle.std.specs.Prelude.{Contains, slice_get, filter_map, option_map, unwrap_or, IsOk}
+use Rattle.std.proofs.Common.{◌≡◌, ℕ, ◌+◌, ◌<◌, ◌≤◌, ◌⊎◌, inl, inr, true, false, List, [], ◌∷◌, ◌++◌, length, get_or, take, Option, Some, None, refl, sym, ap, subst, ◌∙◌, arith, length-append}
+use Rattle.std.specs.Prelude.{Contains, slice_get, filter_map}
 use Rattle.std.specs.List.{All, IsDistinct}
 use Rattle.std.specs.Map.{keys_of}
-use Rattle.std.specs.Result.{result_unwrap_or}
 use Rattle.std.proofs.lemmas.Bool.{false≢true, cases_Bool, cases_order}
 use Rattle.std.proofs.lemmas.List.{get_or-take, length-take-le, take_all, take_more}
 use Rattle.std.proofs.lemmas.List.Elements.{All-cons, All-nil, All-weaker, All-contains, Contains-append_left, Contains-append_right, Contains-append_cases, Contains-push, All-contains_itself, filter_map-append}
@@ -11,15 +10,12 @@ use Rattle.std.proofs.lemmas.Map.Keys.{apart_from_distinct}
 use Rattle.std.proofs.lemmas.Option.{slice_get_within, get_or_from_slice_get, slice_get-get_or}
 use Rattle.oci_manifest.specs.Descriptor.{Descriptor, same_key}
 use Rattle.oci_manifest.proofs.Keys.{Decides-same_key}
-use Rattle.oci_manifest.specs.Fault.{Fault}
-use Rattle.oci_store.specs.Keyed.{value_at, has_key, HasAll}
-use Rattle.oci_store.specs.Content.{Entry, succ_of, successors_in}
-use Rattle.oci_store.specs.Graph.{Node, nodes_of}
+use Rattle.oci_store.specs.Keyed.{has_key, HasAll}
+use Rattle.oci_store.specs.Graph.{Node}
 use Rattle.oci_store.proofs.Lookups.{has_key-from_Contains, Contains-from_has_key}
 use Rattle.oci_plan.specs.Order.{IsOrder}
 use Rattle.oci_plan.specs.Plan.{Planned, IsPlan, FollowsListed, keys_before}
 use Rattle.oci_plan.specs.Visiting.{successors_at}
-use Rattle.oci_plan.proofs.Items.{value_at-nodes_of}
 
 length-keys_of : {X : Type 0} (pairs : List (Descriptor × X)) → length (keys_of pairs) ≡ length pairs
 length-keys_of [] = refl

@@ -1,5 +1,5 @@
 -- A tag is no more than a name: what a copy did stays so.
-use Rattle.std.proofs.Common.{◌≡◌, ℕ, List, sym, subst}
+use Rattle.std.proofs.Common.{◌≡◌, ℕ, List}
 use Rattle.oci_manifest.specs.Descriptor.{Descriptor}
 use Rattle.oci_store.specs.State.{State}
 use Rattle.oci_copy.specs.Copy.{IsCopy, OnlyGrows}

@@ -1,6 +1,6 @@
 -- Why a copy is refused where neither store fails.
-use Rattle.std.proofs.Common.{◌≡◌, ℕ, inl, inr, Bool, false, List, [], ◌∷◌, Some, None, Result, Ok, Err, refl, sym, ◌∙◌, arith}
-use Rattle.std.specs.Prelude.{IsOk, length}
+use Rattle.std.proofs.Common.{◌≡◌, ℕ, inl, inr, false, List, Some, None, refl, sym, ◌∙◌, arith}
+use Rattle.std.specs.Prelude.{IsOk}
 use Rattle.std.proofs.lemmas.Bool.{false≢true}
 use Rattle.oci_manifest.specs.Descriptor.{Descriptor}
 use Rattle.oci_store.specs.Content.{Entry, IsContent, succ_of}

@@ -1,9 +1,8 @@
 -- What workers keep of a destination under a lock, how many keys they pushed, and why they fail.
-use Rattle.std.proofs.Common.{◌≡◌, ◌+◌, ◌≤◌, inl, inr, ℕ, Bool, true, false, List, [], ◌∷◌, ◌++◌, length, Option, Some, None, Result, Ok, Err, refl, sym, ap, subst, ◌∙◌, arith, length-append}
+use Rattle.std.proofs.Common.{◌≡◌, ◌+◌, ◌≤◌, inl, inr, ℕ, Bool, true, false, List, [], ◌∷◌, ◌++◌, length, Some, None, Result, Ok, Err, refl, sym, ap, subst, ◌∙◌, arith, length-append}
 use Rattle.std.specs.Prelude.{Contains, IsErrOf}
 use Rattle.std.specs.List.{All, IsDistinct}
 use Rattle.std.specs.Map.{keys_of}
-use Rattle.std.specs.Set.{is_member}
 use Rattle.std.specs.Result.{result_unwrap_or}
 use Rattle.std.proofs.lemmas.Bool.{false≢true}
 use Rattle.std.proofs.lemmas.List.Elements.{All-contains, Contains-push}
@@ -12,7 +11,7 @@ use Rattle.oci_manifest.specs.Descriptor.{Descriptor, same_key}
 use Rattle.oci_manifest.specs.Fault.{Fault}
 use Rattle.oci_manifest.specs.declared.fault.ManifestFault.{ManifestFault}
 use Rattle.oci_manifest.proofs.Keys.{Decides-same_key}
-use Rattle.oci_store.specs.Keyed.{value_at, has_key, HasAll, HasDistinctKeys, first_missing}
+use Rattle.oci_store.specs.Keyed.{value_at, has_key, HasAll, HasDistinctKeys}
 use Rattle.oci_store.specs.Content.{IsChecked, successors_in}
 use Rattle.oci_store.specs.Closed.{IsClosed}
 use Rattle.oci_store.specs.Graph.{Node}
@@ -23,13 +22,11 @@ use Rattle.oci_store.specs.declared.fault.PushFault.TheVariants as push
 use Rattle.oci_store.proofs.ClosedGraphs.{first_open-from_IsClosed}
 use Rattle.oci_store.proofs.KeyOrder.{same_key_laws}
 use Rattle.oci_store.proofs.Lookups.{found, has_key-from_value, All-value_at, value_at-append_cases, has_key-from_Contains, Contains-from_has_key, has_key-from_HasAll, first_missing-from_HasAll}
-use Rattle.oci_plan.specs.Outside.{IsOutside}
 use Rattle.oci_plan.specs.Plan.{Planned}
 use Rattle.oci_copy.specs.declared.fault.CopyFault.{CopyFault}
 use Rattle.oci_copy.specs.declared.fault.CopyFault.TheVariants as fault
-use Rattle.oci_copy.specs.Cause.{IsContentCause, IsFetchCause, IsReadCause, IsPushCauseIf, IsStartCause}
+use Rattle.oci_copy.specs.Cause.{IsContentCause, IsReadCause, IsPushCauseIf, IsStartCause}
 use Rattle.oci_copy.specs.Fault.{TellsPush, IsStuck, IsOtherPush}
-use Rattle.oci_copy.specs.Grown.{graph_of}
 use Rattle.oci_copy.specs.Kept.{Keeps}
 use Rattle.oci_copy.specs.Plain.{IsUnfailing}
 use Rattle.oci_copy.specs.Planned.{IsPlanOf}

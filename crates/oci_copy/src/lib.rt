@@ -2,20 +2,26 @@
 //!
 //! | Call | What it copies |
 //! |---|---|
-//! | [`copy_one`] | what a source has under a list of keys, on the calling thread |
-//! | [`copy`] | what a reference of the source stands for, which is then tagged in the destination |
-//! | [`copy_memory`] | as `copy_one`, from a store in memory to a closed one |
+//! | [`copy_graph`] | what a source has under a list of keys, by workers |
+//! | [`copy_one`] | the same on the calling thread |
+//! | [`copy`] | what a reference of the source stands for, by workers, which is then tagged in the destination |
+//! | [`copy_memory_by_workers`], [`copy_memory`] | as `copy_graph` and `copy_one`, from a store in memory to a closed one |
 //!
 //! After a copy that succeeds the destination has what it had and what the source reaches from the roots, and nothing else.
 //! The destination always comes back. A refusal leaves all that it had, and perhaps some of what was to be brought; where the
-//! destination was closed it is closed, and the tags are as they were.
+//! destination was closed it is closed, and the tags are as they were. For that, and for which refusal comes, no store need be
+//! honest.
 //!
 //! A copy takes a key that the destination holds to have all that it lists, and does not look below it. So the destination has
 //! to be closed: each key that it lists is held. Where it is not, nothing is copied.
 //!
-//! What is said of keys, and of what each lists, rests on an honest source and on two graphs that agree. What is said of bytes
-//! rests beside that on a destination whose device returns what was written and did not fail meanwhile. Of stores in memory
-//! all of it holds but the agreement, which fails only where two contents have one size and one SHA-256.
+//! What the new keys are, and what each lists, rests on an honest source and on two graphs that agree; so do the first fault of a
+//! plan, and that a key which is named had to be brought. What is said of bytes rests beside that on a destination whose device
+//! returns what was written and did not fail meanwhile. Of stores in memory all of it holds but the agreement, which fails only
+//! where two contents have one size and one SHA-256.
+//!
+//! While workers copy, the destination stands in a lock that they share, as [`Guarded`]: what each state of the lock shows is kept
+//! by that type and said by its method. A worker fetches a content, which looks at its bytes, and reads it before it takes the lock.
 #![tactic(auto)]
 
 mod by_workers;

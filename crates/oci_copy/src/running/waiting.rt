@@ -1,8 +1,6 @@
-ghost use Rattle.std.specs.Prelude.{◌≡◌, true, List, Some, Contains, IfErr, IsSomeAnd};
+ghost use Rattle.std.specs.Prelude.{◌≡◌, true, Some, Contains, IfErr, IsSomeAnd};
 ghost use Rattle.std.specs.Sync.Mutex.{mutex_guard_value};
-ghost use Rattle.oci_manifest.specs.Descriptor.{Descriptor};
-ghost use Rattle.oci_store.specs.Content.{IsChecked};
-ghost use Rattle.oci_store.specs.Keyed.{has_key, value_at, HasAll};
+ghost use Rattle.oci_store.specs.Keyed.{value_at, HasAll};
 ghost use Rattle.oci_copy.specs.Work.{IsWorkCause, CanFail};
 
 use super::guarded::Guarded;
