@@ -1,6 +1,6 @@
 ghost use Rattle.std.specs.Prelude.{◌≡◌, Err, IfOk, OnErr};
 
-use crate::tests::stores::{assert_holds, closed, copied, keys, memory};
+use crate::tests::stores::{assert_holds, copied, keys, memory};
 use bytes::Bytes;
 use oci_digest::NoMemory;
 use oci_manifest::Key;
@@ -122,16 +122,23 @@ fn same_content(content: &CheckedContent) -> Result<CheckedContent, PushFault>
     }
 }
 
-/// A copy of two images by three workers into a store that fails its push at a place, and the same copy again.
-fn assert_recovers<R: AllocGlobal + Threads + Wait + Sync + Abort>(
+/// Copies two images by three workers.
+fn copied_into<R: AllocGlobal + Threads + Wait + Sync, D: Dest + Drop + Send>(
     rt: &R,
+    destination: D,
+) -> Result<(D, String), Fail> {
+    let source = memory(rt.alloc(), &ALL)?;
+    let roots = keys(rt.alloc(), &[Index1])?;
+    copied(rt, &source, destination, &roots, 3, &NoHooks)
+}
+
+/// The push after so many failed, and what was pushed is closed.
+fn assert_failed<R: AllocGlobal + Abort>(
+    rt: &R,
+    destination: &FailingStore,
     passing: u64,
+    told: &str,
 ) -> Result<(), Fail> {
-    let alloc = rt.alloc();
-    let source = memory(alloc, &ALL)?;
-    let roots = keys(alloc, &[Index1])?;
-    let destination = FailingStore::new(alloc, passing);
-    let (destination, told) = copied(rt, &source, destination, &roots, 3, &NoHooks)?;
     assert!(rt;
         told.starts_with("82 Push ") && told.ends_with(" 43 Device"),
         "{told}"
@@ -139,7 +146,17 @@ fn assert_recovers<R: AllocGlobal + Threads + Wait + Sync + Abort>(
     assert_eq!(rt; destination.failures(), 1);
     assert!(rt; destination.count() as u64 >= passing && destination.count() <= 5);
     assert!(rt; destination.missing()?.is_none());
-    let (destination, told) = copied(rt, &source, destination, &roots, 3, &NoHooks)?;
+    Ok(())
+}
+
+/// A copy into a store that fails the push after so many, and the same copy again.
+fn assert_recovers<R: AllocGlobal + Threads + Wait + Sync + Abort>(
+    rt: &R,
+    passing: u64,
+) -> Result<(), Fail> {
+    let (destination, told) = copied_into(rt, FailingStore::new(rt.alloc(), passing))?;
+    assert_failed(rt, &destination, passing, told.as_str())?;
+    let (destination, told) = copied_into(rt, destination)?;
     assert!(rt; told.ends_with(" skipped 0"), "{told}");
     assert_holds(rt, destination.store.memory(), &ALL)
 }
@@ -196,33 +213,56 @@ impl<'a> Source for FailingSource<'a> {
     }
 }
 
-/// A copy of two images by three workers from a source that fails its fetch at a place: whether it was refused.
+/// Copies two images by three workers out of a source.
+fn copied_from<R: AllocGlobal + Threads + Wait + Sync>(
+    rt: &R,
+    source: &FailingSource<'_>,
+    destination: ClosedStore,
+) -> Result<(ClosedStore, String), Fail> {
+    let roots = keys(rt.alloc(), &[Index1])?;
+    copied(rt, source, destination, &roots, 3, &NoHooks)
+}
+
+/// The fetch failed, for the plan or at a push, and what was pushed is closed.
+fn assert_not_fetched<R: AllocGlobal + Abort>(
+    rt: &R,
+    destination: &ClosedStore,
+    told: &str,
+) -> Result<(), Fail> {
+    let planning = told.starts_with("81 Plan 57 Fetch ");
+    assert!(rt; planning || told.starts_with("88 Fetch "), "{told}");
+    assert!(rt; !planning || destination.count() == 0);
+    assert!(rt; destination.missing()?.is_none());
+    Ok(())
+}
+
+/// A copy from a source that fails a fetch, and the same copy again: whether the first was refused.
+fn is_refused<R: AllocGlobal + Threads + Wait + Sync + Abort>(
+    rt: &R,
+    source: &FailingSource<'_>,
+) -> Result<bool, Fail> {
+    let (destination, told) = copied_from(rt, source, ClosedStore::new(rt.alloc()))?;
+    let refused = told.ends_with(" 22 Device");
+    if refused {
+        assert_not_fetched(rt, &destination, told.as_str())?;
+    }
+    let (destination, _) = copied_from(rt, source, destination)?;
+    assert_holds(rt, destination.memory(), &ALL)?;
+    Ok(refused)
+}
+
+/// The same from a source that fails the fetch after so many.
 fn refused_fetch<R: AllocGlobal + Threads + Wait + Sync + Abort>(
     rt: &R,
     passing: u64,
 ) -> Result<bool, Fail> {
-    let alloc = rt.alloc();
-    let store = memory(alloc, &ALL)?;
+    let store = memory(rt.alloc(), &ALL)?;
     let source = FailingSource {
         store: &store,
         fetches: AtomicU64::new(0),
         passing,
     };
-    let roots = keys(alloc, &[Index1])?;
-    let (destination, told) = copied(rt, &source, closed(alloc, &[])?, &roots, 3, &NoHooks)?;
-    let refused = told.ends_with(" 22 Device");
-    if refused {
-        let planning = told.starts_with("81 Plan 57 Fetch ");
-        assert!(rt; planning || told.starts_with("88 Fetch "), "{told}");
-        assert!(rt; !planning || destination.count() == 0);
-        assert!(rt; destination.missing()?.is_none());
-    } else {
-        assert_eq!(rt; told.as_str(), "planned 6 pushed 6 skipped 0");
-    }
-    let (destination, told) = copied(rt, &source, destination, &roots, 3, &NoHooks)?;
-    assert!(rt; told.starts_with("planned "), "{told}");
-    assert_holds(rt, destination.memory(), &ALL)?;
-    Ok(refused)
+    is_refused(rt, &source)
 }
 
 /// One fetch fails, at each place in turn, until a copy meets no failure: that is after the three manifests for the plan and the

@@ -7,12 +7,12 @@ use worked_contents::Sample::{Bar, Empty, Foo, Image2, Image3, Index1};
 
 /// Hooks of which each call before a fetch raises a count, and looks until two have.
 #[derive(Drop)]
-struct Meeting {
+struct MeetingHooks {
     began: AtomicU64,
     met: AtomicU64,
 }
 
-impl Hooks for Meeting {
+impl Hooks for MeetingHooks {
     fn pre_copy(&self, _key: &Key) {
         self.began.fetch_add(1, Ordering::SeqCst);
         for _ in 0..1_000_000_000u64 {
@@ -34,7 +34,7 @@ fn meeting(rt: HostRuntime) -> Result<(), Fail> {
     let source = memory(rt.alloc(), &[Foo, Bar])?;
     let destination = closed(rt.alloc(), &[])?;
     let roots = keys(rt.alloc(), &[Foo, Bar])?;
-    let hooks = Meeting {
+    let hooks = MeetingHooks {
         began: AtomicU64::new(0),
         met: AtomicU64::new(0),
     };
@@ -76,7 +76,7 @@ impl Hooks for Counting {
 
 /// Each held root is told once and first; each key that is brought is told before and after.
 #[test]
-fn hooks(rt: HostRuntime) -> Result<(), Fail> {
+fn calls_of_hooks(rt: HostRuntime) -> Result<(), Fail> {
     let source = memory(rt.alloc(), &[Empty, Foo, Bar, Image2, Image3, Index1])?;
     let destination = closed(rt.alloc(), &[Empty, Foo, Bar])?;
     let roots = keys(rt.alloc(), &[Foo, Index1, Bar, Foo])?;
