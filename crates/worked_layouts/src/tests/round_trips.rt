@@ -5,11 +5,14 @@ use crate::tests::layouts::{
 use oci_copy::{CopyFault, Options, Report, copy};
 use oci_layout::{Dir, FsDir, Layout, MemDir};
 use oci_manifest::Key;
+use oci_pool::NoHooks;
 use oci_store::{Dest, MemoryStore, Tagger};
 use std::alloc::Global;
 use std::process::Abort;
 use std::rt::Files;
+use std::sync::Wait;
 use std::test::Fail;
+use std::thread::Threads;
 use worked_contents::Sample;
 use worked_contents::Sample::{Empty, Image0};
 
@@ -22,22 +25,36 @@ fn line(alloc: Global, answer: &Result<(Key, Report), CopyFault>) -> Result<Stri
 }
 
 /// Copies what a store in memory calls `m` as `v1`.
-fn copied<D: Dest + Tagger + Drop>(
-    alloc: Global,
+fn copied<D: Dest + Tagger + Drop + Send, R: AllocGlobal + Threads + Wait + Sync>(
+    rt: &R,
     source: &MemoryStore,
     destination: D,
 ) -> Result<(D, String), Fail> {
     let options = Options::default();
-    let (destination, answer) = copy(alloc, source, "m", destination, "v1", &options);
+    let alloc = rt.alloc();
+    let (destination, answer) = copy(
+        rt,
+        alloc,
+        source,
+        "m",
+        destination,
+        "v1",
+        &options,
+        &NoHooks,
+    );
     let told = line(alloc, &answer)?;
     Ok((destination, told))
 }
 
 /// Makes a layout, copies an image into it, and saves it.
-fn filled<D: Dir + Drop>(alloc: Global, dir: D) -> Result<(D, String), Fail> {
+fn filled<D: Dir + Drop + Send, R: AllocGlobal + Threads + Wait + Sync>(
+    rt: &R,
+    dir: D,
+) -> Result<(D, String), Fail> {
+    let alloc = rt.alloc();
     let mut source = memory(alloc, &[Empty, Image0])?;
     tag(alloc, &mut source, Image0, "m")?;
-    let (mut layout, told) = copied(alloc, &source, created(alloc, dir)?)?;
+    let (mut layout, told) = copied(rt, &source, created(alloc, dir)?)?;
     layout.save()?;
     Ok((layout.into_dir(), told))
 }
@@ -94,8 +111,11 @@ fn assert_copied<R: AllocGlobal + Abort>(rt: &R, told: String) -> Result<(), Fai
 }
 
 /// A layout is made, filled, saved and opened again; then it is no place for another one.
-fn assert_round_trip<D: Dir + Drop, R: AllocGlobal + Abort>(rt: &R, dir: D) -> Result<D, Fail> {
-    let (dir, told) = filled(rt.alloc(), dir)?;
+fn assert_round_trip<D: Dir + Drop + Send, R: AllocGlobal + Abort + Threads + Wait + Sync>(
+    rt: &R,
+    dir: D,
+) -> Result<D, Fail> {
+    let (dir, told) = filled(rt, dir)?;
     assert_copied(rt, told)?;
     assert_files(rt, &dir)?;
     let layout = opened(rt.alloc(), dir)?;
