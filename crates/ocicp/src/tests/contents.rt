@@ -121,11 +121,11 @@ fn descriptor(alloc: Global, sample: Sample) -> Result<String, Fail> {
 
 /// A text without names, where `@` stands for the folder.
 fn push_placed(told: &mut String, folder: &str, text: &str) -> Result<(), Fail> {
-    let mut between = "";
-    for piece in text.split('@') {
-        told.push_str(between)?;
+    for (place, piece) in text.split('@').enumerate() {
+        if place > 0 {
+            told.push_str(folder)?;
+        }
         told.push_str(piece)?;
-        between = folder;
     }
     Ok(())
 }
