@@ -11,7 +11,8 @@ use Rattle.oci_store.specs.Content.{Matches, succ_of}
 use Rattle.oci_layout.specs.Blobs.{blob_path}
 use Rattle.oci_layout.specs.Device.{File, IsRaised}
 use Rattle.oci_layout.specs.Index.{index_file, layout_file, layout_version, version_in}
-use Rattle.oci_layout.specs.Opened.{IsGood, IsIndexFile, IsVisiting}
+use Rattle.oci_store.specs.Visiting.{IsVisiting}
+use Rattle.oci_layout.specs.Opened.{IsGood, IsIndexFile, listed_in, any}
 use Rattle.oci_layout.specs.declared.fault.LayoutFault.{LayoutFault}
 use Rattle.oci_layout.specs.declared.fault.LayoutFault.TheVariants as fault
 
@@ -46,7 +47,7 @@ IsUnread file k e = (kind_of k.media_type ≢ Leaf) × (bytes : List ℕ) × (ca
 -- the key is the last of a visiting list, and the manifests that were visited before it are good
 pub record IsNextVisited (file : File) (starts : List Descriptor) (k : Descriptor) : Type 0 where
   pub earlier : List Descriptor
-  pub visiting : IsVisiting file starts (earlier ++ k ∷ [])
+  pub visiting : IsVisiting (listed_in file) any starts (earlier ++ k ∷ [])
   pub good : All (IsGood file) earlier
 
 -- the same from the keys of the index

@@ -49,7 +49,7 @@ others-with_same j k ks e =
     ]
 
 -- the others than j have k where all have it
-is_among-others : (j k : Descriptor) (ks : List Descriptor) → same_key j k ≡ false → is_among (others j ks) k ≡ is_among ks k
+pub is_among-others : (j k : Descriptor) (ks : List Descriptor) → same_key j k ≡ false → is_among (others j ks) k ≡ is_among ks k
 is_among-others j k ks h = any-filter_same (λ other. same_key other k) (λ other. not (same_key j other)) true (λ o e. ap (λ (x : Descriptor). not (same_key j x)) ((Decides-same_key o k).0 e) ∙ ap not h) ks
 
 others-with_other : (j k : Descriptor) (ks : List Descriptor) → same_key j k ≡ false → others j (with_key ks k) ≡ with_key (others j ks) k
@@ -96,7 +96,7 @@ all-filter : (P : Descriptor → Type 0) (p : Descriptor → Bool) (ks : List De
 all-filter P p [] h = tt
 all-filter P p (k ∷ ks) h = elim (p k) as (λ b. AllByRecursion P (cond b (k ∷ filter p ks) (filter p ks))) [ true ↦ (h.0, all-filter P p ks h.1) | false ↦ all-filter P p ks h.1 ]
 
-IsDistinct-filter : (p : Descriptor → Bool) (ks : List Descriptor) → IsDistinct same_key ks → IsDistinct same_key (filter p ks)
+pub IsDistinct-filter : (p : Descriptor → Bool) (ks : List Descriptor) → IsDistinct same_key ks → IsDistinct same_key (filter p ks)
 unfolding IsDistinct
 IsDistinct-filter p [] h = tt
 IsDistinct-filter p (k ∷ ks) h = elim (p k) as (λ b. IsDistinct same_key (cond b (k ∷ filter p ks) (filter p ks))) [ true ↦ (all-filter (λ y. same_key k y ≡ false) p ks h.0, IsDistinct-filter p ks h.1) | false ↦ IsDistinct-filter p ks h.1 ]

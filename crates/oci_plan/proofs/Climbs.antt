@@ -4,23 +4,16 @@ use Rattle.std.specs.Prelude.{Contains, ◌↔◌}
 use Rattle.std.specs.List.{slice_get}
 use Rattle.std.specs.List.Sorted.{IsStrictlySortedBy}
 use Rattle.std.proofs.lemmas.Bool.{or_cases, or_left, cases_lt, cases_order}
-use Rattle.std.proofs.lemmas.List.{take_more}
 use Rattle.std.proofs.lemmas.Option.{slice_get_within, slice_get-get_or}
 use Rattle.oci_manifest.specs.Descriptor.{Descriptor, same_key, key_cmp, is_among}
 use Rattle.oci_manifest.proofs.Keys.{Decides-same_key, cases}
 use Rattle.oci_store.specs.Graph.{Node, IsEdge}
 use Rattle.oci_plan.specs.Climb.{IsWithin, IsClimbed, IsRaised, IsStep}
 use Rattle.oci_plan.specs.Up.{HasPath, IsWithinDepth, IsUp}
-use Rattle.oci_plan.specs.Visiting.{with_key, with_keys}
-use Rattle.oci_plan.proofs.Places.{Keys, Contains-from_among, among_from_Contains, among-append_left, among-append_right, among-with_keys, among_from_place, place_from_among, slice_get-with_keys, with_keys-grows, with_keys-push}
+use Rattle.oci_store.specs.Visiting.{with_key, with_keys}
+use Rattle.oci_store.proofs.Membership.{Keys, Contains-from_among, among_from_Contains, among-append_left, among-append_right, among-with_keys, among_from_place, place_from_among, slice_get-with_keys, with_keys-grows, with_keys-push}
 
 -- ---- more keys
-
--- several keys found, one key further
-pub found_more : (old found ks : Keys) (i : ℕ) (k : Descriptor) → i < length ks → k ≡ get_or ks i k → found ≡ with_keys old (take i ks) → with_key found k ≡ with_keys old (take (i + 1) ks)
-found_more old found ks i k lt is h =
-    ap (λ (t : Keys). with_key t k) h ∙ sym (with_keys-push old (take i ks) k)
-    ∙ ap (with_keys old) (ap (λ (x : Descriptor). take i ks ++ x ∷ []) is ∙ sym (take_more ks i k lt))
 
 -- a key that came is there
 there-with_key : (ks : Keys) (k : Descriptor) → is_among (with_key ks k) k ≡ true

@@ -3,12 +3,10 @@ pub mod Cycles
 pub mod Doubles
 pub mod Ends
 pub mod Items
-pub mod KeyLists
 pub mod Lists
 pub mod Names
 pub mod Numbers
 pub mod Orders
-pub mod Places
 pub mod Plans
 pub mod Progress
 pub mod Sorts

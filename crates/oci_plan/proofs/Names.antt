@@ -7,11 +7,11 @@ use Rattle.oci_manifest.specs.Descriptor.{Descriptor}
 use Rattle.oci_manifest.specs.Manifest.{first_places}
 use Rattle.oci_manifest.proofs.Keys.{first_places-push, cases}
 use Rattle.oci_plan.specs.Plan.{Number}
-use Rattle.oci_plan.specs.Visiting.{with_key, with_keys}
+use Rattle.oci_store.specs.Visiting.{with_key, with_keys}
 use Rattle.oci_plan.specs.Walk.{IsNumberFault}
 use Rattle.oci_plan.specs.declared.fault.PlanFault.{PlanFault}
 use Rattle.oci_plan.specs.declared.fault.PlanFault.TheVariants as fault
-use Rattle.oci_plan.proofs.Places.{Keys, slice_get-with_keys, with_keys-append, with_keys-push, with_keys-grows}
+use Rattle.oci_store.proofs.Membership.{Keys, slice_get-with_keys, with_keys-append, with_keys-push, with_keys-grows}
 use Rattle.std.proofs.lemmas.List.{length-append, take-append-drop}
 use Rattle.std.proofs.Common.{drop}
 

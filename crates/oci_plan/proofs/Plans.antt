@@ -25,7 +25,7 @@ use Rattle.oci_plan.specs.declared.fault.OrderFault.{OrderFault}
 use Rattle.oci_plan.specs.declared.fault.OrderFault.TheVariants as ordering
 use Rattle.oci_plan.specs.declared.fault.PlanFault.{PlanFault}
 use Rattle.oci_plan.specs.declared.fault.PlanFault.TheVariants as fault
-use Rattle.oci_plan.proofs.Places.{Keys, Contains-from_among, among_from_Contains, among-filter, among_filter_from, among_from_place, place_from_among, All-from_among, one_place}
+use Rattle.oci_store.proofs.Membership.{Keys, Contains-from_among, among_from_Contains, among-filter, among_filter_from, among_from_place, place_from_among, All-from_among, one_place}
 use Rattle.oci_plan.proofs.Visits.{found_outside, outside_found, successors_at-edge}
 use Rattle.oci_plan.proofs.Names.{first_two}
 use Rattle.oci_plan.proofs.Walks.{sound_item}

@@ -8,7 +8,7 @@ use Rattle.std.specs.declared.cmp.Ordering.TheVariants.{Less, Equal, Greater}
 use Rattle.std.proofs.lemmas.Map.Keys.{apart_from_distinct, sorted_from_all_adjacent}
 use Rattle.oci_manifest.specs.Descriptor.{Descriptor, same_key, key_cmp}
 use Rattle.oci_store.proofs.KeyOrder.{key_cmp_total, is_eq-key_cmp}
-use Rattle.oci_plan.proofs.Places.{Keys}
+use Rattle.oci_store.proofs.Membership.{Keys}
 
 -- what is not above, and not equal, is below
 below : (o : Ordering) → is_lt (ordering_reverse o) ≡ false → is_eq o ≡ false → o ≡ Less

@@ -9,19 +9,21 @@ use Rattle.std.proofs.lemmas.List.Elements.{All-nil, All-push, All-weaker, filte
 use Rattle.std.proofs.lemmas.Option.{slice_get_within, get_or_from_slice_get}
 use Rattle.oci_manifest.specs.Descriptor.{Descriptor, same_key, is_among}
 use Rattle.oci_manifest.specs.Manifest.{first_places}
-use Rattle.oci_manifest.proofs.Keys.{cases}
+use Rattle.oci_manifest.proofs.Keys.{IsDistinct-filter, IsDistinct-first_places, cases}
 use Rattle.oci_store.specs.Keyed.{has_key}
 use Rattle.oci_store.specs.Content.{Entry, succ_of}
 use Rattle.oci_store.specs.Graph.{Node, nodes_of}
 use Rattle.oci_plan.specs.Outside.{IsOutside}
-use Rattle.oci_plan.specs.Visiting.{successors_at, candidates, is_fresh, with_keys, IsVisiting, start, next, IsSoundItem, IsNextVisited}
+use Rattle.oci_store.specs.Visiting.{candidates, with_keys, IsVisiting, start, next}
+use Rattle.oci_plan.specs.Visiting.{successors_at, is_fresh, IsSoundItem, IsNextVisited}
 use Rattle.oci_plan.specs.Plan.{Number}
 use Rattle.oci_plan.specs.Refusal.{IsOfKey, IsFirstFault}
 use Rattle.oci_plan.specs.Walk.{IsListOf, IsPassed, IsWalk, IsNumberFault}
 use Rattle.oci_plan.specs.declared.fault.PlanFault.{PlanFault}
 use Rattle.oci_plan.specs.declared.fault.PlanFault.TheVariants as fault
-use Rattle.oci_plan.proofs.Places.{Keys, Contains-from_among, among_from_Contains, among-filter, among_filter_from, among-first_places, first_places-append, with_keys-grows, among-append_left, among-with_keys, All-from_among, All-among, IsDistinct-places, IsDistinct-filter, slice_get-with_keys}
-use Rattle.oci_plan.proofs.Visits.{next_visit-at, candidates-push, found_outside}
+use Rattle.oci_store.proofs.Membership.{Keys, Contains-from_among, among_from_Contains, among-filter, among_filter_from, among-first_places, first_places-append, with_keys-grows, among-append_left, among-with_keys, All-from_among, All-among, slice_get-with_keys}
+use Rattle.oci_store.proofs.Visits.{next_visit-at, candidates-push}
+use Rattle.oci_plan.proofs.Visits.{found_outside}
 use Rattle.oci_plan.proofs.Names.{Number-grows}
 
 module _ (honest : Type 0) (entries : List Entry) (held : List Node) (roots : Keys) (limit : ℕ) where
@@ -36,7 +38,7 @@ module _ (honest : Type 0) (entries : List Entry) (held : List Node) (roots : Ke
 
   -- ---- the start
 
-  started : (keys : Keys) → keys ≡ with_keys [] (filter (is_fresh held) roots) → keys ≡ first_places (filter (is_fresh held) (candidates source roots []))
+  started : (keys : Keys) → keys ≡ with_keys [] (filter (is_fresh held) roots) → keys ≡ first_places (filter (is_fresh held) (candidates (successors_at source) roots []))
   started keys h = h ∙ sym (first_places-append [] (filter (is_fresh held) roots)) ∙ ap (λ (t : Keys). first_places (filter (is_fresh held) t)) (sym (append-nil roots))
 
   pub walk_start : (keys : Keys) → keys ≡ with_keys [] (filter (is_fresh held) roots) → length keys ≤ 4294967295 → IsWalk honest entries held roots limit keys [] []
@@ -79,16 +81,16 @@ module _ (honest : Type 0) (entries : List Entry) (held : List Node) (roots : Ke
 
   -- the visited keys are a visiting list with the key that follows them
   pub walk_visiting : (keys : Keys) (lists : List (Vec ℕ)) (i : ℕ) (k : Descriptor) → IsWalk honest entries held roots limit keys (take i keys) lists → slice_get keys i ≡ Some k
-      → honest → IsVisiting source held roots (take i keys ++ k ∷ [])
-  walk_visiting keys lists i k walk at h = next (walk.visiting h) (next_visit-at source held roots keys i k (walk.found h) at)
+      → honest → IsVisiting (successors_at source) (is_fresh held) roots (take i keys ++ k ∷ [])
+  walk_visiting keys lists i k walk at h = next (walk.visiting h) (next_visit-at (successors_at source) (is_fresh held) roots keys i (walk.found h) ∙ at)
 
   -- the keys that are found once one more key is visited
-  found_more : (keys visited successors : Keys) (k : Descriptor) → keys ≡ first_places (filter (is_fresh held) (candidates source roots visited)) → successors ≡ successors_at source k
-      → with_keys keys (filter (is_fresh held) successors) ≡ first_places (filter (is_fresh held) (candidates source roots (visited ++ k ∷ [])))
+  found_more : (keys visited successors : Keys) (k : Descriptor) → keys ≡ first_places (filter (is_fresh held) (candidates (successors_at source) roots visited)) → successors ≡ successors_at source k
+      → with_keys keys (filter (is_fresh held) successors) ≡ first_places (filter (is_fresh held) (candidates (successors_at source) roots (visited ++ k ∷ [])))
   found_more keys visited successors k found own =
       ap (λ (t : Keys). with_keys t (filter (is_fresh held) successors)) found
-      ∙ sym (first_places-append (filter (is_fresh held) (candidates source roots visited)) (filter (is_fresh held) successors))
-      ∙ ap first_places (sym (filter-append (is_fresh held) (candidates source roots visited) successors) ∙ ap (λ (t : Keys). filter (is_fresh held) (candidates source roots visited ++ t)) own ∙ ap (filter (is_fresh held)) (sym (candidates-push source roots visited k)))
+      ∙ sym (first_places-append (filter (is_fresh held) (candidates (successors_at source) roots visited)) (filter (is_fresh held) successors))
+      ∙ ap first_places (sym (filter-append (is_fresh held) (candidates (successors_at source) roots visited) successors) ∙ ap (λ (t : Keys). filter (is_fresh held) (candidates (successors_at source) roots visited ++ t)) own ∙ ap (filter (is_fresh held)) (sym (candidates-push (successors_at source) roots visited k)))
 
   -- what is known of the key that is visited, and of its successors
   pub record IsNext (keys successors after : Keys) (numbers : Vec ℕ) (k : Descriptor) : Type 0 where
@@ -201,7 +203,7 @@ module _ (honest : Type 0) (entries : List Entry) (held : List Node) (roots : Ke
       first : (named : Descriptor) → named ≡ k → IsNextVisited source entries held roots limit named
       first named same = (
         take i keys,
-        subst (λ (x : Descriptor). IsVisiting source held roots (take i keys ++ x ∷ [])) (sym same) (walk_visiting keys lists i k walk at h),
+        subst (λ (x : Descriptor). IsVisiting (successors_at source) (is_fresh held) roots (take i keys ++ x ∷ [])) (sym same) (walk_visiting keys lists i k walk at h),
         all_sound h (take i keys) walk.passed,
       )
 
@@ -215,7 +217,7 @@ module _ (honest : Type 0) (entries : List Entry) (held : List Node) (roots : Ke
       go fault.TooMany same = absurd same
 
   -- where numbers are refused there are too many keys outside
-  pub number_first : (keys visited : Keys) (e : PlanFault) → IsNumberFault keys e → IsVisiting source held roots visited → All (IsSoundItem entries limit) visited → keys ≡ first_places (filter (is_fresh held) (candidates source roots visited))
+  pub number_first : (keys visited : Keys) (e : PlanFault) → IsNumberFault keys e → IsVisiting (successors_at source) (is_fresh held) roots visited → All (IsSoundItem entries limit) visited → keys ≡ first_places (filter (is_fresh held) (candidates (successors_at source) roots visited))
       → IsFirstFault entries held roots limit e
   number_first keys visited (fault.TooLarge named l) h visiting sound found = absurd h
   number_first keys visited (fault.NotFound named) h visiting sound found = absurd h
@@ -230,7 +232,7 @@ module _ (honest : Type 0) (entries : List Entry) (held : List Node) (roots : Ke
     keys = keys;
     found = found;
     many = h;
-    distinct = subst (λ (t : Keys). IsDistinct same_key t) (sym found) (IsDistinct-places (filter (is_fresh held) (candidates source roots visited)));
+    distinct = subst (λ (t : Keys). IsDistinct same_key t) (sym found) (IsDistinct-first_places (filter (is_fresh held) (candidates (successors_at source) roots visited)));
     outside = All-from_among (IsOutside source held roots) keys (λ k there. found_outside source held roots visited k visiting (sym (ap (λ (t : Keys). is_among t k) found) ∙ there));
   }
 

@@ -4,7 +4,7 @@ use Rattle.oci_manifest.specs.Descriptor.{Descriptor}
 use Rattle.oci_store.specs.Before.{IsBefore}
 use Rattle.oci_store.specs.Graph.{Node, IsEdge}
 use Rattle.oci_plan.specs.Up.{HasPath}
-use Rattle.oci_plan.specs.Visiting.{with_keys}
+use Rattle.oci_store.specs.Visiting.{with_keys}
 
 -- what was found are the keys from which a path of at most so many edges leads to the key
 abbrev pub IsWithin : List Node → Descriptor → ℕ → List Descriptor → Type 0

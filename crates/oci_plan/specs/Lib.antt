@@ -2,7 +2,6 @@ pub mod Climb
 pub mod Doubles
 pub mod Fault
 pub mod Graph
-pub mod KeyList
 pub mod Order
 pub mod Outside
 pub mod Plan

@@ -13,7 +13,8 @@ use Rattle.oci_store.specs.Graph.{Node, nodes_of}
 use Rattle.oci_store.specs.declared.fault.FetchFault.{FetchFault}
 use Rattle.oci_store.specs.declared.fault.FetchFault.TheVariants as fetch
 use Rattle.oci_plan.specs.Outside.{IsOutside, IsKeyCycle}
-use Rattle.oci_plan.specs.Visiting.{candidates, is_fresh, IsVisiting, IsWithin, IsSoundItem, IsNextVisited}
+use Rattle.oci_store.specs.Visiting.{candidates, IsVisiting}
+use Rattle.oci_plan.specs.Visiting.{successors_at, is_fresh, IsWithin, IsSoundItem, IsNextVisited}
 use Rattle.oci_plan.specs.declared.fault.PlanFault.{PlanFault}
 use Rattle.oci_plan.specs.declared.fault.PlanFault.TheVariants as fault
 
@@ -76,10 +77,10 @@ IsCycleOutside entries held roots limit keys = IsKeyCycle (nodes_of entries) key
 -- there are numbers: all these are outside.
 pub record HasTooMany (entries : List Entry) (held : List Node) (roots : List Descriptor) (limit : ℕ) : Type 0 where
   pub visited : List Descriptor
-  pub visiting : IsVisiting (nodes_of entries) held roots visited
+  pub visiting : IsVisiting (successors_at (nodes_of entries)) (is_fresh held) roots visited
   pub sound : All (IsSoundItem entries limit) visited
   pub keys : List Descriptor
-  pub found : keys ≡ first_places (filter (is_fresh held) (candidates (nodes_of entries) roots visited))
+  pub found : keys ≡ first_places (filter (is_fresh held) (candidates (successors_at (nodes_of entries)) roots visited))
   pub many : 4294967295 < length keys
   pub distinct : IsDistinct same_key keys
   pub outside : All (IsOutside (nodes_of entries) held roots) keys

@@ -12,7 +12,8 @@ use Rattle.oci_manifest.specs.declared.fault.ManifestFault.{ManifestFault}
 use Rattle.oci_manifest.specs.declared.fault.ManifestFault.TheVariants as reading
 use Rattle.oci_store.specs.declared.fault.FetchFault.{FetchFault}
 use Rattle.oci_store.specs.declared.fault.FetchFault.TheVariants as fetch
-use Rattle.oci_plan.specs.Visiting.{successors_at, candidates, is_fresh, IsVisiting, IsWithin}
+use Rattle.oci_store.specs.Visiting.{candidates, IsVisiting}
+use Rattle.oci_plan.specs.Visiting.{successors_at, is_fresh, IsWithin}
 use Rattle.oci_plan.specs.Plan.{Number}
 use Rattle.oci_plan.specs.declared.fault.OrderFault.{OrderFault}
 use Rattle.oci_plan.specs.declared.fault.OrderFault.TheVariants as ordering
@@ -40,8 +41,8 @@ pub record IsWalk (honest : Type 0) (entries : List Entry) (held : List Node) (r
   pub has_roots : All (λ k. (has_key held k ≡ true) ⊎ Contains keys k) roots
   pub passed : All (IsPassed honest entries limit) visited
   pub listed : AllZip (IsListOf honest entries held keys) visited lists
-  pub visiting : honest → IsVisiting (nodes_of entries) held roots visited
-  pub found : honest → keys ≡ first_places (filter (is_fresh held) (candidates (nodes_of entries) roots visited))
+  pub visiting : honest → IsVisiting (successors_at (nodes_of entries)) (is_fresh held) roots visited
+  pub found : honest → keys ≡ first_places (filter (is_fresh held) (candidates (successors_at (nodes_of entries)) roots visited))
 
 -- numbers are refused for want of memory, or where there are more keys than numbers
 abbrev pub IsNumberFault : List Descriptor → PlanFault → Type 0

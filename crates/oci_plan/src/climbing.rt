@@ -5,12 +5,11 @@ mod depth;
 mod level;
 mod sorted;
 
-use crate::key_list::KeyList;
 use depth::goes_on;
 use level::climb_level;
 use oci_digest::NoMemory;
 use oci_manifest::Key;
-use oci_store::GraphSource;
+use oci_store::{GraphSource, KeyList};
 use sorted::sorted;
 use std::alloc::Global;
 

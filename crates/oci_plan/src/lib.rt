@@ -16,7 +16,6 @@
 mod climbing;
 mod fault;
 mod gathering;
-mod key_list;
 mod ordering;
 mod plan;
 mod spaced;

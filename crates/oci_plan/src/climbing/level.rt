@@ -1,21 +1,8 @@
-ghost use Rattle.std.specs.Prelude.{◌≡◌, ◌≤◌, ◌<◌, length, OnOk};
+ghost use Rattle.std.specs.Prelude.{◌≤◌, ◌<◌, length, OnOk};
 ghost use Rattle.oci_plan.specs.Climb.{IsClimbed, IsRaised, IsStep};
-ghost use Rattle.oci_plan.specs.Visiting.{with_keys};
 
-use crate::key_list::KeyList;
 use oci_digest::NoMemory;
-use oci_manifest::Key;
-use oci_store::GraphSource;
-
-/// Puts each of these keys to the end of what was found, where it is new.
-fn find_all(found: &mut KeyList, keys: &[Key]) -> Result<(), NoMemory>
-    ensures { OnOk result (found.new ≡ with_keys found.old keys.now) }
-{
-    for key in keys {
-        found.place(key)?;
-    }
-    Ok(())
-}
+use oci_store::{GraphSource, KeyList};
 
 /// Finds what lists the key at this place.
 fn climb_from<G: GraphSource>(source: &G, found: &mut KeyList, place: usize) -> Result<(), NoMemory>
@@ -26,7 +13,7 @@ fn climb_from<G: GraphSource>(source: &G, found: &mut KeyList, place: usize) -> 
         unreachable!()
     };
     let predecessors = source.predecessors(key)?;
-    find_all(found, &predecessors)
+    found.place_all(&predecessors)
 }
 
 /// Finds what lists the keys from one place to before another.

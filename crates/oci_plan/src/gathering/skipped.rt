@@ -1,12 +1,11 @@
 ghost use Rattle.std.specs.Prelude.{◌≡◌, filter, IfOk, OnOk, if◌then◌else◌};
 ghost use Rattle.oci_manifest.specs.Manifest.{first_places};
 ghost use Rattle.oci_store.specs.Keyed.{has_key};
-ghost use Rattle.oci_plan.specs.Visiting.{with_key};
+ghost use Rattle.oci_store.specs.Visiting.{with_key};
 
-use crate::key_list::KeyList;
 use oci_digest::NoMemory;
 use oci_manifest::Key;
-use oci_store::Dest;
+use oci_store::{Dest, KeyList};
 use std::alloc::Global;
 
 /// Keeps a root that the destination has.

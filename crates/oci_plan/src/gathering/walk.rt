@@ -3,14 +3,14 @@ ghost use Rattle.std.specs.List.{IsDistinct};
 ghost use Rattle.oci_manifest.specs.Descriptor.{same_key};
 ghost use Rattle.oci_plan.specs.Plan.{Number};
 ghost use Rattle.oci_plan.specs.Refusal.{IsKeyFault, IsFirstFault};
-ghost use Rattle.oci_plan.specs.Visiting.{is_fresh, with_key, with_keys};
+ghost use Rattle.oci_store.specs.Visiting.{with_key, with_keys};
+ghost use Rattle.oci_plan.specs.Visiting.{is_fresh};
 ghost use Rattle.oci_plan.specs.Walk.{IsNumberFault, IsWalk};
 
 use super::item::item_successors;
 use crate::fault::PlanFault;
-use crate::key_list::KeyList;
 use oci_manifest::Key;
-use oci_store::{Dest, Source};
+use oci_store::{Dest, KeyList, Source};
 use std::alloc::Global;
 
 /// The keys that a walk visited, in that order, and for each the numbers of its successors that are among them.

@@ -1,7 +1,8 @@
 use Rattle.std.proofs.Common.{◌≡◌, ◌≤◌, length, take}
 use Rattle.std.specs.List.{filter}
 use Rattle.oci_plan.specs.Plan.{Number}
-use Rattle.oci_plan.specs.Visiting.{is_fresh, with_keys}
+use Rattle.oci_store.specs.Visiting.{with_keys}
+use Rattle.oci_plan.specs.Visiting.{is_fresh}
 use Rattle.oci_plan.proofs.gathering.walk.number_fresh.Given as goal
 
 -- as far as the loop has come

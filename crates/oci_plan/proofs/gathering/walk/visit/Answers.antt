@@ -5,9 +5,10 @@ use Rattle.std.proofs.lemmas.List.{length_push}
 use Rattle.std.proofs.lemmas.Option.{slice_get_within}
 use Rattle.std.proofs.lemmas.Result.{err_from_is_err_and}
 use Rattle.oci_manifest.specs.Descriptor.{Descriptor}
-use Rattle.oci_plan.specs.Visiting.{is_fresh, with_keys}
+use Rattle.oci_store.specs.Visiting.{with_keys}
+use Rattle.oci_plan.specs.Visiting.{is_fresh}
 use Rattle.oci_plan.specs.Walk.{IsWalk}
-use Rattle.oci_plan.proofs.Places.{past_from_none}
+use Rattle.oci_store.proofs.Membership.{past_from_none}
 use Rattle.oci_plan.proofs.Walks.{walk_start, walk_step, walk_behind, walk_end, item_first, roots_first, successors_first}
 use Rattle.oci_plan.proofs.gathering.walk.visit.Goals as goal
 

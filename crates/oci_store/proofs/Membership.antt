@@ -1,16 +1,15 @@
 -- Membership of keys in lists, and lists with each key at its first place.
 use Rattle.std.proofs.Common.{◌≡◌, ℕ, zero, suc, ◌<◌, ◌≤◌, Bool, true, false, cond, not, ◌||◌, ◌⊎◌, inl, inr, List, [], ◌∷◌, ◌++◌, length, get_or, Some, None, refl, sym, ap, subst, ◌∙◌, append_assoc, append-nil, arith}
 use Rattle.std.specs.Prelude.{Contains, find}
-use Rattle.std.specs.List.{filter, flat_map, slice_get, All, AllByRecursion, IsDistinct}
+use Rattle.std.specs.List.{filter, flat_map, slice_get, All, IsDistinct}
 use Rattle.std.proofs.lemmas.Bool.{or_cases, or_left, or_right, false≢true, both_ways, cases_order}
 use Rattle.std.proofs.lemmas.List.Elements.{All-nil, All-cons, All-contains}
 use Rattle.std.proofs.lemmas.Map.Keys.{apart_from_distinct}
-use Rattle.std.proofs.lemmas.Map.Views.{any-filter_same}
 use Rattle.std.proofs.lemmas.Option.{slice_get_within, get_or_from_slice_get}
 use Rattle.oci_manifest.specs.Descriptor.{Descriptor, same_key, is_among}
 use Rattle.oci_manifest.specs.Manifest.{first_places}
-use Rattle.oci_manifest.proofs.Keys.{Decides-same_key, first_places-push, cases}
-use Rattle.oci_plan.specs.Visiting.{with_key, with_keys}
+use Rattle.oci_manifest.proofs.Keys.{Decides-same_key, is_among-others, first_places-push, cases}
+use Rattle.oci_store.specs.Visiting.{with_key, with_keys}
 
 abbrev pub Keys : Type 0
 Keys = List Descriptor
@@ -114,10 +113,6 @@ among-flat_map f (i ∷ ks) k h =
 
 -- ---- first places
 
--- the others than j have k where all have it
-among-others : (j k : Descriptor) (ks : Keys) → same_key j k ≡ false → is_among (filter (λ other. not (same_key j other)) ks) k ≡ is_among ks k
-among-others j k ks h = any-filter_same (λ other. same_key other k) (λ other. not (same_key j other)) true (λ o e. ap (λ (x : Descriptor). not (same_key j x)) ((Decides-same_key o k).0 e) ∙ ap not h) ks
-
 -- the first places have the keys of the list
 pub among-first_places : (ks : Keys) (k : Descriptor) → is_among (first_places ks) k ≡ is_among ks k
 among-first_places [] k = refl
@@ -125,7 +120,7 @@ among-first_places (j ∷ ks) k =
     elim (cases (same_key j k)) [
       | inl same ↦ rw same refl
       | inr other ↦
-          let rest : is_among (filter (λ o. not (same_key j o)) (first_places ks)) k ≡ is_among ks k = among-others j k (first_places ks) other ∙ among-first_places ks k in
+          let rest : is_among (filter (λ o. not (same_key j o)) (first_places ks)) k ≡ is_among ks k = is_among-others j k (first_places ks) other ∙ among-first_places ks k in
           ap (λ (b : Bool). same_key j k || b) rest
     ]
 
@@ -181,39 +176,6 @@ All-from_among P (k ∷ ks) h =
 
 pub All-among : (P : Descriptor → Type 0) (ks : Keys) (k : Descriptor) → All P ks → is_among ks k ≡ true → P k
 All-among P ks k h there = All-contains P ks k h (Contains-from_among ks k there)
-
--- ---- no key twice
-
-abbrev AreOther : Descriptor → Keys → Type 0
-AreOther k ks = AllByRecursion (λ other. same_key k other ≡ false) ks
-
-AreOther-filter : (p : Descriptor → Bool) (k : Descriptor) (ks : Keys) → AreOther k ks → AreOther k (filter p ks)
-AreOther-filter p k [] h = tt
-AreOther-filter p k (j ∷ ks) h =
-    elim (p j) as (λ b. AreOther k (cond b (j ∷ filter p ks) (filter p ks))) [ true ↦ (h.0, AreOther-filter p k ks h.1) | false ↦ AreOther-filter p k ks h.1 ]
-
-pub IsDistinct-filter : (p : Descriptor → Bool) (ks : Keys) → IsDistinct same_key ks → IsDistinct same_key (filter p ks)
-unfolding IsDistinct
-IsDistinct-filter p [] h = tt
-IsDistinct-filter p (k ∷ ks) h =
-    elim (p k) as (λ b. IsDistinct same_key (cond b (k ∷ filter p ks) (filter p ks))) [
-      | true ↦ (AreOther-filter p k ks h.0, IsDistinct-filter p ks h.1)
-      | false ↦ IsDistinct-filter p ks h.1
-    ]
-
-others_differ : (k : Descriptor) (ks : Keys) → AreOther k (filter (λ other. not (same_key k other)) ks)
-others_differ k [] = tt
-others_differ k (j ∷ ks) =
-    let rest : Keys = filter (λ other. not (same_key k other)) ks in
-    elim (cases (same_key k j)) [
-      | inl same ↦ subst (λ (b : Bool). AreOther k (cond (not b) (j ∷ rest) rest)) (sym same) (others_differ k ks)
-      | inr other ↦ subst (λ (b : Bool). AreOther k (cond (not b) (j ∷ rest) rest)) (sym other) (other, others_differ k ks)
-    ]
-
-pub IsDistinct-places : (ks : Keys) → IsDistinct same_key (first_places ks)
-unfolding IsDistinct
-IsDistinct-places [] = tt
-IsDistinct-places (k ∷ ks) = (others_differ k (first_places ks), IsDistinct-filter (λ other. not (same_key k other)) (first_places ks) (IsDistinct-places ks))
 
 -- ---- more keys
 

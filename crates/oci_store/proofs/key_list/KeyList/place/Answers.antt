@@ -2,11 +2,11 @@ use Rattle.std.proofs.Common.{◌≡◌, ℕ, List, [], ◌∷◌, ◌++◌, len
 use Rattle.std.specs.BTreeMap.{get, Updates}
 use Rattle.std.specs.List.{slice_get}
 use Rattle.oci_manifest.specs.Descriptor.{Descriptor, key_cmp}
-use Rattle.oci_plan.specs.KeyList.{IsIndexOf}
-use Rattle.oci_plan.specs.Visiting.{with_key}
-use Rattle.oci_plan.proofs.KeyLists.{with_key-there, with_key-new, IsIndexOf-push}
-use Rattle.oci_plan.proofs.Places.{slice_get-push}
-use Rattle.oci_plan.proofs.key_list.KeyList.place.Goals as goal
+use Rattle.oci_store.specs.KeyList.{IsIndexOf}
+use Rattle.oci_store.specs.Visiting.{with_key}
+use Rattle.oci_store.proofs.KeyLists.{with_key-there, with_key-new, IsIndexOf-push}
+use Rattle.oci_store.proofs.Membership.{slice_get-push}
+use Rattle.oci_store.proofs.key_list.KeyList.place.Goals as goal
 
 pub returns-in-Some-clause-keys : goal.returns-in-Some-clause-keys
 returns-in-Some-clause-keys c =

@@ -2,7 +2,7 @@ ghost use Rattle.std.specs.Prelude.{◌≡◌, [], length, Some, slice_get, IfOk
 ghost use Rattle.std.specs.List.{IsDistinct};
 ghost use Rattle.std.specs.Option.{option_copied};
 ghost use Rattle.oci_manifest.specs.Descriptor.{same_key};
-ghost use Rattle.oci_plan.specs.Visiting.{with_key};
+ghost use Rattle.oci_store.specs.Visiting.{with_key, with_keys};
 
 use oci_digest::NoMemory;
 use oci_manifest::Key;
@@ -10,9 +10,11 @@ use std::alloc::Global;
 use std::collections::BTreeMap;
 use std::marker::Model;
 
-/// Keys, each once, in the order in which they came. The place of a key is found in logarithmic time.
+/// Keys, each once, in the order in which they came. A key is found in logarithmic time.
+///
+/// It is the list that a walk along successors keeps of the keys that it has come to.
 #[derive(Drop)]
-pub(crate) struct KeyList {
+pub struct KeyList {
     keys: Vec<Key>,
     index: BTreeMap<Key, usize>,
 }
@@ -20,7 +22,7 @@ pub(crate) struct KeyList {
 impl Model for KeyList {
     ghost use Rattle.std.specs.Prelude.{List};
     ghost use Rattle.oci_manifest.specs.Descriptor.{Descriptor};
-    ghost use Rattle.oci_plan.specs.KeyList.{IsIndexOf};
+    ghost use Rattle.oci_store.specs.KeyList.{IsIndexOf};
 
     ghost Value = { List Descriptor };
 
@@ -30,7 +32,8 @@ impl Model for KeyList {
 }
 
 impl KeyList {
-    pub(crate) fn new(alloc: Global) -> KeyList
+    /// No keys. It takes no memory.
+    pub fn new(alloc: Global) -> KeyList
         ensures { result ≡ [] }
     {
         KeyList {
@@ -39,20 +42,22 @@ impl KeyList {
         }
     }
 
-    pub(crate) fn len(&self) -> usize
+    /// How many keys it has.
+    pub fn len(&self) -> usize
         ensures { result ≡ length self.now }
     {
         self.keys.len()
     }
 
-    pub(crate) fn get(&self, place: usize) -> Option<&Key>
+    /// The key at a place, from 0.
+    pub fn get(&self, place: usize) -> Option<&Key>
         ensures { option_copied result ≡ slice_get self.now place }
     {
         self.keys.get(place)
     }
 
-    /// The place of a key. A new key goes to the end.
-    pub(crate) fn place(&mut self, key: &Key) -> Result<usize, NoMemory>
+    /// The place of a key, which goes to the end where it is new. It is copied; where memory is refused nothing is changed.
+    pub fn place(&mut self, key: &Key) -> Result<usize, NoMemory>
         ensures keys { OnOk result (self.new ≡ with_key self.old key.now) }
         ensures place { IfOk result (λ place. slice_get self.new place ≡ Some key.now) }
         ensures refused { OnErr result (self.new ≡ self.old) }
@@ -72,7 +77,18 @@ impl KeyList {
         }
     }
 
-    pub(crate) fn into_keys(self) -> Vec<Key>
+    /// Puts each of these keys at the end, where it is new. Where memory is refused some of them may be there.
+    pub fn place_all(&mut self, keys: &[Key]) -> Result<(), NoMemory>
+        ensures { OnOk result (self.new ≡ with_keys self.old keys.now) }
+    {
+        for key in keys {
+            self.place(key)?;
+        }
+        Ok(())
+    }
+
+    /// The keys in their order.
+    pub fn into_keys(self) -> Vec<Key>
         ensures keys { result.items ≡ self }
         ensures distinct { IsDistinct same_key result.items }
     {

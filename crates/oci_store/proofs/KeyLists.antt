@@ -1,20 +1,15 @@
 -- Keys in the order in which they came, and the index of their places.
-use Rattle.std.proofs.Common.{◌≡◌, ℕ, ◌<◌, Bool, false, cond, inl, inr, [], ◌∷◌, ◌++◌, length, get_or, Some, None, refl, sym, ap, subst, ◌∙◌, arith, rules}
+use Rattle.std.proofs.Common.{◌≡◌, ℕ, ◌<◌, Bool, false, cond, inl, inr, [], ◌∷◌, ◌++◌, length, get_or, Some, None, refl, sym, ap, subst, ◌∙◌, arith}
 use Rattle.std.specs.BTreeMap.{BTreeMap, get, Updates}
-use Rattle.std.specs.Cmp.Rules.{comparing}
 use Rattle.std.specs.List.{slice_get, IsDistinct}
-use Rattle.std.specs.Ordering.{is_eq}
 use Rattle.std.proofs.lemmas.Map.Keys.{IsDistinct-from_apart}
 use Rattle.std.proofs.lemmas.Option.{slice_get-get_or}
 use Rattle.oci_manifest.specs.Descriptor.{Descriptor, same_key, key_cmp, is_among}
 use Rattle.oci_manifest.proofs.Keys.{Decides-same_key, cases}
-use Rattle.oci_plan.specs.KeyList.{IsIndexOf}
-use Rattle.oci_plan.specs.Visiting.{with_key}
-use Rattle.oci_plan.proofs.Places.{Keys, slice_get-append_left, slice_get-push, slice_get-push_cases, among_from_place, place_from_among}
-
--- keys that the order ties are equal
-tied : (a b : Descriptor) → is_eq (key_cmp a b) ≡ same_key a b
-tied a b = search (comparing, rules)
+use Rattle.oci_store.proofs.KeyOrder.{is_eq-key_cmp}
+use Rattle.oci_store.specs.KeyList.{IsIndexOf}
+use Rattle.oci_store.specs.Visiting.{with_key}
+use Rattle.oci_store.proofs.Membership.{Keys, slice_get-append_left, slice_get-push, slice_get-push_cases, among_from_place, place_from_among}
 
 -- a key that has a place is there already
 pub with_key-there : (index : BTreeMap Descriptor ℕ) (ks : Keys) (k : Descriptor) (place : ℕ) → IsIndexOf index ks → get key_cmp index k ≡ Some place → ks ≡ with_key ks k
@@ -43,7 +38,7 @@ pub IsIndexOf-push : (index after : BTreeMap Descriptor ℕ) (ks : Keys) (k : De
 IsIndexOf-push index after ks k h none updates = λ j place. (to j place, from j place)
   where
     looks : (j : Descriptor) → get key_cmp after j ≡ cond (same_key k j) (Some (length ks)) (get key_cmp index j)
-    looks j = updates.0 j ∙ ap (λ (b : Bool). cond b (Some (length ks)) (get key_cmp index j)) (tied k j)
+    looks j = updates.0 j ∙ ap (λ (b : Bool). cond b (Some (length ks)) (get key_cmp index j)) (is_eq-key_cmp k j)
 
     to : (j : Descriptor) (place : ℕ) → get key_cmp after j ≡ Some place → slice_get (ks ++ k ∷ []) place ≡ Some j
     to j place found =
