@@ -1,5 +1,5 @@
 -- Why a copy by workers is refused, and what is kept of its destination under a lock.
-use Rattle.std.specs.Prelude.{◌≡◌, ◌↔◌, ℕ, ◌<◌, Bool, true, List, Some, Result, Err, Contains}
+use Rattle.std.specs.Prelude.{◌≡◌, ◌↔◌, ℕ, ◌<◌, Bool, true, List, Option, Some, None, Result, Err, Contains}
 use Rattle.oci_manifest.specs.Descriptor.{Descriptor}
 use Rattle.oci_store.specs.Closed.{IsClosed, first_open}
 use Rattle.oci_store.specs.Content.{Entry}
@@ -11,6 +11,8 @@ use Rattle.oci_copy.specs.Cause.{HasFailed, IsFetchCause, IsPushCauseIf, IsPlanC
 use Rattle.oci_copy.specs.Plain.{NotPlanned}
 use Rattle.oci_copy.specs.declared.fault.CopyFault.{CopyFault}
 use Rattle.oci_copy.specs.declared.fault.CopyFault.TheVariants as fault
+use Rattle.oci_pool.specs.declared.fault.PoolFault.{PoolFault}
+use Rattle.oci_pool.specs.declared.fault.PoolFault.TheVariants as pool
 
 -- the source gives what was noted of it
 pub record IsNoted (noted now : State) : Type 0 where
@@ -33,6 +35,13 @@ IsWorkCause failed source opening planned (fault.Fetch k e) = Contains planned k
 IsWorkCause failed source opening planned (fault.Push k e) = Contains planned k × IsPushCauseIf failed source opening k e
 IsWorkCause failed source opening planned fault.Memory = Unit {0}
 IsWorkCause failed source opening planned e = ⊥
+
+-- what is told of a run that stopped: its job's fault, or want of memory; a run that is only incomplete goes on by a wait
+abbrev pub told_of : PoolFault CopyFault → Option CopyFault
+told_of (pool.Job k e) = Some e
+told_of (pool.Incomplete k) = None
+told_of pool.BadWorkers = None
+told_of pool.Memory = Some fault.Memory
 
 -- Why a copy by workers is refused. The causes are looked at in this order: there are too many workers; the destination is
 -- open; there is no plan; the fetch or the push of a key that the copy has to bring is refused. Want of memory may come at any

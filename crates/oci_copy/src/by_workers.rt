@@ -24,8 +24,8 @@ use std::thread::Threads;
 
 /// `copy_graph` from a store in memory to a closed one: the copy by workers in the plainest words.
 ///
-/// For every number of workers, where the two stores agree, the destination has afterwards exactly what it had and what the
-/// source reaches from the roots, each content matching its key. It is closed after a refusal too.
+/// After a copy that succeeds, with any number of workers, where the two stores agree, the destination has exactly what it had
+/// and what the source reaches from the roots, each content matching its key. It is closed after a refusal too.
 ///
 /// Refused with `BadWorkers`, over 64, and for `Plan` with `NotFound`, `TooLarge`, `Cycle` or `TooMany`, with which nothing is
 /// changed, and for `Memory`; for nothing else.

@@ -21,8 +21,8 @@ use std::alloc::Global;
 
 /// `copy_one` from a store in memory to a closed one: the copy in the plainest words.
 ///
-/// Where the two agree, the destination has afterwards exactly what it had and what the source reaches from the roots, each
-/// content matching its key. It is closed after a refusal too.
+/// After a copy that succeeds, where the two agree, the destination has exactly what it had and what the source reaches from
+/// the roots, each content matching its key. It is closed after a refusal too.
 ///
 /// Refused for `Plan` with `NotFound`, `TooLarge`, `Cycle` or `TooMany`, with which nothing is changed, and for `Memory`; for nothing else.
 pub fn copy_memory(

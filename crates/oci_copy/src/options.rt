@@ -4,7 +4,8 @@ ghost use Rattle.oci_copy.specs.Options.{limit_of};
 /// How a copy is made. Where a number is 0, the default stands.
 #[derive(Clone, Copy, Debug, PartialEq, Eq, Default)]
 pub struct Options {
-    /// How many workers copy, at most 64; 0 means 3. [`copy_one`](crate::copy_one) does not look at it; [`copy`](crate::copy) refuses a larger number, and copies on the calling thread.
+    /// How many workers copy, at most 64; 0 means 3. A larger number is refused, but by [`copy_one`](crate::copy_one) and
+    /// [`copy_memory`](crate::copy_memory), which do not look at it.
     pub workers: u32,
     /// How large a manifest may be, in bytes; 0 means 4194304, which is 4 MiB.
     pub max_metadata_bytes: u64,

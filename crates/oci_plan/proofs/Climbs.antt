@@ -8,7 +8,7 @@ use Rattle.std.proofs.lemmas.Option.{slice_get_within, slice_get-get_or}
 use Rattle.oci_manifest.specs.Descriptor.{Descriptor, same_key, key_cmp, is_among}
 use Rattle.oci_manifest.proofs.Keys.{Decides-same_key, cases}
 use Rattle.oci_store.specs.Graph.{Node, IsEdge}
-use Rattle.oci_plan.specs.Climb.{IsWithin, IsClimbed, IsRaised, IsStep}
+use Rattle.oci_plan.specs.Climb.{IsFoundWithin, IsClimbed, IsRaised, IsStep}
 use Rattle.oci_plan.specs.Up.{HasPath, IsWithinDepth, IsUp}
 use Rattle.oci_store.specs.Visiting.{with_key, with_keys}
 use Rattle.oci_store.proofs.Membership.{Keys, Contains-from_among, among_from_Contains, among-append_left, among-append_right, among-with_keys, among_from_place, place_from_among, slice_get-with_keys, with_keys-grows, with_keys-push}
@@ -108,7 +108,7 @@ climbed_more graph found new place climbed step i lower upper lt at edge =
 
 -- ---- a level
 
-pub within_start : (graph : List Node) (k : Descriptor) → IsWithin graph k 0 (k ∷ [])
+pub within_start : (graph : List Node) (k : Descriptor) → IsFoundWithin graph k 0 (k ∷ [])
 within_start graph k from = (to, λ p. back p.0 p.1 p.2)
   where
     to : Contains (k ∷ []) from → (edges : ℕ) × (edges ≤ 0) × HasPath graph edges from k
@@ -122,7 +122,7 @@ within_start graph k from = (to, λ p. back p.0 p.1 p.2)
     back zero le path = Contains-from_among (k ∷ []) from (or_left (same_key k from) (is_among [] from) ((Decides-same_key k from).1 (sym path)))
     back (suc edges) le path = absurd (omega (arith, le))
 
-pub within_more : (graph : List Node) (k : Descriptor) (most : ℕ) (old new : Keys) → IsWithin graph k most old → IsRaised graph old new → IsClimbed graph (length old) new → IsWithin graph k (most + 1) new
+pub within_more : (graph : List Node) (k : Descriptor) (most : ℕ) (old new : Keys) → IsFoundWithin graph k most old → IsRaised graph old new → IsClimbed graph (length old) new → IsFoundWithin graph k (most + 1) new
 within_more graph k most old new within raised climbed from = (to, λ p. back p.0 p.1 p.2)
   where
     to : Contains new from → (edges : ℕ) × (edges ≤ most + 1) × HasPath graph edges from k
@@ -157,7 +157,7 @@ all_found graph k found climbed there (suc edges) from path =
 abbrev pub HasEnded : ℕ → ℕ → ℕ → Keys → Type 0
 HasEnded depth edges climbed found = (climbed ≡ length found) ⊎ ((depth ≢ 0) × (edges ≡ depth))
 
-pub up_found : (graph : List Node) (k : Descriptor) (depth edges climbed : ℕ) (found keys : Keys) → IsWithin graph k edges found → IsClimbed graph climbed found → IsWithinDepth depth edges → HasEnded depth edges climbed found
+pub up_found : (graph : List Node) (k : Descriptor) (depth edges climbed : ℕ) (found keys : Keys) → IsFoundWithin graph k edges found → IsClimbed graph climbed found → IsWithinDepth depth edges → HasEnded depth edges climbed found
     → ((from : Descriptor) → Contains keys from ↔ Contains found from) → IsStrictlySortedBy key_cmp keys → IsUp graph k depth keys
 up_found graph k depth edges climbed found keys within all deep ended each order = record { each = λ from. (λ h. to from ((each from).0 h), λ p. (each from).1 (back from p.0 p.1 p.2)); order = order }
   where

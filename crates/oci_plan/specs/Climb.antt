@@ -7,8 +7,8 @@ use Rattle.oci_plan.specs.Up.{HasPath}
 use Rattle.oci_store.specs.Visiting.{with_keys}
 
 -- what was found are the keys from which a path of at most so many edges leads to the key
-abbrev pub IsWithin : List Node → Descriptor → ℕ → List Descriptor → Type 0
-IsWithin graph k most found = (from : Descriptor) → Contains found from ↔ ((edges : ℕ) × (edges ≤ most) × HasPath graph edges from k)
+abbrev pub IsFoundWithin : List Node → Descriptor → ℕ → List Descriptor → Type 0
+IsFoundWithin graph k most found = (from : Descriptor) → Contains found from ↔ ((edges : ℕ) × (edges ≤ most) × HasPath graph edges from k)
 
 -- each key that lists one of the first so many was found
 abbrev pub IsClimbed : List Node → ℕ → List Descriptor → Type 0

@@ -38,7 +38,7 @@ struct Progress {
     board: Board,
     /// How many numbers are not done.
     left: usize,
-    /// How often numbers were put into a deque since the run began.
+    /// How often a number was done since the run began, after which those that it made ready stand in a deque.
     puts: u64,
     /// How many workers wait, or were woken and do not have the lock back.
     waiting: usize,

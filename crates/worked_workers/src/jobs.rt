@@ -43,6 +43,8 @@ pub(crate) struct FailsAt {
     /// How many jobs wait for each other before they end; 0 where none does.
     pub meets: u64,
     came: AtomicU64,
+    /// How many jobs answered a result.
+    pub answered: AtomicU64,
 }
 
 impl FailsAt {
@@ -52,6 +54,7 @@ impl FailsAt {
             second,
             meets,
             came: AtomicU64::new(0),
+            answered: AtomicU64::new(0),
         }
     }
 }
@@ -71,6 +74,7 @@ impl Job for FailsAt {
         if number == self.first || number == self.second {
             return Err(100 + number as u64);
         }
+        self.answered.fetch_add(1, Ordering::SeqCst);
         Ok(number)
     }
 }

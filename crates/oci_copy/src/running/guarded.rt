@@ -106,6 +106,7 @@ impl<D: Dest, T: Opening> Guarded<D, T> {
 fn still_wanting(wanting: bool, pushed: &Result<usize, PushFault>) -> bool
     ensures before { wanting ≡ true → result ≡ true }
     ensures now { IsErrOf pushed.now PushFault.Memory → result ≡ true }
+    ensures only { result ≡ true → (wanting ≡ true) ⊎ IsErrOf pushed.now PushFault.Memory }
 {
     match pushed {
         Err(PushFault::Memory) => true,

@@ -1,4 +1,4 @@
-ghost use Rattle.std.specs.Prelude.{◌≡◌, true, Some, Contains, IfErr, IsSomeAnd};
+ghost use Rattle.std.specs.Prelude.{◌≡◌, ◌↔◌, true, Some, Contains, IfErr, IsSomeAnd, IsTrue};
 ghost use Rattle.std.specs.Sync.Mutex.{mutex_guard_value};
 ghost use Rattle.oci_store.specs.Keyed.{value_at, HasAll};
 ghost use Rattle.oci_copy.specs.Work.{IsWorkCause, CanFail};
@@ -13,19 +13,15 @@ use std::sync::{Condvar, Mutex, MutexGuard, Wait};
 
 /// Whether all of these keys are held.
 fn has_all<D: Dest, T: Opening>(guarded: &Guarded<D, T>, keys: &[Key]) -> bool
-    ensures { result ≡ true → HasAll guarded.now keys.now }
+    ensures { IsTrue result ↔ HasAll guarded.now keys.now }
 {
     let destination = guarded.destination();
-    for key in keys {
-        if !destination.has(key) {
-            return false;
-        }
-    }
-    true
+    keys.iter().all(|key| destination.has(key))
 }
 
+/// Whether the destination is there, and all of these keys are held.
 fn is_ready<D: Dest, T: Opening>(guarded: &Option<Guarded<D, T>>, keys: &[Key]) -> bool
-    ensures { result ≡ true → IsSomeAnd guarded.now (λ g. HasAll g keys.now) }
+    ensures { IsTrue result ↔ IsSomeAnd guarded.now (λ g. HasAll g keys.now) }
 {
     match guarded {
         Some(guarded) => has_all(guarded, keys),

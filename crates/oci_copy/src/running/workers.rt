@@ -3,7 +3,7 @@ ghost use Rattle.oci_store.specs.Keyed.{HasAll, HasDistinctKeys};
 ghost use Rattle.oci_pool.specs.Run.{IsCause};
 ghost use Rattle.oci_copy.specs.Kept.{Keeps};
 ghost use Rattle.oci_copy.specs.Planned.{CanPush};
-ghost use Rattle.oci_copy.specs.Work.{IsNoted, IsWorkCause, CanFail};
+ghost use Rattle.oci_copy.specs.Work.{IsNoted, IsWorkCause, CanFail, told_of};
 
 use super::guarded::Guarded;
 use super::job::CopyJob;
@@ -33,7 +33,8 @@ fn finish<D: Dest, T: Opening>(guarded: Guarded<D, T>) -> D
 fn told<D: Dest, T: Opening>(workers: u32, fault: PoolFault<CopyFault>) -> Option<CopyFault>
     requires workers { workers ≤ 64 }
     requires fault { IsCause workers (λ _ f. IsWorkCause (CanFail D.state T.opening) T.source T.opening T.planned f) fault }
-    ensures { IfSome result (IsWorkCause (CanFail D.state T.opening) T.source T.opening T.planned) }
+    ensures cause { IfSome result (IsWorkCause (CanFail D.state T.opening) T.source T.opening T.planned) }
+    ensures told { result ≡ told_of fault }
 {
     match fault {
         PoolFault::Job(_, fault) => Some(fault),

@@ -1,4 +1,4 @@
-ghost use Rattle.std.specs.Prelude.{◌≡◌, All, vec_len};
+ghost use Rattle.std.specs.Prelude.{◌≡◌, ◌⊎◌, All, vec_len};
 ghost use Rattle.oci_pool.specs.Workers.{MayCome, InPlace, GivesWay, Worked};
 
 use crate::fault::PoolFault;
@@ -18,6 +18,7 @@ fn first_of<J: Job>(
     ensures fault { MayCome _count (J.fails _job.now) result }
     ensures over_a { GivesWay a result }
     ensures over_b { GivesWay b result }
+    ensures came { (result ≡ a) ⊎ (result ≡ b) }
 {
     match (a, b) {
         (Some(PoolFault::Job(k, f)), Some(PoolFault::Job(m, g))) => {
@@ -50,6 +51,7 @@ fn take_worker<J: Job>(
     ensures fault { MayCome count (J.fails job.now) result }
     ensures over_told { GivesWay told result }
     ensures over_worker { GivesWay worker.fault result }
+    ensures came { (result ≡ told) ⊎ (result ≡ worker.fault) }
 {
     let Worker {
         own: _,

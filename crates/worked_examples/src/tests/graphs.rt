@@ -1,8 +1,5 @@
 use crate::tests::stores::{assert_holds, closed, keys, memory};
-use oci_store::{
-    ClosedStore, Dest, GraphSource, MemoryStore, closed_where_nothing_is_missing,
-    content_grows_to_copy, graph_grows_to_copy, holds_reached,
-};
+use oci_store::{ClosedStore, Dest, GraphSource, MemoryStore};
 use std::alloc::Global;
 use std::process::Abort;
 use std::test::Fail;
@@ -104,13 +101,4 @@ fn open_and_closed(rt: HostRuntime) -> Result<(), Fail> {
     assert_close(&rt, &[Image2], open.as_str())?;
     assert_missing(&rt, &[Image2, Foo, Empty], "")?;
     assert_close(&rt, &[Image2, Foo, Empty], "")
-}
-
-/// The laws do nothing when they run.
-#[test]
-fn laws() {
-    closed_where_nothing_is_missing();
-    holds_reached();
-    graph_grows_to_copy();
-    content_grows_to_copy();
 }

@@ -53,18 +53,20 @@ fn ten_times(rt: HostRuntime) -> Result<(), Fail> {
     Ok(())
 }
 
-/// The fault of a run whose job of number 1 fails, and the numbers of its results.
+/// Whether a run whose job of number 1 fails has as many results as jobs answered, its fault, and the numbers and results.
 fn fails_at_one<R: Threads + Wait + Sync>(
     rt: &R,
     alloc: Global,
     order: &Order,
     workers: u32,
 ) -> Result<String, AllocError> {
-    match run(rt, alloc, order, workers, &FailsAt::new(1, 1, 0)) {
+    let job = FailsAt::new(1, 1, 0);
+    match run(rt, alloc, order, workers, &job) {
         Ok(_) => String::from_str(alloc, "done"),
         Err(stopped) => {
             let (done, fault) = stopped.into_parts();
-            let mut text = format!(in alloc; "{fault}:")?;
+            let all = job.answered.load(Ordering::SeqCst) == done.len() as u64;
+            let mut text = format!(in alloc; "{all} {fault}:")?;
             for (number, result) in done.iter() {
                 text.push_str(format!(in alloc; " {number} {result}")?.as_str())?;
             }
@@ -80,7 +82,7 @@ fn jobs(rt: HostRuntime) -> Result<(), Fail> {
     for workers in 0..65 {
         let told = fails_at_one(&rt, alloc, &order, workers)?;
         assert!(rt;
-            told.as_str() == "60 Job 1 101: 0 0" || told.as_str() == "60 Job 1 101: 0 0 2 2"
+            told.as_str() == "true 60 Job 1 101: 0 0" || told.as_str() == "true 60 Job 1 101: 0 0 2 2"
         );
     }
     Ok(())

@@ -1,12 +1,12 @@
 use Rattle.std.proofs.Common.{◌≤◌, ◌-◌, length}
-use Rattle.oci_plan.specs.Climb.{IsWithin, IsClimbed}
+use Rattle.oci_plan.specs.Climb.{IsFoundWithin, IsClimbed}
 use Rattle.oci_plan.specs.Up.{IsWithinDepth}
 use Rattle.oci_plan.proofs.climbing.climb.Given as goal
 
 -- each key within so many edges was found, and what lists one of those climbed from
 abbrev pub invariant-loop-climbed : goal.invariant-loop-climbed
 invariant-loop-climbed g l = record {
-  within : IsWithin (g.G.Store.state l.source).nodes l.key l.edges l.found;
+  within : IsFoundWithin (g.G.Store.state l.source).nodes l.key l.edges l.found;
   climbed : IsClimbed (g.G.Store.state l.source).nodes l.climbed l.found;
   deep : IsWithinDepth l.depth l.edges;
   few : l.edges ≤ l.climbed;
