@@ -1,11 +1,16 @@
-//! The library in use: an image is put into a store in memory, and copied into an empty one.
+//! The library in use: an image is put into a store in memory, and copied into an empty one by workers.
 #![tactic(auto)]
+
+ghost use Rattle.std.specs.Prelude.{◌≡◌, length, IfOk};
+ghost use Rattle.oci_digest.specs.Digest.{digest_of};
+ghost use Rattle.oci_manifest.specs.Descriptor.{Descriptor};
 
 use anyhow::Error;
 use bytes::Bytes;
-use oci_copy::{Options, copy_memory};
+use oci_copy::{Options, copy_memory_by_workers};
 use oci_digest::Digest;
 use oci_manifest::Key;
+use oci_pool::NoHooks;
 use oci_store::{ClosedStore, MemoryStore};
 use std::alloc::Global;
 
@@ -31,7 +36,9 @@ fn main(rt: HostRuntime) -> Result<(), Error> {
     )?;
 
     let empty = ClosedStore::new(alloc);
-    let (copied, report) = copy_memory(alloc, &source, empty, &[image], &Options::default());
+    let options = Options::default();
+    let (copied, report) =
+        copy_memory_by_workers(&rt, alloc, &source, empty, &[image], &options, &NoHooks);
     println!(rt; "{}", report?)?;
 
     for place in 0..copied.memory().len() {
@@ -48,7 +55,9 @@ fn put(
     store: &mut MemoryStore,
     media_type: &str,
     content: &'static [u8],
-) -> Result<Key, Error> {
+) -> Result<Key, Error>
+    ensures describes { IfOk result (λ key. key ≡ record { media_type = media_type.now; digest = digest_of content.now; size = length content.now }) }
+{
     let media_type = String::from_str(alloc, media_type)?;
     let key = Key::new(media_type, Digest::of(content), content.len() as u64)?;
     store.push(&key, Bytes::from_static(content))?;

@@ -1,3 +1,5 @@
+ghost use Rattle.std.specs.Prelude.{◌<◌, All, IfOk};
+
 use std::alloc::{AllocError, Global};
 
 /// How many numbers a layer has.
@@ -19,7 +21,9 @@ pub(crate) fn lists(alloc: Global, shape: &str, count: u32) -> Option<Vec<Vec<u3
 }
 
 /// Each number needs the one before it.
-fn chain(alloc: Global, number: u32) -> Result<Vec<u32>, AllocError> {
+fn chain(alloc: Global, number: u32) -> Result<Vec<u32>, AllocError>
+    ensures lower { IfOk result (λ list. All (λ n. n < number) list.items) }
+{
     let mut list = Vec::new(alloc);
     if number > 0 {
         list.push(number - 1)?;
@@ -28,7 +32,9 @@ fn chain(alloc: Global, number: u32) -> Result<Vec<u32>, AllocError> {
 }
 
 /// Each number needs the first.
-fn star(alloc: Global, number: u32) -> Result<Vec<u32>, AllocError> {
+fn star(alloc: Global, number: u32) -> Result<Vec<u32>, AllocError>
+    ensures lower { IfOk result (λ list. All (λ n. n < number) list.items) }
+{
     let mut list = Vec::new(alloc);
     if number > 0 {
         list.push(0)?;
@@ -37,7 +43,9 @@ fn star(alloc: Global, number: u32) -> Result<Vec<u32>, AllocError> {
 }
 
 /// Each number needs the one at its place in the layer before its own, and the first of that layer.
-fn layers(alloc: Global, number: u32) -> Result<Vec<u32>, AllocError> {
+fn layers(alloc: Global, number: u32) -> Result<Vec<u32>, AllocError>
+    ensures lower { IfOk result (λ list. All (λ n. n < number) list.items) }
+{
     let mut list = Vec::new(alloc);
     if number >= WIDTH {
         list.push(number - WIDTH)?;
