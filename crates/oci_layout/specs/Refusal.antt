@@ -10,7 +10,7 @@ use Rattle.oci_manifest.specs.declared.kind.Kind.TheVariants.{Leaf}
 use Rattle.oci_store.specs.Content.{Matches, succ_of}
 use Rattle.oci_layout.specs.Blobs.{blob_path}
 use Rattle.oci_layout.specs.Device.{File, IsRaised}
-use Rattle.oci_layout.specs.Index.{index_file, layout_file, layout_version, version_in}
+use Rattle.oci_layout.specs.Index.{index_file, layout_file, layout_version, version_in, HasLayoutFile}
 use Rattle.oci_store.specs.Visiting.{IsVisiting}
 use Rattle.oci_layout.specs.Opened.{IsGood, IsIndexFile, listed_in, any}
 use Rattle.oci_layout.specs.declared.fault.LayoutFault.{LayoutFault}
@@ -59,16 +59,17 @@ pub record IsNextOfIndex (file : File) (k : Descriptor) : Type 0 where
 
 -- ---- what a refusal says
 
--- why a directory is not opened; what a fault says of files holds of an honest one
+-- why a directory is not opened; what a fault says of files holds of an honest one. A fault of the index or of a manifest comes only
+-- where the layout file is right, and one of a manifest only where the index is
 abbrev pub IsOpenFault : Type 0 → File → Bool → LayoutFault → Type 0
 IsOpenFault honest file fails fault.NoLayoutFile = honest → file layout_file ≡ None
 IsOpenFault honest file fails fault.BadLayoutFile = honest → HasNoVersion file
 IsOpenFault honest file fails fault.BadVersion = honest → HasOtherVersion file
-IsOpenFault honest file fails (fault.BadIndex e) = honest → HasBadIndex file e
+IsOpenFault honest file fails (fault.BadIndex e) = honest → HasLayoutFile file × HasBadIndex file e
 IsOpenFault honest file fails fault.Device = fails ≡ true
-IsOpenFault honest file fails (fault.Corrupt k) = honest → IsNextOfIndex file k × IsCorrupt file k
+IsOpenFault honest file fails (fault.Corrupt k) = honest → HasLayoutFile file × IsNextOfIndex file k × IsCorrupt file k
 IsOpenFault honest file fails fault.Memory = Unit {0}
-IsOpenFault honest file fails (fault.BadManifest k e) = honest → IsNextOfIndex file k × IsUnread file k e
+IsOpenFault honest file fails (fault.BadManifest k e) = honest → HasLayoutFile file × IsNextOfIndex file k × IsUnread file k e
 IsOpenFault honest file fails fault.AlreadyLayout = ⊥
 
 -- why a directory is not made a layout; before and after are its counts of failures
@@ -98,6 +99,13 @@ abbrev pub IsIndexFault : Result (List Descriptor) Fault → LayoutFault → Typ
 IsIndexFault found (fault.BadIndex e) = (cause : Fault) × (found ≡ Err cause) × IsFault e cause
 IsIndexFault found fault.Memory = Unit {0}
 IsIndexFault found other = ⊥
+
+-- the index is there and breaks the rule that the fault tells, or a read failed, or memory was wanting
+abbrev pub IsIndexFileFault : Type 0 → File → Bool → LayoutFault → Type 0
+IsIndexFileFault honest file fails (fault.BadIndex e) = honest → HasBadIndex file e
+IsIndexFileFault honest file fails fault.Device = fails ≡ true
+IsIndexFileFault honest file fails fault.Memory = Unit {0}
+IsIndexFileFault honest file fails other = ⊥
 
 -- the bytes of a manifest do not match its key, or break the rule that the fault tells, or memory was wanting
 abbrev pub IsBytesFault : Descriptor → List ℕ → LayoutFault → Type 0

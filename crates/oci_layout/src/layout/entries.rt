@@ -3,7 +3,7 @@ ghost use Rattle.oci_manifest.specs.Descriptor.{Descriptor};
 ghost use Rattle.oci_manifest.specs.Fault.{Fault, Fails};
 ghost use Rattle.oci_layout.specs.Index.{index_file};
 ghost use Rattle.oci_layout.specs.Opened.{IsIndex, IsIndexFile, name_of, names_in, names_of, text_of};
-ghost use Rattle.oci_layout.specs.Refusal.{IsIndexFault, IsOpenFault, index_in};
+ghost use Rattle.oci_layout.specs.Refusal.{IsIndexFault, IsIndexFileFault, index_in};
 ghost use Rattle.serde_json.specs.View.{view, items_view};
 
 use crate::dir::Dir;
@@ -20,7 +20,7 @@ pub(crate) fn read_index<D: Dir>(
     dir: &D,
 ) -> Result<(Vec<Key>, Vec<Option<String>>), LayoutFault>
     ensures read { IfOk result (λ p. D.is_honest dir.now → IsIndexFile (D.file dir.now index_file) p.0.items (map text_of p.1.items)) }
-    ensures cause { IfErr result (IsOpenFault (D.is_honest dir.now) (D.file dir.now) (D.fails_reads dir.now)) }
+    ensures cause { IfErr result (IsIndexFileFault (D.is_honest dir.now) (D.file dir.now) (D.fails_reads dir.now)) }
 {
     let Some(bytes) = dir.read("index.json")? else {
         return Ok((Vec::new(alloc), Vec::new(alloc)));
