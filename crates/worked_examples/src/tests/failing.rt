@@ -13,26 +13,27 @@ use worked_contents::Sample::{Bar, Empty, Foo, Image2, Image3, Index1};
 
 /// A store that passes so many pushes to a closed one, fails the next as a device does, and then passes all.
 ///
-/// Until then it has a spare store with the same keys, which looks at each push first: a device fails only at a push against
-/// which nothing else stands.
+/// Until then, or until memory was wanting, it has a spare store with the same keys, which looks at each push first: a device
+/// fails only at a push against which nothing else stands.
 #[derive(Drop)]
 struct FailingStore {
     store: ClosedStore,
     spare: Option<ClosedStore>,
     passing: u64,
+    has_failed: bool,
 }
 
 impl Model for FailingStore {
-    ghost use Rattle.std.specs.Prelude.{◌≡◌, Bool, is_some};
+    ghost use Rattle.std.specs.Prelude.{◌≡◌, Bool, false};
     ghost use Rattle.std.specs.Option.{ForSome};
     ghost use Rattle.oci_store.specs.Contents.{Contents};
     ghost use Rattle.oci_store.specs.Graph.{nodes_of};
 
     ghost Value = { Contents × Bool };
 
-    ghost view = { λ s. (s.store, is_some s.spare) };
+    ghost view = { λ s. (s.store, s.has_failed) };
 
-    ghost invariant = { λ s. ForSome s.spare (λ spare. nodes_of spare.entries ≡ nodes_of s.store.entries) };
+    ghost invariant = { λ s. ForSome s.spare (λ spare. (nodes_of spare.entries ≡ nodes_of s.store.entries) × (s.has_failed ≡ false)) };
 }
 
 impl FailingStore {
@@ -42,6 +43,7 @@ impl FailingStore {
             store: ClosedStore::new(alloc),
             spare: Some(ClosedStore::new(alloc)),
             passing,
+            has_failed: false,
         }
     }
 }
@@ -52,7 +54,7 @@ impl Store for FailingStore {
     ghost use Rattle.oci_store.specs.GraphLaws.{keys_of-nodes_of};
     ghost use Rattle.oci_store.specs.State.{in_memory};
 
-    ghost state = { λ s. record (in_memory s.0.entries s.0.tags) { failures = cond s.1 0 1 } };
+    ghost state = { λ s. record (in_memory s.0.entries s.0.tags) { failures = cond s.1 1 0 } };
 
     ghost same_keys = { λ s. keys_of-nodes_of s.0.entries };
 
@@ -86,6 +88,7 @@ impl Dest for FailingStore {
             return Err(fault);
         }
         if self.passing == 0 {
+            self.has_failed = true;
             return Err(PushFault::Device);
         }
         self.passing -= 1;
@@ -95,7 +98,7 @@ impl Dest for FailingStore {
     }
 
     fn failures(&self) -> u64 {
-        if self.spare.is_some() { 0 } else { 1 }
+        if self.has_failed { 1 } else { 0 }
     }
 }
 
