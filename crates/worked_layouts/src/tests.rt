@@ -4,3 +4,4 @@ mod layouts;
 mod openings;
 mod pushes;
 mod round_trips;
+mod unreadable;
