@@ -1,8 +1,8 @@
 use Rattle.std.proofs.Common.{ap, ◌∙◌}
 use Rattle.std.proofs.lemmas.Result.{err_from_is_err_and}
-use Rattle.oci_store.specs.Files.{Changes}
-use Rattle.oci_store.proofs.Files.{written-put, written-pushed, written-sound}
-use Rattle.oci_store.proofs.tests.device.DeviceStoreDest.push_checked.Goals as goal
+use Rattle.worked_stores.specs.Files.{Changes}
+use Rattle.worked_stores.proofs.Files.{written-put, written-pushed, written-sound}
+use Rattle.worked_stores.proofs.device.DeviceStoreDest.push_checked.Goals as goal
 
 pub returns-in_err-push-clause-same : goal.returns-in_err-push-clause-same
 returns-in_err-push-clause-same c =
