@@ -6,4 +6,5 @@ pub mod Headline
 pub mod References
 pub mod Unfailing
 pub mod Tagging
+pub mod Roots
 pub mod Workers

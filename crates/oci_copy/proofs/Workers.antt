@@ -25,7 +25,7 @@ use Rattle.oci_store.proofs.Lookups.{found, has_key-from_value, All-value_at, va
 use Rattle.oci_plan.specs.Plan.{Planned}
 use Rattle.oci_copy.specs.declared.fault.CopyFault.{CopyFault}
 use Rattle.oci_copy.specs.declared.fault.CopyFault.TheVariants as fault
-use Rattle.oci_copy.specs.Cause.{IsContentCause, IsReadCause, IsPushCauseIf, IsStartCause}
+use Rattle.oci_copy.specs.Cause.{IsContentCause, IsReadCause, IsPushCauseIf, IsOpenCause, IsStartCause}
 use Rattle.oci_copy.specs.Fault.{TellsPush, IsStuck, IsOtherPush}
 use Rattle.oci_copy.specs.Kept.{Keeps}
 use Rattle.oci_copy.specs.Plain.{IsUnfailing}
@@ -166,6 +166,13 @@ refused_without_plan failed limit source opening roots workers (fault.Destinatio
 refused_without_plan failed limit source opening roots workers (fault.Plan e) cause = cause
 refused_without_plan failed limit source opening roots workers fault.Memory cause = tt
 refused_without_plan failed limit source opening roots workers other cause = absurd cause
+
+-- why a copy by workers is refused whose destination is open
+pub refused_when_open : (failed : Type 0) (limit : ℕ) (source opening : State) (roots : List Descriptor) (workers : ℕ) (told : CopyFault)
+    → IsOpenCause opening told → IsRefusalToWorkers failed limit source opening roots workers told
+refused_when_open failed limit source opening roots workers (fault.DestinationOpen holder missing) cause = cause
+refused_when_open failed limit source opening roots workers fault.Memory cause = tt
+refused_when_open failed limit source opening roots workers other cause = absurd cause
 
 -- why a copy by workers is refused where neither store fails
 module _ (failed : Type 0) (source opening : State) (not_failed : failed → ⊥) (unfailing : IsUnfailing source opening opening) where

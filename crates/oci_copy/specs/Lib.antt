@@ -7,5 +7,6 @@ pub mod Report
 pub mod Fault
 pub mod Cause
 pub mod Tagged
+pub mod Extended
 pub mod Plain
 pub mod Work

@@ -28,13 +28,19 @@ IsReferenceCause store name reference.UnknownReference = (name ≢ []) × ((k : 
 IsReferenceCause store name reference.NotHeld = ⊥
 IsReferenceCause store name reference.Memory = ⊥
 
--- the reference stands for a key, there are at most 64 workers, and the copy of that key is refused for its cause
-abbrev pub IsRefusedRoot : State → List ℕ → ℕ → (List Descriptor → CopyFault → Type 0) → CopyFault → Type 0
-IsRefusedRoot store name workers cause e = (k : Descriptor) × ResolvesIn store name k × (workers ≤ 64) × cause (k ∷ []) e
+-- why there is no root: the reference does not resolve
+abbrev pub IsResolveCause : State → List ℕ → CopyFault → Type 0
+IsResolveCause store name (fault.Reference e) = IsReferenceCause store name e
+IsResolveCause store name fault.Memory = Unit {0}
+IsResolveCause store name e = ⊥
+
+-- the reference stands for a key, there are at most 64 workers, and the copy from that key is refused for its cause
+abbrev pub IsRefusedRoot : State → List ℕ → ℕ → (Descriptor → CopyFault → Type 0) → CopyFault → Type 0
+IsRefusedRoot store name workers cause e = (k : Descriptor) × ResolvesIn store name k × (workers ≤ 64) × cause k e
 
 -- Why a copy by reference is refused. The causes are looked at in this order: the source's reference does not resolve; there
--- are too many workers; the copy of the root is refused. Setting the tag can only want memory.
-abbrev pub RefusedByReference : State → List ℕ → ℕ → (List Descriptor → CopyFault → Type 0) → CopyFault → Type 0
+-- are too many workers; the copy from the root is refused. Setting the tag can only want memory.
+abbrev pub RefusedByReference : State → List ℕ → ℕ → (Descriptor → CopyFault → Type 0) → CopyFault → Type 0
 RefusedByReference store name workers cause (fault.Reference e) = IsReferenceCause store name e
 RefusedByReference store name workers cause fault.BadWorkers = (k : Descriptor) × ResolvesIn store name k × (64 < workers)
 RefusedByReference store name workers cause fault.Memory = Unit {0}
@@ -45,3 +51,11 @@ abbrev pub TellsReference : RefFault → CopyFault → Type 0
 TellsReference e (fault.Reference told) = (told ≡ e) × (e ≢ reference.Memory)
 TellsReference e fault.Memory = e ≡ reference.Memory
 TellsReference e other = ⊥
+
+-- nothing but the tags may differ
+pub record IsRetagged (old new : State) : Type 0 where
+  pub nodes : new.nodes ≡ old.nodes
+  pub entries : new.entries ≡ old.entries
+  pub sound : old.is_sound → new.is_sound
+  pub failures : new.failures ≡ old.failures
+  pub name : new.name ≡ old.name

@@ -8,11 +8,10 @@ ghost use Rattle.oci_copy.specs.Work.{CanFail, IsRefusalToWorkers, RefusedForPla
 
 use crate::fault::CopyFault;
 use crate::options::Options;
-use crate::planning::plan_copy;
-use crate::report::{Report, report_of};
-use crate::running::workers::copy_planned;
+use crate::planning::check_closed;
+use crate::report::Report;
+use crate::to_closed::copy_to_closed;
 use oci_manifest::Key;
-use oci_plan::Plan;
 use oci_pool::Hooks;
 use oci_store::{Dest, Source};
 use std::alloc::Global;
@@ -68,22 +67,8 @@ pub fn copy_graph<
     if options.workers > MAX_WORKERS {
         return (destination, Err(CopyFault::BadWorkers));
     }
-    let plan = match plan_copy(alloc, source, &destination, roots, options) {
-        Ok(plan) => plan,
-        Err(fault) => return (destination, Err(fault)),
-    };
-    tell_skipped(hooks, &plan);
-    let workers = options.workers;
-    let (destination, copied) = copy_planned(rt, alloc, source, destination, &plan, workers, hooks);
-    match copied {
-        Ok(()) => (destination, Ok(report_of(&plan))),
-        Err(fault) => (destination, Err(fault)),
+    if let Err(fault) = check_closed(&destination) {
+        return (destination, Err(fault));
     }
-}
-
-/// Tells the hooks of each root that the destination has.
-fn tell_skipped<H: Hooks>(hooks: &H, plan: &Plan) {
-    for key in plan.skipped() {
-        hooks.skipped(key);
-    }
+    copy_to_closed(rt, alloc, source, destination, roots, options, hooks)
 }

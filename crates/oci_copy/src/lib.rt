@@ -5,6 +5,7 @@
 //! | [`copy_graph`] | what a source has under a list of keys, by workers |
 //! | [`copy_one`] | the same on the calling thread |
 //! | [`copy`] | what a reference of the source stands for, by workers, which is then tagged in the destination |
+//! | [`extended_copy_graph`], [`extended_copy`] | the same two with what leads to a key, up to some depth: an image with its signatures and its indexes |
 //! | [`copy_memory_by_workers`], [`copy_memory`] | as `copy_graph` and `copy_one`, from a store in memory to a closed one |
 //!
 //! After a copy that succeeds the destination has what it had and what the source reaches from the roots, and nothing else.
@@ -24,7 +25,10 @@
 //! by that type and said by its method. A worker fetches a content, which looks at its bytes, and reads it before it takes the lock.
 #![tactic(auto)]
 
+mod by_reference;
 mod by_workers;
+mod extended;
+mod extended_graph;
 mod fault;
 mod fetching;
 mod graph;
@@ -37,8 +41,11 @@ mod report;
 mod running;
 mod single;
 mod tagged;
+mod to_closed;
 
 pub use by_workers::copy_memory_by_workers;
+pub use extended::extended_copy;
+pub use extended_graph::extended_copy_graph;
 pub use fault::CopyFault;
 pub use graph::copy_graph;
 pub use memory::copy_memory;

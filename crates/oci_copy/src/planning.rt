@@ -25,6 +25,21 @@ pub(crate) fn plan_copy<A: Source, D: Dest>(
     ensures cause { IfErr result (IsStartCause (limit_of options.now) (A.state source.now) (D.state destination.now) roots.now) }
 {
     check_closed(destination)?;
+    plan_to_closed(alloc, source, destination, roots, options)
+}
+
+/// The plan of a copy to a destination that is known to be closed.
+pub(crate) fn plan_to_closed<A: Source, D: Dest>(
+    alloc: Global,
+    source: &A,
+    destination: &D,
+    roots: &[Key],
+    options: &Options,
+) -> Result<Plan, CopyFault>
+    requires closed { IsClosed (D.state destination.now).nodes }
+    ensures plan { IfOk result (IsPlanOf (A.state source.now) (limit_of options.now) (D.state destination.now) roots.now) }
+    ensures cause { IfErr result (IsStartCause (limit_of options.now) (A.state source.now) (D.state destination.now) roots.now) }
+{
     let limit = options.metadata_limit();
     match gather(alloc, source, destination, roots, limit) {
         Ok(plan) => Ok(plan),
@@ -33,7 +48,7 @@ pub(crate) fn plan_copy<A: Source, D: Dest>(
 }
 
 /// A copy goes to a closed destination alone.
-fn check_closed<D: Dest>(destination: &D) -> Result<(), CopyFault>
+pub(crate) fn check_closed<D: Dest>(destination: &D) -> Result<(), CopyFault>
     ensures closed { OnOk result (IsClosed (D.state destination.now).nodes) }
     ensures open { IfErr result (IsOpenCause (D.state destination.now)) }
 {

@@ -6,16 +6,17 @@ ghost use Rattle.oci_copy.specs.Copy.{IsCopy, OnlyGrows};
 ghost use Rattle.oci_copy.specs.Fault.{IsEarly};
 ghost use Rattle.oci_copy.specs.Options.{limit_of};
 ghost use Rattle.oci_copy.specs.Report.{IsReport};
-ghost use Rattle.oci_copy.specs.Tagged.{name_of, ResolvesIn, IsRootOf, RefusedByReference, TellsReference};
+ghost use Rattle.oci_copy.specs.Tagged.{name_of, ResolvesIn, IsRootOf, RefusedByReference};
 ghost use Rattle.oci_copy.specs.Work.{CanFail, IsRefusalToWorkers};
 
+use crate::by_reference::{resolve_root, tag_copied};
 use crate::fault::CopyFault;
-use crate::graph::{MAX_WORKERS, copy_graph};
+use crate::graph::copy_graph;
 use crate::options::Options;
 use crate::report::Report;
 use oci_manifest::Key;
 use oci_pool::Hooks;
-use oci_store::{Dest, RefFault, Source, Tagger};
+use oci_store::{Dest, Source, Tagger};
 use std::alloc::Global;
 use std::slice;
 use std::sync::Wait;
@@ -53,54 +54,24 @@ pub fn copy<
         × OnlyGrows D.shares (A.state source.now) (D.state destination) roots (D.state result.0) }
     ensures untagged { OnErr result.1 ((D.state result.0).tags ≡ (D.state destination).tags) }
     ensures refused { IfErr result.1 (RefusedByReference (A.state source.now) source_reference.now options.now.workers
-        (λ roots. IsRefusalToWorkers (CanFail D.state (D.state destination)) (limit_of options.now)
-        (A.state source.now) (D.state destination) roots options.now.workers)) }
+        (λ root. IsRefusalToWorkers (CanFail D.state (D.state destination)) (limit_of options.now)
+        (A.state source.now) (D.state destination) (root ∷ []) options.now.workers)) }
     ensures unchanged { IfErr result.1 (λ fault. IsEarly fault → result.0 ≡ destination) }
 {
-    let root = match source.resolve(source_reference) {
+    let root = match resolve_root(source, source_reference) {
         Ok(root) => root,
-        Err(fault) => return (destination, Err(reference_fault(fault))),
-    };
-    if options.workers > MAX_WORKERS {
-        return (destination, Err(CopyFault::BadWorkers));
-    }
-    let roots = slice::from_ref(&root);
-    let (mut destination, copied) = copy_graph(
-        rt,
-        alloc,
-        source,
-        destination,
-        roots,
-        options,
-        hooks,
-    );
-    let report = match copied {
-        Ok(report) => report,
         Err(fault) => return (destination, Err(fault)),
     };
-    match destination.tag(&root, tag_name(source_reference, destination_reference)) {
-        Ok(()) => (destination, Ok((root, report))),
-        Err(fault) => (destination, Err(reference_fault(fault))),
-    }
-}
-
-/// The name that the copied key gets.
-fn tag_name<'a>(source_reference: &'a str, destination_reference: &'a str) -> &'a str
-    ensures { result.now ≡ name_of source_reference.now destination_reference.now }
-{
-    if destination_reference.is_empty() {
-        source_reference
-    } else {
-        destination_reference
-    }
-}
-
-/// The fault of a copy whose reference was refused.
-fn reference_fault(fault: RefFault) -> CopyFault
-    ensures { TellsReference fault result }
-{
-    match fault {
-        RefFault::Memory => CopyFault::Memory,
-        _ => CopyFault::Reference(fault),
+    let roots = slice::from_ref(&root);
+    let (destination, copied) = copy_graph(rt, alloc, source, destination, roots, options, hooks);
+    match copied {
+        Ok(report) => tag_copied(
+            destination,
+            root,
+            report,
+            source_reference,
+            destination_reference,
+        ),
+        Err(fault) => (destination, Err(fault)),
     }
 }

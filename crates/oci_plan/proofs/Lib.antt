@@ -11,5 +11,6 @@ pub mod Plans
 pub mod Progress
 pub mod Sorts
 pub mod Steps
+pub mod Ups
 pub mod Visits
 pub mod Walks

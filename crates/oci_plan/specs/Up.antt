@@ -17,3 +17,7 @@ IsWithinDepth depth edges = depth ≢ 0 → edges ≤ depth
 pub record IsUp (graph : List Node) (k : Descriptor) (depth : ℕ) (keys : List Descriptor) : Type 0 where
   pub each : (from : Descriptor) → Contains keys from ↔ ((edges : ℕ) × IsWithinDepth depth edges × HasPath graph edges from k)
   pub order : IsStrictlySortedBy key_cmp keys
+
+-- those keys in that order are one list
+abbrev pub UpIsOneList : Type 0
+UpIsOneList = (graph : List Node) (k : Descriptor) (depth : ℕ) (a b : List Descriptor) → IsUp graph k depth a → IsUp graph k depth b → a ≡ b

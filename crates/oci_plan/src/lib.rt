@@ -9,6 +9,7 @@
 //! of the graph, or the graph has a cycle, which the fault carries.
 //!
 //! [`climb`] finds the roots of an extended copy: a key, and every key from which a path within a depth leads to it.
+//! [`up_is_one_list`] does nothing when it runs: its contract is the law that they are one list.
 //!
 //! No call recurses along the graph, so a chain of any length needs no deep stack.
 #![tactic(auto)]
@@ -16,6 +17,7 @@
 mod climbing;
 mod fault;
 mod gathering;
+mod laws;
 mod ordering;
 mod plan;
 mod spaced;
@@ -23,6 +25,7 @@ mod spaced;
 pub use climbing::climb;
 pub use fault::{OrderFault, PlanFault};
 pub use gathering::gather;
+pub use laws::up_is_one_list;
 pub use ordering::Order;
 pub use ordering::topological::order;
 pub use plan::Plan;

@@ -1,0 +1,90 @@
+ghost use Rattle.std.specs.Prelude.{◌≡◌, ◌≤◌, true, List, OnOk, OnErr, IfOk, IfErr};
+ghost use Rattle.oci_manifest.specs.Descriptor.{Descriptor};
+ghost use Rattle.oci_store.specs.Keyed.{has_key};
+ghost use Rattle.oci_store.specs.Tags.{set_tag};
+ghost use Rattle.oci_copy.specs.Copy.{IsCopy, OnlyGrows};
+ghost use Rattle.oci_copy.specs.Extended.{OfUp, AreRootsOfReference, RefusedExtended};
+ghost use Rattle.oci_copy.specs.Fault.{IsEarly};
+ghost use Rattle.oci_copy.specs.Options.{limit_of};
+ghost use Rattle.oci_copy.specs.Report.{IsReport};
+ghost use Rattle.oci_copy.specs.Tagged.{name_of, ResolvesIn, RefusedByReference};
+ghost use Rattle.oci_copy.specs.Work.{CanFail, IsRefusalToWorkers};
+
+use crate::by_reference::{resolve_root, tag_copied};
+use crate::extended_graph::extended_copy_graph;
+use crate::fault::CopyFault;
+use crate::options::Options;
+use crate::report::Report;
+use oci_manifest::Key;
+use oci_pool::Hooks;
+use oci_store::{Dest, GraphSource, Tagger};
+use std::alloc::Global;
+use std::sync::Wait;
+use std::thread::Threads;
+
+/// Copies what a reference of the source stands for with what leads to it, and tags it in the destination (oras-go v2,
+/// "ExtendedCopy").
+///
+/// It is `copy` by `extended_copy_graph`: the tag is the destination's reference, or the source's where that is empty, it names
+/// the key that the source's reference stands for, and it is set last. Beside the report comes that key.
+///
+/// Refused, in this order, with `Reference`, where the source's reference does not resolve; and as `extended_copy_graph` of that
+/// key. A refusal leaves the tags as they were. With `Memory` the copy may be complete.
+pub fn extended_copy<
+    A: GraphSource + Tagger + Sync,
+    D: Dest + Tagger + Drop + Send,
+    R: Threads + Wait + Sync,
+    H: Hooks + Sync,
+>(
+    rt: &R,
+    alloc: Global,
+    source: &A,
+    source_reference: &str,
+    depth: u32,
+    destination: D,
+    destination_reference: &str,
+    options: &Options,
+    hooks: &H,
+) -> (D, Result<(Key, Report), CopyFault>)
+    ensures root { IfOk result.1 (λ it. ResolvesIn (A.state source.now) source_reference.now it.0) }
+    ensures copied { IfOk result.1 (λ it. OfUp (A.state source.now) it.0 depth
+        (λ roots. IsCopy D.shares (limit_of options.now) (A.state source.now) (D.state destination) roots (D.state result.0))) }
+    ensures report { IfOk result.1 (λ it. OfUp (A.state source.now) it.0 depth
+        (λ roots. IsReport (A.state source.now) (D.state destination) roots (D.state result.0) it.1)) }
+    ensures tagged { IfOk result.1 (λ it. (D.state result.0).tags ≡ set_tag (D.state destination).tags (name_of source_reference.now destination_reference.now) it.0) }
+    ensures held { IfOk result.1 (λ it. has_key (D.state result.0).nodes it.0 ≡ true) }
+    ensures workers { OnOk result.1 (options.now.workers ≤ 64) }
+    ensures grows { (roots : List Descriptor) × AreRootsOfReference (A.state source.now) source_reference.now depth roots
+        × OnlyGrows D.shares (A.state source.now) (D.state destination) roots (D.state result.0) }
+    ensures untagged { OnErr result.1 ((D.state result.0).tags ≡ (D.state destination).tags) }
+    ensures refused { IfErr result.1 (RefusedByReference (A.state source.now) source_reference.now options.now.workers
+        (λ root. RefusedExtended (A.state source.now) root depth
+        (λ roots. IsRefusalToWorkers (CanFail D.state (D.state destination)) (limit_of options.now)
+        (A.state source.now) (D.state destination) roots options.now.workers))) }
+    ensures unchanged { IfErr result.1 (λ fault. IsEarly fault → result.0 ≡ destination) }
+{
+    let root = match resolve_root(source, source_reference) {
+        Ok(root) => root,
+        Err(fault) => return (destination, Err(fault)),
+    };
+    let (destination, copied) = extended_copy_graph(
+        rt,
+        alloc,
+        source,
+        &root,
+        depth,
+        destination,
+        options,
+        hooks,
+    );
+    match copied {
+        Ok(report) => tag_copied(
+            destination,
+            root,
+            report,
+            source_reference,
+            destination_reference,
+        ),
+        Err(fault) => (destination, Err(fault)),
+    }
+}

@@ -1,0 +1,4 @@
+mod graphs;
+mod layouts;
+mod references;
+mod stores;
