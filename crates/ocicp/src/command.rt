@@ -1,15 +1,25 @@
+use crate::copy::CopyWords;
 use crate::fault::{Ending, ProgramFault};
+use crate::look::Look;
 use clap::error::ErrorKind;
-use clap::{Arg, Command, Error};
-use std::alloc::{AllocError, Global};
+use clap::{ArgMatches, Error};
+use std::alloc::Global;
+
+mod words;
+
+use crate::command::words::command;
 
 /// What the words ask for.
 #[derive(Drop)]
 pub(crate) enum Request<'w> {
     /// The text that `--help` prints.
     Help(Error),
-    /// `mem` with its items, at least one.
-    Mem(Vec<&'w str>),
+    /// `mem` with its items, at least one, and how many workers copy, if it is not one thread.
+    Mem(Vec<&'w str>, Option<u32>),
+    /// `copy` with its folders, references and flags.
+    Copy(CopyWords<'w>),
+    /// A look into the layout of a folder.
+    Look(&'w str, Look<'w>),
 }
 
 impl<'w> Request<'w> {
@@ -19,11 +29,10 @@ impl<'w> Request<'w> {
             Ok(matches) => matches,
             Err(error) => return asked_or_refused(error),
         };
-        let mut items = Vec::new(alloc);
-        if let Some(("mem", matches)) = matches.subcommand() {
-            items.extend_from_slice(matches.get_strs("item").unwrap_or(&[]))?;
+        match matches.subcommand() {
+            Some((name, matches)) => request_of(alloc, name, matches),
+            None => Ok(Request::Mem(Vec::new(alloc), None)),
         }
-        Ok(Request::Mem(items))
     }
 }
 
@@ -36,34 +45,45 @@ fn asked_or_refused<'w>(error: Error) -> Result<Request<'w>, Ending> {
     }
 }
 
-/// The words that the program knows.
-fn command<'w>(alloc: Global) -> Result<Command<'w>, AllocError> {
-    Command::new(alloc, "ocicp")
-        .about("Copies container images, and what is attached to them, between stores")
-        .no_binary_name(true)
-        .disable_help_subcommand(true)
-        .subcommand_required(true)
-        .subcommand(mem_command(alloc)?)
+/// What a command and its words ask for.
+fn request_of<'w>(
+    alloc: Global,
+    name: &str,
+    matches: &ArgMatches<'w>,
+) -> Result<Request<'w>, Ending> {
+    match name {
+        "copy" => Ok(Request::Copy(copy_words(matches))),
+        "tags" => Ok(of_folder(matches, Look::Tags)),
+        "resolve" => Ok(of_folder(matches, Look::Resolve(word(matches, "reference")))),
+        "predecessors" => Ok(of_folder(matches, Look::Predecessors(word(matches, "reference")))),
+        "verify" => Ok(of_folder(matches, Look::Verify)),
+        _ => mem_items(alloc, matches),
+    }
 }
 
-/// `mem TYPE=PATH..`
-fn mem_command<'w>(alloc: Global) -> Result<Command<'w>, AllocError> {
-    let item = Arg::new(alloc, "item")
-        .value_name("TYPE=PATH")
-        .help(
-            "A media type and the file of a content; the last one's is copied, with all that it reaches",
-        )
-        .num_args(1..)
-        .required(true);
-    Command::new(alloc, "mem")
-        .about("Copies between two stores in memory, and lists what arrived")
-        .long_about(
-            "Copies between two stores in memory, and lists what arrived.\n\n\
-             Each file is put into the first store under its media type, its SHA-256 digest and its \
-             size. Then the content of the last item is copied into the second store, with every \
-             content that it reaches: the configuration and the layers of an image, the images of an \
-             index, the subject of a referrer. Prints the digest, the size and the media type of each \
-             content that arrived, in key order, and how many were planned, pushed and skipped.",
-        )
-        .arg(item)
+/// The word that was given for an argument, or the empty text.
+fn word<'w>(matches: &ArgMatches<'w>, id: &str) -> &'w str {
+    matches.get_str(id).unwrap_or("")
+}
+
+/// A look into the folder that the words name.
+fn of_folder<'w>(matches: &ArgMatches<'w>, look: Look<'w>) -> Request<'w> {
+    Request::Look(word(matches, "folder"), look)
+}
+
+fn mem_items<'w>(alloc: Global, matches: &ArgMatches<'w>) -> Result<Request<'w>, Ending> {
+    let mut items = Vec::new(alloc);
+    items.extend_from_slice(matches.get_strs("item").unwrap_or(&[]))?;
+    Ok(Request::Mem(items, matches.get_one("workers")))
+}
+
+fn copy_words<'w>(matches: &ArgMatches<'w>) -> CopyWords<'w> {
+    CopyWords {
+        source: word(matches, "source"),
+        source_reference: word(matches, "source-reference"),
+        destination: word(matches, "destination"),
+        destination_reference: word(matches, "destination-reference"),
+        workers: matches.get_one("workers").unwrap_or(0),
+        is_dry: matches.get_flag("dry-run"),
+    }
 }

@@ -5,8 +5,9 @@ ghost use Rattle.ocicp.specs.Status.{is_memory, program_number, status_of};
 
 use oci_copy::CopyFault;
 use oci_digest::NoMemory;
+use oci_layout::LayoutFault;
 use oci_manifest::KeyFault;
-use oci_store::PushFault;
+use oci_store::{FetchFault, PushFault, RefFault};
 use std::alloc::{AllocError, AllocFailed};
 use std::io::Write;
 use std::{fmt, io};
@@ -33,6 +34,15 @@ pub enum ProgramFault {
     /// The copy was refused.
     #[error("{0}")]
     Copy(CopyFault),
+    /// A folder is no layout, or could not be read or written.
+    #[error("{0}")]
+    Layout(LayoutFault),
+    /// The layout has no such reference.
+    #[error("{0}")]
+    Reference(RefFault),
+    /// A file of the layout could not be read.
+    #[error("{0}")]
+    Fetch(FetchFault),
     /// Memory was wanting.
     #[error("memory")]
     Memory,
@@ -46,6 +56,9 @@ impl ProgramFault {
         match self {
             ProgramFault::Push(fault) => matches!(fault, PushFault::Memory),
             ProgramFault::Copy(fault) => matches!(fault, CopyFault::Memory),
+            ProgramFault::Layout(fault) => matches!(fault, LayoutFault::Memory),
+            ProgramFault::Reference(fault) => matches!(fault, RefFault::Memory),
+            ProgramFault::Fetch(fault) => matches!(fault, FetchFault::Memory),
             ProgramFault::Memory => true,
             _ => false,
         }
@@ -63,6 +76,9 @@ impl ProgramFault {
             ProgramFault::Key(fault) => Some(fault.number()),
             ProgramFault::Push(fault) => Some(fault.number()),
             ProgramFault::Copy(fault) => Some(fault.number()),
+            ProgramFault::Layout(fault) => Some(fault.number()),
+            ProgramFault::Reference(fault) => Some(fault.number()),
+            ProgramFault::Fetch(fault) => Some(fault.number()),
             ProgramFault::Memory => None,
         }
     }

@@ -1,0 +1,82 @@
+use crate::fault::{ProgramFault, output_fault};
+use crate::opened::{opened, opened_or_made};
+use crate::outcome::Outcome;
+use oci_copy::{Options, Report};
+use oci_layout::{Dir, Layout};
+use oci_manifest::Key;
+use oci_pool::NoHooks;
+use oci_store::Tagger;
+use std::io::Write;
+use std::sync::Wait;
+use std::thread::Threads;
+
+/// The words of `copy`.
+#[derive(Clone, Copy)]
+pub(crate) struct CopyWords<'w> {
+    pub(crate) source: &'w str,
+    pub(crate) source_reference: &'w str,
+    pub(crate) destination: &'w str,
+    /// The name that the copied content gets; the empty text stands for the source's reference.
+    pub(crate) destination_reference: &'w str,
+    pub(crate) workers: u32,
+    /// Whether nothing is to be changed.
+    pub(crate) is_dry: bool,
+}
+
+impl<'w> CopyWords<'w> {
+    /// How the copy is made.
+    pub(crate) fn options(&self) -> Options {
+        Options {
+            workers: self.workers,
+            max_metadata_bytes: 0,
+        }
+    }
+}
+
+/// `copy SRC SRCREF DST [DSTREF]`: copies what the reference stands for, saves the destination, and prints the key and the
+/// report. The destination is made where it is no layout, once the source is open and the reference resolved. A copy that is
+/// refused does not save.
+pub(crate) fn copy<
+    R: AllocGlobal + Threads + Wait + Sync,
+    S: Dir + Drop + Sync,
+    D: Dir + Drop + Send,
+    W: Write,
+>(
+    rt: &R,
+    source: S,
+    destination: D,
+    words: &CopyWords<'_>,
+    out: &mut W,
+) -> Result<Outcome, ProgramFault> {
+    let alloc = rt.alloc();
+    let source = opened(alloc, source)?;
+    let _ = source
+        .resolve(words.source_reference)
+        .map_err(ProgramFault::Reference)?;
+    let destination = opened_or_made(alloc, destination)?;
+    let (root, report) = copied(rt, &source, destination, words)?;
+    writeln!(out, "copied {root}\n{report}").map_err(output_fault)?;
+    Ok(Outcome::Good)
+}
+
+/// Copies into the destination, and saves it.
+fn copied<R: AllocGlobal + Threads + Wait + Sync, S: Dir + Sync, D: Dir + Drop + Send>(
+    rt: &R,
+    source: &Layout<S>,
+    destination: Layout<D>,
+    words: &CopyWords<'_>,
+) -> Result<(Key, Report), ProgramFault> {
+    let (mut destination, answer) = oci_copy::copy(
+        rt,
+        rt.alloc(),
+        source,
+        words.source_reference,
+        destination,
+        words.destination_reference,
+        &words.options(),
+        &NoHooks,
+    );
+    let copied = answer.map_err(ProgramFault::Copy)?;
+    destination.save().map_err(ProgramFault::Layout)?;
+    Ok(copied)
+}

@@ -1,0 +1,16 @@
+use crate::fault::ProgramFault;
+use crate::lines::print_lines;
+use crate::outcome::Outcome;
+use oci_store::{GraphSource, Tagger};
+use std::io::Write;
+
+/// `predecessors FOLDER REF`: prints each held key that lists the one that the reference stands for, in key order.
+pub(crate) fn predecessors<A: GraphSource + Tagger, W: Write>(
+    store: &A,
+    reference: &str,
+    out: &mut W,
+) -> Result<Outcome, ProgramFault> {
+    let key = store.resolve(reference).map_err(ProgramFault::Reference)?;
+    print_lines(&store.predecessors(&key)?, out)?;
+    Ok(Outcome::Good)
+}

@@ -1,0 +1,15 @@
+use crate::fault::{ProgramFault, output_fault};
+use crate::outcome::Outcome;
+use oci_store::Tagger;
+use std::io::Write;
+
+/// `resolve FOLDER REF`: prints the key that the reference stands for.
+pub(crate) fn resolve<T: Tagger, W: Write>(
+    store: &T,
+    reference: &str,
+    out: &mut W,
+) -> Result<Outcome, ProgramFault> {
+    let key = store.resolve(reference).map_err(ProgramFault::Reference)?;
+    writeln!(out, "{key}").map_err(output_fault)?;
+    Ok(Outcome::Good)
+}

@@ -1,0 +1,112 @@
+//! Writers and files that fail.
+
+use std::fs::{Metadata, OpenOptions};
+use std::io;
+use std::io::Write;
+use std::rt::Files;
+use std::sync::Wait;
+use std::thread::Threads;
+
+/// A writer that fails in this way, with errors of this kind.
+#[derive(Drop)]
+pub(crate) struct Broken {
+    pub(crate) at: Step,
+    pub(crate) kind: io::ErrorKind,
+}
+
+/// What of a writer fails.
+#[derive(Clone, Copy, PartialEq, Eq)]
+pub(crate) enum Step {
+    Write,
+    Flush,
+}
+
+impl Broken {
+    fn answer(&self, step: Step) -> io::Result<()> {
+        if self.at == step {
+            Err(io::Error::from(self.kind))
+        } else {
+            Ok(())
+        }
+    }
+}
+
+impl Write for Broken {
+    fn write(&mut self, bytes: &[u8]) -> io::Result<usize> {
+        self.answer(Step::Write)?;
+        Ok(bytes.len())
+    }
+
+    fn flush(&mut self) -> io::Result<()> {
+        self.answer(Step::Flush)
+    }
+}
+
+/// The files of a runtime, of which those cannot be opened that have this text in their path.
+#[derive(Drop)]
+pub(crate) struct Unreadable<'r, R: Files> {
+    pub(crate) rt: &'r R,
+    pub(crate) part: &'r str,
+    pub(crate) kind: io::ErrorKind,
+}
+
+impl<'r, R: Files + Alloc> Alloc for Unreadable<'r, R> {
+    type A = R::A;
+
+    fn alloc(&self) -> R::A {
+        self.rt.alloc()
+    }
+}
+
+impl<'r, R: Files> Files for Unreadable<'r, R> {
+    type File = R::File;
+
+    type Dir = R::Dir;
+
+    fn open_file(&self, how: &OpenOptions, path: &str) -> io::Result<R::File> {
+        if path.contains(self.part) {
+            return Err(io::Error::from(self.kind));
+        }
+        self.rt.open_file(how, path)
+    }
+
+    fn open_dir(&self, path: &str) -> io::Result<R::Dir> {
+        self.rt.open_dir(path)
+    }
+
+    fn metadata(&self, path: &str) -> io::Result<Metadata> {
+        self.rt.metadata(path)
+    }
+
+    fn symlink_metadata(&self, path: &str) -> io::Result<Metadata> {
+        self.rt.symlink_metadata(path)
+    }
+
+    fn copy(&self, from: &str, to: &str) -> io::Result<u64> {
+        self.rt.copy(from, to)
+    }
+
+    fn rename(&self, from: &str, to: &str) -> io::Result<()> {
+        self.rt.rename(from, to)
+    }
+
+    fn remove_file(&self, path: &str) -> io::Result<()> {
+        self.rt.remove_file(path)
+    }
+
+    fn create_dir(&self, path: &str) -> io::Result<()> {
+        self.rt.create_dir(path)
+    }
+
+    fn remove_dir(&self, path: &str) -> io::Result<()> {
+        self.rt.remove_dir(path)
+    }
+
+    fn remove_dir_all<B: std::alloc::Allocator>(&self, alloc: B, path: &str) -> io::Result<()> {
+        self.rt.remove_dir_all(alloc, path)
+    }
+}
+
+impl<'r, R: Files + Threads> Threads for Unreadable<'r, R> {}
+
+impl<'r, R: Files + Wait> Wait for Unreadable<'r, R> {}
