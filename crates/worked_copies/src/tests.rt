@@ -1,0 +1,6 @@
+mod failing;
+mod graphs;
+mod hooks;
+mod large;
+mod references;
+mod stores;

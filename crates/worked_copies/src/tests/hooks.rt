@@ -1,0 +1,178 @@
+use crate::tests::stores::{closed, copied_samples_with, memory};
+use oci_digest::NoMemory;
+use oci_manifest::Key;
+use oci_pool::Hooks;
+use oci_store::{CheckedContent, ClosedStore, Dest, PushFault, Store};
+use std::sync::Wait;
+use std::sync::atomic::{AtomicU64, Ordering};
+use std::test::Fail;
+use std::thread::Threads;
+use worked_contents::Sample::{Bar, Empty, Foo, Image2, Image3, Index1};
+
+/// Hooks of which each call before a fetch raises a count, and looks until two have.
+#[derive(Drop)]
+struct MeetingHooks {
+    began: AtomicU64,
+    met: AtomicU64,
+}
+
+impl Hooks for MeetingHooks {
+    fn pre_copy(&self, _key: &Key) {
+        self.began.fetch_add(1, Ordering::SeqCst);
+        for _ in 0..1_000_000_000u64 {
+            if self.began.load(Ordering::SeqCst) >= 2 {
+                self.met.fetch_add(1, Ordering::SeqCst);
+                break;
+            }
+        }
+    }
+
+    fn post_copy(&self, _key: &Key) {}
+
+    fn skipped(&self, _key: &Key) {}
+}
+
+/// Copies two layers by two workers.
+fn copied_two<R: AllocGlobal + Threads + Wait + Sync>(
+    rt: &R,
+    hooks: &MeetingHooks,
+) -> Result<String, Fail> {
+    let source = memory(rt.alloc(), &[Foo, Bar])?;
+    let destination = ClosedStore::new(rt.alloc());
+    let (_, told) = copied_samples_with(rt, &source, destination, &[Foo, Bar], 2, hooks)?;
+    Ok(told)
+}
+
+/// Two workers are at work at once: each of two keys waits for the other to have begun.
+#[test]
+fn meeting(rt: HostRuntime) -> Result<(), Fail> {
+    let hooks = MeetingHooks {
+        began: AtomicU64::new(0),
+        met: AtomicU64::new(0),
+    };
+    let told = copied_two(&rt, &hooks)?;
+    assert_eq!(rt; told.as_str(), "planned 2 pushed 2 skipped 0");
+    assert_eq!(rt; hooks.met.load(Ordering::SeqCst), 2);
+    Ok(())
+}
+
+/// A closed store that counts its pushes.
+#[derive(Drop)]
+struct CountedStore<'a> {
+    store: ClosedStore,
+    pushed: &'a AtomicU64,
+}
+
+impl<'a> Store for CountedStore<'a> {
+    ghost use Rattle.std.proofs.Common.{refl};
+    ghost use Rattle.oci_store.specs.GraphLaws.{keys_of-nodes_of};
+    ghost use Rattle.oci_store.specs.State.{in_memory};
+
+    ghost state = { λ s. in_memory s.store.entries s.store.tags };
+
+    ghost same_keys = { λ s. keys_of-nodes_of s.store.entries };
+
+    ghost trusted = { λ s _. tt };
+
+    ghost listed = { λ s _. refl };
+}
+
+impl<'a> Dest for CountedStore<'a> {
+    ghost shares = { ⊥ };
+
+    fn has(&self, key: &Key) -> bool {
+        self.store.has(key)
+    }
+
+    fn count(&self) -> usize {
+        self.store.count()
+    }
+
+    fn missing(&self) -> Result<Option<(Key, Key)>, NoMemory> {
+        self.store.missing()
+    }
+
+    fn push_checked(&mut self, content: CheckedContent) -> Result<usize, PushFault> {
+        self.pushed.fetch_add(1, Ordering::SeqCst);
+        self.store.push_checked(content)
+    }
+
+    fn failures(&self) -> u64 {
+        0
+    }
+}
+
+/// Hooks that count their calls, and those that come out of order.
+#[derive(Drop)]
+struct Counting {
+    skipped: AtomicU64,
+    began: AtomicU64,
+    pushed: AtomicU64,
+    ended: AtomicU64,
+    /// Roots that were told as held once a key had begun, and keys that ended before so many were pushed.
+    late: AtomicU64,
+}
+
+impl Counting {
+    fn new() -> Counting {
+        Counting {
+            skipped: AtomicU64::new(0),
+            began: AtomicU64::new(0),
+            pushed: AtomicU64::new(0),
+            ended: AtomicU64::new(0),
+            late: AtomicU64::new(0),
+        }
+    }
+}
+
+impl Hooks for Counting {
+    fn pre_copy(&self, _key: &Key) {
+        self.began.fetch_add(1, Ordering::SeqCst);
+        if self.began.load(Ordering::SeqCst) <= self.pushed.load(Ordering::SeqCst) {
+            self.late.fetch_add(1, Ordering::SeqCst);
+        }
+    }
+
+    fn post_copy(&self, _key: &Key) {
+        let ended = self.ended.fetch_add(1, Ordering::SeqCst);
+        if self.pushed.load(Ordering::SeqCst) <= ended {
+            self.late.fetch_add(1, Ordering::SeqCst);
+        }
+    }
+
+    fn skipped(&self, _key: &Key) {
+        self.skipped.fetch_add(1, Ordering::SeqCst);
+        if self.began.load(Ordering::SeqCst) > 0 {
+            self.late.fetch_add(1, Ordering::SeqCst);
+        }
+    }
+}
+
+/// Copies two images by three workers into a store that has their layers.
+fn copied_images<R: AllocGlobal + Threads + Wait + Sync>(
+    rt: &R,
+    hooks: &Counting,
+) -> Result<String, Fail> {
+    let source = memory(rt.alloc(), &[Empty, Foo, Bar, Image2, Image3, Index1])?;
+    let destination = CountedStore {
+        store: closed(rt.alloc(), &[Empty, Foo, Bar])?,
+        pushed: &hooks.pushed,
+    };
+    let roots = [Foo, Index1, Bar, Foo];
+    let (_, told) = copied_samples_with(rt, &source, destination, &roots, 3, hooks)?;
+    Ok(told)
+}
+
+/// Each held root is told once and first; each key that is brought is told before it is pushed, and once it is.
+#[test]
+fn calls_of_hooks(rt: HostRuntime) -> Result<(), Fail> {
+    let hooks = Counting::new();
+    let told = copied_images(&rt, &hooks)?;
+    assert_eq!(rt; told.as_str(), "planned 3 pushed 3 skipped 2");
+    assert_eq!(rt; hooks.skipped.load(Ordering::SeqCst), 2);
+    assert_eq!(rt; hooks.began.load(Ordering::SeqCst), 3);
+    assert_eq!(rt; hooks.pushed.load(Ordering::SeqCst), 3);
+    assert_eq!(rt; hooks.ended.load(Ordering::SeqCst), 3);
+    assert_eq!(rt; hooks.late.load(Ordering::SeqCst), 0);
+    Ok(())
+}
