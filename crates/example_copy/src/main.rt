@@ -37,8 +37,15 @@ fn main(rt: HostRuntime) -> Result<(), Error> {
 
     let empty = ClosedStore::new(alloc);
     let options = Options::default();
-    let (copied, report) =
-        copy_memory_by_workers(&rt, alloc, &source, empty, &[image], &options, &NoHooks);
+    let (copied, report) = copy_memory_by_workers(
+        &rt,
+        alloc,
+        &source,
+        empty,
+        &[image],
+        &options,
+        &NoHooks,
+    );
     println!(rt; "{}", report?)?;
 
     for place in 0..copied.memory().len() {

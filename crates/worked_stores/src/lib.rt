@@ -7,6 +7,5 @@
 
 mod device;
 mod published;
-
 #[cfg(test)]
 mod tests;

@@ -82,7 +82,8 @@ fn jobs(rt: HostRuntime) -> Result<(), Fail> {
     for workers in 0..65 {
         let told = fails_at_one(&rt, alloc, &order, workers)?;
         assert!(rt;
-            told.as_str() == "true 60 Job 1 101: 0 0" || told.as_str() == "true 60 Job 1 101: 0 0 2 2"
+            told.as_str() == "true 60 Job 1 101: 0 0"
+                || told.as_str() == "true 60 Job 1 101: 0 0 2 2"
         );
     }
     Ok(())
