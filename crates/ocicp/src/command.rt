@@ -84,6 +84,16 @@ fn copy_words<'w>(matches: &ArgMatches<'w>) -> CopyWords<'w> {
         destination: word(matches, "destination"),
         destination_reference: word(matches, "destination-reference"),
         workers: matches.get_one("workers").unwrap_or(0),
+        referrers: referrers(matches),
         is_dry: matches.get_flag("dry-run"),
+    }
+}
+
+/// How far up what refers to the content is copied too; none where it is not.
+fn referrers(matches: &ArgMatches<'_>) -> Option<u32> {
+    if matches.get_flag("referrers") {
+        Some(matches.get_one("depth").unwrap_or(0))
+    } else {
+        None
     }
 }

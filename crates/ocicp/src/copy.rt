@@ -1,7 +1,7 @@
 use crate::fault::{ProgramFault, output_fault};
 use crate::opened::{opened, opened_or_made};
 use crate::outcome::Outcome;
-use oci_copy::{Options, Report};
+use oci_copy::{CopyFault, Options, Report, extended_copy};
 use oci_layout::{Dir, Layout};
 use oci_manifest::Key;
 use oci_pool::NoHooks;
@@ -19,6 +19,8 @@ pub(crate) struct CopyWords<'w> {
     /// The name that the copied content gets; the empty text stands for the source's reference.
     pub(crate) destination_reference: &'w str,
     pub(crate) workers: u32,
+    /// Within how many edges what refers to the content is copied too, 0 for any number; none where it is not.
+    pub(crate) referrers: Option<u32>,
     /// Whether nothing is to be changed.
     pub(crate) is_dry: bool,
 }
@@ -33,8 +35,8 @@ impl<'w> CopyWords<'w> {
     }
 }
 
-/// `copy SRC SRCREF DST [DSTREF]`: copies what the reference stands for, saves the destination, and prints the key and the
-/// report. The destination is made where it is no layout, once the source is open and the reference resolved. A copy that is
+/// `copy SRC SRCREF DST [DSTREF]`: copies what the reference stands for, with `--referrers` also what refers to it, saves the
+/// destination, and prints the key and the report. The destination is made where it is no layout, once the source is open and the reference resolved. A copy that is
 /// refused does not save.
 pub(crate) fn copy<
     R: AllocGlobal + Threads + Wait + Sync,
@@ -66,17 +68,33 @@ fn copied<R: AllocGlobal + Threads + Wait + Sync, S: Dir + Sync, D: Dir + Drop +
     destination: Layout<D>,
     words: &CopyWords<'_>,
 ) -> Result<(Key, Report), ProgramFault> {
-    let (mut destination, answer) = oci_copy::copy(
-        rt,
-        rt.alloc(),
-        source,
-        words.source_reference,
-        destination,
-        words.destination_reference,
-        &words.options(),
-        &NoHooks,
-    );
+    let (mut destination, answer) = copied_into(rt, source, destination, words);
     let copied = answer.map_err(ProgramFault::Copy)?;
     destination.save().map_err(ProgramFault::Layout)?;
     Ok(copied)
+}
+
+/// Copies into the destination.
+fn copied_into<R: AllocGlobal + Threads + Wait + Sync, S: Dir + Sync, D: Dir + Drop + Send>(
+    rt: &R,
+    source: &Layout<S>,
+    destination: Layout<D>,
+    words: &CopyWords<'_>,
+) -> (Layout<D>, Result<(Key, Report), CopyFault>) {
+    let (from, to) = (words.source_reference, words.destination_reference);
+    let (alloc, options) = (rt.alloc(), words.options());
+    match words.referrers {
+        Some(depth) => extended_copy(
+            rt,
+            alloc,
+            source,
+            from,
+            depth,
+            destination,
+            to,
+            &options,
+            &NoHooks,
+        ),
+        None => oci_copy::copy(rt, alloc, source, from, destination, to, &options, &NoHooks),
+    }
 }

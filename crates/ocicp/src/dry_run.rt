@@ -5,11 +5,10 @@ use crate::outcome::Outcome;
 use oci_copy::CopyFault;
 use oci_layout::Dir;
 use oci_manifest::Key;
-use oci_plan::{Plan, PlanFault, gather};
-use oci_store::{ClosedStore, Dest, Source, Tagger};
+use oci_plan::{Plan, PlanFault, climb, gather};
+use oci_store::{ClosedStore, Dest, GraphSource, Source, Tagger};
 use std::alloc::Global;
 use std::io::Write;
-use std::slice;
 
 /// `copy --dry-run`: prints the key of each content that the copy would push, in the order in which it would, and then how many,
 /// how many bytes they have, and how many roots are there. Nothing is changed: a destination that is no layout is taken to
@@ -25,12 +24,28 @@ pub(crate) fn dry_run<S: Dir + Drop, D: Dir + Drop, W: Write>(
     let root = source
         .resolve(words.source_reference)
         .map_err(ProgramFault::Reference)?;
+    let roots = roots(alloc, &source, root, words)?;
     let destination = opened_if_there(alloc, destination)?;
     let plan = match &destination {
-        Some(destination) => planned(alloc, &source, destination, &root, words)?,
-        None => planned(alloc, &source, &ClosedStore::new(alloc), &root, words)?,
+        Some(destination) => planned(alloc, &source, destination, &roots, words)?,
+        None => planned(alloc, &source, &ClosedStore::new(alloc), &roots, words)?,
     };
     print_plan(&plan, out)
+}
+
+/// The roots of a copy: the key, and with `--referrers` what refers to it.
+fn roots<G: GraphSource>(
+    alloc: Global,
+    source: &G,
+    root: Key,
+    words: &CopyWords<'_>,
+) -> Result<Vec<Key>, ProgramFault> {
+    if let Some(depth) = words.referrers {
+        return Ok(climb(alloc, source, &root, depth)?);
+    }
+    let mut roots = Vec::new(alloc);
+    roots.push(root)?;
+    Ok(roots)
 }
 
 /// The plan of a copy, which is refused as the copy is.
@@ -38,14 +53,14 @@ fn planned<A: Source, D: Dest>(
     alloc: Global,
     source: &A,
     destination: &D,
-    root: &Key,
+    roots: &[Key],
     words: &CopyWords<'_>,
 ) -> Result<Plan, ProgramFault> {
     if let Some((holder, missing)) = destination.missing()? {
         return Err(ProgramFault::Copy(CopyFault::DestinationOpen(holder, missing)));
     }
     let limit = words.options().metadata_limit();
-    match gather(alloc, source, destination, slice::from_ref(root), limit) {
+    match gather(alloc, source, destination, roots, limit) {
         Ok(plan) => Ok(plan),
         Err(PlanFault::Memory) => Err(ProgramFault::Memory),
         Err(fault) => Err(ProgramFault::Copy(CopyFault::Plan(fault))),

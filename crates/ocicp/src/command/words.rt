@@ -40,7 +40,7 @@ fn reference<'w>(alloc: Global) -> Arg<'w> {
     )
 }
 
-/// `copy [--workers N] [--dry-run] SRC SRCREF DST [DSTREF]`
+/// `copy [--workers N] [--referrers] [--depth D] [--dry-run] SRC SRCREF DST [DSTREF]`
 fn copy_command<'w>(alloc: Global) -> Result<Command<'w>, AllocError> {
     let name = Arg::new(alloc, "destination-reference")
         .value_name("DSTREF")
@@ -59,6 +59,8 @@ fn copy_command<'w>(alloc: Global) -> Result<Command<'w>, AllocError> {
              and what DST held stays.",
         )
         .arg(workers(alloc))?
+        .arg(referrers(alloc))?
+        .arg(depth(alloc))?
         .arg(dry_run(alloc))?
         .arg(needed(
             alloc,
@@ -88,6 +90,26 @@ fn workers<'w>(alloc: Global) -> Arg<'w> {
         .value_name("N")
         .help("How many workers copy, at most 64; 0 stands for 3")
         .value_parser(ValueParser::Unsigned(0, 64))
+        .default_value("0")
+}
+
+/// `--referrers`
+fn referrers<'w>(alloc: Global) -> Arg<'w> {
+    Arg::new(alloc, "referrers")
+        .long("referrers")
+        .help(
+            "Copies what refers to it too, as signatures and SBOMs do, and the indexes that list it, with all that these reach",
+        )
+        .action(ArgAction::SetTrue)
+}
+
+/// `--depth D`
+fn depth<'w>(alloc: Global) -> Arg<'w> {
+    Arg::new(alloc, "depth")
+        .long("depth")
+        .value_name("D")
+        .help("With --referrers: how many steps up from it are taken at most; 0 sets no limit")
+        .value_parser(ValueParser::Unsigned(0, 4294967295))
         .default_value("0")
 }
 

@@ -1,5 +1,5 @@
 use crate::tests::contents::E;
-use crate::tests::layouts::with_image;
+use crate::tests::layouts::{with_image, with_referrers};
 use crate::tests::runs::{assert_row, assert_rows};
 use std::process::Abort;
 use std::test::Fail;
@@ -109,6 +109,43 @@ fn copy_of_a_changed_file(rt: HostRuntime) -> Result<(), Fail> {
             "ocicp: 88 Fetch <E> 21 Corrupt\n",
         ),
         ("tags @/N", 0, "", ""),
+    ];
+    assert_rows(&rt, &folder, &rows)?;
+    folder.remove(&rt)
+}
+
+/// With its referrers an image brings its signature, the index that lists it, and, further up, the index of that.
+#[test]
+fn copy_with_referrers(rt: HostRuntime) -> Result<(), Fail> {
+    let folder = with_referrers(&rt, "copy_with_referrers")?;
+    let rows = [
+        (
+            "copy --depth 1 @/R t @/M",
+            0,
+            "copied <M2>\nplanned 3 pushed 3 skipped 0\n",
+            "",
+        ),
+        (
+            "copy --referrers --depth 1 @/R t @/N",
+            0,
+            "copied <M2>\nplanned 5 pushed 5 skipped 0\n",
+            "",
+        ),
+        ("predecessors @/N t", 0, "<I3>\n<S>\n", ""),
+        (
+            "copy --dry-run --referrers @/R t @/N",
+            0,
+            "<I4>\nplanned 1 bytes 183 skipped 3\n",
+            "",
+        ),
+        (
+            "copy --referrers @/R t @/N",
+            0,
+            "copied <M2>\nplanned 1 pushed 1 skipped 3\n",
+            "",
+        ),
+        ("tags @/N", 0, "t <M2>\n", ""),
+        ("verify @/N", 0, "held 6\n", ""),
     ];
     assert_rows(&rt, &folder, &rows)?;
     folder.remove(&rt)

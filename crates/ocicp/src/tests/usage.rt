@@ -17,6 +17,16 @@ fn usage_faults(rt: HostRuntime) -> Result<(), Fail> {
         ["copy", "--workers", "65", "L", "v1", "N"].as_slice(),
         ["copy", "--workers", "-1", "L", "v1", "N"].as_slice(),
         ["copy", "--workers", "three", "L", "v1", "N"].as_slice(),
+        [
+            "copy",
+            "--referrers",
+            "--depth",
+            "4294967296",
+            "L",
+            "v1",
+            "N",
+        ]
+        .as_slice(),
         ["copy", "L", "v1"].as_slice(),
         ["copy", "L", "v1", "N", "w", "x"].as_slice(),
         ["tags"].as_slice(),
