@@ -109,7 +109,8 @@ struct Counting {
     began: AtomicU64,
     pushed: AtomicU64,
     ended: AtomicU64,
-    /// Roots that were told as held once a key had begun, and keys that ended before so many were pushed.
+    /// Roots that were told as held once a key had begun, keys that began once so many were pushed, and keys that ended before so
+    /// many were pushed.
     late: AtomicU64,
 }
 
@@ -128,7 +129,8 @@ impl Counting {
 impl Hooks for Counting {
     fn pre_copy(&self, _key: &Key) {
         self.began.fetch_add(1, Ordering::SeqCst);
-        if self.began.load(Ordering::SeqCst) <= self.pushed.load(Ordering::SeqCst) {
+        let pushed = self.pushed.load(Ordering::SeqCst);
+        if self.began.load(Ordering::SeqCst) <= pushed {
             self.late.fetch_add(1, Ordering::SeqCst);
         }
     }
