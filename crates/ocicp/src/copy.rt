@@ -5,7 +5,7 @@ use oci_copy::{CopyFault, Options, Report, extended_copy};
 use oci_layout::{Dir, Layout};
 use oci_manifest::Key;
 use oci_pool::NoHooks;
-use oci_store::Tagger;
+use oci_store::{GraphSource, Tagger};
 use std::io::Write;
 use std::sync::Wait;
 use std::thread::Threads;
@@ -50,34 +50,37 @@ pub(crate) fn copy<
     words: &CopyWords<'_>,
     out: &mut W,
 ) -> Result<Outcome, ProgramFault> {
-    let alloc = rt.alloc();
-    let source = opened(alloc, source)?;
-    let _ = source
-        .resolve(words.source_reference)
-        .map_err(ProgramFault::Reference)?;
-    let destination = opened_or_made(alloc, destination)?;
+    let source = opened(rt.alloc(), source)?;
     let (root, report) = copied(rt, &source, destination, words)?;
     writeln!(out, "copied {root}\n{report}").map_err(output_fault)?;
     Ok(Outcome::Good)
 }
 
-/// Copies into the destination, and saves it.
-fn copied<R: AllocGlobal + Threads + Wait + Sync, S: Dir + Sync, D: Dir + Drop + Send>(
+/// Copies from an open layout, and saves the destination.
+fn copied<
+    R: AllocGlobal + Threads + Wait + Sync,
+    A: GraphSource + Tagger + Sync,
+    D: Dir + Drop + Send,
+>(
     rt: &R,
-    source: &Layout<S>,
-    destination: Layout<D>,
+    source: &A,
+    destination: D,
     words: &CopyWords<'_>,
 ) -> Result<(Key, Report), ProgramFault> {
-    let (mut destination, answer) = copied_into(rt, source, destination, words);
-    let copied = answer.map_err(ProgramFault::Copy)?;
-    destination.save().map_err(ProgramFault::Layout)?;
-    Ok(copied)
+    check_reference(source, words.source_reference)?;
+    let destination = opened_or_made(rt.alloc(), destination)?;
+    let (destination, answer) = copied_into(rt, source, destination, words);
+    saved(destination, answer)
 }
 
-/// Copies into the destination.
-fn copied_into<R: AllocGlobal + Threads + Wait + Sync, S: Dir + Sync, D: Dir + Drop + Send>(
+/// Copies into an open layout.
+fn copied_into<
+    R: AllocGlobal + Threads + Wait + Sync,
+    A: GraphSource + Tagger + Sync,
+    D: Dir + Drop + Send,
+>(
     rt: &R,
-    source: &Layout<S>,
+    source: &A,
     destination: Layout<D>,
     words: &CopyWords<'_>,
 ) -> (Layout<D>, Result<(Key, Report), CopyFault>) {
@@ -97,4 +100,22 @@ fn copied_into<R: AllocGlobal + Threads + Wait + Sync, S: Dir + Sync, D: Dir + D
         ),
         None => oci_copy::copy(rt, alloc, source, from, destination, to, &options, &NoHooks),
     }
+}
+
+/// Whether the source has what is to be copied.
+fn check_reference<T: Tagger>(source: &T, reference: &str) -> Result<(), ProgramFault> {
+    match source.resolve(reference) {
+        Ok(_) => Ok(()),
+        Err(fault) => Err(ProgramFault::Reference(fault)),
+    }
+}
+
+/// Saves a destination after a copy that was not refused.
+fn saved<D: Dir + Drop>(
+    mut destination: Layout<D>,
+    answer: Result<(Key, Report), CopyFault>,
+) -> Result<(Key, Report), ProgramFault> {
+    let copied = answer.map_err(ProgramFault::Copy)?;
+    destination.save().map_err(ProgramFault::Layout)?;
+    Ok(copied)
 }

@@ -21,28 +21,41 @@ pub(crate) fn dry_run<S: Dir + Drop, D: Dir + Drop, W: Write>(
     out: &mut W,
 ) -> Result<Outcome, ProgramFault> {
     let source = opened(alloc, source)?;
-    let root = source
-        .resolve(words.source_reference)
-        .map_err(ProgramFault::Reference)?;
-    let roots = roots(alloc, &source, root, words)?;
-    let destination = opened_if_there(alloc, destination)?;
-    let plan = match &destination {
-        Some(destination) => planned(alloc, &source, destination, &roots, words)?,
-        None => planned(alloc, &source, &ClosedStore::new(alloc), &roots, words)?,
-    };
+    let plan = plan_from(alloc, &source, destination, words)?;
     print_plan(&plan, out)
 }
 
-/// The roots of a copy: the key, and with `--referrers` what refers to it.
-fn roots<G: GraphSource>(
+/// The plan of a copy from an open layout.
+fn plan_from<A: GraphSource + Tagger, D: Dir + Drop>(
     alloc: Global,
-    source: &G,
-    root: Key,
+    source: &A,
+    destination: D,
+    words: &CopyWords<'_>,
+) -> Result<Plan, ProgramFault> {
+    let roots = roots(alloc, source, words)?;
+    match opened_if_there(alloc, destination)? {
+        Some(destination) => planned(alloc, source, &destination, &roots, words),
+        None => planned(alloc, source, &ClosedStore::new(alloc), &roots, words),
+    }
+}
+
+/// The roots of a copy: what the reference stands for, and with `--referrers` what refers to it.
+fn roots<A: GraphSource + Tagger>(
+    alloc: Global,
+    source: &A,
     words: &CopyWords<'_>,
 ) -> Result<Vec<Key>, ProgramFault> {
-    if let Some(depth) = words.referrers {
-        return Ok(climb(alloc, source, &root, depth)?);
+    let root = source
+        .resolve(words.source_reference)
+        .map_err(ProgramFault::Reference)?;
+    match words.referrers {
+        Some(depth) => Ok(climb(alloc, source, &root, depth)?),
+        None => alone(alloc, root),
     }
+}
+
+/// A list of one root.
+fn alone(alloc: Global, root: Key) -> Result<Vec<Key>, ProgramFault> {
     let mut roots = Vec::new(alloc);
     roots.push(root)?;
     Ok(roots)

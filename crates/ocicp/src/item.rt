@@ -3,6 +3,7 @@ use bytes::Bytes;
 use oci_digest::Digest;
 use oci_manifest::Key;
 use oci_store::CheckedContent;
+use std::alloc::Global;
 use std::rt::Files;
 use std::{fs, io};
 
@@ -13,24 +14,36 @@ pub(crate) struct Item {
 }
 
 impl Item {
-    /// Cuts an item at its first `=`, and reads its file. Its bytes are hashed once, for the key.
+    /// Cuts an item at its first `=`, and reads its file.
     pub(crate) fn read<R: Files + AllocGlobal>(rt: &R, item: &str) -> Result<Item, ProgramFault> {
-        let alloc = rt.alloc();
-        let Some((media_type, path)) = item.split_once('=') else {
-            return Err(ProgramFault::BadItem(String::from_str(alloc, item)?));
-        };
-        let content = match fs::read(rt, path) {
-            Ok(content) => content,
-            Err(error) if error.kind() == io::ErrorKind::OutOfMemory => {
-                return Err(ProgramFault::Memory);
-            }
-            Err(_) => return Err(ProgramFault::File(String::from_str(alloc, path)?)),
-        };
-        let media_type = String::from_str(alloc, media_type)?;
-        let digest = Digest::of(&content);
-        let key = Key::new(media_type, digest, content.len() as u64).map_err(ProgramFault::Key)?;
-        let content = Bytes::from_vec(content)?;
+        match item.split_once('=') {
+            Some((media_type, path)) => { Item::of(rt.alloc(), media_type, read_file(rt, path)?) }
+            None => Err(ProgramFault::BadItem(String::from_str(rt.alloc(), item)?)),
+        }
+    }
+
+    /// The bytes under their digest. They are hashed once, for the key.
+    fn of(alloc: Global, media_type: &str, bytes: Vec<u8>) -> Result<Item, ProgramFault> {
+        let key = key_of(alloc, media_type, &bytes)?;
+        let content = Bytes::from_vec(bytes)?;
         let content = CheckedContent::of_matching(&key, content).map_err(ProgramFault::Push)?;
         Ok(Item { key, content })
+    }
+}
+
+/// The key of some bytes.
+fn key_of(alloc: Global, media_type: &str, bytes: &[u8]) -> Result<Key, ProgramFault> {
+    let media_type = String::from_str(alloc, media_type)?;
+    Key::new(media_type, Digest::of(bytes), bytes.len() as u64).map_err(ProgramFault::Key)
+}
+
+/// The bytes of a file.
+fn read_file<R: Files + AllocGlobal>(rt: &R, path: &str) -> Result<Vec<u8>, ProgramFault> {
+    match fs::read(rt, path) {
+        Ok(bytes) => Ok(bytes),
+        Err(error) => match error.kind() {
+            io::ErrorKind::OutOfMemory => Err(ProgramFault::Memory),
+            _ => Err(ProgramFault::File(String::from_str(rt.alloc(), path)?)),
+        },
     }
 }

@@ -5,7 +5,7 @@ use crate::predecessors::predecessors;
 use crate::resolve::resolve;
 use crate::tags::tags;
 use crate::verify::verify;
-use oci_layout::Dir;
+use oci_layout::{Dir, Layout};
 use std::alloc::Global;
 use std::io::Write;
 
@@ -30,10 +30,20 @@ pub(crate) fn look_into<D: Dir + Drop, W: Write>(
     out: &mut W,
 ) -> Result<Outcome, ProgramFault> {
     let layout = opened(alloc, dir)?;
+    look_at(alloc, &layout, look, out)
+}
+
+/// Prints what is asked of an open layout.
+fn look_at<D: Dir, W: Write>(
+    alloc: Global,
+    layout: &Layout<D>,
+    look: Look<'_>,
+    out: &mut W,
+) -> Result<Outcome, ProgramFault> {
     match look {
-        Look::Tags => tags(&layout, out),
-        Look::Resolve(reference) => resolve(&layout, reference, out),
-        Look::Predecessors(reference) => predecessors(&layout, reference, out),
-        Look::Verify => verify(alloc, &layout, out),
+        Look::Tags => tags(layout, out),
+        Look::Resolve(reference) => resolve(layout, reference, out),
+        Look::Predecessors(reference) => predecessors(layout, reference, out),
+        Look::Verify => verify(alloc, layout, out),
     }
 }

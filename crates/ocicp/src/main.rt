@@ -23,18 +23,35 @@ mod verify;
 
 use fault::{Ending, ProgramFault, output_fault};
 pub use run::run_words;
-use std::io::BufWriter;
+use std::io::{BufWriter, Write};
 use std::process::ExitCode;
+use std::rt::Files;
+use std::sync::Wait;
+use std::thread::Threads;
 use std::{env, io};
 
 fn main(rt: HostRuntime) -> ExitCode {
-    let words = match words(&rt) {
-        Ok(words) => words,
-        Err(ending) => return ExitCode::from(ending.tell(&mut rt.stderr())),
+    let status = match words(&rt) {
+        Ok(words) => run_buffered(&rt, &words, rt.stdout(), &mut rt.stderr()),
+        Err(ending) => ending.tell(&mut rt.stderr()),
     };
-    match BufWriter::new(rt.alloc(), rt.stdout()) {
-        Ok(mut out) => ExitCode::from(run_words(&rt, &words, &mut out, &mut rt.stderr())),
-        Err(error) => ExitCode::from(Ending::Fault(output_fault(error)).tell(&mut rt.stderr())),
+    ExitCode::from(status)
+}
+
+/// Runs the program on an output that is written through a buffer.
+fn run_buffered<R: Files + AllocGlobal + Threads + Wait + Sync, W: Write + Drop, X: Write>(
+    rt: &R,
+    words: &[String],
+    out: W,
+    err: &mut X,
+) -> u8
+where
+    R::File: Send,
+    R::Dir: Send,
+{
+    match BufWriter::new(rt.alloc(), out) {
+        Ok(mut out) => run_words(rt, words, &mut out, err),
+        Err(error) => Ending::Fault(output_fault(error)).tell(err),
     }
 }
 

@@ -20,20 +20,38 @@ pub(crate) fn mem<R: Files + AllocGlobal + Threads + Wait + Sync, W: Write>(
     workers: Option<u32>,
     out: &mut W,
 ) -> Result<Outcome, ProgramFault> {
-    let alloc = rt.alloc();
-    let mut source = MemoryStore::new(alloc);
-    let mut roots = Vec::new(alloc);
-    for item in items {
-        let Item { key, content } = Item::read(rt, item)?;
-        source.push_content(content).map_err(ProgramFault::Push)?;
-        roots.clear();
-        roots.push(key)?;
-    }
+    let mut source = MemoryStore::new(rt.alloc());
+    let roots = push_items(rt, &mut source, items)?;
     let (copied, report) = copy_roots(rt, &source, &roots, workers);
-    let report = report.map_err(ProgramFault::Copy)?;
-    print_keys(alloc, copied.memory(), out)?;
-    writeln!(out, "{report}").map_err(output_fault)?;
-    Ok(Outcome::Good)
+    print_copied(rt.alloc(), copied.memory(), report, out)
+}
+
+/// Pushes the files of the items, in their order, and gives the key of the last one.
+fn push_items<R: Files + AllocGlobal>(
+    rt: &R,
+    store: &mut MemoryStore,
+    items: &[&str],
+) -> Result<Vec<Key>, ProgramFault> {
+    let mut last = Vec::new(rt.alloc());
+    for item in items {
+        let key = push_item(rt, store, item)?;
+        last.clear();
+        last.push(key)?;
+    }
+    Ok(last)
+}
+
+/// Pushes the file of an item, and gives its key.
+fn push_item<R: Files + AllocGlobal>(
+    rt: &R,
+    store: &mut MemoryStore,
+    item: &str,
+) -> Result<Key, ProgramFault> {
+    let Item { key, content } = Item::read(rt, item)?;
+    match store.push_content(content) {
+        Ok(_) => Ok(key),
+        Err(fault) => Err(ProgramFault::Push(fault)),
+    }
 }
 
 /// Copies into an empty store, by so many workers, or on this thread.
@@ -53,6 +71,19 @@ fn copy_roots<R: AllocGlobal + Threads + Wait + Sync>(
         }
         None => copy_memory(alloc, source, empty, roots, &options),
     }
+}
+
+/// Prints what arrived, and the report; or why the copy was refused.
+fn print_copied<W: Write>(
+    alloc: Global,
+    copied: &MemoryStore,
+    report: Result<Report, CopyFault>,
+    out: &mut W,
+) -> Result<Outcome, ProgramFault> {
+    let report = report.map_err(ProgramFault::Copy)?;
+    print_keys(alloc, copied, out)?;
+    writeln!(out, "{report}").map_err(output_fault)?;
+    Ok(Outcome::Good)
 }
 
 /// Prints the key of each entry, in key order.

@@ -32,11 +32,28 @@ where
     ensures { result ≤ 3 }
 {
     match Request::parse(rt.alloc(), words) {
-        Ok(Request::Help(text)) => end(print_help(&text, out), out, err),
-        Ok(Request::Mem(items, workers)) => end(mem(rt, &items, workers, out), out, err),
-        Ok(Request::Copy(words)) => run_copy(rt, &words, out, err),
-        Ok(Request::Look(folder, look)) => run_look(rt, folder, look, out, err),
+        Ok(request) => run_request(rt, &request, out, err),
         Err(ending) => ending.tell(err),
+    }
+}
+
+/// Does what is asked for, and answers the status.
+fn run_request<R: Files + AllocGlobal + Threads + Wait + Sync, W: Write, X: Write>(
+    rt: &R,
+    request: &Request<'_>,
+    out: &mut W,
+    err: &mut X,
+) -> u8
+where
+    R::File: Send,
+    R::Dir: Send,
+    ensures { result ≤ 3 }
+{
+    match request {
+        Request::Help(text) => end(print_help(text, out), out, err),
+        Request::Mem(items, workers) => end(mem(rt, items, *workers, out), out, err),
+        Request::Copy(words) => run_copy(rt, words, out, err),
+        Request::Look(folder, look) => run_look(rt, folder, *look, out, err),
     }
 }
 

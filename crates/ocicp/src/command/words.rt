@@ -4,17 +4,21 @@ use std::alloc::{AllocError, Global};
 
 /// The words that the program knows.
 pub(crate) fn command<'w>(alloc: Global) -> Result<Command<'w>, AllocError> {
-    Command::new(alloc, "ocicp")
+    let program = Command::new(alloc, "ocicp")
         .about("Copies container images, and what is attached to them, between stores")
         .no_binary_name(true)
         .disable_help_subcommand(true)
-        .subcommand_required(true)
-        .subcommand(copy_command(alloc)?)?
-        .subcommand(tags_command(alloc)?)?
-        .subcommand(resolve_command(alloc)?)?
-        .subcommand(predecessors_command(alloc)?)?
-        .subcommand(verify_command(alloc)?)?
-        .subcommand(mem_command(alloc)?)
+        .subcommand_required(true);
+    let program = program.subcommand(copy_command(alloc)?)?;
+    with_looks(alloc, program)?.subcommand(mem_command(alloc)?)
+}
+
+/// The same with the commands that only look.
+fn with_looks<'w>(alloc: Global, program: Command<'w>) -> Result<Command<'w>, AllocError> {
+    let program = program.subcommand(tags_command(alloc)?)?;
+    let program = program.subcommand(resolve_command(alloc)?)?;
+    let program = program.subcommand(predecessors_command(alloc)?)?;
+    program.subcommand(verify_command(alloc)?)
 }
 
 /// A word that has to be given.
@@ -42,10 +46,7 @@ fn reference<'w>(alloc: Global) -> Arg<'w> {
 
 /// `copy [--workers N] [--referrers] [--depth D] [--dry-run] SRC SRCREF DST [DSTREF]`
 fn copy_command<'w>(alloc: Global) -> Result<Command<'w>, AllocError> {
-    let name = Arg::new(alloc, "destination-reference")
-        .value_name("DSTREF")
-        .help("The name that it gets in DST; SRCREF where this is left out");
-    Command::new(alloc, "copy")
+    let command = Command::new(alloc, "copy")
         .about(
             "Copies what a reference of a layout stands for into another layout, and names it there",
         )
@@ -57,11 +58,22 @@ fn copy_command<'w>(alloc: Global) -> Result<Command<'w>, AllocError> {
              of what was copied, and then how many contents were planned, pushed and skipped.\n\n\
              Every content is checked against its digest. A copy that is refused names nothing in DST, \
              and what DST held stays.",
-        )
-        .arg(workers(alloc))?
-        .arg(referrers(alloc))?
-        .arg(depth(alloc))?
-        .arg(dry_run(alloc))?
+        );
+    with_folders(alloc, with_flags(alloc, command)?)
+}
+
+/// What says how `copy` copies.
+fn with_flags<'w>(alloc: Global, command: Command<'w>) -> Result<Command<'w>, AllocError> {
+    let command = command.arg(workers(alloc))?.arg(referrers(alloc))?;
+    command.arg(depth(alloc))?.arg(dry_run(alloc))
+}
+
+/// What `copy` copies, and where to.
+fn with_folders<'w>(alloc: Global, command: Command<'w>) -> Result<Command<'w>, AllocError> {
+    let name = Arg::new(alloc, "destination-reference")
+        .value_name("DSTREF")
+        .help("The name that it gets in DST; SRCREF where this is left out");
+    command
         .arg(needed(
             alloc,
             "source",

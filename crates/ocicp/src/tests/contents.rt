@@ -1,71 +1,84 @@
 //! Contents, and texts in which they are named. Their digests were computed with `sha256sum`.
+//!
+//! `<E>` stands for the line of a content's key, and `<E digest>`, `<E descriptor>`, `<E bytes>` and `<E file>` for its digest,
+//! its descriptor, its bytes, and the place of its blob in a layout.
 
 use std::alloc::Global;
+use std::fmt::Write;
 use std::test::Fail;
 
-pub(crate) const IMAGE: &str = "application/vnd.oci.image.manifest.v1+json";
+const IMAGE: &str = "application/vnd.oci.image.manifest.v1+json";
 
 const INDEX: &str = "application/vnd.oci.image.index.v1+json";
 
-pub(crate) const EMPTY: &str = "application/vnd.oci.empty.v1+json";
+const EMPTY: &str = "application/vnd.oci.empty.v1+json";
+
+const DOCKER: &str = "application/vnd.docker.distribution.manifest.v2+json";
 
 const LAYER: &str = "application/vnd.oci.image.layer.v1.tar";
 
 /// A content: its media type, the digits of its digest, and its bytes.
 #[derive(Clone, Copy)]
-pub(crate) struct Sample {
+struct Sample {
     media_type: &'static str,
-    pub(crate) digits: &'static str,
-    pub(crate) bytes: &'static str,
+    digits: &'static str,
+    bytes: &'static str,
 }
 
 /// The empty JSON object, which is the config of each image.
-pub(crate) const E: Sample = Sample {
+const E: Sample = Sample {
     media_type: EMPTY,
     digits: "44136fa355b3678a1146ad16f7e8649e94fb4fc21fe77e8310c060f61caaff8a",
     bytes: "{}",
 };
 
 /// A layer.
-pub(crate) const FOO: Sample = Sample {
+const FOO: Sample = Sample {
     media_type: LAYER,
     digits: "2c26b46b68ffc68ff99b453c1d30413413422d706483bfa0f98a5e886266e7ae",
     bytes: "foo",
 };
 
 /// An image without layers.
-pub(crate) const M0: Sample = Sample {
+const M0: Sample = Sample {
     media_type: IMAGE,
     digits: "88028e7a699c392898fd180bf967edbcdb6227a9b7434a3ba0c9efff269e613f",
-    bytes: "{\"schemaVersion\":2,\"mediaType\":\"application/vnd.oci.image.manifest.v1+json\",\"config\":{\"mediaType\":\"application/vnd.oci.empty.v1+json\",\"digest\":\"sha256:44136fa355b3678a1146ad16f7e8649e94fb4fc21fe77e8310c060f61caaff8a\",\"size\":2},\"layers\":null}",
+    bytes: r#"{"schemaVersion":2,"mediaType":"application/vnd.oci.image.manifest.v1+json","config":{"mediaType":"application/vnd.oci.empty.v1+json","digest":"sha256:44136fa355b3678a1146ad16f7e8649e94fb4fc21fe77e8310c060f61caaff8a","size":2},"layers":null}"#,
 };
 
 /// An image with the layer `FOO`.
-pub(crate) const M2: Sample = Sample {
+const M2: Sample = Sample {
     media_type: IMAGE,
     digits: "7e1df211bc4556d2a9db939a81721c52e5e53c59e3dfb45a57205a794dd412b7",
-    bytes: "{\"schemaVersion\":2,\"mediaType\":\"application/vnd.oci.image.manifest.v1+json\",\"config\":{\"mediaType\":\"application/vnd.oci.empty.v1+json\",\"digest\":\"sha256:44136fa355b3678a1146ad16f7e8649e94fb4fc21fe77e8310c060f61caaff8a\",\"size\":2},\"layers\":[{\"mediaType\":\"application/vnd.oci.image.layer.v1.tar\",\"digest\":\"sha256:2c26b46b68ffc68ff99b453c1d30413413422d706483bfa0f98a5e886266e7ae\",\"size\":3}]}",
+    bytes: r#"{"schemaVersion":2,"mediaType":"application/vnd.oci.image.manifest.v1+json","config":{"mediaType":"application/vnd.oci.empty.v1+json","digest":"sha256:44136fa355b3678a1146ad16f7e8649e94fb4fc21fe77e8310c060f61caaff8a","size":2},"layers":[{"mediaType":"application/vnd.oci.image.layer.v1.tar","digest":"sha256:2c26b46b68ffc68ff99b453c1d30413413422d706483bfa0f98a5e886266e7ae","size":3}]}"#,
 };
 
 /// A referrer: an image whose `subject` is `M2`.
-pub(crate) const S: Sample = Sample {
+const S: Sample = Sample {
     media_type: IMAGE,
     digits: "bab9e997a499d9a01debd4356f23454db050baa4f31321e5a33e2e3aebd4f8eb",
-    bytes: "{\"schemaVersion\":2,\"mediaType\":\"application/vnd.oci.image.manifest.v1+json\",\"config\":{\"mediaType\":\"application/vnd.oci.empty.v1+json\",\"digest\":\"sha256:44136fa355b3678a1146ad16f7e8649e94fb4fc21fe77e8310c060f61caaff8a\",\"size\":2},\"layers\":[],\"subject\":{\"mediaType\":\"application/vnd.oci.image.manifest.v1+json\",\"digest\":\"sha256:7e1df211bc4556d2a9db939a81721c52e5e53c59e3dfb45a57205a794dd412b7\",\"size\":385}}",
+    bytes: r#"{"schemaVersion":2,"mediaType":"application/vnd.oci.image.manifest.v1+json","config":{"mediaType":"application/vnd.oci.empty.v1+json","digest":"sha256:44136fa355b3678a1146ad16f7e8649e94fb4fc21fe77e8310c060f61caaff8a","size":2},"layers":[],"subject":{"mediaType":"application/vnd.oci.image.manifest.v1+json","digest":"sha256:7e1df211bc4556d2a9db939a81721c52e5e53c59e3dfb45a57205a794dd412b7","size":385}}"#,
 };
 
 /// An index of `M2`.
-pub(crate) const I3: Sample = Sample {
+const I3: Sample = Sample {
     media_type: INDEX,
     digits: "d9c3e7cfc5f64c505159926d395e41fe249bf6d3a5bf23f53c6bdce34993a368",
-    bytes: "{\"schemaVersion\":2,\"manifests\":[{\"mediaType\":\"application/vnd.oci.image.manifest.v1+json\",\"digest\":\"sha256:7e1df211bc4556d2a9db939a81721c52e5e53c59e3dfb45a57205a794dd412b7\",\"size\":385}]}",
+    bytes: r#"{"schemaVersion":2,"manifests":[{"mediaType":"application/vnd.oci.image.manifest.v1+json","digest":"sha256:7e1df211bc4556d2a9db939a81721c52e5e53c59e3dfb45a57205a794dd412b7","size":385}]}"#,
 };
 
 /// An index of `I3`.
-pub(crate) const I4: Sample = Sample {
+const I4: Sample = Sample {
     media_type: INDEX,
     digits: "04b54ec52bc620cd8553bcdfd876570329efa5cc7ead029e4d6b03ae3f4b29dd",
-    bytes: "{\"schemaVersion\":2,\"manifests\":[{\"mediaType\":\"application/vnd.oci.image.index.v1+json\",\"digest\":\"sha256:d9c3e7cfc5f64c505159926d395e41fe249bf6d3a5bf23f53c6bdce34993a368\",\"size\":186}]}",
+    bytes: r#"{"schemaVersion":2,"manifests":[{"mediaType":"application/vnd.oci.image.index.v1+json","digest":"sha256:d9c3e7cfc5f64c505159926d395e41fe249bf6d3a5bf23f53c6bdce34993a368","size":186}]}"#,
+};
+
+/// A Docker image whose only layer is not distributed.
+const DM: Sample = Sample {
+    media_type: DOCKER,
+    digits: "655f703d5da3c83b1f8c9a8bb0cc7d4f6921a4a30b0b9d024a867ed937c03921",
+    bytes: r#"{"schemaVersion":2,"config":{"mediaType":"application/vnd.oci.empty.v1+json","digest":"sha256:44136fa355b3678a1146ad16f7e8649e94fb4fc21fe77e8310c060f61caaff8a","size":2},"layers":[{"mediaType":"application/vnd.docker.image.rootfs.foreign.diff.tar.gzip","digest":"sha256:fcde2b2edba56bf408601fb721fe9b5c338d10ee429ea04fae5511b68fbf8fb9","size":3}]}"#,
 };
 
 /// The content of a name.
@@ -78,45 +91,53 @@ fn named(name: &str) -> Result<Sample, Fail> {
         "S" => Ok(S),
         "I3" => Ok(I3),
         "I4" => Ok(I4),
+        "DM" => Ok(DM),
         _ => Err(Fail::from("no content has this name")),
     }
 }
 
-/// The text where `@` stands for the folder, `<M0>` for the line of a content's key, and `<[M0]>` for its descriptor.
+/// The text with what it stands for in the place of each name, and the folder in the place of each `@`.
 pub(crate) fn filled(alloc: Global, folder: &str, text: &str) -> Result<String, Fail> {
     let mut told = String::new(alloc);
     for part in text.split('<') {
-        match part.split_once('>') {
-            Some((name, rest)) => {
-                push_named(alloc, &mut told, name)?;
-                push_placed(&mut told, folder, rest)?;
-            }
-            None => push_placed(&mut told, folder, part)?,
-        }
+        push_part(&mut told, folder, part)?;
     }
     Ok(told)
 }
 
-/// The key or the descriptor of a content.
-fn push_named(alloc: Global, told: &mut String, name: &str) -> Result<(), Fail> {
-    let text = match name.strip_prefix('[') {
-        Some(name) => descriptor(alloc, named(name.trim_end_matches(']'))?)?,
-        None => key(alloc, named(name)?)?,
-    };
-    told.push_str(text.as_str())?;
+/// A name and what follows it, or the beginning of a text.
+fn push_part(told: &mut String, folder: &str, part: &str) -> Result<(), Fail> {
+    match part.split_once('>') {
+        Some((name, rest)) => {
+            push_named(told, name)?;
+            push_placed(told, folder, rest)
+        }
+        None => push_placed(told, folder, part),
+    }
+}
+
+/// A part of a content, its key where no part is named.
+fn push_named(told: &mut String, name: &str) -> Result<(), Fail> {
+    match name.split_once(' ') {
+        Some((name, part)) => push_part_of(told, named(name)?, part),
+        None => push_part_of(told, named(name)?, "key"),
+    }
+}
+
+fn push_part_of(told: &mut String, sample: Sample, part: &str) -> Result<(), Fail> {
+    let (media_type, digits, size) = (sample.media_type, sample.digits, sample.bytes.len());
+    match part {
+        "key" => write!(told, "sha256:{digits} {size} {media_type}")?,
+        "digest" => write!(told, "sha256:{digits}")?,
+        "descriptor" => write!(
+            told,
+            "{{\"mediaType\":\"{media_type}\",\"digest\":\"sha256:{digits}\",\"size\":{size}}}"
+        )?,
+        "bytes" => told.push_str(sample.bytes)?,
+        "file" => write!(told, "blobs/sha256/{digits}")?,
+        _ => return Err(Fail::from("a content has no such part")),
+    }
     Ok(())
-}
-
-fn key(alloc: Global, sample: Sample) -> Result<String, Fail> {
-    let (media_type, digits, size) = (sample.media_type, sample.digits, sample.bytes.len());
-    Ok(format!(in alloc; "sha256:{digits} {size} {media_type}")?)
-}
-
-fn descriptor(alloc: Global, sample: Sample) -> Result<String, Fail> {
-    let (media_type, digits, size) = (sample.media_type, sample.digits, sample.bytes.len());
-    Ok(format!(in alloc;
-        "{{\"mediaType\":\"{media_type}\",\"digest\":\"sha256:{digits}\",\"size\":{size}}}"
-    )?)
 }
 
 /// A text without names, where `@` stands for the folder.

@@ -1,83 +1,93 @@
-use crate::run_words;
-use crate::tests::runs::{assert_usage, strings};
+use crate::tests::sessions::transcript;
 use std::process::Abort;
 use std::rt::Files;
 use std::sync::Wait;
 use std::test::Fail;
 use std::thread::Threads;
 
+/// Words that are no use of the program.
 #[test]
 fn usage_faults(rt: HostRuntime) -> Result<(), Fail> {
-    let none: [&str; 0] = [];
-    assert_usage(&rt, &none)?;
-    for words in [
-        ["copies"].as_slice(),
-        ["mem"].as_slice(),
-        ["mem", "--loud", "text/plain=abc.txt"].as_slice(),
-        ["copy", "--workers", "65", "L", "v1", "N"].as_slice(),
-        ["copy", "--workers", "-1", "L", "v1", "N"].as_slice(),
-        ["copy", "--workers", "three", "L", "v1", "N"].as_slice(),
-        [
-            "copy",
-            "--referrers",
-            "--depth",
-            "4294967296",
-            "L",
-            "v1",
-            "N",
-        ]
-        .as_slice(),
-        ["copy", "L", "v1"].as_slice(),
-        ["copy", "L", "v1", "N", "w", "x"].as_slice(),
-        ["tags"].as_slice(),
-        ["resolve", "L"].as_slice(),
-        ["predecessors", "L"].as_slice(),
-        ["verify"].as_slice(),
-        ["verify", "L", "N"].as_slice(),
-    ] {
-        assert_usage(&rt, words)?;
+    let lines = "\
+--loud
+copies
+mem
+mem --loud text/plain=abc.txt
+mem --workers 65 text/plain=abc.txt
+copy --workers 65 L v1 N
+copy --workers -1 L v1 N
+copy --workers three L v1 N
+copy --referrers --depth 4294967296 L v1 N
+copy L v1
+copy L v1 N w x
+tags
+resolve L
+predecessors L
+verify
+verify L N";
+    for line in lines.lines() {
+        assert_usage(&rt, line)?;
     }
+    assert_usage(&rt, "")
+}
+
+/// Status 2, and the usage on the error output alone.
+fn assert_usage<R: Files + AllocGlobal + Threads + Wait + Sync + Abort>(
+    rt: &R,
+    line: &str,
+) -> Result<(), Fail>
+where
+    R::File: Send,
+    R::Dir: Send,
+{
+    let told = transcript(rt, line)?;
+    assert!(rt;
+        told.starts_with("! ") && told.ends_with("\n? 2\n"),
+        "{line}: {told}"
+    );
     Ok(())
 }
 
 /// `--help` prints on the output, has status 0, and names each command, and of a command each word.
 #[test]
 fn help(rt: HostRuntime) -> Result<(), Fail> {
-    for (words, part) in [
-        (["--help"].as_slice(), "  mem "),
-        (["--help"].as_slice(), "  copy "),
-        (["--help"].as_slice(), "  predecessors "),
-        (["mem", "--help"].as_slice(), "TYPE=PATH"),
-        (
-            ["copy", "--help"].as_slice(),
-            "<SRC> <SRCREF> <DST> [DSTREF]",
-        ),
-        (["copy", "--help"].as_slice(), "--dry-run"),
-        (["tags", "--help"].as_slice(), "<FOLDER>"),
-        (["resolve", "--help"].as_slice(), "<FOLDER> <REF>"),
-        (["predecessors", "--help"].as_slice(), "<FOLDER> <REF>"),
-        (["verify", "--help"].as_slice(), "<FOLDER>"),
-    ] {
-        assert_helps(&rt, words, part)?;
+    let lines = "\
+--help:  mem
+--help:  copy
+--help:  tags
+--help:  resolve
+--help:  predecessors
+--help:  verify
+mem --help:TYPE=PATH
+mem --help:--workers <N>
+copy --help:<SRC> <SRCREF> <DST> [DSTREF]
+copy --help:--workers <N>
+copy --help:--dry-run
+tags --help:<FOLDER>
+resolve --help:<FOLDER> <REF>
+predecessors --help:<FOLDER> <REF>
+verify --help:<FOLDER>";
+    for line in lines.lines() {
+        assert_help(&rt, line)?;
     }
     Ok(())
 }
 
-/// Runs the program, which succeeds and prints a text that has this part.
-fn assert_helps<R: Files + AllocGlobal + Threads + Wait + Sync + Abort>(
+/// Status 0, and this part in the output alone.
+fn assert_help<R: Files + AllocGlobal + Threads + Wait + Sync + Abort>(
     rt: &R,
-    words: &[&str],
-    part: &str,
+    line: &str,
 ) -> Result<(), Fail>
 where
     R::File: Send,
     R::Dir: Send,
 {
-    let given = strings(rt.alloc(), words)?;
-    let mut printed = Vec::new(rt.alloc());
-    let mut told = Vec::new(rt.alloc());
-    assert_eq!(rt; run_words(rt, &given, &mut printed, &mut told), 0);
-    assert!(rt; told.is_empty());
-    assert!(rt; str::from_utf8(&printed)?.contains(part), "{part}");
+    let (words, part) = line.split_once(':').unwrap_or((line, ""));
+    let told = transcript(rt, words)?;
+    assert!(rt; told.contains(part), "{line}: {told}");
+    assert!(rt;
+        !told.contains("! ") && !told.contains("? "),
+        "{line}: {told}"
+    );
     Ok(())
 }
