@@ -1,3 +1,6 @@
+ghost use Rattle.std.specs.Prelude.{IfOk};
+ghost use Rattle.oci_store.specs.Content.{Matches};
+
 use crate::fault::ProgramFault;
 use bytes::Bytes;
 use oci_digest::Digest;
@@ -32,7 +35,9 @@ impl Item {
 }
 
 /// The key of some bytes.
-fn key_of(alloc: Global, media_type: &str, bytes: &[u8]) -> Result<Key, ProgramFault> {
+fn key_of(alloc: Global, media_type: &str, bytes: &[u8]) -> Result<Key, ProgramFault>
+    ensures { IfOk result (λ key. Matches key bytes.now) }
+{
     let media_type = String::from_str(alloc, media_type)?;
     Key::new(media_type, Digest::of(bytes), bytes.len() as u64).map_err(ProgramFault::Key)
 }
