@@ -1,6 +1,0 @@
-mod failing;
-mod graphs;
-mod hooks;
-mod large;
-mod references;
-mod stores;
