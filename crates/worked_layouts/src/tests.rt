@@ -4,4 +4,3 @@ mod layouts;
 mod openings;
 mod pushes;
 mod round_trips;
-mod unreadable;
