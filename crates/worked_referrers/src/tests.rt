@@ -1,4 +1,0 @@
-mod graphs;
-mod layouts;
-mod references;
-mod stores;
