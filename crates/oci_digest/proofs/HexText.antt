@@ -8,9 +8,9 @@ use Rattle.std.proofs.lemmas.List.Elements.{All-cons, All-head, All-nil, All-tai
 use Rattle.std.proofs.lemmas.Bool.Decides.{nat_tests}
 use Rattle.hex.specs.Hex.{IsBytes, encode_lower, encode_with, lower_digits, decode_sized}
 use Rattle.hex.proofs.HexLemmas.{decode_sized-encode_lower, length-encode_with}
-use Rattle.oci_digest.specs.Grammar.{is_lower_hex, IsSha256Encoded}
+use Rattle.oci_digest.specs.Grammar.{is_lower_hex, IsLowerHex}
 use Rattle.oci_digest.proofs.HexOrder.{digit, lower_digit}
-use Rattle.oci_digest.proofs.Sha256Bytes.{IsBytes-cons}
+use Rattle.oci_digest.proofs.HashBytes.{IsBytes-cons}
 
 abbrev value_of : ℕ → ℕ
 value_of c = cond (nat_lt c 58) (c - 48) (c - 87)
@@ -38,14 +38,14 @@ hex_bytes (a ∷ b ∷ rest) even h =
     let db : slice_index lower_digits (byte % 16) ≡ b = ap (slice_index lower_digits) low ∙ lower_digit (value_of b) hb.0 ∙ hb.1 in
     (byte ∷ ih.0, IsBytes-cons byte ih.0 (omega arith) ih.1, rw (da, db) (ap (λ (t : List ℕ). a ∷ b ∷ t) ih.2))
 
--- 64 digits decode, and encode again
-pub decode_sized-sha256 : (s : List ℕ) → IsSha256Encoded s → (bytes : List ℕ) × (decode_sized s 32 ≡ Ok bytes) × (encode_lower bytes ≡ s)
-decode_sized-sha256 s h =
+-- twice as many digits decode, and encode again
+pub decode_sized-digits : (s : List ℕ) (n : ℕ) → IsLowerHex (2 * n) s → (bytes : List ℕ) × (decode_sized s n ≡ Ok bytes) × (encode_lower bytes ≡ s)
+decode_sized-digits s n h =
     let len = h.len in
     let r = hex_bytes s (omega arith) h.chars in
-    let n = length-encode_with lower_digits r.0 in
-    let m = ap length r.2 in
-    (r.0, ap (λ t. decode_sized t 32) (sym r.2) ∙ decode_sized-encode_lower r.0 32 (omega (arith, n, m, len)) r.1, r.2)
+    let twice = length-encode_with lower_digits r.0 in
+    let same = ap length r.2 in
+    (r.0, ap (λ t. decode_sized t n) (sym r.2) ∙ decode_sized-encode_lower r.0 n (omega (arith, twice, same, len)) r.1, r.2)
 
 is_lower_hex-digit : (k : ℕ) → k < 16 → is_lower_hex (digit k) ≡ true
 is_lower_hex-digit k lt = grind (arith, nat_tests)

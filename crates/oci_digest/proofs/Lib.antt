@@ -1,6 +1,7 @@
 pub mod Accepts
 pub mod Algorithms
+pub mod Compared
 pub mod DigestLemmas
+pub mod HashBytes
 pub mod HexOrder
 pub mod HexText
-pub mod Sha256Bytes

@@ -50,7 +50,7 @@ pub record Splits (text algorithm encoded : List ℕ) : Type 0 where
 abbrev pub IsDigestText : List ℕ → Type 0
 IsDigestText text = (algorithm : List ℕ) × (encoded : List ℕ) × Splits text algorithm encoded
 
--- the encoded part of a `sha256` digest: 64 characters of [a-f0-9]
-pub record IsSha256Encoded (s : List ℕ) : Type 0 where
-  pub len : length s ≡ 64
+-- so many characters of [a-f0-9]
+pub record IsLowerHex (count : ℕ) (s : List ℕ) : Type 0 where
+  pub len : length s ≡ count
   pub chars : AllPass is_lower_hex s

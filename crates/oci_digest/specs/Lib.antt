@@ -1,5 +1,7 @@
 pub mod Grammar
+pub mod Algorithm
 pub mod Digest
-pub mod DigestLaws
+pub mod Hash
+pub mod HashLaws
 pub mod Fault
 pub mod Refusals

@@ -1,6 +1,7 @@
 -- When a text is refused as a digest, and why.
-use Rattle.std.specs.Prelude.{◌≡◌, ◌≢◌, ℕ, List, codes, Result, Ok, Err}
-use Rattle.oci_digest.specs.Grammar.{IsDigestText, Splits, IsSha256Encoded}
+use Rattle.std.specs.Prelude.{◌≡◌, ◌≢◌, ℕ, List, Result, Ok, Err}
+use Rattle.oci_digest.specs.Grammar.{IsDigestText, Splits}
+use Rattle.oci_digest.specs.Algorithm.{Algorithm, name_of, IsEncodedBy}
 use Rattle.oci_digest.specs.Digest.{IsDigest}
 use Rattle.oci_digest.specs.declared.fault.DigestFault.{DigestFault}
 use Rattle.oci_digest.specs.declared.fault.DigestFault.TheVariants.{BadForm, UnknownAlgorithm, BadEncoding}
@@ -9,13 +10,13 @@ use Rattle.oci_digest.specs.declared.fault.DigestFault.TheVariants.{BadForm, Unk
 abbrev pub IsBadForm : List ℕ → Type 0
 IsBadForm text = ¬ (IsDigestText text)
 
--- the text is of the grammar, and its algorithm is not `sha256`
+-- the text is of the grammar, and its algorithm is none that is known
 abbrev pub HasUnknownAlgorithm : List ℕ → Type 0
-HasUnknownAlgorithm text = (algorithm : List ℕ) × (encoded : List ℕ) × Splits text algorithm encoded × (algorithm ≢ codes "sha256")
+HasUnknownAlgorithm text = (algorithm : List ℕ) × (encoded : List ℕ) × Splits text algorithm encoded × ((a : Algorithm) → algorithm ≢ name_of a)
 
--- the text is of the grammar, its algorithm is `sha256`, and its encoded part is not 64 lower-case digits
+-- the text is of the grammar, its algorithm is known, and its encoded part is not of this algorithm
 abbrev pub HasBadEncoding : List ℕ → Type 0
-HasBadEncoding text = (encoded : List ℕ) × Splits text (codes "sha256") encoded × ¬ (IsSha256Encoded encoded)
+HasBadEncoding text = (a : Algorithm) × (encoded : List ℕ) × Splits text (name_of a) encoded × ¬ (IsEncodedBy a encoded)
 
 -- this is the answer to a text: its digest, or the fault that it has
 abbrev pub Parses : List ℕ → Result (List ℕ) DigestFault → Type 0

@@ -1,11 +1,13 @@
 //! A digest: made, verified, printed, compared.
 ghost use Rattle.std.specs.Prelude.{◌≡◌, ◌↔◌, ◌++◌, codes, Some, IsTrue, IsOk, IfOk, IsErrOf, is_ok, string_bytes};
-ghost use Rattle.oci_digest.specs.Digest.{digest_of, sha256_text, algorithm_of, encoded_of, IsDigest, is_digest, Verifies};
+ghost use Rattle.oci_digest.specs.Algorithm.{sha256, sha512};
+ghost use Rattle.oci_digest.specs.Digest.{digest_of, digest_by, text_by, algorithm_of, encoded_of, IsDigest, is_digest, Verifies};
 ghost use Rattle.oci_digest.specs.Refusals.{IsBadForm, HasUnknownAlgorithm, HasBadEncoding};
 
 use crate::fault::{DigestFault, NoMemory};
+use crate::hash::Hash;
 use crate::parse::parsed;
-use sha2::{Digest as _, Sha256};
+use sha2::{Digest as _, Sha256, Sha512};
 use std::alloc::Global;
 use std::cmp::Ordering;
 use std::marker::Model;
@@ -14,24 +16,24 @@ use std::{fmt, str};
 /// The digest of some content. A contract sees it as its text.
 #[derive(Clone, Copy)]
 pub struct Digest {
-    bytes: [u8; 32],
+    hash: Hash,
 }
 
 impl Model for Digest {
     ghost use Rattle.std.specs.Prelude.{List, ℕ};
     ghost use Rattle.std.proofs.Common.{ap};
-    ghost use Rattle.oci_digest.specs.Digest.{sha256_text, bytes_of_text, IsSha256};
-    ghost use Rattle.oci_digest.specs.DigestLaws.{bytes_of_text-sha256_text};
+    ghost use Rattle.oci_digest.specs.Hash.{text_of, hash_of_text, IsHash};
+    ghost use Rattle.oci_digest.specs.HashLaws.{hash_of_text-text_of};
 
     ghost Value = { List ℕ };
 
-    ghost view = { λ d. sha256_text d.bytes };
+    ghost view = { λ d. text_of d.hash };
 
-    ghost invariant = { λ d. IsSha256 d.bytes };
+    ghost invariant = { λ d. IsHash d.hash };
 
-    ghost inverse = { λ text. record { bytes = bytes_of_text text } };
+    ghost inverse = { λ text. record { hash = hash_of_text text } };
 
-    ghost inverse_ok = { λ d h. ap (λ (b : List ℕ). record { bytes = b }) (bytes_of_text-sha256_text d.bytes h.are_bytes) };
+    ghost inverse_ok = { λ d h. ap (λ kept. record { hash = kept }) (hash_of_text-text_of d.hash h) };
 }
 
 impl Digest {
@@ -42,11 +44,29 @@ impl Digest {
         Digest::from_sha256(Sha256::digest(content))
     }
 
+    /// The digest of `content` by SHA-512 (FIPS 180-4).
+    pub fn of_sha512(content: &[u8]) -> Digest
+        ensures { result ≡ digest_by sha512 content.now }
+    {
+        Digest::from_sha512(Sha512::digest(content))
+    }
+
     /// The digest with these 32 bytes of SHA-256.
     pub(crate) fn from_sha256(bytes: [u8; 32]) -> Digest
-        ensures { result ≡ sha256_text bytes }
+        ensures { result ≡ text_by sha256 bytes }
     {
-        Digest { bytes }
+        Digest {
+            hash: Hash::Sha256(bytes),
+        }
+    }
+
+    /// The digest with these 64 bytes of SHA-512.
+    pub(crate) fn from_sha512(bytes: [u8; 64]) -> Digest
+        ensures { result ≡ text_by sha512 bytes }
+    {
+        Digest {
+            hash: Hash::Sha512(bytes),
+        }
     }
 
     /// The digest with this text.
@@ -72,32 +92,29 @@ impl Digest {
     pub fn matches(&self, content: &[u8]) -> bool
         ensures { IsTrue result ↔ Verifies self.now content.now }
     {
-        *self == Digest::of(content)
+        match &self.hash {
+            Hash::Sha256(bytes) => *bytes == Sha256::digest(content),
+            Hash::Sha512(bytes) => *bytes == Sha512::digest(content),
+        }
     }
 
-    /// The part of its text before the colon, as `sha256` (descriptor.md, "Digests").
+    /// The part of its text before the colon, `sha256` or `sha512` (descriptor.md, "Digests").
     pub fn algorithm(&self) -> &'static str
         ensures part { result.now ≡ algorithm_of self.now }
         ensures joined { self.now ≡ result.now ++ codes ":" ++ encoded_of self.now }
         ensures digest { IsDigest self.now }
     {
-        // A look at a field tells the proof what every digest keeps, which `digest` hands on.
-        let _ = &self.bytes;
-        "sha256"
+        match &self.hash {
+            Hash::Sha256(_) => "sha256",
+            Hash::Sha512(_) => "sha512",
+        }
     }
 
     /// The part of its text after the colon. [`NoMemory`] where memory is refused.
     pub fn encoded(&self, alloc: Global) -> Result<String, NoMemory>
         ensures { IfOk result (λ text. string_bytes text ≡ encoded_of self.now) }
     {
-        let mut digits = [0u8; 64];
-        let Ok(()) = hex::encode_to_slice(self.bytes, &mut digits) else {
-            unreachable!();
-        };
-        let Ok(digits) = str::from_utf8(&digits) else {
-            unreachable!();
-        };
-        Ok(String::from_str(alloc, digits)?)
+        Ok(hex::encode(alloc, self.hash.as_bytes())?)
     }
 
     /// The digest's text, which [`Digest::parse`] reads back as this digest. [`NoMemory`] where memory is refused.
@@ -106,7 +123,7 @@ impl Digest {
         ensures parses { IsDigest self.now }
     {
         // A look at a field tells the proof what every digest keeps, which `parses` hands on.
-        let _ = &self.bytes;
+        let _ = &self.hash;
         Ok(format!(in alloc; "{self}")?)
     }
 }
@@ -116,14 +133,16 @@ impl fmt::Display for Digest {
     ghost output = { λ d. Some d };
 
     fn fmt<W: fmt::Write>(&self, f: &mut fmt::Formatter<W>) -> fmt::Result {
-        let mut digits = [0u8; 64];
-        let Ok(()) = hex::encode_to_slice(self.bytes, &mut digits) else {
+        let bytes = self.hash.as_bytes();
+        let mut room = [0u8; 128];
+        let digits = &mut room[..2 * bytes.len()];
+        let Ok(()) = hex::encode_to_slice(bytes, digits) else {
             unreachable!();
         };
-        let Ok(digits) = str::from_utf8(&digits) else {
+        let Ok(digits) = str::from_utf8(digits) else {
             unreachable!();
         };
-        write!(f, "sha256:{digits}")
+        write!(f, "{}:{digits}", self.algorithm())
     }
 }
 
@@ -144,7 +163,7 @@ impl PartialEq for Digest {
     ghost laws = { Prim.search rules };
 
     fn eq(&self, other: &Digest) -> bool {
-        self.bytes == other.bytes
+        self.hash == other.hash
     }
 }
 
@@ -170,7 +189,7 @@ impl Ord for Digest {
     ghost matches_eq = { Prim.search (comparing, rules) };
 
     fn cmp(&self, other: &Digest) -> Ordering {
-        self.bytes.cmp(&other.bytes)
+        self.hash.cmp(&other.hash)
     }
 }
 

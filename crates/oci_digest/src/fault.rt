@@ -11,11 +11,11 @@ pub enum DigestFault {
     /// The text is not `algorithm:encoded` of the grammar (descriptor.md, "Digests").
     #[error("1 BadForm")]
     BadForm,
-    /// The text is of the grammar, and its algorithm is not `sha256`.
+    /// The text is of the grammar, and its algorithm is neither `sha256` nor `sha512`.
     #[error("2 UnknownAlgorithm")]
     UnknownAlgorithm,
-    /// The text is of the grammar, its algorithm is `sha256`, and its encoded part is not 64
-    /// characters of `[a-f0-9]`.
+    /// The text is of the grammar, its algorithm is `sha256` or `sha512`, and its encoded part is not
+    /// 64 or 128 characters of `[a-f0-9]`.
     #[error("3 BadEncoding")]
     BadEncoding,
 }

@@ -1,7 +1,8 @@
 //! Content digests, as the OCI Image Specification 1.1 writes them (descriptor.md, "Digests").
 //!
-//! A digest is a text `algorithm:encoded`. The one algorithm that is known here is `sha256`, whose
-//! encoded part is the SHA-256 of the content (FIPS 180-4) in 64 lower-case hexadecimal digits:
+//! A digest is a text `algorithm:encoded`. The algorithms that are known here are `sha256` and
+//! `sha512`. The encoded part is the hash of the content by the algorithm (FIPS 180-4), in 64 or 128
+//! lower-case hexadecimal digits:
 //!
 //! ```text
 //! sha256:ba7816bf8f01cfea414140de5dae2223b00361a396177a9cb410ff61f20015ad
@@ -9,14 +10,16 @@
 //!
 //! | Call | What it does |
 //! |---|---|
-//! | [`Digest::of`] | computes the digest of some bytes |
+//! | [`Digest::of`] | computes the digest of some bytes by SHA-256 |
+//! | [`Digest::of_sha512`] | the same by SHA-512 |
 //! | [`Digest::parse`] | reads the text of a digest, or says why it is none: a [`DigestFault`] |
-//! | [`Digest::matches`] | verifies bytes against a digest (descriptor.md, "Verification") |
+//! | [`Digest::matches`] | verifies bytes against a digest, by its own algorithm (descriptor.md, "Verification") |
 //! | [`Digest::text`], `Display` | the text of a digest |
 //!
 //! A contract sees a digest as its text, a list of bytes. So two digests are equal where their texts
 //! are, and they are in the order of their texts, byte by byte. A `Digest` is `Copy`, and only
-//! [`Digest::text`] takes memory: its one fault is [`NoMemory`], which the crates above share.
+//! [`Digest::text`] and [`Digest::encoded`] take memory: their one fault is [`NoMemory`], which the
+//! crates above share.
 //!
 //! ```rust
 //! let digest = Digest::parse(text)?;
@@ -28,6 +31,7 @@
 
 mod digest;
 mod fault;
+mod hash;
 mod parse;
 #[cfg(test)]
 mod tests;

@@ -1,6 +1,7 @@
 //! The grammar of digest texts (OCI image specification 1.1, descriptor.md, "Digests").
-ghost use Rattle.std.specs.Prelude.{◌≡◌, ◌↔◌, IsTrue};
-ghost use Rattle.oci_digest.specs.Grammar.{is_component_char, is_separator, IsAlgorithm, IsEncoded, IsSha256Encoded};
+ghost use Rattle.std.specs.Prelude.{◌≡◌, ◌↔◌, ◌*◌, IsTrue};
+ghost use Rattle.hex.specs.Hex.{encode_lower};
+ghost use Rattle.oci_digest.specs.Grammar.{is_component_char, is_separator, IsAlgorithm, IsEncoded, IsLowerHex};
 ghost use Rattle.oci_digest.specs.Refusals.{Parses};
 
 use crate::digest::Digest;
@@ -18,14 +19,28 @@ pub(crate) fn parsed(text: &str) -> Result<Digest, DigestFault>
     if !is_algorithm(algorithm) || !is_encoded(encoded) {
         return Err(DigestFault::BadForm);
     }
-    if algorithm != "sha256" {
-        return Err(DigestFault::UnknownAlgorithm);
+    if algorithm == "sha256" {
+        if !is_lower_hex(encoded, 64) {
+            return Err(DigestFault::BadEncoding);
+        }
+        Ok(Digest::from_sha256(decoded(encoded)))
+    } else if algorithm == "sha512" {
+        if !is_lower_hex(encoded, 128) {
+            return Err(DigestFault::BadEncoding);
+        }
+        Ok(Digest::from_sha512(decoded(encoded)))
+    } else {
+        Err(DigestFault::UnknownAlgorithm)
     }
-    if !is_sha256_encoded(encoded) {
-        return Err(DigestFault::BadEncoding);
-    }
-    match <[u8; 32] as FromHex>::from_hex(encoded) {
-        Ok(bytes) => Ok(Digest::from_sha256(bytes)),
+}
+
+/// The bytes whose hexadecimal digits these are.
+fn decoded<const N: usize>(digits: &str) -> [u8; N]
+    requires { IsLowerHex (2 * N) digits.now }
+    ensures { encode_lower result ≡ digits.now }
+{
+    match <[u8; N] as FromHex>::from_hex(digits) {
+        Ok(bytes) => bytes,
         Err(_) => unreachable!(),
     }
 }
@@ -69,11 +84,11 @@ fn is_encoded(text: &str) -> bool
             || matches!(byte, b'=' | b'_' | b'-'))
 }
 
-/// Whether a text is 64 characters of `[a-f0-9]`.
-fn is_sha256_encoded(text: &str) -> bool
-    ensures { IsTrue result ↔ IsSha256Encoded text.now }
+/// Whether a text is `count` characters of `[a-f0-9]`.
+fn is_lower_hex(text: &str, count: usize) -> bool
+    ensures { IsTrue result ↔ IsLowerHex count text.now }
 {
-    text.len() == 64
+    text.len() == count
         && text
             .as_bytes()
             .iter()

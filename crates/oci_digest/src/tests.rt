@@ -6,9 +6,26 @@ const EMPTY: &str = "sha256:e3b0c44298fc1c149afbf4c8996fb92427ae41e4649b934ca495
 
 const ABC: &str = "sha256:ba7816bf8f01cfea414140de5dae2223b00361a396177a9cb410ff61f20015ad";
 
+const EMPTY_SHA512: &str =
+    "sha512:cf83e1357eefb8bdf1542850d66d8007d620e4050b5715dc83f4a921d36ce9ce47d0d13c5d85f2b0ff8318d2877eec2f63b931bd47417a81a538327af927da3e";
+
+const ABC_SHA512: &str =
+    "sha512:ddaf35a193617abacc417349ae20413112e6fa4e89a97ea20a9eeee64b55d39a2192992a274fc1a836ba3c23a3feebbd454d4423643ce80e2a9ac94fa54ca49f";
+
 /// `count` bytes that are all `byte`. It promises nothing, so that no proof writes them out.
 fn repeated(alloc: Global, byte: u8, count: usize) -> Result<Vec<u8>, AllocError> {
     vec![in alloc; byte; count]
+}
+
+/// Whether a digest has this text, as what the text is read as, and verifies this content and no other.
+fn goes_with(alloc: Global, digest: Digest, content: &[u8], text: &str) -> Result<bool, NoMemory> {
+    let printed = digest.text(alloc)?;
+    Ok(
+        printed.as_str() == text
+            && Digest::parse(text) == Ok(digest)
+            && digest.matches(content)
+            && !digest.matches(b"abd"),
+    )
 }
 
 #[test]
@@ -29,15 +46,67 @@ fn digest_vectors(rt: HostRuntime) -> Result<(), Fail> {
     ];
     for (content, text) in vectors {
         let digest = Digest::of(content);
-        assert_eq!(rt; digest.text(rt.alloc())?.as_str(), text);
-        assert!(rt; Digest::parse(text) == Ok(digest), "parse {text}");
-        assert!(rt; digest.matches(content), "match {text}");
-        assert!(rt;
-            !digest.matches(b"abd"),
-            "match other content than {text}'s"
-        );
+        assert!(rt; goes_with(rt.alloc(), digest, content, text)?, "{text}");
     }
     Ok(())
+}
+
+#[test]
+fn of_sha512(rt: HostRuntime) -> Result<(), Fail> {
+    let million = repeated(rt.alloc(), b'a', 1_000_000)?;
+    let vectors = [
+        (b"".as_slice(), EMPTY_SHA512),
+        (b"abc".as_slice(), ABC_SHA512),
+        // The examples of FIPS 180-4: two blocks, and a message of many.
+        (
+            b"abcdefghbcdefghicdefghijdefghijkefghijklfghijklmghijklmnhijklmnoijklmnopjklmnopqklmnopqrlmnopqrsmnopqrstnopqrstu".as_slice(),
+            "sha512:8e959b75dae313da8cf4f72814fc143f8f7779c6eb9f7fa17299aeadb6889018501d289e4900f7e4331b99dec4b5433ac7d329eeb6dd26545e96e55b874be909",
+        ),
+        (
+            million.as_slice(),
+            "sha512:e718483d0ce769644e2e42c7bc15b4638e1f98b13b2044285632a803afa973ebde0ff244877ea60a4cb0432ce577c31beb009c5c2c49aa2e4eadb217ad8cc09b",
+        ),
+    ];
+    for (content, text) in vectors {
+        let digest = Digest::of_sha512(content);
+        assert!(rt; goes_with(rt.alloc(), digest, content, text)?, "{text}");
+    }
+    Ok(())
+}
+
+#[test]
+fn sha512_refusals(rt: HostRuntime) {
+    let bad_encoding = [
+        // 64 and 127 digits, the digest of `abc` with a digit more, and 128 digits of which one is none.
+        "sha512:aaaaaaaaaaaaaaaaaaaaaaaaaaaaaaaaaaaaaaaaaaaaaaaaaaaaaaaaaaaaaaaa",
+        "sha512:aaaaaaaaaaaaaaaaaaaaaaaaaaaaaaaaaaaaaaaaaaaaaaaaaaaaaaaaaaaaaaaaaaaaaaaaaaaaaaaaaaaaaaaaaaaaaaaaaaaaaaaaaaaaaaaaaaaaaaaaaaaaaaa",
+        "sha512:ddaf35a193617abacc417349ae20413112e6fa4e89a97ea20a9eeee64b55d39a2192992a274fc1a836ba3c23a3feebbd454d4423643ce80e2a9ac94fa54ca49f0",
+        "sha512:aaaaaaaaaaaaaaaaaaaaaaaaaaaaaaaaaaaaaaaaaaaaaaaaaaaaaaaaaaaaaaaaaaaaaaaaaaaaaaaaaaaaaaaaaaaaaaaaaaaaaaaaaaaaaaaaaaaaaaaaaaaaaaaA",
+        "sha512:aaaaaaaaaaaaaaaaaaaaaaaaaaaaaaaaaaaaaaaaaaaaaaaaaaaaaaaaaaaaaaaaaaaaaaaaaaaaaaaaaaaaaaaaaaaaaaaaaaaaaaaaaaaaaaaaaaaaaaaaaaaaaaag",
+        "sha512:=",
+    ];
+    for text in bad_encoding {
+        assert!(rt;
+            Digest::parse(text) == Err(DigestFault::BadEncoding),
+            "{text}"
+        );
+    }
+    // With 128 digits the algorithm is still another, and 128 digits are too many for `sha256`.
+    let unknown_algorithm = [
+        "sha384:aa",
+        "sha384:aaaaaaaaaaaaaaaaaaaaaaaaaaaaaaaaaaaaaaaaaaaaaaaaaaaaaaaaaaaaaaaaaaaaaaaaaaaaaaaaaaaaaaaaaaaaaaaaaaaaaaaaaaaaaaaaaaaaaaaaaaaaaaaa",
+        "sha512+b64:aaaaaaaaaaaaaaaaaaaaaaaaaaaaaaaaaaaaaaaaaaaaaaaaaaaaaaaaaaaaaaaaaaaaaaaaaaaaaaaaaaaaaaaaaaaaaaaaaaaaaaaaaaaaaaaaaaaaaaaaaaaaaaaa",
+    ];
+    for text in unknown_algorithm {
+        assert!(rt;
+            Digest::parse(text) == Err(DigestFault::UnknownAlgorithm),
+            "{text}"
+        );
+    }
+    let long_sha256 =
+        "sha256:aaaaaaaaaaaaaaaaaaaaaaaaaaaaaaaaaaaaaaaaaaaaaaaaaaaaaaaaaaaaaaaaaaaaaaaaaaaaaaaaaaaaaaaaaaaaaaaaaaaaaaaaaaaaaaaaaaaaaaaaaaaaaaaa";
+    assert!(rt; Digest::parse(long_sha256) == Err(DigestFault::BadEncoding));
+    assert!(rt; Digest::parse("SHA512:aa") == Err(DigestFault::BadForm));
 }
 
 #[test]
@@ -118,6 +187,9 @@ fn order_is_that_of_the_texts(rt: HostRuntime) {
         ABC,
         EMPTY,
         "sha256:ffffffffffffffffffffffffffffffffffffffffffffffffffffffffffffffff",
+        "sha512:00000000000000000000000000000000000000000000000000000000000000000000000000000000000000000000000000000000000000000000000000000000",
+        EMPTY_SHA512,
+        ABC_SHA512,
     ];
     for (at, first) in texts.iter().enumerate() {
         for (place, second) in texts.iter().enumerate() {
@@ -139,6 +211,13 @@ fn printed_texts(rt: HostRuntime) -> Result<(), Fail> {
         debug.as_str(),
         "Digest(sha256:ba7816bf8f01cfea414140de5dae2223b00361a396177a9cb410ff61f20015ad)"
     );
+    let long = Digest::of_sha512(b"abc");
+    assert!(rt; long != digest);
+    assert_eq!(rt; format!(in rt.alloc(); "{long}")?.as_str(), ABC_SHA512);
+    assert_eq!(rt; long.algorithm(), "sha512");
+    assert_eq!(rt; long.encoded(rt.alloc())?.as_str(), &ABC_SHA512[7..]);
+    assert_eq!(rt; digest.algorithm(), "sha256");
+    assert_eq!(rt; digest.encoded(rt.alloc())?.as_str(), &ABC[7..]);
     let faults = [
         (DigestFault::BadForm, 1, "1 BadForm"),
         (DigestFault::UnknownAlgorithm, 2, "2 UnknownAlgorithm"),

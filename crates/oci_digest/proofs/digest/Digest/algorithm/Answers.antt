@@ -1,5 +1,8 @@
-use Rattle.oci_digest.proofs.DigestLemmas.{IsDigest-sha256_text}
+use Rattle.oci_digest.proofs.DigestLemmas.{IsDigest-text_of}
 use Rattle.oci_digest.proofs.digest.Digest.algorithm.Goals as goal
 
-pub returns-clause-digest : goal.returns-clause-digest
-returns-clause-digest c = rw (← c.self.view_is) (IsDigest-sha256_text c.self.inside.bytes c.self.invariant)
+pub returns-in-Sha256-clause-digest : goal.returns-in-Sha256-clause-digest
+returns-in-Sha256-clause-digest c = rw (← c.self.view_is) (IsDigest-text_of c.self.inside.hash c.self.invariant)
+
+pub returns-in-Sha512-clause-digest : goal.returns-in-Sha512-clause-digest
+returns-in-Sha512-clause-digest c = rw (← c.self.view_is) (IsDigest-text_of c.self.inside.hash c.self.invariant)

@@ -3,4 +3,4 @@ use Rattle.oci_digest.proofs.digest.DigestDisplay.fmt.Goals as goal
 
 pub unreachable-requires-in_default-from_utf8 : goal.unreachable-requires-in_default-from_utf8
 unreachable-requires-in_default-from_utf8 g c =
-    c.in_default-from_utf8.ensures.cases.0 (rw c.in-Ok.ensures.written (IsUtf8-encode_lower c.self.inside.bytes c.self.invariant.are_bytes))
+    c.in_default-from_utf8.ensures.cases.0 (rw (c.in-Ok.ensures.written, c.as_bytes-bytes.ensures) (IsUtf8-encode_lower _ c.self.invariant.are_bytes))

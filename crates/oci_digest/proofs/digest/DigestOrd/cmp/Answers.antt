@@ -1,7 +1,6 @@
-use Rattle.std.proofs.Common.{◌∙◌, sym}
-use Rattle.oci_digest.proofs.HexOrder.{slice_cmp-encode_lower}
+use Rattle.std.proofs.Common.{◌∙◌}
+use Rattle.oci_digest.proofs.Compared.{cmp-text_of}
 use Rattle.oci_digest.proofs.digest.DigestOrd.cmp.Goals as goal
 
 pub returns : goal.returns
-returns c =
-    rw (← c.self.view_is, ← c.other.view_is) (c.cmp.ensures ∙ sym (slice_cmp-encode_lower c.self.inside.bytes c.other.inside.bytes c.self.invariant.are_bytes c.other.invariant.are_bytes))
+returns c = rw (← c.self.view_is, ← c.other.view_is) (c.cmp.ensures ∙ cmp-text_of c.self.inside.hash c.other.inside.hash c.self.invariant c.other.invariant)

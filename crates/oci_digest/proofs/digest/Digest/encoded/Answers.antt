@@ -1,6 +1,0 @@
-use Rattle.oci_digest.proofs.HexText.{IsUtf8-encode_lower}
-use Rattle.oci_digest.proofs.digest.Digest.encoded.Goals as goal
-
-pub unreachable-requires-in_default-from_utf8 : goal.unreachable-requires-in_default-from_utf8
-unreachable-requires-in_default-from_utf8 c =
-    c.in_default-from_utf8.ensures.cases.0 (rw c.in-Ok.ensures.written (IsUtf8-encode_lower c.self.inside.bytes c.self.invariant.are_bytes))
