@@ -1,7 +1,7 @@
 //! A digest: made, verified, printed, compared.
 ghost use Rattle.std.specs.Prelude.{◌≡◌, ◌↔◌, ◌++◌, codes, Some, IsTrue, IsOk, IfOk, IsErrOf, is_ok, string_bytes};
 ghost use Rattle.oci_digest.specs.Algorithm.{sha256, sha512};
-ghost use Rattle.oci_digest.specs.Digest.{digest_of, digest_by, text_by, algorithm_of, encoded_of, IsDigest, is_digest, Verifies};
+ghost use Rattle.oci_digest.specs.Digest.{digest_of, digest_by, text_by, algorithm_of, encoded_of, IsDigest, is_digest, Verifies, verifies};
 ghost use Rattle.oci_digest.specs.Refusals.{IsBadForm, HasUnknownAlgorithm, HasBadEncoding};
 
 use crate::fault::{DigestFault, NoMemory};
@@ -90,7 +90,10 @@ impl Digest {
     /// Whether this is the digest of `content`, by the digest's own algorithm (descriptor.md,
     /// "Verification").
     pub fn matches(&self, content: &[u8]) -> bool
-        ensures { IsTrue result ↔ Verifies self.now content.now }
+        ensures verifies { IsTrue result ↔ Verifies self.now content.now }
+
+        // The same, for callers whose own definitions are tests.
+        ensures tests { result ≡ verifies self.now content.now }
     {
         match &self.hash {
             Hash::Sha256(bytes) => *bytes == Sha256::digest(content),

@@ -2,8 +2,8 @@
 use Rattle.std.proofs.Common.{◌≡◌, ℕ, true, false, Bool, ◌==◌, not, cond, List, length, Option, Some, None, Result, Ok, Err, refl, ap, ◌∙◌}
 use Rattle.std.specs.Prelude.{IfErr}
 use Rattle.std.proofs.lemmas.Bool.{eq-eqb}
-use Rattle.std.proofs.lemmas.Slice.Eq.{bytes_eq-Decides}
-use Rattle.oci_digest.specs.Digest.{verifies, digest_of}
+use Rattle.oci_digest.specs.Digest.{verifies}
+use Rattle.oci_digest.proofs.DigestLemmas.{Decides-verifies}
 use Rattle.oci_manifest.specs.Descriptor.{Descriptor}
 use Rattle.oci_store.specs.Content.{succ_of, IsChecked}
 use Rattle.oci_store.specs.Graph.{Node}
@@ -17,7 +17,7 @@ pub content_check-ok : (k : Descriptor) (bytes : List ℕ) (ks : List Descriptor
 unfolding content_check
 content_check-ok k bytes ks h =
     let size : (length bytes == k.size) ≡ true = eq-eqb (length bytes) k.size h.matching.0 in
-    let digest : verifies k.digest bytes ≡ true = (bytes_eq-Decides k.digest (digest_of bytes)).1 h.matching.1 in
+    let digest : verifies k.digest bytes ≡ true = (Decides-verifies k.digest bytes).1 h.matching.1 in
     let reads = h.reads in
     rw (size, digest, reads) refl
 

@@ -1,4 +1,5 @@
-use Rattle.std.proofs.Common.{◌≡◌, ℕ, List, [], ◌∷◌, ◌++◌, length, Some, None, sym, ap, subst, ◌∙◌, rules}
+use Rattle.std.proofs.Common.{◌≡◌, ℕ, List, [], ◌∷◌, ◌++◌, length, Some, None, sym, ap, subst, ◌∙◌, rules, arith}
+use Rattle.std.proofs.lemmas.Grind.{common_steps}
 use Rattle.std.specs.BTreeMap.{get, Updates}
 use Rattle.std.specs.List.{slice_get}
 use Rattle.oci_manifest.specs.Descriptor.{Descriptor, key_cmp}
@@ -33,3 +34,8 @@ returns-in-Ok-clause-place c =
     let pushed : c.push.new.self.items ≡ c.self.inside.keys.items ++ c.args.key.now ∷ [] = c.in_ok-push.ensures.items ∙ ap (λ (k : Descriptor). c.self.inside.keys.items ++ k ∷ []) c.in_ok-try_clone.ensures in
     let placed : c.len-place.result ≡ length c.self.inside.keys.items = search rules in
     subst (λ (n : ℕ). slice_get c.push.new.self.items n ≡ Some c.args.key.now) (sym placed) (subst (λ (ks : List Descriptor). slice_get ks (length c.self.inside.keys.items) ≡ Some c.args.key.now) (sym pushed) (slice_get-push c.self.inside.keys.items c.args.key.now))
+
+pub invariant_of-self-in-Err : goal.invariant_of-self-in-Err
+invariant_of-self-in-Err c =
+    let keys : c.pop.new.self.items ≡ c.self.inside.keys.items = grind (arith, common_steps) in
+    rw (c.in-Err.ensures.err, keys) c.self.invariant
