@@ -1,8 +1,8 @@
 -- What the check of a push finds for bytes that match, under a key that is not held.
 use Rattle.std.proofs.Common.{◌≡◌, ℕ, true, false, List, Option, Some, None, Result, Ok, Err, refl, sym, ap, ◌∙◌, eq-eqb}
 use Rattle.std.specs.Prelude.{◌==◌, length}
-use Rattle.std.proofs.lemmas.Slice.Eq.{bytes_eq-Decides}
-use Rattle.oci_digest.specs.Digest.{verifies, digest_of}
+use Rattle.oci_digest.specs.Digest.{verifies}
+use Rattle.oci_digest.proofs.DigestLemmas.{Decides-verifies}
 use Rattle.oci_manifest.specs.Descriptor.{Descriptor}
 use Rattle.oci_manifest.specs.Fault.{Fault}
 use Rattle.oci_store.specs.Keyed.{has_key, HasAll, first_missing}
@@ -16,7 +16,7 @@ pub push_check-matching : (graph : List Node) (k : Descriptor) (bytes : List ℕ
 unfolding push_check content_check
 push_check-matching graph k bytes fresh matching =
     let size : (length bytes == k.size) ≡ true = eq-eqb (length bytes) k.size matching.0 in
-    let digest : verifies k.digest bytes ≡ true = (bytes_eq-Decides k.digest (digest_of bytes)).1 matching.1 in
+    let digest : verifies k.digest bytes ≡ true = (Decides-verifies k.digest bytes).1 matching.1 in
     rw (fresh, size, digest) refl
 
 pub closed_check-matching : (graph : List Node) (k : Descriptor) (bytes : List ℕ) → has_key graph k ≡ false → Matches k bytes

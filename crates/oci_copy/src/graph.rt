@@ -35,7 +35,7 @@ pub(crate) const MAX_WORKERS: u32 = 64;
 /// to be brought; and then with `Fetch` or `Push` of a key: of several that fail, the one with the least number of the plan. With
 /// the first three nothing is changed, and with the others the keys pushed before stay and the destination is closed. `Memory`
 /// may come at any point, and leaves what the others leave. `Stuck` and `Incomplete` never come: where the source gives other
-/// bytes for a push than for the plan, of one size and one SHA-256, and they list a key that nobody brings, the copy waits for it
+/// bytes for a push than for the plan, of one size and one digest, and they list a key that nobody brings, the copy waits for it
 /// and does not return.
 ///
 /// It takes a lock and joins its workers; no clause says that it returns.

@@ -19,7 +19,7 @@
 //! What the new keys are, and what each lists, rests on an honest source and on two graphs that agree; so do the first fault of a
 //! plan, and that a key which is named had to be brought. What is said of bytes rests beside that on a destination whose device
 //! returns what was written and did not fail meanwhile. Of stores in memory all of it holds but the agreement, which fails only
-//! where two contents have one size and one SHA-256.
+//! where two contents have one size and one digest.
 //!
 //! While workers copy, the destination stands in a lock that they share, as [`Guarded`]: what each state of the lock shows is kept
 //! by that type and said by its method. A worker fetches a content, which looks at its bytes, and reads it before it takes the lock.

@@ -45,3 +45,8 @@ returns-in-Err-copied-clause-refused g c =
     (g.A.Store.state c.args.source.now) (g.D.Store.state c.args.destination) roots c.args.options.now.workers))
     c.in-Ok.root c.extended_copy_graph-destination.result.1 c.in-Err-copied.fault c.in-Ok.ensures.found c.extended_copy_graph-destination.ensures.workers (λ f x. x.2) c.in-Err-copied.is
     (rw c.in-Err-copied.is at c.extended_copy_graph-destination.ensures.refused)
+
+pub returns-in-Err-copied-clause-grows : goal.returns-in-Err-copied-clause-grows
+returns-in-Err-copied-clause-grows g c =
+    let was = c.extended_copy_graph-destination.ensures.grows in
+    (was.0, roots_of_reference (g.A.Store.state c.args.source.now) c.args.source_reference.now c.in-Ok.root c.args.depth was.0 was.1 c.in-Ok.ensures.found, was.2)
