@@ -3,7 +3,9 @@ ghost use Rattle.oci_store.specs.Content.{Matches, succ_of, IsChecked};
 ghost use Rattle.oci_store.specs.Push.{read_check, content_check, Answers, IsPlain};
 
 use crate::fault::{PushFault, unread};
+use crate::graph::cloned;
 use bytes::Bytes;
+use oci_digest::NoMemory;
 use oci_manifest::{Key, Kind, successors};
 use std::marker::Model;
 
@@ -95,5 +97,16 @@ impl CheckedContent {
         ensures successors { IsChecked self.0 self.1 result.2.items }
     {
         (self.key, self.bytes, self.successors)
+    }
+
+    /// Equal content. The bytes are shared: nothing is copied of them, hashed or read.
+    pub fn try_clone(&self) -> Result<CheckedContent, NoMemory>
+        ensures { IfOk result (λ content. content ≡ self.now) }
+    {
+        Ok(CheckedContent {
+            key: self.key.try_clone()?,
+            bytes: self.bytes.clone()?,
+            successors: cloned(self.key.allocator(), &self.successors)?,
+        })
     }
 }
