@@ -1,0 +1,4 @@
+pub mod Prefixes
+pub mod Appending
+pub mod Steps
+pub mod Takes

@@ -1,0 +1,37 @@
+-- The rule over what is published: what stays true at each publication and each look.
+use Rattle.std.specs.Prelude.{◌≡◌, ℕ, true, false, List, []}
+use mathlib.Core.Option.{some}
+use mathlib.Core.List.{IsPrefix}
+use lib.ListN.{get_elem?}
+use Rattle.oci_store.specs.Content.{Entry}
+use Rattle.oci_store.specs.Graph.{nodes_of}
+use Rattle.oci_store.specs.Closed.{IsClosed}
+use Rattle.oci_live.specs.History.{name_of}
+use Rattle.oci_live.specs.declared.shelf.Shelf.{Shelf}
+use Rattle.oci_live.specs.declared.rule.View.{View}
+
+-- the view of a seat that has seen this list of this store
+abbrev pub knows : List ℕ → List Entry → View
+knows n l = record { is_told = true; name = n; list = l }
+
+-- the view of a seat that has seen nothing yet
+abbrev pub newcomer : View
+newcomer = record { is_told = false; name = []; list = [] }
+
+-- what a seat knows is true of the shelf
+pub record Knows (v : View) (x : Shelf) : Type 0 where
+  pub name : v.is_told ≡ true → v.name ≡ name_of x.witness.book
+  pub seen : v.is_told ≡ true → IsPrefix v.list x.entries
+
+-- what is published is closed, and is the history that its witness shows; it begins with what each seat has seen
+pub record IsPublished (x : Shelf) (views : List View) : Type 0 where
+  pub told : x.witness.log ≡ x.entries
+  pub closed : IsClosed (nodes_of x.entries)
+  pub each : (seat : ℕ) (v : View) → get_elem? views seat ≡ some v → Knows v x
+
+-- one step of a seat with the view v: afterwards it has seen y, which begins with what it knew
+pub record Shows (v : View) (x y : Shelf) (w : View) : Type 0 where
+  pub is : w ≡ knows (name_of y.witness.book) y.entries
+  pub told : y.witness.log ≡ y.entries
+  pub closed : IsClosed (nodes_of y.entries)
+  pub before : Knows v y

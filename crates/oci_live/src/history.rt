@@ -1,0 +1,122 @@
+//! The history of a live store: its entries in the order in which they were published.
+//!
+//! It is ghost state behind one word, its length. What has been seen of it is told by a `Witness`, which has no bytes and can
+//! be copied and handed on: two witnesses of one history show lists of which one begins with the other.
+ghost use Rattle.std.specs.Prelude.{◌≡◌, ◌++◌, ◌∷◌, [], true, length};
+ghost use Rattle.oci_live.specs.History.{head_of};
+
+use bytes::Bytes;
+use logbook::{Gain, Offer, Plain, Play, Rule, Seen, Start, Word};
+use oci_manifest::Key;
+
+/// An entry as the proofs see it. A clause reads an array as a list, of any length.
+pub(crate) type LogEntry = (Key, [u8; 0]);
+
+/// The word has the length of the history.
+pub(crate) struct Counted;
+
+impl Rule<LogEntry, u64> for Counted {
+    ghost use Rattle.std.specs.Prelude.{[]};
+    ghost use base.Fml.{ftrue};
+    ghost use Rattle.oci_live.specs.History.{IsCounted};
+
+    ghost holds = { λ cells log. IsCounted cells log };
+
+    ghost first = { [] };
+
+    ghost hinted = { λ n log. Unit {0} };
+
+    ghost shows = { λ log. [] };
+
+    ghost keeps = { λ names log. ftrue };
+
+    ghost moves = { λ ask before after answer. Unit {0} };
+}
+
+/// Who adds an entry gains nothing by it.
+struct NoGain;
+
+impl Gain<LogEntry, u64> for NoGain {
+    ghost use base.Fml.{ftrue};
+
+    ghost after = { λ names about answer. ftrue };
+}
+
+/// An entry that is to be added.
+#[derive(Drop)]
+struct Addition<'e> {
+    key: &'e Key,
+    bytes: &'e Bytes,
+}
+
+/// One entry more.
+struct Append;
+
+impl Play<LogEntry, u64> for Append {
+    ghost use Rattle.oci_live.specs.History.{Appends};
+
+    ghost then = { Appends };
+}
+
+impl<'e> Plain<Addition<'e>, LogEntry, u64> for Append {
+    ghost use Rattle.std.specs.Prelude.{None};
+
+    ghost ask = { λ a. (a.key.now, a.bytes.now) };
+
+    ghost state = { λ a. None };
+}
+
+/// That a history has reached a list.
+pub(crate) type Witness = Seen<LogEntry, u64, Counted>;
+
+/// The history, in the hands of the one who adds to it.
+#[derive(Drop)]
+pub(crate) struct History {
+    head: Word<LogEntry, u64, Counted>,
+    pub(crate) front: Witness,
+    len: u64,
+    ghost head_is: { head ≡ head_of front.book },
+    ghost len_is: { len ≡ length front.log },
+}
+
+impl History {
+    /// A new history, without entries.
+    pub(crate) fn new() -> History
+        ensures { result.front.log ≡ [] }
+    {
+        let (front, mut first, _second) = Seen::open(Start::alone(), 0, 0);
+        History {
+            head: Word::tracked(0, &mut first),
+            front,
+            len: 0,
+        }
+    }
+
+    /// Adds an entry. False where that cannot be: the length has no successor, or somebody else has added one, which nobody
+    /// can.
+    pub(crate) fn append(&mut self, key: &Key, bytes: &Bytes) -> bool
+        ensures book { self.new.front.book ≡ self.old.front.book }
+        ensures appended { result ≡ true → self.new.front.log ≡ self.old.front.log ++ (key.now, bytes.now) ∷ [] }
+    {
+        if self.len == u64::MAX {
+            return false;
+        }
+        let addition = Addition { key, bytes };
+        let mut offer: Offer<LogEntry, u64, Counted, NoGain> = self
+            .front
+            .plain::<NoGain, Addition, Append>(&addition);
+        let mut pen = self.front.no_pen();
+        let len = self.len;
+        let found = self
+            .head
+            .compare_exchange::<Append, NoGain>(
+                len,
+                len + 1,
+                &mut self.front,
+                &mut offer,
+                &mut pen,
+            );
+        self.len = if found == len { len + 1 } else { found };
+        found == len
+    }
+}

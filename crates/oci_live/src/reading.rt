@@ -1,0 +1,63 @@
+ghost use Rattle.std.specs.Prelude.{◌≡◌, true, length, IfOk, IfSome};
+ghost use Rattle.left_right.specs.Sides.{view};
+ghost use Rattle.oci_store.specs.Closed.{IsClosed};
+ghost use Rattle.oci_store.specs.Graph.{nodes_of};
+ghost use Rattle.oci_live.specs.History.{name_of};
+
+use crate::history::Witness;
+use crate::question::Question;
+use crate::rule::{Publisher, Sees, Told, Twice, Viewer};
+use core::mem::replace_with;
+use std::alloc::AllocError;
+
+/// A viewer that knows what the publisher knows. Refused where each place is taken.
+pub(crate) fn viewer_of(publisher: &mut Publisher) -> Result<Viewer, AllocError>
+    requires { (view publisher.old.desk.place).is_told ≡ true }
+    ensures known { IfOk result (λ viewer. view viewer.place ≡ view publisher.old.desk.place) }
+    ensures kept { (publisher.new.desk.shown ≡ publisher.old.desk.shown)
+        × (view publisher.new.desk.place ≡ view publisher.old.desk.place)
+        × (publisher.new.log ≡ publisher.old.log) × (publisher.new.behind ≡ publisher.old.behind) }
+{
+    let mut viewer = publisher.factory().reader()?;
+    viewer.learn::<Told>(publisher.tell::<Twice>());
+    Ok(viewer)
+}
+
+/// What a question is answered of the entries that are published at this moment, with a witness of them and their number.
+/// None where nothing is published any more.
+pub(crate) fn ask<Q: Question>(
+    viewer: &mut Viewer,
+    question: &Q,
+) -> Option<(Q::Answer, Witness, usize)>
+    requires { (view viewer.old.place).is_told ≡ true }
+    ensures viewer { ((view viewer.new.place).is_told ≡ true) × ((view viewer.new.place).name ≡ (view viewer.old.place).name) }
+    ensures answer { IfSome result (λ r. Q.answers question.now r.1.log r.0 × (r.2 ≡ length r.1.log)
+        × IsClosed (nodes_of r.1.log) × (name_of r.1.book ≡ (view viewer.old.place).name)) }
+{
+    replace_with(
+        viewer,
+        question,
+        |viewer, question|
+            requires { (view viewer.place).is_told ≡ true }
+        { asked(viewer, question) },
+    )
+}
+
+/// The viewer once it has asked.
+fn asked<Q: Question>(viewer: Viewer, question: &Q) -> (Viewer, Option<(Q::Answer, Witness, usize)>)
+    requires { (view viewer.place).is_told ≡ true }
+    ensures viewer { ((view result.0.place).is_told ≡ true) × ((view result.0.place).name ≡ (view viewer.place).name) }
+    ensures answer { IfSome result.1 (λ r. Q.answers question.now r.1.log r.0 × (r.2 ≡ length r.1.log)
+        × IsClosed (nodes_of r.1.log) × (name_of r.1.book ≡ (view viewer.place).name)) }
+{
+    match viewer.enter_as::<Sees>() {
+        Ok(reading) => {
+            let shelf = reading.get();
+            let answer = question.ask(&shelf.entries);
+            let witness = shelf.witness.again();
+            let len = shelf.entries.len();
+            (reading.leave(), Some((answer, witness, len)))
+        }
+        Err(viewer) => (viewer, None),
+    }
+}
