@@ -2,11 +2,12 @@
 //!
 //! It is ghost state behind one word, its length. What has been seen of it is told by a `Witness`, which has no bytes and can
 //! be copied and handed on: two witnesses of one history show lists of which one begins with the other.
-ghost use Rattle.std.specs.Prelude.{◌≡◌, ◌++◌, ◌∷◌, [], true, length};
+ghost use Rattle.std.specs.Prelude.{◌≡◌, ◌++◌, ◌∷◌, [], length, IfOk, OnOk};
 ghost use Rattle.oci_live.specs.History.{head_of};
 
 use bytes::Bytes;
 use logbook::{Gain, Offer, Plain, Play, Rule, Seen, Start, Word};
+use oci_digest::NoMemory;
 use oci_manifest::Key;
 
 /// An entry as the proofs see it. A clause reads an array as a list, of any length.
@@ -92,14 +93,17 @@ impl History {
         }
     }
 
-    /// Adds an entry. False where that cannot be: the length has no successor, or somebody else has added one, which nobody
-    /// can.
-    pub(crate) fn append(&mut self, key: &Key, bytes: &Bytes) -> bool
+    /// Adds an entry, and gives a witness of what the history is now.
+    ///
+    /// Refused where the length has no successor, or where somebody else has added an entry, which nobody can: it takes no
+    /// memory itself.
+    pub(crate) fn append(&mut self, key: &Key, bytes: &Bytes) -> Result<Witness, NoMemory>
         ensures book { self.new.front.book ≡ self.old.front.book }
-        ensures appended { result ≡ true → self.new.front.log ≡ self.old.front.log ++ (key.now, bytes.now) ∷ [] }
+        ensures appended { OnOk result (self.new.front.log ≡ self.old.front.log ++ (key.now, bytes.now) ∷ []) }
+        ensures witness { IfOk result (λ witness. witness ≡ self.new.front) }
     {
         if self.len == u64::MAX {
-            return false;
+            return Err(NoMemory);
         }
         let addition = Addition { key, bytes };
         let mut offer: Offer<LogEntry, u64, Counted, NoGain> = self
@@ -116,7 +120,11 @@ impl History {
                 &mut offer,
                 &mut pen,
             );
-        self.len = if found == len { len + 1 } else { found };
-        found == len
+        if found != len {
+            self.len = found;
+            return Err(NoMemory);
+        }
+        self.len = len + 1;
+        Ok(self.front.again())
     }
 }

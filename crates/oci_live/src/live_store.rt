@@ -133,10 +133,7 @@ impl<R: Wait + Drop> LiveStore<R> {
             is_halted,
         } = self;
         *is_halted = true;
-        if !history.append(content.key(), content.bytes()) {
-            return Err(NoMemory);
-        }
-        let witness = history.front.again();
+        let witness = history.append(content.key(), content.bytes())?;
         publish(publisher, rt, Item { content, witness })?;
         *is_halted = false;
         Ok(())

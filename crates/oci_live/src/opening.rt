@@ -46,7 +46,7 @@ pub(crate) fn opened<R: Wait>(
 }
 
 /// A new history, of these entries.
-fn history_of(entries: &Entries) -> Result<History, NoMemory>
+pub(crate) fn history_of(entries: &Entries) -> Result<History, NoMemory>
     ensures { IfOk result (λ history. history.front.log ≡ entries.now) }
 {
     let mut history = History::new();
@@ -54,9 +54,7 @@ fn history_of(entries: &Entries) -> Result<History, NoMemory>
         let Some((key, bytes)) = entries.entry(place) else {
             unreachable!();
         };
-        if !history.append(key, bytes) {
-            return Err(NoMemory);
-        }
+        history.append(key, bytes)?;
     }
     Ok(history)
 }

@@ -1,6 +1,6 @@
-ghost use Rattle.std.specs.Prelude.{◌≡◌, ◌≤◌, ◌<◌, ◌-◌, ◌^◌, ◌⊎◌, [], ◌∷◌, ◌++◌, true, length, IfOk, OnOk, OnErr, IsErrOf, IsOk};
+ghost use Rattle.std.specs.Prelude.{◌≡◌, ◌⊎◌, [], ◌∷◌, ◌++◌, true, false, length, IfOk, OnOk, OnErr, IsErrOf};
 ghost use Rattle.std.specs.Result.{IsErr};
-ghost use Rattle.oci_store.specs.Graph.{node_of, nodes_of};
+ghost use Rattle.oci_store.specs.Graph.{node_of};
 ghost use Rattle.oci_store.specs.Push.{closed_check, Answers, IsUndisturbed};
 ghost use Rattle.oci_live.specs.Live.{state_of};
 
@@ -41,7 +41,29 @@ impl<R: Wait + Drop> Dest for LiveStore<R> {
         Ok(None)
     }
 
-    fn push_checked(&mut self, content: CheckedContent) -> Result<usize, PushFault> {
+    /// One publication. It may wait for calls of looks that have begun.
+    ///
+    /// Where the publication finds no memory the store is halted afterwards, and a halted store publishes nothing any more.
+    fn push_checked(&mut self, content: CheckedContent) -> Result<usize, PushFault>
+        ensures place { IfOk result (λ place. place ≡ length (state_of self.old).nodes) }
+        ensures pushed { OnOk result ((state_of self.new).nodes ≡ (state_of self.old).nodes ++ node_of content ∷ []) }
+        ensures refused { OnErr result ((state_of self.new).nodes ≡ (state_of self.old).nodes) }
+        ensures checked { Answers result (closed_check (state_of self.old).nodes content.0 content.1) }
+        ensures untouched { IsErr (closed_check (state_of self.old).nodes content.0 content.1) → self.new ≡ self.old }
+        ensures bytes { OnOk result (IsUndisturbed ⊥ (state_of self.old) (state_of self.new) content
+            → (state_of self.new).entries ≡ (state_of self.old).entries ++ content ∷ []) }
+        ensures same { OnErr result (IsUndisturbed ⊥ (state_of self.old) (state_of self.new) content
+            → (state_of self.new).entries ≡ (state_of self.old).entries) }
+        ensures device { IsErrOf result PushFault.Device → ⊥ }
+        ensures halted { IsErrOf result PushFault.Halted → (state_of self.old).is_halted }
+        ensures running { (state_of self.new).is_halted → (state_of self.old).is_halted ⊎ IsErrOf result PushFault.Memory }
+        ensures name { (state_of self.new).name ≡ (state_of self.old).name }
+
+        // Of a live store alone: only a running one publishes, and a refusal leaves all as it was, or halts it.
+        ensures published { OnOk result ((self.old.is_halted ≡ false)
+            × (self.new ≡ record self.old { entries = self.old.entries ++ content ∷ [] })) }
+        ensures left { OnErr result ((self.new ≡ self.old) ⊎ (self.new ≡ record self.old { is_halted = true })) }
+    {
         let entries = &self.shelf().entries;
         entries.graph().check_closed(&content)?;
         let place = entries.len();

@@ -19,7 +19,7 @@ publish_as-requires g c next is =
     let log : drop now.behind now.log.items ≡ item ∷ [] = c.in-Ok.ensures.pending ∙ ap (λ (l : List Item). l ++ item ∷ []) c.requires.nothing in
     let shown : now.desk.shown.value ≡ c.args.publisher.desk.shown.value = ap (λ d. d.shown.value) desk in
     let told : item.witness.log ≡ now.desk.shown.value.entries ++ e ∷ [] = c.requires.told ∙ ap (λ (s : Shelf). s.entries ++ e ∷ []) (sym shown) in
-    let closed = subst (λ (l : List Entry). IsClosed (nodes_of l)) told c.requires.closed in
+    let closed = subst (λ (s : Shelf). IsClosed (nodes_of (s.entries ++ e ∷ []))) (sym shown) c.requires.closed in
     let to = rw log at is in
     grows now.desk.place.id (view now.desk.place) now.desk.shown.value next e item.witness.log (ap (λ (t : Shared). t.list) to) (ap (λ (t : Shared). t.log) to)
     told (ap (λ (t : Shared). t.name) to ∙ (c.requires.name ∙ ap (λ (s : Shelf). name_of s.witness.book) (sym shown))) closed
