@@ -68,15 +68,15 @@ impl<R: Wait + Drop> LiveStore<R> {
     ///
     /// Refused with `Memory`; the closed store comes back as it was.
     pub fn open(
-        alloc: Global,
         rt: R,
+        alloc: Global,
         store: ClosedStore,
     ) -> Result<LiveStore<R>, (ClosedStore, LiveFault)>
         ensures entries { IfOk result (λ live. live.entries ≡ store.entries) }
         ensures running { IfOk result (λ live. live.is_halted ≡ false) }
         ensures back { IfErr result (λ refused. refused.0 ≡ store) }
     {
-        match opened(alloc, &rt, store.entries()) {
+        match opened(&rt, alloc, store.entries()) {
             Ok((publisher, history)) => Ok(LiveStore {
                 rt,
                 publisher,

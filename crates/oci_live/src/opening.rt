@@ -17,8 +17,8 @@ const PLACES: usize = 64;
 
 /// Publishes some entries, which are copied twice and not looked at again.
 pub(crate) fn opened<R: Wait>(
-    alloc: Global,
     rt: &R,
+    alloc: Global,
     entries: &Entries,
 ) -> Result<(Publisher, History), NoMemory>
     requires { IsClosed (nodes_of entries.now) }
