@@ -1,0 +1,4 @@
+mod copies;
+mod looks;
+mod pushes;
+mod stores;
