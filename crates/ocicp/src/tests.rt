@@ -11,6 +11,7 @@ mod layouts;
 mod looks;
 mod mem;
 mod outputs;
+mod progress;
 mod refused_layouts;
 mod sessions;
 mod strange_folders;

@@ -1,10 +1,10 @@
 //! Outputs and files that fail in mid-stream.
 
-use crate::run_words;
 use crate::tests::broken::{Broken, Step};
 use crate::tests::contents::filled;
 use crate::tests::layouts::IMAGE;
 use crate::tests::sessions::{assert_runs, assert_session, folder, told, words_of};
+use oci_commands::run_words;
 use std::fs;
 use std::io::ErrorKind;
 use std::process::Abort;

@@ -15,9 +15,9 @@
 //! | `$ cat PATH` | prints a file, and a line feed |
 //! | `$ exists PATH` | prints `yes` or `no` |
 
-use crate::run_words;
 use crate::tests::broken::Unreadable;
 use crate::tests::contents::filled;
+use oci_commands::run_words;
 use std::alloc::Global;
 use std::fmt::Write;
 use std::io::ErrorKind;

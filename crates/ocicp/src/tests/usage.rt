@@ -62,6 +62,7 @@ mem --help:TYPE=PATH
 mem --help:--workers <N>
 copy --help:<SRC> <SRCREF> <DST> [DSTREF]
 copy --help:--workers <N>
+copy --help:--progress
 copy --help:--dry-run
 tags --help:<FOLDER>
 resolve --help:<FOLDER> <REF>

@@ -1,5 +1,5 @@
 ghost use Rattle.std.specs.Prelude.{◌≡◌};
-ghost use Rattle.ocicp.specs.Status.{status_of_done};
+ghost use Rattle.oci_commands.specs.Status.{status_of_done};
 
 /// How a run ends that did what was asked for.
 #[derive(Clone, Copy)]

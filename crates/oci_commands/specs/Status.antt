@@ -14,12 +14,12 @@ use Rattle.oci_store.specs.declared.fault.PushFault.{PushFault}
 use Rattle.oci_store.specs.declared.fault.PushFault.TheVariants as push
 use Rattle.oci_store.specs.declared.fault.RefFault.{RefFault}
 use Rattle.oci_store.specs.declared.fault.RefFault.TheVariants as reference
-use Rattle.ocicp.specs.declared.outcome.Outcome.{Outcome}
-use Rattle.ocicp.specs.declared.outcome.Outcome.TheVariants as outcome
-use Rattle.ocicp.specs.declared.fault.Ending.{Ending}
-use Rattle.ocicp.specs.declared.fault.Ending.TheVariants as ending
-use Rattle.ocicp.specs.declared.fault.ProgramFault.{ProgramFault}
-use Rattle.ocicp.specs.declared.fault.ProgramFault.TheVariants as fault
+use Rattle.oci_commands.specs.declared.outcome.Outcome.{Outcome}
+use Rattle.oci_commands.specs.declared.outcome.Outcome.TheVariants as outcome
+use Rattle.oci_commands.specs.declared.fault.Ending.{Ending}
+use Rattle.oci_commands.specs.declared.fault.Ending.TheVariants as ending
+use Rattle.oci_commands.specs.declared.fault.ProgramFault.{ProgramFault}
+use Rattle.oci_commands.specs.declared.fault.ProgramFault.TheVariants as fault
 
 -- whether a refused push is want of memory
 abbrev pub is_push_memory : PushFault → Bool

@@ -85,6 +85,7 @@ fn copy_words<'w>(matches: &ArgMatches<'w>) -> CopyWords<'w> {
         destination_reference: word(matches, "destination-reference"),
         workers: matches.get_one("workers").unwrap_or(0),
         referrers: referrers(matches),
+        shows_progress: matches.get_flag("progress"),
         is_dry: matches.get_flag("dry-run"),
     }
 }

@@ -1,7 +1,7 @@
 ghost use Rattle.std.specs.Prelude.{◌≡◌, ◌↔◌, IsTrue};
 ghost use Rattle.std.specs.IoError.{error_kind};
 ghost use Rattle.std.specs.declared.io.ErrorKind.TheVariants.{OutOfMemory};
-ghost use Rattle.ocicp.specs.Status.{is_memory, program_number, status_of};
+ghost use Rattle.oci_commands.specs.Status.{is_memory, program_number, status_of};
 
 use oci_copy::CopyFault;
 use oci_digest::NoMemory;

@@ -19,8 +19,8 @@ use std::thread::Threads;
 /// 0: done, what was asked for is on `out`. 1: refused, with one line on `err`: `ocicp:` and the
 /// faults from the outermost to the innermost; or `verify` found something wrong, which is on `out`.
 /// 2: the words are no use of the program, with the usage on `err`. 3: memory was wanting, with the
-/// line `ocicp: memory`.
-pub fn run_words<R: Files + AllocGlobal + Threads + Wait + Sync, W: Write, X: Write>(
+/// line `ocicp: memory`. With `copy --progress` lines of the copy stand on `err` before.
+pub fn run_words<R: Files + AllocGlobal + Threads + Wait + Sync, W: Write, X: Write + Send>(
     rt: &R,
     words: &[String],
     out: &mut W,
@@ -38,7 +38,7 @@ where
 }
 
 /// Does what is asked for, and answers the status.
-fn run_request<R: Files + AllocGlobal + Threads + Wait + Sync, W: Write, X: Write>(
+fn run_request<R: Files + AllocGlobal + Threads + Wait + Sync, W: Write, X: Write + Send>(
     rt: &R,
     request: &Request<'_>,
     out: &mut W,
@@ -92,7 +92,7 @@ fn end_look<D: Dir + Drop, W: Write, X: Write>(
 }
 
 /// Copies from folder to folder.
-fn run_copy<R: Files + AllocGlobal + Threads + Wait + Sync, W: Write, X: Write>(
+fn run_copy<R: Files + AllocGlobal + Threads + Wait + Sync, W: Write, X: Write + Send>(
     rt: &R,
     words: &CopyWords<'_>,
     out: &mut W,
@@ -118,7 +118,7 @@ fn end_copy<
     S: Dir + Drop + Sync,
     D: Dir + Drop + Send,
     W: Write,
-    X: Write,
+    X: Write + Send,
 >(rt: &R, source: S, destination: D, words: &CopyWords<'_>, out: &mut W, err: &mut X) -> u8
     ensures { result ≤ 3 }
 {
@@ -129,7 +129,7 @@ fn end_copy<
             err,
         )
     } else {
-        end(copy(rt, source, destination, words, out), out, err)
+        end(copy(rt, source, destination, words, out, err), out, err)
     }
 }
 

@@ -1,10 +1,11 @@
 use crate::fault::{ProgramFault, output_fault};
 use crate::opened::{opened, opened_or_made};
 use crate::outcome::Outcome;
+use crate::progress::Progress;
 use oci_copy::{CopyFault, Options, Report, extended_copy};
 use oci_layout::{Dir, Layout};
 use oci_manifest::Key;
-use oci_pool::NoHooks;
+use oci_pool::{Hooks, NoHooks};
 use oci_store::{GraphSource, Tagger};
 use std::io::Write;
 use std::sync::Wait;
@@ -21,6 +22,8 @@ pub(crate) struct CopyWords<'w> {
     pub(crate) workers: u32,
     /// Within how many edges what refers to the content is copied too, 0 for any number; none where it is not.
     pub(crate) referrers: Option<u32>,
+    /// Whether each content is told as it arrives.
+    pub(crate) shows_progress: bool,
     /// Whether nothing is to be changed.
     pub(crate) is_dry: bool,
 }
@@ -36,22 +39,28 @@ impl<'w> CopyWords<'w> {
 }
 
 /// `copy SRC SRCREF DST [DSTREF]`: copies what the reference stands for, with `--referrers` also what refers to it, saves the
-/// destination, and prints the key and the report. The destination is made where it is no layout, once the source is open and the reference resolved. A copy that is
-/// refused does not save.
+/// destination, and prints the key and the report; with `--progress` it tells each content on `err` as it arrives. The destination
+/// is made where it is no layout, once the source is open and the reference resolved. A copy that is refused does not save.
 pub(crate) fn copy<
     R: AllocGlobal + Threads + Wait + Sync,
     S: Dir + Drop + Sync,
     D: Dir + Drop + Send,
     W: Write,
+    X: Write + Send,
 >(
     rt: &R,
     source: S,
     destination: D,
     words: &CopyWords<'_>,
     out: &mut W,
+    err: &mut X,
 ) -> Result<Outcome, ProgramFault> {
     let source = opened(rt.alloc(), source)?;
-    let (root, report) = copied(rt, &source, destination, words)?;
+    let (root, report) = if words.shows_progress {
+        copied(rt, &source, destination, words, &Progress::new(rt, err))?
+    } else {
+        copied(rt, &source, destination, words, &NoHooks)?
+    };
     writeln!(out, "copied {root}\n{report}").map_err(output_fault)?;
     Ok(Outcome::Good)
 }
@@ -61,15 +70,17 @@ fn copied<
     R: AllocGlobal + Threads + Wait + Sync,
     A: GraphSource + Tagger + Sync,
     D: Dir + Drop + Send,
+    H: Hooks + Sync,
 >(
     rt: &R,
     source: &A,
     destination: D,
     words: &CopyWords<'_>,
+    hooks: &H,
 ) -> Result<(Key, Report), ProgramFault> {
     check_reference(source, words.source_reference)?;
     let destination = opened_or_made(rt.alloc(), destination)?;
-    let (destination, answer) = copied_into(rt, source, destination, words);
+    let (destination, answer) = copied_into(rt, source, destination, words, hooks);
     saved(destination, answer)
 }
 
@@ -78,11 +89,13 @@ fn copied_into<
     R: AllocGlobal + Threads + Wait + Sync,
     A: GraphSource + Tagger + Sync,
     D: Dir + Drop + Send,
+    H: Hooks + Sync,
 >(
     rt: &R,
     source: &A,
     destination: Layout<D>,
     words: &CopyWords<'_>,
+    hooks: &H,
 ) -> (Layout<D>, Result<(Key, Report), CopyFault>) {
     let (from, to) = (words.source_reference, words.destination_reference);
     let (alloc, options) = (rt.alloc(), words.options());
@@ -96,9 +109,9 @@ fn copied_into<
             destination,
             to,
             &options,
-            &NoHooks,
+            hooks,
         ),
-        None => oci_copy::copy(rt, alloc, source, from, destination, to, &options, &NoHooks),
+        None => oci_copy::copy(rt, alloc, source, from, destination, to, &options, hooks),
     }
 }
 

@@ -44,7 +44,7 @@ fn reference<'w>(alloc: Global) -> Arg<'w> {
     )
 }
 
-/// `copy [--workers N] [--referrers] [--depth D] [--dry-run] SRC SRCREF DST [DSTREF]`
+/// `copy [--workers N] [--referrers] [--depth D] [--progress] [--dry-run] SRC SRCREF DST [DSTREF]`
 fn copy_command<'w>(alloc: Global) -> Result<Command<'w>, AllocError> {
     let command = Command::new(alloc, "copy")
         .about(
@@ -65,7 +65,8 @@ fn copy_command<'w>(alloc: Global) -> Result<Command<'w>, AllocError> {
 /// What says how `copy` copies.
 fn with_flags<'w>(alloc: Global, command: Command<'w>) -> Result<Command<'w>, AllocError> {
     let command = command.arg(workers(alloc))?.arg(referrers(alloc))?;
-    command.arg(depth(alloc))?.arg(dry_run(alloc))
+    let command = command.arg(depth(alloc))?.arg(progress(alloc))?;
+    command.arg(dry_run(alloc))
 }
 
 /// What `copy` copies, and where to.
@@ -123,6 +124,16 @@ fn depth<'w>(alloc: Global) -> Arg<'w> {
         .help("With --referrers: how many steps up from it are taken at most; 0 sets no limit")
         .value_parser(ValueParser::Unsigned(0, 4294967295))
         .default_value("0")
+}
+
+/// `--progress`
+fn progress<'w>(alloc: Global) -> Arg<'w> {
+    Arg::new(alloc, "progress")
+        .long("progress")
+        .help(
+            "Tells each content on the error output as it arrives: `pushed`, or `skipped` for what was asked for and is there already, and its digest, size and media type",
+        )
+        .action(ArgAction::SetTrue)
 }
 
 /// `--dry-run`

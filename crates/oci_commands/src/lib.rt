@@ -1,0 +1,26 @@
+//! The commands of `ocicp`: what its words ask for, what is printed, and the status that a run ends with.
+//!
+//! The whole program is [`run_words`]: it takes the words after the program's name and two writers, and answers the
+//! status. [`run_process`] calls it with the words and the outputs of the process.
+#![tactic(auto)]
+
+mod command;
+mod copy;
+mod dry_run;
+mod fault;
+mod item;
+mod lines;
+mod look;
+mod mem;
+mod opened;
+mod outcome;
+mod predecessors;
+mod process;
+mod progress;
+mod resolve;
+mod run;
+mod tags;
+mod verify;
+
+pub use process::run_process;
+pub use run::run_words;

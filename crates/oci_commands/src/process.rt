@@ -1,0 +1,56 @@
+use crate::fault::{Ending, ProgramFault, output_fault};
+use crate::run_words;
+use std::io::{BufWriter, Write};
+use std::rt::{Env, Files};
+use std::sync::Wait;
+use std::thread::Threads;
+use std::{env, io};
+
+/// Runs the program on the words that the process was given, with an output that is written through a buffer, and answers the
+/// status, as [`run_words`] does. A word that is not UTF-8 is no use of the program: status 2.
+pub fn run_process<
+    R: Env + Files + AllocGlobal + Threads + Wait + Sync,
+    W: Write + Drop,
+    X: Write + Send,
+>(rt: &R, out: W, err: &mut X) -> u8
+where
+    R::File: Send,
+    R::Dir: Send,
+{
+    match words(rt) {
+        Ok(words) => run_buffered(rt, &words, out, err),
+        Err(ending) => ending.tell(err),
+    }
+}
+
+/// Runs the program on an output that is written through a buffer.
+fn run_buffered<R: Files + AllocGlobal + Threads + Wait + Sync, W: Write + Drop, X: Write + Send>(
+    rt: &R,
+    words: &[String],
+    out: W,
+    err: &mut X,
+) -> u8
+where
+    R::File: Send,
+    R::Dir: Send,
+{
+    match BufWriter::new(rt.alloc(), out) {
+        Ok(mut out) => run_words(rt, words, &mut out, err),
+        Err(error) => Ending::Fault(output_fault(error)).tell(err),
+    }
+}
+
+/// The words that the process was given.
+fn words<R: Env + AllocGlobal>(rt: &R) -> Result<Vec<String>, Ending> {
+    let alloc = rt.alloc();
+    let words = env::args(rt).map_err(unread)?.skip(1).collect(alloc)?;
+    Ok(words)
+}
+
+/// Why the words could not be read: one of them is not UTF-8, or memory was wanting.
+fn unread(error: io::Error) -> Ending {
+    match error.kind() {
+        io::ErrorKind::InvalidData => Ending::NotUtf8,
+        _ => Ending::Fault(ProgramFault::Memory),
+    }
+}
