@@ -5,7 +5,7 @@
 //! other tools have them, and how a refusal prints.
 //!
 //! `worked_contents` makes the contents, and `tests` has a module for each part of the library: `manifests` (what a manifest
-//! lists); `pushes`, `graphs` and `tags` (stores); `orders`, `plans` and `climbs`; `copies`, `failing` and `large`
+//! lists); `pushes`, `graphs`, `tags` and `traits` (stores); `orders`, `plans` and `climbs`; `copies` and `large`
 //! (copies on one thread); and `faults`, how each refusal prints.
 #![tactic(auto)]
 

@@ -1,6 +1,5 @@
 mod climbs;
 mod copies;
-mod failing;
 mod faults;
 mod graphs;
 mod large;
@@ -10,3 +9,4 @@ mod plans;
 mod pushes;
 mod stores;
 mod tags;
+mod traits;

@@ -1,11 +1,11 @@
-//! Two small stores that are neither in memory nor on a disk, proved to meet the traits of `oci_store`, and tests that call each trait
-//! through its bound.
+//! Two small stores that are neither in memory nor on a disk, proved to meet the traits of `oci_store`.
 //!
-//! [`DeviceStore`](device::DeviceStore) stands over a device that has one file per digest and may fail a put;
-//! [`PublishedStore`](published::PublishedStore) only publishes, and may be halted.
+//! [`DeviceStore`] stands over a [`Device`] that has one file per digest, counts what it is asked for, and fails a put and a get:
+//! the tests of copies use it. [`PublishedStore`] only publishes, and may be halted.
 #![tactic(auto)]
 
 mod device;
 mod published;
-#[cfg(test)]
-mod tests;
+
+pub use device::{Device, DeviceStore};
+pub use published::PublishedStore;

@@ -1,0 +1,7 @@
+mod failing;
+mod graphs;
+mod hooks;
+mod large;
+mod references;
+mod referrers;
+mod stores;

@@ -1,0 +1,237 @@
+use crate::tests::stores::{assert_holds, by, closed, copied_samples, keys, line, memory};
+use oci_copy::{CopyFault, Report, copy_memory_by_workers};
+use oci_manifest::Key;
+use oci_pool::NoHooks;
+use oci_store::{ClosedStore, MemoryStore};
+use std::process::Abort;
+use std::sync::Wait;
+use std::test::Fail;
+use std::thread::Threads;
+use worked_contents::Sample;
+use worked_contents::Sample::{
+    Bar, Empty, Foo, Image0, Image0AsLayer, Image1, Image2, Image3, Image4, Index1, Index2,
+};
+
+/// A copy between stores in memory, and what comes of it.
+#[derive(Clone, Copy)]
+struct Row<'a> {
+    source: &'a [Sample],
+    destination: &'a [Sample],
+    roots: &'a [Sample],
+    /// The report or the fault, as it prints.
+    told: &'a str,
+    /// What the destination then has.
+    copied: &'a [Sample],
+}
+
+/// What the row's copy by so many workers leaves, and what it tells.
+fn copied_row<R: AllocGlobal + Threads + Wait + Sync>(
+    rt: &R,
+    row: Row<'_>,
+    workers: u32,
+) -> Result<(ClosedStore, String), Fail> {
+    let source = memory(rt.alloc(), row.source)?;
+    let destination = closed(rt.alloc(), row.destination)?;
+    copied_samples(rt, &source, destination, row.roots, workers)
+}
+
+/// Copies by the call between stores in memory.
+fn copied_in_memory<R: AllocGlobal + Threads + Wait + Sync>(
+    rt: &R,
+    source: &MemoryStore,
+    destination: ClosedStore,
+    roots: &[Key],
+    workers: u32,
+) -> (ClosedStore, Result<Report, CopyFault>) {
+    let options = by(workers);
+    copy_memory_by_workers(
+        rt,
+        rt.alloc(),
+        source,
+        destination,
+        roots,
+        &options,
+        &NoHooks,
+    )
+}
+
+/// The same of samples, with the answer as text.
+fn told_in_memory<R: AllocGlobal + Threads + Wait + Sync>(
+    rt: &R,
+    source: &MemoryStore,
+    destination: ClosedStore,
+    roots: &[Sample],
+    workers: u32,
+) -> Result<(ClosedStore, String), Fail> {
+    let roots = keys(rt.alloc(), roots)?;
+    let (destination, answer) = copied_in_memory(rt, source, destination, &roots, workers);
+    let told = line(rt.alloc(), &answer)?;
+    Ok((destination, told))
+}
+
+/// The same of a row.
+fn row_in_memory<R: AllocGlobal + Threads + Wait + Sync>(
+    rt: &R,
+    row: Row<'_>,
+    workers: u32,
+) -> Result<(ClosedStore, String), Fail> {
+    let source = memory(rt.alloc(), row.source)?;
+    let destination = closed(rt.alloc(), row.destination)?;
+    told_in_memory(rt, &source, destination, row.roots, workers)
+}
+
+/// What the row's copy is to tell and to leave.
+fn assert_row<R: AllocGlobal + Abort>(
+    rt: &R,
+    row: Row<'_>,
+    destination: &ClosedStore,
+    told: &str,
+) -> Result<(), Fail> {
+    assert_eq!(rt; told, row.told);
+    assert_holds(rt, destination, row.copied)
+}
+
+fn assert_copied_by<R: AllocGlobal + Threads + Wait + Sync + Abort>(
+    rt: &R,
+    row: Row<'_>,
+    workers: u32,
+) -> Result<(), Fail> {
+    let (destination, told) = copied_row(rt, row, workers)?;
+    assert_row(rt, row, &destination, told.as_str())
+}
+
+/// The row with one worker, with three and with 64.
+fn assert_copied<R: AllocGlobal + Threads + Wait + Sync + Abort>(
+    rt: &R,
+    row: Row<'_>,
+) -> Result<(), Fail> {
+    for workers in [1, 3, 64] {
+        assert_copied_by(rt, row, workers)?;
+    }
+    Ok(())
+}
+
+#[test]
+fn one_image(rt: HostRuntime) -> Result<(), Fail> {
+    assert_copied(
+        &rt,
+        Row {
+            source: &[Empty, Image0],
+            destination: &[],
+            roots: &[Image0],
+            told: "planned 2 pushed 2 skipped 0",
+            copied: &[Empty, Image0],
+        },
+    )
+}
+
+#[test]
+fn copy_again(rt: HostRuntime) -> Result<(), Fail> {
+    assert_copied(
+        &rt,
+        Row {
+            source: &[Empty, Image0],
+            destination: &[Empty, Image0],
+            roots: &[Image0],
+            told: "planned 0 pushed 0 skipped 1",
+            copied: &[Empty, Image0],
+        },
+    )
+}
+
+#[test]
+fn doubled_layer(rt: HostRuntime) -> Result<(), Fail> {
+    assert_copied(
+        &rt,
+        Row {
+            source: &[Empty, Foo, Image1],
+            destination: &[],
+            roots: &[Image1],
+            told: "planned 3 pushed 3 skipped 0",
+            copied: &[Empty, Foo, Image1],
+        },
+    )
+}
+
+/// An index of two images arrives whole with each number of workers; over 64 of them nothing is copied.
+#[test]
+fn two_images(rt: HostRuntime) -> Result<(), Fail> {
+    let all = [Empty, Foo, Bar, Image2, Image3, Index1];
+    let row = Row {
+        source: &all,
+        destination: &[],
+        roots: &[Index1],
+        told: "planned 6 pushed 6 skipped 0",
+        copied: &all,
+    };
+    for workers in 0..65 {
+        assert_copied_by(&rt, row, workers)?;
+    }
+    let refused = Row {
+        told: "85 BadWorkers",
+        copied: &[],
+        ..row
+    };
+    assert_copied_by(&rt, refused, 65)
+}
+
+/// The call between stores in memory is the same copy.
+#[test]
+fn two_images_in_memory(rt: HostRuntime) -> Result<(), Fail> {
+    let source = [Empty, Foo, Bar, Image2, Image3, Index1];
+    let row = Row {
+        source: &source,
+        destination: &[Bar],
+        roots: &[Image2, Bar, Image3],
+        told: "planned 4 pushed 4 skipped 1",
+        copied: &[Bar, Empty, Foo, Image2, Image3],
+    };
+    let (destination, told) = row_in_memory(&rt, row, 3)?;
+    assert_row(&rt, row, &destination, told.as_str())
+}
+
+/// One digest under two media types is two keys, and both come.
+#[test]
+fn two_media_types(rt: HostRuntime) -> Result<(), Fail> {
+    let all = [Empty, Image0, Image0AsLayer, Image4, Index2];
+    assert_copied(
+        &rt,
+        Row {
+            source: &all,
+            destination: &[],
+            roots: &[Index2],
+            told: "planned 5 pushed 5 skipped 0",
+            copied: &all,
+        },
+    )
+}
+
+#[test]
+fn missing_layer(rt: HostRuntime) -> Result<(), Fail> {
+    let foo = Foo.key(rt.alloc())?;
+    let told = format!(in rt.alloc(); "81 Plan 53 NotFound {foo}")?;
+    assert_copied(
+        &rt,
+        Row {
+            source: &[Empty, Image2],
+            destination: &[],
+            roots: &[Image2],
+            told: told.as_str(),
+            copied: &[],
+        },
+    )
+}
+
+#[test]
+fn held_above_a_hole(rt: HostRuntime) -> Result<(), Fail> {
+    assert_copied(
+        &rt,
+        Row {
+            source: &[Empty, Image2],
+            destination: &[Empty, Foo, Image2],
+            roots: &[Image2],
+            told: "planned 0 pushed 0 skipped 1",
+            copied: &[Empty, Foo, Image2],
+        },
+    )
+}

@@ -1,0 +1,147 @@
+use crate::tests::stores::{copied_samples_with, memory, put_closed};
+use oci_manifest::Key;
+use oci_pool::Hooks;
+use oci_store::ClosedStore;
+use std::alloc::Global;
+use std::sync::Wait;
+use std::sync::atomic::{AtomicU64, Ordering};
+use std::test::Fail;
+use std::thread::Threads;
+use worked_contents::Sample::{Bar, Empty, Foo, Image2, Image3, Index1};
+use worked_stores::{Device, DeviceStore};
+
+/// Hooks of which each call before a fetch raises a count, and looks until two have.
+#[derive(Drop)]
+struct MeetingHooks {
+    began: AtomicU64,
+    met: AtomicU64,
+}
+
+impl Hooks for MeetingHooks {
+    fn pre_copy(&self, _key: &Key) {
+        self.began.fetch_add(1, Ordering::SeqCst);
+        for _ in 0..1_000_000_000u64 {
+            if self.began.load(Ordering::SeqCst) >= 2 {
+                self.met.fetch_add(1, Ordering::SeqCst);
+                break;
+            }
+        }
+    }
+
+    fn post_copy(&self, _key: &Key) {}
+
+    fn skipped(&self, _key: &Key) {}
+}
+
+/// Copies two layers by two workers.
+fn copied_two<R: AllocGlobal + Threads + Wait + Sync>(
+    rt: &R,
+    hooks: &MeetingHooks,
+) -> Result<String, Fail> {
+    let source = memory(rt.alloc(), &[Foo, Bar])?;
+    let destination = ClosedStore::new(rt.alloc());
+    let (_, told) = copied_samples_with(rt, &source, destination, &[Foo, Bar], 2, hooks)?;
+    Ok(told)
+}
+
+/// Two workers are at work at once: each of two keys waits for the other to have begun.
+#[test]
+fn meeting(rt: HostRuntime) -> Result<(), Fail> {
+    let hooks = MeetingHooks {
+        began: AtomicU64::new(0),
+        met: AtomicU64::new(0),
+    };
+    let told = copied_two(&rt, &hooks)?;
+    assert_eq!(rt; told.as_str(), "planned 2 pushed 2 skipped 0");
+    assert_eq!(rt; hooks.met.load(Ordering::SeqCst), 2);
+    Ok(())
+}
+
+/// Hooks that count their calls, and those that come out of order.
+#[derive(Drop)]
+struct Counting<'d> {
+    device: &'d Device,
+    /// How many puts there were before the copy.
+    before: u64,
+    skipped: AtomicU64,
+    began: AtomicU64,
+    ended: AtomicU64,
+    /// Roots that were told as held once a key had begun, keys that began once so many were pushed, and keys that ended before so
+    /// many were pushed.
+    late: AtomicU64,
+}
+
+impl<'d> Counting<'d> {
+    fn new(device: &'d Device) -> Counting<'d> {
+        Counting {
+            device,
+            before: device.puts(),
+            skipped: AtomicU64::new(0),
+            began: AtomicU64::new(0),
+            ended: AtomicU64::new(0),
+            late: AtomicU64::new(0),
+        }
+    }
+
+    /// How many contents were pushed, or are being pushed.
+    fn pushed(&self) -> u64 {
+        self.device.puts().saturating_sub(self.before)
+    }
+}
+
+impl<'d> Hooks for Counting<'d> {
+    fn pre_copy(&self, _key: &Key) {
+        self.began.fetch_add(1, Ordering::SeqCst);
+        let pushed = self.pushed();
+        if self.began.load(Ordering::SeqCst) <= pushed {
+            self.late.fetch_add(1, Ordering::SeqCst);
+        }
+    }
+
+    fn post_copy(&self, _key: &Key) {
+        let ended = self.ended.fetch_add(1, Ordering::SeqCst);
+        if self.pushed() <= ended {
+            self.late.fetch_add(1, Ordering::SeqCst);
+        }
+    }
+
+    fn skipped(&self, _key: &Key) {
+        self.skipped.fetch_add(1, Ordering::SeqCst);
+        if self.began.load(Ordering::SeqCst) > 0 {
+            self.late.fetch_add(1, Ordering::SeqCst);
+        }
+    }
+}
+
+/// Copies two images by three workers into a store that has their layers.
+fn copied_images<R: AllocGlobal + Threads + Wait + Sync>(
+    rt: &R,
+    destination: DeviceStore<'_>,
+    hooks: &Counting<'_>,
+) -> Result<String, Fail> {
+    let source = memory(rt.alloc(), &[Empty, Foo, Bar, Image2, Image3, Index1])?;
+    let roots = [Foo, Index1, Bar, Foo];
+    let (_, told) = copied_samples_with(rt, &source, destination, &roots, 3, hooks)?;
+    Ok(told)
+}
+
+/// A store that has a config and two layers.
+fn layers<'d>(alloc: Global, device: &'d Device) -> Result<DeviceStore<'d>, Fail> {
+    put_closed(alloc, DeviceStore::new(alloc, device), &[Empty, Foo, Bar])
+}
+
+/// Each held root is told once and first; each key that is brought is told before it is pushed, and once it is.
+#[test]
+fn calls_of_hooks(rt: HostRuntime) -> Result<(), Fail> {
+    let device = Device::failing(None, None);
+    let destination = layers(rt.alloc(), &device)?;
+    let hooks = Counting::new(&device);
+    let told = copied_images(&rt, destination, &hooks)?;
+    assert_eq!(rt; told.as_str(), "planned 3 pushed 3 skipped 2");
+    assert_eq!(rt; hooks.skipped.load(Ordering::SeqCst), 2);
+    assert_eq!(rt; hooks.began.load(Ordering::SeqCst), 3);
+    assert_eq!(rt; hooks.pushed(), 3);
+    assert_eq!(rt; hooks.ended.load(Ordering::SeqCst), 3);
+    assert_eq!(rt; hooks.late.load(Ordering::SeqCst), 0);
+    Ok(())
+}
