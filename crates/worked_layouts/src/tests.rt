@@ -3,4 +3,6 @@ mod fuses;
 mod layouts;
 mod openings;
 mod pushes;
+mod referrers;
 mod round_trips;
+mod unreadable;
