@@ -1,6 +1,8 @@
 use crate::copy::CopyWords;
 use crate::fault::{Ending, ProgramFault};
+use crate::item::Algorithm;
 use crate::look::Look;
+use crate::mem::MemWords;
 use clap::error::ErrorKind;
 use clap::{ArgMatches, Error};
 use std::alloc::Global;
@@ -14,8 +16,8 @@ use crate::command::words::command;
 pub(crate) enum Request<'w> {
     /// The text that `--help` prints.
     Help(Error),
-    /// `mem` with its items, at least one, and how many workers copy, if it is not one thread.
-    Mem(Vec<&'w str>, Option<u32>),
+    /// `mem` with its items and flags.
+    Mem(MemWords<'w>),
     /// `copy` with its folders, references and flags.
     Copy(CopyWords<'w>),
     /// A look into the layout of a folder.
@@ -31,7 +33,7 @@ impl<'w> Request<'w> {
         };
         match matches.subcommand() {
             Some((name, matches)) => request_of(alloc, name, matches),
-            None => Ok(Request::Mem(Vec::new(alloc), None)),
+            None => Ok(Request::Mem(MemWords::none(alloc))),
         }
     }
 }
@@ -57,7 +59,7 @@ fn request_of<'w>(
         "resolve" => Ok(of_folder(matches, Look::Resolve(word(matches, "reference")))),
         "predecessors" => Ok(of_folder(matches, Look::Predecessors(word(matches, "reference")))),
         "verify" => Ok(of_folder(matches, Look::Verify)),
-        _ => mem_items(alloc, matches),
+        _ => Ok(Request::Mem(mem_words(alloc, matches)?)),
     }
 }
 
@@ -71,10 +73,23 @@ fn of_folder<'w>(matches: &ArgMatches<'w>, look: Look<'w>) -> Request<'w> {
     Request::Look(word(matches, "folder"), look)
 }
 
-fn mem_items<'w>(alloc: Global, matches: &ArgMatches<'w>) -> Result<Request<'w>, Ending> {
+fn mem_words<'w>(alloc: Global, matches: &ArgMatches<'w>) -> Result<MemWords<'w>, Ending> {
     let mut items = Vec::new(alloc);
     items.extend_from_slice(matches.get_strs("item").unwrap_or(&[]))?;
-    Ok(Request::Mem(items, matches.get_one("workers")))
+    Ok(MemWords {
+        items,
+        workers: matches.get_one("workers"),
+        algorithm: algorithm(matches),
+    })
+}
+
+/// How the digests of items are made.
+fn algorithm(matches: &ArgMatches<'_>) -> Algorithm {
+    if matches.get_flag("sha512") {
+        Algorithm::Sha512
+    } else {
+        Algorithm::Sha256
+    }
 }
 
 fn copy_words<'w>(matches: &ArgMatches<'w>) -> CopyWords<'w> {

@@ -1,4 +1,5 @@
 ghost use Rattle.std.specs.Prelude.{IfOk};
+ghost use Rattle.oci_digest.specs.Digest.{Verifies};
 ghost use Rattle.oci_store.specs.Content.{Matches};
 
 use crate::fault::ProgramFault;
@@ -10,6 +11,25 @@ use std::alloc::Global;
 use std::rt::Files;
 use std::{fs, io};
 
+/// How the digests of items are made.
+#[derive(Clone, Copy)]
+pub(crate) enum Algorithm {
+    Sha256,
+    Sha512,
+}
+
+impl Algorithm {
+    /// The digest of some bytes by this algorithm.
+    fn digest_of(self, bytes: &[u8]) -> Digest
+        ensures { Verifies result bytes.now }
+    {
+        match self {
+            Algorithm::Sha256 => Digest::of(bytes),
+            Algorithm::Sha512 => Digest::of_sha512(bytes),
+        }
+    }
+}
+
 /// A content and its key, from an item `TYPE=PATH`: the bytes of the file under their digest.
 pub(crate) struct Item {
     pub(crate) key: Key,
@@ -18,16 +38,27 @@ pub(crate) struct Item {
 
 impl Item {
     /// Cuts an item at its first `=`, and reads its file.
-    pub(crate) fn read<R: Files + AllocGlobal>(rt: &R, item: &str) -> Result<Item, ProgramFault> {
+    pub(crate) fn read<R: Files + AllocGlobal>(
+        rt: &R,
+        item: &str,
+        algorithm: Algorithm,
+    ) -> Result<Item, ProgramFault> {
         match item.split_once('=') {
-            Some((media_type, path)) => { Item::of(rt.alloc(), media_type, read_file(rt, path)?) }
+            Some((media_type, path)) => {
+                Item::of(rt.alloc(), media_type, read_file(rt, path)?, algorithm)
+            }
             None => Err(ProgramFault::BadItem(String::from_str(rt.alloc(), item)?)),
         }
     }
 
     /// The bytes under their digest. They are hashed once, for the key.
-    fn of(alloc: Global, media_type: &str, bytes: Vec<u8>) -> Result<Item, ProgramFault> {
-        let key = key_of(alloc, media_type, &bytes)?;
+    fn of(
+        alloc: Global,
+        media_type: &str,
+        bytes: Vec<u8>,
+        algorithm: Algorithm,
+    ) -> Result<Item, ProgramFault> {
+        let key = key_of(alloc, media_type, &bytes, algorithm)?;
         let content = Bytes::from_vec(bytes)?;
         let content = CheckedContent::of_matching(&key, content).map_err(ProgramFault::Push)?;
         Ok(Item { key, content })
@@ -35,11 +66,17 @@ impl Item {
 }
 
 /// The key of some bytes.
-fn key_of(alloc: Global, media_type: &str, bytes: &[u8]) -> Result<Key, ProgramFault>
+fn key_of(
+    alloc: Global,
+    media_type: &str,
+    bytes: &[u8],
+    algorithm: Algorithm,
+) -> Result<Key, ProgramFault>
     ensures { IfOk result (λ key. Matches key bytes.now) }
 {
     let media_type = String::from_str(alloc, media_type)?;
-    Key::new(media_type, Digest::of(bytes), bytes.len() as u64).map_err(ProgramFault::Key)
+    let digest = algorithm.digest_of(bytes);
+    Key::new(media_type, digest, bytes.len() as u64).map_err(ProgramFault::Key)
 }
 
 /// The bytes of a file.

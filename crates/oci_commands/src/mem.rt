@@ -1,5 +1,5 @@
 use crate::fault::{ProgramFault, output_fault};
-use crate::item::Item;
+use crate::item::{Algorithm, Item};
 use crate::lines::print_lines;
 use crate::outcome::Outcome;
 use oci_copy::{CopyFault, Options, Report, copy_memory, copy_memory_by_workers};
@@ -12,17 +12,38 @@ use std::rt::Files;
 use std::sync::Wait;
 use std::thread::Threads;
 
-/// `mem [--workers N] TYPE=PATH..`: pushes the items' files into a store in memory, copies from the last item's
+/// The words of `mem`.
+#[derive(Drop)]
+pub(crate) struct MemWords<'w> {
+    /// The items, at least one.
+    pub(crate) items: Vec<&'w str>,
+    /// How many workers copy; none where one thread does.
+    pub(crate) workers: Option<u32>,
+    /// How the digests of the items are made.
+    pub(crate) algorithm: Algorithm,
+}
+
+impl<'w> MemWords<'w> {
+    /// No items.
+    pub(crate) fn none(alloc: Global) -> MemWords<'w> {
+        MemWords {
+            items: Vec::new(alloc),
+            workers: None,
+            algorithm: Algorithm::Sha256,
+        }
+    }
+}
+
+/// `mem [--workers N] [--sha512] TYPE=PATH..`: pushes the items' files into a store in memory, copies from the last item's
 /// key into an empty one, and prints what arrived there, in key order, and the report.
 pub(crate) fn mem<R: Files + AllocGlobal + Threads + Wait + Sync, W: Write>(
     rt: &R,
-    items: &[&str],
-    workers: Option<u32>,
+    words: &MemWords<'_>,
     out: &mut W,
 ) -> Result<Outcome, ProgramFault> {
     let mut source = MemoryStore::new(rt.alloc());
-    let roots = push_items(rt, &mut source, items)?;
-    let (copied, report) = copy_roots(rt, &source, &roots, workers);
+    let roots = push_items(rt, &mut source, words)?;
+    let (copied, report) = copy_roots(rt, &source, &roots, words.workers);
     print_copied(rt.alloc(), copied.memory(), report, out)
 }
 
@@ -30,11 +51,11 @@ pub(crate) fn mem<R: Files + AllocGlobal + Threads + Wait + Sync, W: Write>(
 fn push_items<R: Files + AllocGlobal>(
     rt: &R,
     store: &mut MemoryStore,
-    items: &[&str],
+    words: &MemWords<'_>,
 ) -> Result<Vec<Key>, ProgramFault> {
     let mut last = Vec::new(rt.alloc());
-    for item in items {
-        let key = push_item(rt, store, item)?;
+    for item in &words.items {
+        let key = push_item(rt, store, item, words.algorithm)?;
         last.clear();
         last.push(key)?;
     }
@@ -46,8 +67,9 @@ fn push_item<R: Files + AllocGlobal>(
     rt: &R,
     store: &mut MemoryStore,
     item: &str,
+    algorithm: Algorithm,
 ) -> Result<Key, ProgramFault> {
-    let Item { key, content } = Item::read(rt, item)?;
+    let Item { key, content } = Item::read(rt, item, algorithm)?;
     match store.push_content(content) {
         Ok(_) => Ok(key),
         Err(fault) => Err(ProgramFault::Push(fault)),

@@ -51,7 +51,7 @@ where
 {
     match request {
         Request::Help(text) => end(print_help(text, out), out, err),
-        Request::Mem(items, workers) => end(mem(rt, items, *workers, out), out, err),
+        Request::Mem(words) => end(mem(rt, words, out), out, err),
         Request::Copy(words) => run_copy(rt, words, out, err),
         Request::Look(folder, look) => run_look(rt, folder, *look, out, err),
     }

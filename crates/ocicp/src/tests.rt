@@ -3,6 +3,7 @@
 //! `sessions` goes through a text of runs and compares; `contents` and `layouts` have the files; `broken` has writers and
 //! files that fail.
 
+mod algorithms;
 mod broken;
 mod contents;
 mod copy;

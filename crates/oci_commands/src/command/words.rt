@@ -188,7 +188,7 @@ fn verify_command<'w>(alloc: Global) -> Result<Command<'w>, AllocError> {
         .arg(folder(alloc))
 }
 
-/// `mem [--workers N] TYPE=PATH..`
+/// `mem [--workers N] [--sha512] TYPE=PATH..`
 fn mem_command<'w>(alloc: Global) -> Result<Command<'w>, AllocError> {
     let item = Arg::new(alloc, "item")
         .value_name("TYPE=PATH")
@@ -202,16 +202,21 @@ fn mem_command<'w>(alloc: Global) -> Result<Command<'w>, AllocError> {
         .value_name("N")
         .help("How many workers copy, at most 64; 0 stands for 3. Without it one thread copies")
         .value_parser(ValueParser::Unsigned(0, 64));
+    let sha512 = Arg::new(alloc, "sha512")
+        .long("sha512")
+        .help("Makes the digests of the files by SHA-512; without it they are made by SHA-256")
+        .action(ArgAction::SetTrue);
     Command::new(alloc, "mem")
         .about("Copies between two stores in memory, and lists what arrived")
         .long_about(
             "Copies between two stores in memory, and lists what arrived.\n\n\
-             Each file is put into the first store under its media type, its SHA-256 digest and its \
-             size. Then the content of the last item is copied into the second store, with every \
-             content that it reaches: the configuration and the layers of an image, the images of an \
-             index, the subject of a referrer. Prints the digest, the size and the media type of each \
-             content that arrived, in key order, and how many were planned, pushed and skipped.",
+             Each file is put into the first store under its media type, its digest and its size. Then \
+             the content of the last item is copied into the second store, with every content that it \
+             reaches: the configuration and the layers of an image, the images of an index, the subject of \
+             a referrer. Prints the digest, the size and the media type of each content that arrived, in \
+             key order, and how many were planned, pushed and skipped.",
         )
         .arg(workers)?
+        .arg(sha512)?
         .arg(item)
 }

@@ -1,4 +1,4 @@
-//! Contents, and texts in which they are named. Their digests were computed with `sha256sum`.
+//! Contents, and texts in which they are named. Their digests were computed with `sha256sum` and `sha512sum`.
 //!
 //! `<E>` stands for the line of a content's key, and `<E digest>`, `<E descriptor>`, `<E bytes>` and `<E file>` for its digest,
 //! its descriptor, its bytes, and the place of its blob in a layout.
@@ -17,10 +17,11 @@ const DOCKER: &str = "application/vnd.docker.distribution.manifest.v2+json";
 
 const LAYER: &str = "application/vnd.oci.image.layer.v1.tar";
 
-/// A content: its media type, the digits of its digest, and its bytes.
+/// A content: its media type, the algorithm and the digits of its digest, and its bytes.
 #[derive(Clone, Copy)]
 struct Sample {
     media_type: &'static str,
+    algorithm: &'static str,
     digits: &'static str,
     bytes: &'static str,
 }
@@ -28,6 +29,7 @@ struct Sample {
 /// The empty JSON object, which is the config of each image.
 const E: Sample = Sample {
     media_type: EMPTY,
+    algorithm: "sha256",
     digits: "44136fa355b3678a1146ad16f7e8649e94fb4fc21fe77e8310c060f61caaff8a",
     bytes: "{}",
 };
@@ -35,13 +37,23 @@ const E: Sample = Sample {
 /// A layer.
 const FOO: Sample = Sample {
     media_type: LAYER,
+    algorithm: "sha256",
     digits: "2c26b46b68ffc68ff99b453c1d30413413422d706483bfa0f98a5e886266e7ae",
+    bytes: "foo",
+};
+
+/// The same layer under its SHA-512 digest.
+const FOO512: Sample = Sample {
+    media_type: LAYER,
+    algorithm: "sha512",
+    digits: "f7fbba6e0636f890e56fbbf3283e524c6fa3204ae298382d624741d0dc6638326e282c41be5e4254d8820772c5518a2c5a8c0c7f7eda19594a7eb539453e1ed7",
     bytes: "foo",
 };
 
 /// An image without layers.
 const M0: Sample = Sample {
     media_type: IMAGE,
+    algorithm: "sha256",
     digits: "88028e7a699c392898fd180bf967edbcdb6227a9b7434a3ba0c9efff269e613f",
     bytes: r#"{"schemaVersion":2,"mediaType":"application/vnd.oci.image.manifest.v1+json","config":{"mediaType":"application/vnd.oci.empty.v1+json","digest":"sha256:44136fa355b3678a1146ad16f7e8649e94fb4fc21fe77e8310c060f61caaff8a","size":2},"layers":null}"#,
 };
@@ -49,13 +61,23 @@ const M0: Sample = Sample {
 /// An image with the layer `FOO`.
 const M2: Sample = Sample {
     media_type: IMAGE,
+    algorithm: "sha256",
     digits: "7e1df211bc4556d2a9db939a81721c52e5e53c59e3dfb45a57205a794dd412b7",
     bytes: r#"{"schemaVersion":2,"mediaType":"application/vnd.oci.image.manifest.v1+json","config":{"mediaType":"application/vnd.oci.empty.v1+json","digest":"sha256:44136fa355b3678a1146ad16f7e8649e94fb4fc21fe77e8310c060f61caaff8a","size":2},"layers":[{"mediaType":"application/vnd.oci.image.layer.v1.tar","digest":"sha256:2c26b46b68ffc68ff99b453c1d30413413422d706483bfa0f98a5e886266e7ae","size":3}]}"#,
+};
+
+/// An image with the layer `FOO512`.
+const M5: Sample = Sample {
+    media_type: IMAGE,
+    algorithm: "sha256",
+    digits: "09a5744821fe06e8c5f8224a7862972f42b7f22098b496e9bd3d4322ab9a6731",
+    bytes: r#"{"schemaVersion":2,"mediaType":"application/vnd.oci.image.manifest.v1+json","config":{"mediaType":"application/vnd.oci.empty.v1+json","digest":"sha256:44136fa355b3678a1146ad16f7e8649e94fb4fc21fe77e8310c060f61caaff8a","size":2},"layers":[{"mediaType":"application/vnd.oci.image.layer.v1.tar","digest":"sha512:f7fbba6e0636f890e56fbbf3283e524c6fa3204ae298382d624741d0dc6638326e282c41be5e4254d8820772c5518a2c5a8c0c7f7eda19594a7eb539453e1ed7","size":3}]}"#,
 };
 
 /// A referrer: an image whose `subject` is `M2`.
 const S: Sample = Sample {
     media_type: IMAGE,
+    algorithm: "sha256",
     digits: "bab9e997a499d9a01debd4356f23454db050baa4f31321e5a33e2e3aebd4f8eb",
     bytes: r#"{"schemaVersion":2,"mediaType":"application/vnd.oci.image.manifest.v1+json","config":{"mediaType":"application/vnd.oci.empty.v1+json","digest":"sha256:44136fa355b3678a1146ad16f7e8649e94fb4fc21fe77e8310c060f61caaff8a","size":2},"layers":[],"subject":{"mediaType":"application/vnd.oci.image.manifest.v1+json","digest":"sha256:7e1df211bc4556d2a9db939a81721c52e5e53c59e3dfb45a57205a794dd412b7","size":385}}"#,
 };
@@ -63,6 +85,7 @@ const S: Sample = Sample {
 /// An index of `M2`.
 const I3: Sample = Sample {
     media_type: INDEX,
+    algorithm: "sha256",
     digits: "d9c3e7cfc5f64c505159926d395e41fe249bf6d3a5bf23f53c6bdce34993a368",
     bytes: r#"{"schemaVersion":2,"manifests":[{"mediaType":"application/vnd.oci.image.manifest.v1+json","digest":"sha256:7e1df211bc4556d2a9db939a81721c52e5e53c59e3dfb45a57205a794dd412b7","size":385}]}"#,
 };
@@ -70,6 +93,7 @@ const I3: Sample = Sample {
 /// An index of `I3`.
 const I4: Sample = Sample {
     media_type: INDEX,
+    algorithm: "sha256",
     digits: "04b54ec52bc620cd8553bcdfd876570329efa5cc7ead029e4d6b03ae3f4b29dd",
     bytes: r#"{"schemaVersion":2,"manifests":[{"mediaType":"application/vnd.oci.image.index.v1+json","digest":"sha256:d9c3e7cfc5f64c505159926d395e41fe249bf6d3a5bf23f53c6bdce34993a368","size":186}]}"#,
 };
@@ -77,6 +101,7 @@ const I4: Sample = Sample {
 /// A Docker image whose only layer is not distributed.
 const DM: Sample = Sample {
     media_type: DOCKER,
+    algorithm: "sha256",
     digits: "655f703d5da3c83b1f8c9a8bb0cc7d4f6921a4a30b0b9d024a867ed937c03921",
     bytes: r#"{"schemaVersion":2,"config":{"mediaType":"application/vnd.oci.empty.v1+json","digest":"sha256:44136fa355b3678a1146ad16f7e8649e94fb4fc21fe77e8310c060f61caaff8a","size":2},"layers":[{"mediaType":"application/vnd.docker.image.rootfs.foreign.diff.tar.gzip","digest":"sha256:fcde2b2edba56bf408601fb721fe9b5c338d10ee429ea04fae5511b68fbf8fb9","size":3}]}"#,
 };
@@ -86,8 +111,10 @@ fn named(name: &str) -> Result<Sample, Fail> {
     match name {
         "E" => Ok(E),
         "FOO" => Ok(FOO),
+        "FOO512" => Ok(FOO512),
         "M0" => Ok(M0),
         "M2" => Ok(M2),
+        "M5" => Ok(M5),
         "S" => Ok(S),
         "I3" => Ok(I3),
         "I4" => Ok(I4),
@@ -125,16 +152,22 @@ fn push_named(told: &mut String, name: &str) -> Result<(), Fail> {
 }
 
 fn push_part_of(told: &mut String, sample: Sample, part: &str) -> Result<(), Fail> {
-    let (media_type, digits, size) = (sample.media_type, sample.digits, sample.bytes.len());
+    let Sample {
+        media_type,
+        algorithm,
+        digits,
+        bytes,
+    } = sample;
+    let size = bytes.len();
     match part {
-        "key" => write!(told, "sha256:{digits} {size} {media_type}")?,
-        "digest" => write!(told, "sha256:{digits}")?,
+        "key" => write!(told, "{algorithm}:{digits} {size} {media_type}")?,
+        "digest" => write!(told, "{algorithm}:{digits}")?,
         "descriptor" => write!(
             told,
-            "{{\"mediaType\":\"{media_type}\",\"digest\":\"sha256:{digits}\",\"size\":{size}}}"
+            "{{\"mediaType\":\"{media_type}\",\"digest\":\"{algorithm}:{digits}\",\"size\":{size}}}"
         )?,
-        "bytes" => told.push_str(sample.bytes)?,
-        "file" => write!(told, "blobs/sha256/{digits}")?,
+        "bytes" => told.push_str(bytes)?,
+        "file" => write!(told, "blobs/{algorithm}/{digits}")?,
         _ => return Err(Fail::from("a content has no such part")),
     }
     Ok(())

@@ -20,3 +20,14 @@ $ write @/R/<S file> <S bytes>
 $ write @/R/<I3 file> <I3 bytes>
 $ write @/R/<I4 file> <I4 bytes>
 "#;
+
+/// The layout `B`, with one layer under two digests: the image `M2` by the name `v2`, and `M5` by the name `v5`.
+pub(crate) const BOTH_ALGORITHMS: &str = r#"
+$ write @/B/oci-layout {"imageLayoutVersion":"1.0.0"}
+$ write @/B/index.json {"schemaVersion":2,"manifests":[{"mediaType":"application/vnd.oci.image.manifest.v1+json","digest":"<M2 digest>","size":385,"annotations":{"org.opencontainers.image.ref.name":"v2"}},{"mediaType":"application/vnd.oci.image.manifest.v1+json","digest":"<M5 digest>","size":449,"annotations":{"org.opencontainers.image.ref.name":"v5"}}]}
+$ write @/B/<E file> <E bytes>
+$ write @/B/<FOO file> <FOO bytes>
+$ write @/B/<FOO512 file> <FOO512 bytes>
+$ write @/B/<M2 file> <M2 bytes>
+$ write @/B/<M5 file> <M5 bytes>
+"#;

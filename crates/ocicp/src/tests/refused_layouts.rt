@@ -62,18 +62,23 @@ $ cat @/B/index.json
     assert_session(&rt, &folder, IMAGE, session)
 }
 
-/// A digest of another algorithm, and one that would leave the folder.
+/// A digest of another algorithm, one that is too short, and one that would leave the folder.
 #[test]
 fn bad_digests(rt: HostRuntime) -> Result<(), Fail> {
     let folder = folder(&rt, "bad_digests")?;
     let files = r#"
-$ write @/longer/oci-layout {"imageLayoutVersion":"1.0.0"}
-$ write @/longer/index.json {"manifests":[{"mediaType":"text/plain","digest":"sha512:cf83e1357eefb8bdf1542850d66d8007d620e4050b5715dc83f4a921d36ce9ce47d0d13c5d85f2b0ff8318d2877eec2f63b931bd47417a81a538327af927da3e","size":0}]}
+$ write @/unknown/oci-layout {"imageLayoutVersion":"1.0.0"}
+$ write @/unknown/index.json {"manifests":[{"mediaType":"text/plain","digest":"sha384:38b060a751ac96384cd9327eb1b1e36a21fdb71114be07434c0cc7bf63f6e1da274edebfe76f65fbd51ad2f14898b95b","size":0}]}
+$ write @/short/oci-layout {"imageLayoutVersion":"1.0.0"}
+$ write @/short/index.json {"manifests":[{"mediaType":"text/plain","digest":"sha512:e3b0c44298fc1c149afbf4c8996fb92427ae41e4649b934ca495991b7852b855","size":0}]}
 $ write @/outside/oci-layout {"imageLayoutVersion":"1.0.0"}
 $ write @/outside/index.json {"manifests":[{"mediaType":"text/plain","digest":"sha256:../../x","size":0}]}
 "#;
     let session = r"
-$ ocicp verify @/longer
+$ ocicp verify @/unknown
+! ocicp: 73 BadIndex 14 BadDescriptor manifests 0
+? 1
+$ ocicp verify @/short
 ! ocicp: 73 BadIndex 14 BadDescriptor manifests 0
 ? 1
 $ ocicp verify @/outside

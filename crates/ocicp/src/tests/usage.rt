@@ -60,6 +60,7 @@ fn help(rt: HostRuntime) -> Result<(), Fail> {
 --help:  verify
 mem --help:TYPE=PATH
 mem --help:--workers <N>
+mem --help:--sha512
 copy --help:<SRC> <SRCREF> <DST> [DSTREF]
 copy --help:--workers <N>
 copy --help:--progress
