@@ -1,3 +1,4 @@
+mod algorithms;
 mod changing;
 mod fuses;
 mod layouts;

@@ -1,0 +1,97 @@
+use crate::tests::layouts::{
+    assert_resolves, assert_text, created, fetch, memory, opened, push_sample, summary, text,
+};
+use oci_copy::{Options, copy_one};
+use oci_layout::{Dir, FsDir, Layout, MemDir};
+use oci_store::Dest;
+use std::process::Abort;
+use std::test::Fail;
+use worked_contents::Sample;
+use worked_contents::Sample::{Empty, Foo, FooBySha512, Image5};
+
+const FOO_DIGITS: &str = "2c26b46b68ffc68ff99b453c1d30413413422d706483bfa0f98a5e886266e7ae";
+
+/// By `sha512sum`.
+const FOO_SHA512_DIGITS: &str =
+    "f7fbba6e0636f890e56fbbf3283e524c6fa3204ae298382d624741d0dc6638326e282c41be5e4254d8820772c5518a2c5a8c0c7f7eda19594a7eb539453e1ed7";
+
+/// The file of `foo` in the folder of an algorithm has these bytes.
+fn assert_foo<R: AllocGlobal + Abort, D: Dir>(
+    rt: &R,
+    dir: &D,
+    algorithm: &str,
+    digits: &str,
+    want: &str,
+) -> Result<(), Fail> {
+    let path = format!(in rt.alloc(); "blobs/{algorithm}/{digits}")?;
+    assert_text(rt, text(rt.alloc(), dir, path.as_str())?, want)
+}
+
+/// The content is held, its bytes are those of `foo`, and its digest text stands for it.
+fn assert_held<R: AllocGlobal + Abort, D: Dir>(
+    rt: &R,
+    layout: &Layout<D>,
+    sample: Sample,
+    algorithm: &str,
+    digits: &str,
+) -> Result<(), Fail> {
+    assert_text(rt, fetch(rt.alloc(), layout, sample)?, "foo")?;
+    let digest = format!(in rt.alloc(); "{algorithm}:{digits}")?;
+    assert_resolves(rt, layout, digest.as_str(), sample)
+}
+
+/// A layer with a digest by SHA-512 is pushed into a new layout, which is saved and opened again.
+fn assert_sha512_blob<R: AllocGlobal + Abort, D: Dir + Drop>(rt: &R, dir: D) -> Result<(), Fail> {
+    let mut layout = created(rt.alloc(), dir)?;
+    assert_text(
+        rt,
+        push_sample(rt.alloc(), &mut layout, FooBySha512)?,
+        "place 0",
+    )?;
+    layout.save()?;
+    let dir = layout.into_dir();
+    assert_foo(rt, &dir, "sha512", FOO_SHA512_DIGITS, "foo")?;
+    assert_foo(rt, &dir, "sha256", FOO_SHA512_DIGITS, "none")?;
+    assert_foo(rt, &dir, "sha256", FOO_DIGITS, "none")?;
+    let layout = opened(rt.alloc(), dir)?;
+    assert_text(rt, summary(rt.alloc(), &layout)?, "held 1")?;
+    assert_held(rt, &layout, FooBySha512, "sha512", FOO_SHA512_DIGITS)
+}
+
+#[test]
+fn sha512_blob(rt: HostRuntime) -> Result<(), Fail> {
+    assert_sha512_blob(&rt, MemDir::new(rt.alloc()))
+}
+
+/// The same in a folder, in which the folder of the algorithm is made.
+#[test]
+fn sha512_blob_in_a_folder(rt: HostRuntime) -> Result<(), Fail> {
+    let _ = std::fs::remove_dir_all(&rt, "sha512_blob");
+    assert_sha512_blob(&rt, FsDir::new(&rt, "sha512_blob")?)
+}
+
+/// What a copy of an image with the layer by SHA-512, and of the same layer by SHA-256, leaves in a new layout that is saved.
+fn copied_by_two_algorithms<R: AllocGlobal + Abort>(rt: &R) -> Result<MemDir, Fail> {
+    let alloc = rt.alloc();
+    let source = memory(alloc, &[Empty, Foo, FooBySha512, Image5])?;
+    let roots = [Foo.key(alloc)?, Image5.key(alloc)?];
+    let layout = created(alloc, MemDir::new(alloc))?;
+    let (mut layout, answer) = copy_one(alloc, &source, layout, &roots, &Options::default());
+    let told = answer?.to_string(alloc)?;
+    assert_text(rt, told, "planned 4 pushed 4 skipped 0")?;
+    layout.save()?;
+    Ok(layout.into_dir())
+}
+
+/// One content under both algorithms is two keys with a file each, and stays so when it is opened again.
+#[test]
+fn foo_by_two_algorithms(rt: HostRuntime) -> Result<(), Fail> {
+    let dir = copied_by_two_algorithms(&rt)?;
+    assert_foo(&rt, &dir, "sha256", FOO_DIGITS, "foo")?;
+    assert_foo(&rt, &dir, "sha512", FOO_SHA512_DIGITS, "foo")?;
+    let layout = opened(rt.alloc(), dir)?;
+    assert_text(&rt, summary(rt.alloc(), &layout)?, "held 4")?;
+    assert!(rt; layout.missing()?.is_none());
+    assert_held(&rt, &layout, Foo, "sha256", FOO_DIGITS)?;
+    assert_held(&rt, &layout, FooBySha512, "sha512", FOO_SHA512_DIGITS)
+}
