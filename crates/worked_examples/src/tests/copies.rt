@@ -7,10 +7,10 @@ use std::alloc::Global;
 use std::process::Abort;
 use std::test::Fail;
 use worked_contents::Sample::{
-    Bar, DockerImage, Empty, Foo, Image0, Image0AsLayer, Image1, Image2, Image3, Image4, Index1,
-    Index2,
+    Bar, DockerImage, Empty, Foo, FooBySha512, Image0, Image0AsLayer, Image1, Image2, Image3,
+    Image4, Image5, Index1, Index2,
 };
-use worked_contents::{IMAGE, Sample};
+use worked_contents::{IMAGE, Sample, descriptor};
 
 /// A copy between stores in memory, and what comes of it.
 #[derive(Clone, Copy)]
@@ -160,6 +160,25 @@ fn doubled_layer(rt: HostRuntime) -> Result<(), Fail> {
             roots: &[Image1],
             told: "planned 3 pushed 3 skipped 0",
             copied: &[Empty, Foo, Image1],
+        },
+    )
+}
+
+/// A layer whose digest is by SHA-512 comes as any other.
+#[test]
+fn sha512_layer(rt: HostRuntime) -> Result<(), Fail> {
+    let layer = descriptor(rt.alloc(), &FooBySha512.key(rt.alloc())?)?;
+    assert_eq!(rt; layer.len(), 210);
+    assert_eq!(rt; Image5.key(rt.alloc())?.size(), 449);
+    let all = [Empty, FooBySha512, Image5];
+    assert_copied(
+        &rt,
+        Row {
+            source: &all,
+            destination: &[],
+            roots: &[Image5],
+            told: "planned 3 pushed 3 skipped 0",
+            copied: &all,
         },
     )
 }

@@ -6,7 +6,7 @@ use oci_store::MemoryStore;
 use std::alloc::Global;
 use std::process::Abort;
 use std::test::Fail;
-use worked_contents::Sample::{Empty, Image0};
+use worked_contents::Sample::{Empty, Foo, FooBySha512, Image0};
 use worked_contents::{EMPTY, IMAGE, Sample};
 
 fn key(alloc: Global, media_type: &str, digest: Digest, size: u64) -> Result<Key, Fail> {
@@ -33,6 +33,18 @@ fn push_twice(rt: HostRuntime) -> Result<(), Fail> {
     assert_push(&rt, &mut store, Empty, "place 0")?;
     assert_push(&rt, &mut store, Empty, "30 AlreadyExists")?;
     assert_holds(&rt, &store, &[Empty])
+}
+
+/// One content under its digests by two algorithms is two keys, and each is verified by its own.
+#[test]
+fn foo_by_two_algorithms(rt: HostRuntime) -> Result<(), Fail> {
+    let mut store = memory(rt.alloc(), &[])?;
+    assert_push(&rt, &mut store, Foo, "place 0")?;
+    assert_push(&rt, &mut store, FooBySha512, "place 1")?;
+    assert_holds(&rt, &store, &[Foo, FooBySha512])?;
+    let key = FooBySha512.key(rt.alloc())?;
+    let bytes = Bytes::from_vec(b"bar".to_vec(rt.alloc())?)?;
+    assert_refused(&rt, &key, bytes, "32 DigestMismatch")
 }
 
 /// Pushes under some key, and compares what is told; the store stays empty.
