@@ -1,0 +1,75 @@
+//! Pushes small contents into a store: `bench/live` times it, and refuses it memory.
+//!
+//! The words are the store (`closed`, `live`, or `looked` for a live store that two looks ask all the while) and how many contents
+//! are pushed. What is printed: how many pushes succeeded, the numbers of the first and the last refusal (0 for none), and how
+//! many entries the store holds, or a copy of it. Where memory is wanting for anything else, nothing is printed: status 3.
+#![tactic(auto)]
+
+mod looking;
+mod pushing;
+
+use oci_live::LiveStore;
+use oci_store::{ClosedStore, Dest};
+use pushing::{Content, Tally, contents, push_all};
+use std::alloc::Global;
+use std::process::ExitCode;
+use std::sync::Wait;
+use std::thread::Threads;
+use std::{env, io};
+
+fn main(rt: HostRuntime) -> io::Result<ExitCode> {
+    let words: Vec<String> = env::args(&rt)?.skip(1).collect(rt.alloc())?;
+    let Some(told) = run(rt, rt.alloc(), &words) else {
+        return Ok(ExitCode::from(3));
+    };
+    println!(rt; "{told}")?;
+    Ok(ExitCode::from(0))
+}
+
+/// Does what the words ask for. None where they cannot be read, or memory was wanting for what is pushed into.
+fn run<R: Threads + Wait + Send + Sync + Copy + Drop>(
+    rt: R,
+    alloc: Global,
+    words: &[String],
+) -> Option<Tally> {
+    let store = words.first()?;
+    let count = words.get(1)?.as_str().parse().ok()?;
+    let contents = contents(alloc, count).ok()?;
+    match store.as_str() {
+        "closed" => Some(closed(alloc, contents)),
+        "live" => live(rt, alloc, contents),
+        "looked" => looked(rt, alloc, contents),
+        _ => None,
+    }
+}
+
+fn closed(alloc: Global, contents: Vec<Content>) -> Tally {
+    let mut store = ClosedStore::new(alloc);
+    let tally = push_all(&mut store, contents);
+    tally.held(store.count())
+}
+
+fn opened<R: Wait + Drop>(rt: R, alloc: Global) -> Option<LiveStore<R>> {
+    match LiveStore::open(rt, alloc, ClosedStore::new(alloc)) {
+        Ok(live) => Some(live),
+        Err(_) => None,
+    }
+}
+
+fn live<R: Wait + Drop>(rt: R, alloc: Global, contents: Vec<Content>) -> Option<Tally> {
+    let mut live = opened(rt, alloc)?;
+    let tally = push_all(&mut live, contents);
+    let out = live.copy_out().ok()?;
+    Some(tally.held(out.memory().len()))
+}
+
+fn looked<R: Threads + Wait + Send + Sync + Copy + Drop>(
+    rt: R,
+    alloc: Global,
+    contents: Vec<Content>,
+) -> Option<Tally> {
+    let mut live = opened(rt, alloc)?;
+    let looks = (live.look().ok()?, live.look().ok()?);
+    let tally = looking::push_all_looked_at(&rt, &mut live, looks, contents);
+    Some(tally.held(live.count()))
+}

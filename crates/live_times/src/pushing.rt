@@ -1,0 +1,78 @@
+use bytes::Bytes;
+use oci_digest::Digest;
+use oci_manifest::Key;
+use oci_store::Dest;
+use std::alloc::{AllocError, Global};
+use std::fmt;
+
+/// A content and its key.
+#[derive(Drop)]
+pub(crate) struct Content {
+    pub key: Key,
+    bytes: Bytes,
+}
+
+/// So many small contents, each other than the others.
+pub(crate) fn contents(alloc: Global, count: u64) -> Result<Vec<Content>, AllocError> {
+    let mut contents = Vec::new(alloc);
+    for number in 0..count {
+        contents.push(numbered(alloc, number)?)?;
+    }
+    Ok(contents)
+}
+
+/// A content of eight bytes.
+fn numbered(alloc: Global, number: u64) -> Result<Content, AllocError> {
+    let bytes = Bytes::copy_from_slice(alloc, &number.to_le_bytes())?;
+    let media_type = String::from_str(alloc, "text/plain")?;
+    let Ok(key) = Key::new(media_type, Digest::of(bytes.as_slice()), 8) else {
+        return Err(AllocError);
+    };
+    Ok(Content { key, bytes })
+}
+
+/// What came of some pushes.
+#[derive(Drop)]
+pub(crate) struct Tally {
+    came: u64,
+    first_refusal: u8,
+    last_refusal: u8,
+    held: usize,
+}
+
+impl Tally {
+    /// The same, with how many entries there are.
+    pub fn held(self, held: usize) -> Tally {
+        Tally { held, ..self }
+    }
+}
+
+impl fmt::Display for Tally {
+    fn fmt<W: fmt::Write>(&self, f: &mut fmt::Formatter<W>) -> fmt::Result {
+        let (came, held) = (self.came, self.held);
+        let (first, last) = (self.first_refusal, self.last_refusal);
+        write!(f, "came {came} refused {first} {last} held {held}")
+    }
+}
+
+/// Pushes all contents.
+pub(crate) fn push_all<D: Dest>(store: &mut D, contents: Vec<Content>) -> Tally {
+    let mut tally = Tally {
+        came: 0,
+        first_refusal: 0,
+        last_refusal: 0,
+        held: 0,
+    };
+    for Content { key, bytes } in contents {
+        match store.push_closed(&key, bytes) {
+            Ok(_) => tally.came = tally.came.wrapping_add(1),
+            Err(fault) => {
+                tally.last_refusal = fault.number();
+                if tally.first_refusal == 0 {
+                    tally.first_refusal = fault.number();
+                }
+            }
+        }
+    }
+    tally
+}
