@@ -3,6 +3,7 @@ use crate::tests::layouts::{IMAGE, REFERRERS};
 use crate::tests::sessions::{assert_runs, assert_session, folder, transcript};
 use std::alloc::Global;
 use std::fs;
+use std::process::Abort;
 use std::test::Fail;
 
 /// A content is told once it is there, after what it lists; of what is there already only what was asked for is told.
@@ -36,6 +37,14 @@ fn sorted(alloc: Global, text: &str) -> Result<Vec<&str>, Fail> {
     Ok(lines)
 }
 
+/// The texts have the same lines, in some order.
+fn assert_same_lines<R: AllocGlobal + Abort>(rt: &R, told: &str, wanted: &str) -> Result<(), Fail> {
+    let lines = sorted(rt.alloc(), told)?;
+    let wanted = sorted(rt.alloc(), wanted)?;
+    assert!(rt; lines == wanted, "{told}");
+    Ok(())
+}
+
 /// By workers the lines come in some order, and each is whole.
 #[test]
 fn progress_by_workers(rt: HostRuntime) -> Result<(), Fail> {
@@ -53,11 +62,8 @@ planned 6 pushed 6 skipped 0
     assert_runs(&rt, &folder, REFERRERS)?;
     let words = filled(rt.alloc(), &folder, words)?;
     let wanted = filled(rt.alloc(), &folder, wanted)?;
-    let told = transcript(&rt, &words)?;
-    assert!(&rt;
-        sorted(rt.alloc(), &told)? == sorted(rt.alloc(), &wanted)?,
-        "{told}"
-    );
-    fs::remove_dir_all(&rt, &folder)?;
+    let told = transcript(&rt, words.as_str())?;
+    assert_same_lines(&rt, told.as_str(), wanted.as_str())?;
+    fs::remove_dir_all(&rt, folder.as_str())?;
     Ok(())
 }
