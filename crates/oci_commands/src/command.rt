@@ -1,10 +1,10 @@
 use crate::copy::CopyWords;
-use crate::fault::{Ending, ProgramFault};
 use crate::item::Algorithm;
 use crate::look::Look;
 use crate::mem::MemWords;
 use clap::error::ErrorKind;
 use clap::{ArgMatches, Error};
+use oci_endings::{Ending, ProgramFault};
 use std::alloc::Global;
 
 mod words;

@@ -1,8 +1,8 @@
-use crate::fault::{ProgramFault, output_fault};
 use crate::opened::{opened, opened_or_made};
-use crate::outcome::Outcome;
+use crate::output::output_fault;
 use crate::progress::Progress;
 use oci_copy::{CopyFault, Options, Report, extended_copy};
+use oci_endings::{Outcome, ProgramFault};
 use oci_layout::{Dir, Layout};
 use oci_manifest::Key;
 use oci_pool::{Hooks, NoHooks};

@@ -1,8 +1,8 @@
 use crate::copy::CopyWords;
-use crate::fault::{ProgramFault, output_fault};
 use crate::opened::{opened, opened_if_there};
-use crate::outcome::Outcome;
+use crate::output::output_fault;
 use oci_copy::CopyFault;
+use oci_endings::{Outcome, ProgramFault};
 use oci_layout::Dir;
 use oci_manifest::Key;
 use oci_plan::{Plan, PlanFault, climb, gather};

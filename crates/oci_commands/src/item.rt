@@ -2,9 +2,9 @@ ghost use Rattle.std.specs.Prelude.{IfOk};
 ghost use Rattle.oci_digest.specs.Digest.{Verifies};
 ghost use Rattle.oci_store.specs.Content.{Matches};
 
-use crate::fault::ProgramFault;
 use bytes::Bytes;
 use oci_digest::Digest;
+use oci_endings::ProgramFault;
 use oci_manifest::Key;
 use oci_store::CheckedContent;
 use std::alloc::Global;

@@ -7,13 +7,12 @@
 mod command;
 mod copy;
 mod dry_run;
-mod fault;
 mod item;
 mod lines;
 mod look;
 mod mem;
 mod opened;
-mod outcome;
+mod output;
 mod predecessors;
 mod process;
 mod progress;

@@ -1,4 +1,5 @@
-use crate::fault::{ProgramFault, output_fault};
+use crate::output::output_fault;
+use oci_endings::ProgramFault;
 use std::fmt::Display;
 use std::io::Write;
 

@@ -1,10 +1,9 @@
-use crate::fault::ProgramFault;
 use crate::opened::opened;
-use crate::outcome::Outcome;
 use crate::predecessors::predecessors;
 use crate::resolve::resolve;
 use crate::tags::tags;
 use crate::verify::verify;
+use oci_endings::{Outcome, ProgramFault};
 use oci_layout::{Dir, Layout};
 use std::alloc::Global;
 use std::io::Write;

@@ -1,4 +1,4 @@
-use crate::fault::ProgramFault;
+use oci_endings::ProgramFault;
 use oci_layout::{Dir, Layout, LayoutFault};
 use std::alloc::Global;
 

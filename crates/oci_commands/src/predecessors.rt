@@ -1,6 +1,5 @@
-use crate::fault::ProgramFault;
 use crate::lines::print_lines;
-use crate::outcome::Outcome;
+use oci_endings::{Outcome, ProgramFault};
 use oci_store::{GraphSource, Tagger};
 use std::io::Write;
 

@@ -1,5 +1,6 @@
-use crate::fault::{Ending, ProgramFault, output_fault};
+use crate::output::output_fault;
 use crate::run_words;
+use oci_endings::{Ending, ProgramFault};
 use std::io::{BufWriter, Write};
 use std::rt::{Env, Files};
 use std::sync::Wait;

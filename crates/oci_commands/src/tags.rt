@@ -1,5 +1,5 @@
-use crate::fault::{ProgramFault, output_fault};
-use crate::outcome::Outcome;
+use crate::output::output_fault;
+use oci_endings::{Outcome, ProgramFault};
 use oci_layout::{Dir, Layout};
 use std::io::Write;
 

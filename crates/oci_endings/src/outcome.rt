@@ -1,9 +1,9 @@
 ghost use Rattle.std.specs.Prelude.{◌≡◌};
-ghost use Rattle.oci_commands.specs.Status.{status_of_done};
+ghost use Rattle.oci_endings.specs.Status.{both, status_of_done};
 
 /// How a run ends that did what was asked for.
 #[derive(Clone, Copy)]
-pub(crate) enum Outcome {
+pub enum Outcome {
     /// Nothing is wrong.
     Good,
     /// What is wrong is on the output.
@@ -12,7 +12,9 @@ pub(crate) enum Outcome {
 
 impl Outcome {
     /// Good where both are.
-    pub(crate) fn and(self, other: Outcome) -> Outcome {
+    pub fn and(self, other: Outcome) -> Outcome
+        ensures { result ≡ both self other }
+    {
         match self {
             Outcome::Good => other,
             Outcome::Faulty => Outcome::Faulty,
@@ -20,7 +22,7 @@ impl Outcome {
     }
 
     /// The status of the run: 0 for `Good`, and otherwise 1.
-    pub(crate) fn status(self) -> u8
+    pub fn status(self) -> u8
         ensures { result ≡ status_of_done self }
     {
         match self {

@@ -14,12 +14,12 @@ use Rattle.oci_store.specs.declared.fault.PushFault.{PushFault}
 use Rattle.oci_store.specs.declared.fault.PushFault.TheVariants as push
 use Rattle.oci_store.specs.declared.fault.RefFault.{RefFault}
 use Rattle.oci_store.specs.declared.fault.RefFault.TheVariants as reference
-use Rattle.oci_commands.specs.declared.outcome.Outcome.{Outcome}
-use Rattle.oci_commands.specs.declared.outcome.Outcome.TheVariants as outcome
-use Rattle.oci_commands.specs.declared.fault.Ending.{Ending}
-use Rattle.oci_commands.specs.declared.fault.Ending.TheVariants as ending
-use Rattle.oci_commands.specs.declared.fault.ProgramFault.{ProgramFault}
-use Rattle.oci_commands.specs.declared.fault.ProgramFault.TheVariants as fault
+use Rattle.oci_endings.specs.declared.outcome.Outcome.{Outcome}
+use Rattle.oci_endings.specs.declared.outcome.Outcome.TheVariants as outcome
+use Rattle.oci_endings.specs.declared.fault.Ending.{Ending}
+use Rattle.oci_endings.specs.declared.fault.Ending.TheVariants as ending
+use Rattle.oci_endings.specs.declared.fault.ProgramFault.{ProgramFault}
+use Rattle.oci_endings.specs.declared.fault.ProgramFault.TheVariants as fault
 
 -- whether a refused push is want of memory
 abbrev pub is_push_memory : PushFault → Bool
@@ -66,6 +66,11 @@ status_of (ending.Fault e) = if is_memory e then 3 else 1
 abbrev pub status_of_done : Outcome → ℕ
 status_of_done outcome.Good = 0
 status_of_done outcome.Faulty = 1
+
+-- good where both are
+abbrev pub both : Outcome → Outcome → Outcome
+both outcome.Good b = b
+both outcome.Faulty b = outcome.Faulty
 
 -- the number that a fault's printed text begins with: of a fault from below its own, and of want of memory in the program none
 abbrev pub program_number : ProgramFault → Option ℕ

@@ -1,7 +1,7 @@
 ghost use Rattle.std.specs.Prelude.{◌≡◌, ◌↔◌, IsTrue};
 ghost use Rattle.std.specs.IoError.{error_kind};
 ghost use Rattle.std.specs.declared.io.ErrorKind.TheVariants.{OutOfMemory};
-ghost use Rattle.oci_commands.specs.Status.{is_memory, program_number, status_of};
+ghost use Rattle.oci_endings.specs.Status.{is_memory, program_number, status_of};
 
 use oci_copy::CopyFault;
 use oci_digest::NoMemory;
@@ -49,6 +49,16 @@ pub enum ProgramFault {
 }
 
 impl ProgramFault {
+    /// What a writer's error means for the run: want of memory where its kind says so, and otherwise `Output`.
+    pub fn of_output(error: io::Error) -> ProgramFault
+        ensures { IsTrue (is_memory result) ↔ (error_kind error ≡ OutOfMemory) }
+    {
+        match error.kind() {
+            io::ErrorKind::OutOfMemory => ProgramFault::Memory,
+            _ => ProgramFault::Output,
+        }
+    }
+
     /// Whether want of memory is behind it.
     pub fn is_memory(&self) -> bool
         ensures { result ≡ is_memory self.now }
@@ -99,16 +109,6 @@ impl From<NoMemory> for ProgramFault {
 impl<T: Drop> From<AllocFailed<T>> for ProgramFault {
     fn from(_refused: AllocFailed<T>) -> ProgramFault {
         ProgramFault::Memory
-    }
-}
-
-/// What a writer's error means for the run: want of memory where its kind says so, and otherwise `Output`.
-pub(crate) fn output_fault(error: io::Error) -> ProgramFault
-    ensures { IsTrue (is_memory result) ↔ (error_kind error ≡ OutOfMemory) }
-{
-    match error.kind() {
-        io::ErrorKind::OutOfMemory => ProgramFault::Memory,
-        _ => ProgramFault::Output,
     }
 }
 

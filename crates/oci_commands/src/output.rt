@@ -1,0 +1,7 @@
+use oci_endings::ProgramFault;
+use std::io;
+
+/// What a writer's error means for the run.
+pub(crate) fn output_fault(error: io::Error) -> ProgramFault {
+    ProgramFault::of_output(error)
+}
