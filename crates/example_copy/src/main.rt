@@ -3,7 +3,6 @@
 
 ghost use Rattle.std.specs.Prelude.{◌≡◌, length, IfOk};
 ghost use Rattle.oci_digest.specs.Digest.{digest_of};
-ghost use Rattle.oci_manifest.specs.Descriptor.{Descriptor};
 
 use anyhow::Error;
 use bytes::Bytes;

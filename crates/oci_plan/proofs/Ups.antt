@@ -1,9 +1,7 @@
 -- The keys from which a path leads to a key, in their order, are one list.
-use Rattle.std.proofs.Common.{◌≡◌, true, List, [], ◌∷◌, inl, inr, refl, sym, ap, subst, ◌∙◌}
-use Rattle.std.specs.Prelude.{Contains, ◌↔◌}
+use Rattle.std.proofs.Common.{◌≡◌, true, [], ◌∷◌, inl, inr, refl, sym, ap, subst, ◌∙◌}
 use Rattle.std.specs.List.Sorted.{IsStrictlySortedBy}
 use Rattle.std.specs.Ordering.{ordering_reverse}
-use Rattle.std.specs.declared.cmp.Ordering.{Ordering}
 use Rattle.std.specs.declared.cmp.Ordering.TheVariants.{Less}
 use Rattle.std.proofs.lemmas.Bool.{or_cases, or_left, or_right}
 use Rattle.std.proofs.lemmas.List.Elements.{All-contains}
@@ -11,9 +9,8 @@ use Rattle.std.proofs.lemmas.Map.Keys.{sorted_tail}
 use Rattle.std.proofs.lemmas.Map.Views.{All-after_first}
 use Rattle.oci_manifest.specs.Descriptor.{Descriptor, same_key, key_cmp, is_among}
 use Rattle.oci_manifest.proofs.Keys.{Decides-same_key}
-use Rattle.oci_store.specs.Graph.{Node}
 use Rattle.oci_store.proofs.KeyOrder.{key_cmp_total}
-use Rattle.oci_plan.specs.Up.{IsUp, UpIsOneList}
+use Rattle.oci_plan.specs.Up.{UpIsOneList}
 use Rattle.oci_store.proofs.Membership.{Keys, Contains-from_among, among_from_Contains}
 
 -- of two keys at most one is below the other

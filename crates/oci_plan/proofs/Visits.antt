@@ -1,5 +1,5 @@
 -- Visiting lists of a source, and what lies outside.
-use Rattle.std.proofs.Common.{◌≡◌, true, false, not, inl, inr, List, [], ◌∷◌, ◌++◌, Option, Some, None, refl, sym, ap, ◌∙◌}
+use Rattle.std.proofs.Common.{◌≡◌, true, false, not, inl, inr, List, [], Option, Some, None, refl, sym, ap, ◌∙◌}
 use Rattle.std.specs.Prelude.{unwrap_or}
 use Rattle.std.specs.List.{filter, flat_map, All}
 use Rattle.std.proofs.lemmas.Bool.{and_parts, not-true}

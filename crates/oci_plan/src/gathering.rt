@@ -1,6 +1,6 @@
-ghost use Rattle.std.specs.Prelude.{◌≡◌, ◌↔◌, ◌⊎◌, true, false, length, map, filter, Some, Contains, slice_get, IfOk, IfErr};
-ghost use Rattle.std.specs.List.{All, IsDistinct};
-ghost use Rattle.oci_manifest.specs.Descriptor.{Descriptor, same_key};
+ghost use Rattle.std.specs.Prelude.{◌≡◌, ◌↔◌, ◌⊎◌, true, false, filter, Contains, IfOk, IfErr};
+ghost use Rattle.std.specs.List.{All};
+ghost use Rattle.oci_manifest.specs.Descriptor.{Descriptor};
 ghost use Rattle.oci_manifest.specs.Manifest.{first_places};
 ghost use Rattle.oci_store.specs.Keyed.{has_key, HasAll};
 ghost use Rattle.oci_store.specs.Graph.{nodes_of};

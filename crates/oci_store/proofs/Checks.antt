@@ -1,14 +1,13 @@
 -- What the checks of a push give of content that was looked at.
-use Rattle.std.proofs.Common.{◌≡◌, ℕ, true, false, Bool, ◌==◌, not, cond, List, length, Option, Some, None, Result, Ok, Err, refl, ap, ◌∙◌}
-use Rattle.std.specs.Prelude.{IfErr}
+use Rattle.std.proofs.Common.{◌≡◌, ℕ, true, false, ◌==◌, List, length, Result, Ok, Err, refl, ap, ◌∙◌}
 use Rattle.std.proofs.lemmas.Bool.{eq-eqb}
 use Rattle.oci_digest.specs.Digest.{verifies}
 use Rattle.oci_digest.proofs.DigestLemmas.{Decides-verifies}
 use Rattle.oci_manifest.specs.Descriptor.{Descriptor}
-use Rattle.oci_store.specs.Content.{succ_of, IsChecked}
+use Rattle.oci_store.specs.Content.{IsChecked}
 use Rattle.oci_store.specs.Graph.{Node}
 use Rattle.oci_store.specs.Keyed.{has_key, first_missing}
-use Rattle.oci_store.specs.Push.{Refusal, already_exists, read_check, content_check, push_check, held_check, successors_check, closed_check, Refused, IsPlain}
+use Rattle.oci_store.specs.Push.{Refusal, already_exists, content_check, push_check, held_check, successors_check, closed_check, Refused, IsPlain}
 use Rattle.oci_store.specs.declared.fault.PushFault.{PushFault}
 use Rattle.oci_store.specs.declared.fault.PushFault.TheVariants as fault
 

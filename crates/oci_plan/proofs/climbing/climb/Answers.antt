@@ -1,4 +1,4 @@
-use Rattle.std.proofs.Common.{◌≡◌, ℕ, List, inl, inr, subst, arith}
+use Rattle.std.proofs.Common.{ℕ, List, inl, inr, subst, arith}
 use Rattle.std.specs.Prelude.{Contains, ◌↔◌}
 use Rattle.oci_manifest.specs.Descriptor.{Descriptor}
 use Rattle.oci_plan.specs.Climb.{IsClimbed}

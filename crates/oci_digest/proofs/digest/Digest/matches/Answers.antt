@@ -1,6 +1,6 @@
 use Rattle.std.proofs.Common.{◌≡◌, ◌↔◌, true}
 use Rattle.std.proofs.lemmas.Bool.Decides.{same_from_decides}
-use Rattle.oci_digest.specs.Digest.{Verifies, verifies}
+use Rattle.oci_digest.specs.Digest.{Verifies}
 use Rattle.oci_digest.specs.declared.hash.Hash.TheVariants as code
 use Rattle.oci_digest.proofs.DigestLemmas.{Decides-verifies, verifies_as_hash}
 use Rattle.oci_digest.proofs.digest.Digest.matches.Goals as goal

@@ -1,4 +1,4 @@
-use Rattle.std.proofs.Common.{ap, ◌∙◌}
+use Rattle.std.proofs.Common.{◌∙◌}
 use Rattle.std.proofs.lemmas.Result.{err_from_is_err_and}
 use Rattle.worked_stores.specs.Files.{Changes}
 use Rattle.worked_stores.proofs.Files.{written-put, written-pushed, written-sound}
