@@ -1,5 +1,5 @@
 -- Why a copy is refused where neither store fails.
-use Rattle.std.proofs.Common.{◌≡◌, ℕ, inl, inr, false, List, Some, None, refl, sym, ◌∙◌, arith}
+use Rattle.std.proofs.Common.{◌≡◌, ℕ, inl, inr, List, Some, None, refl, sym, ◌∙◌, arith}
 use Rattle.std.specs.Prelude.{IsOk}
 use Rattle.std.proofs.lemmas.Bool.{false≢true}
 use Rattle.oci_manifest.specs.Descriptor.{Descriptor}

@@ -23,6 +23,10 @@ pub record IsUnfailing (source opening now : State) : Type 0 where
   pub takes : opening.is_halted → ⊥
   pub no_failures : now.failures ≡ 0
 
+-- neither store fails, whatever the destination has become
+abbrev pub NeitherFails : {X : Type 0} → (X → State) → State → State → Type 0
+NeitherFails {X} state source opening = (store : X) → IsUnfailing source opening (state store)
+
 -- why there is no plan: the first visited key that is at fault is not there or too large; or a cycle is outside and every key
 -- outside is sound; or too many keys are outside and those visited so far are sound
 abbrev pub NotPlanned : List Entry → ℕ → List Node → List Descriptor → PlanFault → Type 0

@@ -6,9 +6,10 @@ ghost use Rattle.oci_copy.specs.Copy.{IsCopy, OnlyGrows};
 ghost use Rattle.oci_copy.specs.Extended.{OfUp, AreRootsOfReference, RefusedExtended};
 ghost use Rattle.oci_copy.specs.Fault.{IsEarly};
 ghost use Rattle.oci_copy.specs.Options.{limit_of};
+ghost use Rattle.oci_copy.specs.Plain.{NeitherFails};
 ghost use Rattle.oci_copy.specs.Report.{IsReport};
 ghost use Rattle.oci_copy.specs.Tagged.{name_of, ResolvesIn, RefusedByReference};
-ghost use Rattle.oci_copy.specs.Work.{CanFail, IsRefusalToWorkers};
+ghost use Rattle.oci_copy.specs.Work.{CanFail, IsRefusalToWorkers, RefusedForPlanOrWorkers};
 
 use crate::by_reference::{resolve_root, tag_copied};
 use crate::extended_graph::extended_copy_graph;
@@ -61,6 +62,10 @@ pub fn extended_copy<
         (λ root. RefusedExtended (A.state source.now) root depth
         (λ roots. IsRefusalToWorkers (CanFail D.state (D.state destination)) (limit_of options.now)
         (A.state source.now) (D.state destination) roots options.now.workers))) }
+    ensures plain { IfErr result.1 (λ fault. NeitherFails D.state (A.state source.now) (D.state destination)
+        → RefusedByReference (A.state source.now) source_reference.now options.now.workers
+        (λ root. RefusedExtended (A.state source.now) root depth
+        (λ roots. RefusedForPlanOrWorkers (A.state source.now).entries (limit_of options.now) (D.state destination).nodes roots options.now.workers)) fault) }
     ensures unchanged { IfErr result.1 (λ fault. IsEarly fault → result.0 ≡ destination) }
 {
     let root = match resolve_root(source, source_reference) {

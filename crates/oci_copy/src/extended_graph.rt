@@ -5,7 +5,7 @@ ghost use Rattle.oci_copy.specs.Copy.{IsCopy, OnlyGrows};
 ghost use Rattle.oci_copy.specs.Extended.{OfUp, AreRootsOf, RefusedExtended};
 ghost use Rattle.oci_copy.specs.Fault.{IsEarly};
 ghost use Rattle.oci_copy.specs.Options.{limit_of};
-ghost use Rattle.oci_copy.specs.Plain.{IsUnfailing};
+ghost use Rattle.oci_copy.specs.Plain.{NeitherFails};
 ghost use Rattle.oci_copy.specs.Report.{IsReport};
 ghost use Rattle.oci_copy.specs.Work.{CanFail, IsRefusalToWorkers, RefusedForPlanOrWorkers};
 
@@ -60,7 +60,7 @@ pub fn extended_copy_graph<
     ensures refused { IfErr result.1 (RefusedExtended (A.state source.now) key.now depth
         (λ roots. IsRefusalToWorkers (CanFail D.state (D.state destination)) (limit_of options.now)
         (A.state source.now) (D.state destination) roots options.now.workers)) }
-    ensures plain { IfErr result.1 (λ fault. ((store : D) → IsUnfailing (A.state source.now) (D.state destination) (D.state store))
+    ensures plain { IfErr result.1 (λ fault. NeitherFails D.state (A.state source.now) (D.state destination)
         → RefusedExtended (A.state source.now) key.now depth
         (λ roots. RefusedForPlanOrWorkers (A.state source.now).entries (limit_of options.now) (D.state destination).nodes roots options.now.workers) fault) }
     ensures unchanged { IfErr result.1 (λ fault. IsEarly fault → result.0 ≡ destination) }

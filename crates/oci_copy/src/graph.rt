@@ -2,7 +2,7 @@ ghost use Rattle.std.specs.Prelude.{◌≡◌, ◌↔◌, ◌<◌, OnOk, IfOk, I
 ghost use Rattle.oci_copy.specs.Copy.{IsCopy, OnlyGrows};
 ghost use Rattle.oci_copy.specs.Fault.{IsEarly};
 ghost use Rattle.oci_copy.specs.Options.{limit_of};
-ghost use Rattle.oci_copy.specs.Plain.{IsUnfailing};
+ghost use Rattle.oci_copy.specs.Plain.{NeitherFails};
 ghost use Rattle.oci_copy.specs.Report.{IsReport};
 ghost use Rattle.oci_copy.specs.Work.{CanFail, IsRefusalToWorkers, RefusedForPlanOrWorkers};
 
@@ -60,7 +60,7 @@ pub fn copy_graph<
     ensures workers { IsErrOf result.1 CopyFault.BadWorkers ↔ (64 < options.now.workers) }
     ensures refused { IfErr result.1 (IsRefusalToWorkers (CanFail D.state (D.state destination)) (limit_of options.now)
         (A.state source.now) (D.state destination) roots.now options.now.workers) }
-    ensures plain { IfErr result.1 (λ fault. ((store : D) → IsUnfailing (A.state source.now) (D.state destination) (D.state store))
+    ensures plain { IfErr result.1 (λ fault. NeitherFails D.state (A.state source.now) (D.state destination)
         → RefusedForPlanOrWorkers (A.state source.now).entries (limit_of options.now) (D.state destination).nodes roots.now options.now.workers fault) }
     ensures unchanged { IfErr result.1 (λ fault. IsEarly fault → result.0 ≡ destination) }
 {

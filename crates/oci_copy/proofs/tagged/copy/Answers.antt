@@ -1,12 +1,13 @@
-use Rattle.std.proofs.Common.{◌≡◌, true, List, [], ◌∷◌, inl, inr, refl}
+use Rattle.std.proofs.Common.{◌≡◌, true, [], ◌∷◌, inl, inr, refl}
 use Rattle.std.proofs.lemmas.List.Elements.{All-head}
 use Rattle.oci_manifest.specs.Descriptor.{Descriptor}
 use Rattle.oci_store.specs.Keyed.{has_key}
 use Rattle.oci_copy.specs.Copy.{IsCopy}
 use Rattle.oci_copy.specs.Fault.{IsEarly}
 use Rattle.oci_copy.specs.Options.{limit_of}
+use Rattle.oci_copy.specs.Plain.{NeitherFails}
 use Rattle.oci_copy.specs.Tagged.{RefusedByReference}
-use Rattle.oci_copy.specs.Work.{CanFail, IsRefusalToWorkers}
+use Rattle.oci_copy.specs.Work.{CanFail, IsRefusalToWorkers, RefusedForPlanOrWorkers}
 use Rattle.oci_copy.specs.declared.fault.CopyFault.{CopyFault}
 use Rattle.oci_copy.specs.declared.report.Report.{Report}
 use Rattle.oci_copy.proofs.Headline.{unchanged_grows}
@@ -62,3 +63,20 @@ returns-in-Ok-copied-clause-unchanged g c =
     let there = All-head (λ k. has_key (g.D.Store.state c.copy_graph-destination.result.0).nodes k ≡ true) c.in-Ok.root [] done.roots_held in
     refused_tag c.tag_copied.result.1 (λ (e : CopyFault). IsEarly e → c.tag_copied.result.0 ≡ c.args.destination)
     c.in-Ok.ensures.named there (λ early. absurd early) c.tag_copied.ensures.wants
+
+pub returns-in-Err-copied-clause-plain : goal.returns-in-Err-copied-clause-plain
+returns-in-Err-copied-clause-plain g c unfailing =
+    refused_by_root (g.A.Store.state c.args.source.now) c.args.source_reference.now c.args.options.now.workers
+    (λ (root : Descriptor). RefusedForPlanOrWorkers (g.A.Store.state c.args.source.now).entries (limit_of c.args.options.now) (g.D.Store.state c.args.destination).nodes (root ∷ []) c.args.options.now.workers)
+    c.in-Ok.root c.copy_graph-destination.result.1 c.in-Err-copied.fault c.in-Ok.ensures.found c.copy_graph-destination.ensures.workers (λ r x. x) c.in-Err-copied.is
+    (rw c.from_ref-roots.ensures.value at ((rw c.in-Err-copied.is at c.copy_graph-destination.ensures.plain) unfailing))
+
+pub returns-in-Ok-copied-clause-plain : goal.returns-in-Ok-copied-clause-plain
+returns-in-Ok-copied-clause-plain g c =
+    let done = rw c.from_ref-roots.ensures.value at (rw c.in-Ok-copied.is at c.copy_graph-destination.ensures.copied) in
+    let there = All-head (λ k. has_key (g.D.Store.state c.copy_graph-destination.result.0).nodes k ≡ true) c.in-Ok.root [] done.roots_held in
+    refused_tag c.tag_copied.result.1
+    (λ (e : CopyFault). NeitherFails g.D.Store.state (g.A.Store.state c.args.source.now) (g.D.Store.state c.args.destination)
+    → RefusedByReference (g.A.Store.state c.args.source.now) c.args.source_reference.now c.args.options.now.workers
+    (λ (root : Descriptor). RefusedForPlanOrWorkers (g.A.Store.state c.args.source.now).entries (limit_of c.args.options.now) (g.D.Store.state c.args.destination).nodes (root ∷ []) c.args.options.now.workers) e)
+    c.in-Ok.ensures.named there (λ unfailing. tt) c.tag_copied.ensures.wants
