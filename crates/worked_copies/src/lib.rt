@@ -1,12 +1,12 @@
-//! Worked examples of copies by workers, run through their public calls.
+//! Worked examples of copies, on one thread and by workers, run through their public calls.
 //!
 //! This crate has tests alone. A proof covers what a contract says, for every input and every order in which workers come; what
 //! stands here is what no contract says: that a call succeeds where memory is there and returns, that two workers are at work at
 //! once, when hooks are called, and what a store that fails once leaves.
 //!
-//! `tests` has `graphs` (small graphs with each number of workers), `references` (copies by a reference), `referrers` (extended
-//! copies, of a key and of a reference), `hooks` (when they are
-//! called, and that two workers meet), `failing` (stores that fail once) and `large` (many layers and long chains).
+//! `tests` has `graphs` (small graphs, on one thread and with each number of workers), `references` (copies by a reference),
+//! `referrers` (extended copies, of a key and of a reference), `hooks` (when they are called, and that two workers meet), `failing`
+//! (stores that fail once) and `large` (many layers and long chains).
 #![tactic(auto)]
 
 #[cfg(test)]

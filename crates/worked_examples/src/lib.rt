@@ -5,8 +5,8 @@
 //! other tools have them, and how a refusal prints.
 //!
 //! `worked_contents` makes the contents, and `tests` has a module for each part of the library: `manifests` (what a manifest
-//! lists); `pushes`, `graphs`, `tags` and `traits` (stores); `orders`, `plans` and `climbs`; `copies` and `large`
-//! (copies on one thread); and `faults`, how each refusal prints.
+//! lists); `pushes`, `graphs`, `tags` and `traits` (stores); `orders`, `plans` and `climbs`; `copies` (limits, open destinations and
+//! what else `worked_copies` leaves out); and `faults`, how each refusal prints.
 #![tactic(auto)]
 
 #[cfg(test)]

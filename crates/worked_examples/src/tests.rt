@@ -2,7 +2,6 @@ mod climbs;
 mod copies;
 mod faults;
 mod graphs;
-mod large;
 mod manifests;
 mod orders;
 mod plans;

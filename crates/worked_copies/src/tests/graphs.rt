@@ -1,8 +1,11 @@
-use crate::tests::stores::{assert_holds, by, closed, copied_samples, keys, line, memory};
+use crate::tests::stores::{
+    assert_holds, by, closed, copied_samples, copied_samples_on_one_thread, keys, line, memory,
+};
 use oci_copy::{CopyFault, Report, copy_memory_by_workers};
 use oci_manifest::Key;
 use oci_pool::NoHooks;
 use oci_store::{ClosedStore, MemoryStore};
+use std::alloc::Global;
 use std::process::Abort;
 use std::sync::Wait;
 use std::test::Fail;
@@ -33,6 +36,13 @@ fn copied_row<R: AllocGlobal + Threads + Wait + Sync>(
     let source = memory(rt.alloc(), row.source)?;
     let destination = closed(rt.alloc(), row.destination)?;
     copied_samples(rt, &source, destination, row.roots, workers)
+}
+
+/// The same on the calling thread.
+fn row_on_one_thread(alloc: Global, row: Row<'_>) -> Result<(ClosedStore, String), Fail> {
+    let source = memory(alloc, row.source)?;
+    let destination = closed(alloc, row.destination)?;
+    copied_samples_on_one_thread(alloc, &source, destination, row.roots)
 }
 
 /// Copies by the call between stores in memory.
@@ -100,11 +110,17 @@ fn assert_copied_by<R: AllocGlobal + Threads + Wait + Sync + Abort>(
     assert_row(rt, row, &destination, told.as_str())
 }
 
-/// The row with one worker, with three and with 64.
+fn assert_copied_on_one_thread<R: AllocGlobal + Abort>(rt: &R, row: Row<'_>) -> Result<(), Fail> {
+    let (destination, told) = row_on_one_thread(rt.alloc(), row)?;
+    assert_row(rt, row, &destination, told.as_str())
+}
+
+/// The row on one thread, and with one worker, with three and with 64.
 fn assert_copied<R: AllocGlobal + Threads + Wait + Sync + Abort>(
     rt: &R,
     row: Row<'_>,
 ) -> Result<(), Fail> {
+    assert_copied_on_one_thread(rt, row)?;
     for workers in [1, 3, 64] {
         assert_copied_by(rt, row, workers)?;
     }
@@ -139,6 +155,7 @@ fn copy_again(rt: HostRuntime) -> Result<(), Fail> {
     )
 }
 
+/// A layer that is listed twice comes once.
 #[test]
 fn doubled_layer(rt: HostRuntime) -> Result<(), Fail> {
     assert_copied(
@@ -153,7 +170,22 @@ fn doubled_layer(rt: HostRuntime) -> Result<(), Fail> {
     )
 }
 
-/// An index of two images arrives whole with each number of workers; over 64 of them nothing is copied.
+/// Nothing is copied for no roots.
+#[test]
+fn no_roots(rt: HostRuntime) -> Result<(), Fail> {
+    assert_copied(
+        &rt,
+        Row {
+            source: &[Empty, Image0],
+            destination: &[Foo],
+            roots: &[],
+            told: "planned 0 pushed 0 skipped 0",
+            copied: &[Foo],
+        },
+    )
+}
+
+/// An index of two images arrives whole on one thread and with each number of workers; over 64 of them nothing is copied.
 #[test]
 fn two_images(rt: HostRuntime) -> Result<(), Fail> {
     let all = [Empty, Foo, Bar, Image2, Image3, Index1];
@@ -164,6 +196,7 @@ fn two_images(rt: HostRuntime) -> Result<(), Fail> {
         told: "planned 6 pushed 6 skipped 0",
         copied: &all,
     };
+    assert_copied_on_one_thread(&rt, row)?;
     for workers in 0..65 {
         assert_copied_by(&rt, row, workers)?;
     }
@@ -222,6 +255,7 @@ fn missing_layer(rt: HostRuntime) -> Result<(), Fail> {
     )
 }
 
+/// What is held is not looked below, so a source that lacks a layer of it serves.
 #[test]
 fn held_above_a_hole(rt: HostRuntime) -> Result<(), Fail> {
     assert_copied(

@@ -1,4 +1,4 @@
-use crate::tests::stores::{assert_entry, assert_holds, closed, keys, memory};
+use crate::tests::stores::{assert_holds, closed, keys, memory};
 use oci_copy::{CopyFault, Options, Report, copy_memory, copy_one};
 use oci_digest::Digest;
 use oci_manifest::Key;
@@ -7,8 +7,7 @@ use std::alloc::Global;
 use std::process::Abort;
 use std::test::Fail;
 use worked_contents::Sample::{
-    Bar, DockerImage, Empty, Foo, FooBySha512, Image0, Image0AsLayer, Image1, Image2, Image3,
-    Image4, Image5, Index1, Index2,
+    Bar, DockerImage, Empty, Foo, FooBySha512, Image0, Image2, Image3, Image5, Index1,
 };
 use worked_contents::{IMAGE, Sample, descriptor};
 
@@ -47,23 +46,6 @@ pub(crate) fn copied<A: Source, D: Dest + Drop>(
     let (destination, answer) = copy_one(alloc, source, destination, roots, &options);
     let told = line(alloc, &answer)?;
     Ok((destination, told))
-}
-
-/// What a copy with a number of workers leaves in an empty store.
-fn copied_with(
-    alloc: Global,
-    source: &[Sample],
-    root: Sample,
-    workers: u32,
-) -> Result<ClosedStore, Fail> {
-    let source = memory(alloc, source)?;
-    let roots = [root.key(alloc)?];
-    let options = Options {
-        workers,
-        max_metadata_bytes: 0,
-    };
-    let (destination, _) = copy_one(alloc, &source, ClosedStore::new(alloc), &roots, &options);
-    Ok(destination)
 }
 
 /// The same between stores of samples in memory.
@@ -115,55 +97,6 @@ fn assert_copied<R: AllocGlobal + Abort>(rt: &R, row: Row<'_>) -> Result<(), Fai
     assert_holds(rt, destination.memory(), row.copied)
 }
 
-/// What the copy of an image leaves in an empty store.
-fn copy_of_one_image<R: AllocGlobal + Abort>(rt: &R) -> Result<ClosedStore, Fail> {
-    let told = "planned 2 pushed 2 skipped 0";
-    assert_told(
-        rt,
-        &[Empty, Image0],
-        closed(rt.alloc(), &[])?,
-        &[Image0],
-        told,
-    )
-}
-
-/// What is copied comes after what it lists.
-#[test]
-fn one_image(rt: HostRuntime) -> Result<(), Fail> {
-    let destination = copy_of_one_image(&rt)?;
-    assert_holds(&rt, destination.memory(), &[Empty, Image0])?;
-    assert_entry(&rt, destination.memory(), 0, Empty)?;
-    assert_entry(&rt, destination.memory(), 1, Image0)
-}
-
-/// The same copy again into the store that the first one left changes nothing, nor does a copy of no roots.
-#[test]
-fn copy_again(rt: HostRuntime) -> Result<(), Fail> {
-    let source = [Empty, Image0];
-    let destination = copy_of_one_image(&rt)?;
-    let told = "planned 0 pushed 0 skipped 1";
-    let destination = assert_told(&rt, &source, destination, &[Image0], told)?;
-    let told = "planned 0 pushed 0 skipped 0";
-    let destination = assert_told(&rt, &source, destination, &[], told)?;
-    assert_holds(&rt, destination.memory(), &source)?;
-    assert_entry(&rt, destination.memory(), 0, Empty)
-}
-
-/// A layer that is listed twice comes once.
-#[test]
-fn doubled_layer(rt: HostRuntime) -> Result<(), Fail> {
-    assert_copied(
-        &rt,
-        Row {
-            source: &[Empty, Foo, Image1],
-            destination: &[],
-            roots: &[Image1],
-            told: "planned 3 pushed 3 skipped 0",
-            copied: &[Empty, Foo, Image1],
-        },
-    )
-}
-
 /// A layer whose digest is by SHA-512 comes as any other.
 #[test]
 fn sha512_layer(rt: HostRuntime) -> Result<(), Fail> {
@@ -178,31 +111,6 @@ fn sha512_layer(rt: HostRuntime) -> Result<(), Fail> {
             destination: &[],
             roots: &[Image5],
             told: "planned 3 pushed 3 skipped 0",
-            copied: &all,
-        },
-    )
-}
-
-/// Copies an index of two images with a number of workers, at which a copy on the calling thread does not look.
-fn assert_two_images<R: AllocGlobal + Abort>(rt: &R, workers: u32) -> Result<(), Fail> {
-    let all = [Empty, Foo, Bar, Image2, Image3, Index1];
-    let destination = copied_with(rt.alloc(), &all, Index1, workers)?;
-    assert_holds(rt, destination.memory(), &all)
-}
-
-#[test]
-fn two_images(rt: HostRuntime) -> Result<(), Fail> {
-    for workers in [0, 1, 3, 64, 65] {
-        assert_two_images(&rt, workers)?;
-    }
-    let all = [Empty, Foo, Bar, Image2, Image3, Index1];
-    assert_copied(
-        &rt,
-        Row {
-            source: &all,
-            destination: &[],
-            roots: &[Index1],
-            told: "planned 6 pushed 6 skipped 0",
             copied: &all,
         },
     )
@@ -238,53 +146,6 @@ fn many_roots(rt: HostRuntime) -> Result<(), Fail> {
         &rt,
         destination.memory(),
         &[Empty, Foo, Bar, Image2, Image3],
-    )
-}
-
-/// One digest under two media types is two keys, and both come.
-#[test]
-fn two_media_types(rt: HostRuntime) -> Result<(), Fail> {
-    let all = [Empty, Image0, Image0AsLayer, Image4, Index2];
-    assert_copied(
-        &rt,
-        Row {
-            source: &all,
-            destination: &[],
-            roots: &[Index2],
-            told: "planned 5 pushed 5 skipped 0",
-            copied: &all,
-        },
-    )
-}
-
-#[test]
-fn missing_layer(rt: HostRuntime) -> Result<(), Fail> {
-    let foo = Foo.key(rt.alloc())?;
-    let told = format!(in rt.alloc(); "81 Plan 53 NotFound {foo}")?;
-    assert_copied(
-        &rt,
-        Row {
-            source: &[Empty, Image2],
-            destination: &[],
-            roots: &[Image2],
-            told: told.as_str(),
-            copied: &[],
-        },
-    )
-}
-
-/// What is held is not looked below, so a source that lacks a layer of it serves.
-#[test]
-fn held_above_a_hole(rt: HostRuntime) -> Result<(), Fail> {
-    assert_copied(
-        &rt,
-        Row {
-            source: &[Empty, Image2],
-            destination: &[Empty, Foo, Image2],
-            roots: &[Image2],
-            told: "planned 0 pushed 0 skipped 1",
-            copied: &[Empty, Foo, Image2],
-        },
     )
 }
 

@@ -2,7 +2,7 @@ use crate::tests::stores::{assert_holds, closed, memory, push, push_closed};
 use bytes::Bytes;
 use oci_digest::Digest;
 use oci_manifest::Key;
-use oci_store::MemoryStore;
+use oci_store::{ClosedStore, MemoryStore};
 use std::alloc::Global;
 use std::process::Abort;
 use std::test::Fail;
@@ -103,4 +103,29 @@ fn entries(rt: HostRuntime) -> Result<(), Fail> {
     assert!(rt; store.entry(2).is_none());
     assert!(rt; !store.is_empty() && memory(alloc, &[])?.is_empty());
     Ok(())
+}
+
+/// A store of another's entries, which are copied.
+fn of_copied(store: &MemoryStore) -> Result<MemoryStore, Fail> {
+    Ok(MemoryStore::from_entries(store.entries().try_clone()?))
+}
+
+/// A store of another's entries, which are moved.
+fn of_moved(store: MemoryStore) -> MemoryStore {
+    MemoryStore::from_entries(store.into_entries())
+}
+
+/// The same, of a closed store.
+fn closed_of_moved(store: ClosedStore) -> ClosedStore {
+    ClosedStore::from_entries(store.into_entries())
+}
+
+#[test]
+fn entries_of_stores(rt: HostRuntime) -> Result<(), Fail> {
+    let samples = [Empty, Foo, Image0];
+    let store = memory(rt.alloc(), &samples)?;
+    assert_holds(&rt, &of_copied(&store)?, &samples)?;
+    assert_holds(&rt, &of_moved(store), &samples)?;
+    let closed = closed_of_moved(closed(rt.alloc(), &samples)?);
+    assert_holds(&rt, closed.memory(), &samples)
 }
