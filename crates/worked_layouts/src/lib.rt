@@ -4,9 +4,10 @@
 //! says: that a call succeeds where memory is there, that the files have the bytes that the standard and other tools have,
 //! and what a real folder then holds.
 //!
-//! `tests` has `round_trips` (a layout is made, filled, saved and opened again, in memory and in a folder), `fuses` (puts that
-//! fail), `openings` (what is refused, and indexes as other tools write them), `pushes` (old files, and files that changed),
-//! `changing` (a source whose files change while it is read) and `algorithms` (digests by SHA-512).
+//! `tests` has `round_trips` (a layout is made, filled, saved and opened again, in memory and in a folder), `referrers` (the index of
+//! an image that came with what lists it), `algorithms` (digests by SHA-512), `fuses` (puts that fail), `openings` (what is refused,
+//! and indexes as other tools write them), `pushes` (old files, and files that changed), `unreadable` (files that cannot be read) and
+//! `changing` (a source whose files change while it is read).
 #![tactic(auto)]
 
 #[cfg(test)]

@@ -4,4 +4,6 @@ mod fuses;
 mod layouts;
 mod openings;
 mod pushes;
+mod referrers;
 mod round_trips;
+mod unreadable;

@@ -30,6 +30,13 @@ fn layout_files(rt: HostRuntime) -> Result<(), Fail> {
     assert_layout_file(&rt, "{ \"imageLayoutVersion\": \"1.0.0\" }", "held 0")
 }
 
+/// The layout file is looked at before the index.
+#[test]
+fn layout_file_first(rt: HostRuntime) -> Result<(), Fail> {
+    let files = [("oci-layout", "{}"), ("index.json", "[]")];
+    assert_opening(&rt, &files, &[], "71 BadLayoutFile")
+}
+
 fn assert_index<R: AllocGlobal + Abort>(
     rt: &R,
     index: &str,

@@ -82,6 +82,17 @@ fn old_file(rt: HostRuntime) -> Result<(), Fail> {
     assert_text(&rt, told, "foo")
 }
 
+/// A file that has the bytes is not put again: the directory would fail one put more.
+#[test]
+fn file_of_two_keys(rt: HostRuntime) -> Result<(), Fail> {
+    let mut layout = created(rt.alloc(), MemDir::with_fuse(rt.alloc(), 3))?;
+    assert_push(&rt, &mut layout, Foo, "place 0")?;
+    let key = Foo.content(rt.alloc())?.key_as(rt.alloc(), "text/plain")?;
+    let told = push(rt.alloc(), &mut layout, &key, Foo.bytes(rt.alloc())?)?;
+    assert_text(&rt, told, "place 1")?;
+    assert_push(&rt, &mut layout, Empty, "43 Device")
+}
+
 /// The files of a layout of one layer.
 fn saved(alloc: Global) -> Result<MemDir, Fail> {
     let mut layout = created(alloc, MemDir::new(alloc))?;

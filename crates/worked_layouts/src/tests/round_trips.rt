@@ -25,24 +25,32 @@ fn line(alloc: Global, answer: &Result<(Key, Report), CopyFault>) -> Result<Stri
 }
 
 /// Copies what a store in memory calls `m` as `v1`.
-fn copied<D: Dest + Tagger + Drop + Send, R: AllocGlobal + Threads + Wait + Sync>(
+fn copied_by<D: Dest + Tagger + Drop + Send, R: AllocGlobal + Threads + Wait + Sync>(
     rt: &R,
     source: &MemoryStore,
     destination: D,
-) -> Result<(D, String), Fail> {
+) -> (D, Result<(Key, Report), CopyFault>) {
     let options = Options::default();
-    let alloc = rt.alloc();
-    let (destination, answer) = copy(
+    copy(
         rt,
-        alloc,
+        rt.alloc(),
         source,
         "m",
         destination,
         "v1",
         &options,
         &NoHooks,
-    );
-    let told = line(alloc, &answer)?;
+    )
+}
+
+/// The same, with the answer as text.
+fn copied<D: Dest + Tagger + Drop + Send, R: AllocGlobal + Threads + Wait + Sync>(
+    rt: &R,
+    source: &MemoryStore,
+    destination: D,
+) -> Result<(D, String), Fail> {
+    let (destination, answer) = copied_by(rt, source, destination);
+    let told = line(rt.alloc(), &answer)?;
     Ok((destination, told))
 }
 
@@ -166,7 +174,7 @@ fn reading<D: Dir>(alloc: Global, dir: &D, path: &str) -> Result<String, Fail> {
     })
 }
 
-/// No path leaves the folder, and one through a file is absent.
+/// No path leaves the folder, and one through a file is absent. The folder under an empty path is the current one.
 #[test]
 fn paths_of_a_folder(rt: HostRuntime) -> Result<(), Fail> {
     let _ = std::fs::remove_dir_all(&rt, "paths");
@@ -175,6 +183,8 @@ fn paths_of_a_folder(rt: HostRuntime) -> Result<(), Fail> {
     dir.put("a", b"foo")?;
     assert_text(&rt, reading(rt.alloc(), &dir, "a")?, "some")?;
     assert_text(&rt, reading(rt.alloc(), &dir, "a/b")?, "none")?;
+    let current = FsDir::new(&rt, "")?;
+    assert_text(&rt, reading(rt.alloc(), &current, "paths/a")?, "some")?;
     for path in ["../paths/a", "/etc/passwd", "b/../a", "./a", ""] {
         assert_text(&rt, reading(rt.alloc(), &dir, path)?, "90 Failed")?;
         assert!(rt; dir.put(path, b"foo").is_err());
