@@ -1,21 +1,25 @@
 use crate::pushing::{Content, Tally, push_all};
 use oci_live::{LiveStore, Look};
+use oci_manifest::Key;
 use std::sync::Wait;
 use std::sync::atomic::{AtomicBool, Ordering};
 use std::thread::{Threads, join};
 
-/// Pushes all contents while two looks ask for the number of entries, each on its own thread.
+/// Pushes all contents while two looks ask for a key, each on its own thread.
 pub(crate) fn push_all_looked_at<T: Threads + Sync, R: Wait + Drop + Send>(
     rt: &T,
     live: &mut LiveStore<R>,
     looks: (Look, Look),
+    key: &Key,
     contents: Vec<Content>,
 ) -> Tally {
     let done = AtomicBool::new(false);
     let (mut first, mut second) = looks;
-    let others = || { join(rt, || ask(&mut first, &done), || ask(&mut second, &done)) };
-    let (tally, _) = join(rt, || push_until_done(live, contents, &done), others);
-    tally
+    let one = || ask(&mut first, key, u64::MAX, &done);
+    let other = || ask(&mut second, key, u64::MAX, &done);
+    let others = || join(rt, one, other);
+    let (tally, answers) = join(rt, || push_until_done(live, contents, &done), others);
+    tally.answered(answers.0.wrapping_add(answers.1))
 }
 
 fn push_until_done<R: Wait + Drop>(
@@ -28,14 +32,14 @@ fn push_until_done<R: Wait + Drop>(
     tally
 }
 
-/// Asks until all is pushed. How often it had an answer.
-fn ask(look: &mut Look, done: &AtomicBool) -> u64 {
+/// Asks a look for a key, so often at most, until somebody says that all is done. How often it had an answer.
+pub(crate) fn ask(look: &mut Look, key: &Key, times: u64, done: &AtomicBool) -> u64 {
     let mut answers: u64 = 0;
-    for _ in 0..u64::MAX {
+    for _ in 0..times {
         if done.load(Ordering::SeqCst) {
             break;
         }
-        if look.len().is_ok() {
+        if look.exists(key).is_ok() {
             answers = answers.wrapping_add(1);
         }
     }

@@ -9,7 +9,7 @@ use std::fmt;
 #[derive(Drop)]
 pub(crate) struct Content {
     pub key: Key,
-    bytes: Bytes,
+    pub bytes: Bytes,
 }
 
 /// So many small contents, each other than the others.
@@ -31,47 +31,59 @@ fn numbered(alloc: Global, number: u64) -> Result<Content, AllocError> {
     Ok(Content { key, bytes })
 }
 
-/// What came of some pushes.
-#[derive(Drop)]
+/// What came of some pushes or copies.
+#[derive(Drop, Default)]
 pub(crate) struct Tally {
     came: u64,
     first_refusal: u8,
     last_refusal: u8,
     held: usize,
+    answers: u64,
 }
 
 impl Tally {
+    /// Counts one that came.
+    pub fn came(&mut self) {
+        self.came = self.came.wrapping_add(1);
+    }
+
+    /// Notes the number of one that was refused.
+    pub fn refused(&mut self, number: u8) {
+        self.last_refusal = number;
+        if self.first_refusal == 0 {
+            self.first_refusal = number;
+        }
+    }
+
     /// The same, with how many entries there are.
     pub fn held(self, held: usize) -> Tally {
         Tally { held, ..self }
+    }
+
+    /// The same, with how often looks had an answer.
+    pub fn answered(self, answers: u64) -> Tally {
+        Tally { answers, ..self }
     }
 }
 
 impl fmt::Display for Tally {
     fn fmt<W: fmt::Write>(&self, f: &mut fmt::Formatter<W>) -> fmt::Result {
-        let (came, held) = (self.came, self.held);
+        let (came, held, answers) = (self.came, self.held, self.answers);
         let (first, last) = (self.first_refusal, self.last_refusal);
-        write!(f, "came {came} refused {first} {last} held {held}")
+        write!(
+            f,
+            "came {came} refused {first} {last} held {held} answers {answers}"
+        )
     }
 }
 
 /// Pushes all contents.
 pub(crate) fn push_all<D: Dest>(store: &mut D, contents: Vec<Content>) -> Tally {
-    let mut tally = Tally {
-        came: 0,
-        first_refusal: 0,
-        last_refusal: 0,
-        held: 0,
-    };
+    let mut tally = Tally::default();
     for Content { key, bytes } in contents {
         match store.push_closed(&key, bytes) {
-            Ok(_) => tally.came = tally.came.wrapping_add(1),
-            Err(fault) => {
-                tally.last_refusal = fault.number();
-                if tally.first_refusal == 0 {
-                    tally.first_refusal = fault.number();
-                }
-            }
+            Ok(_) => tally.came(),
+            Err(fault) => tally.refused(fault.number()),
         }
     }
     tally
