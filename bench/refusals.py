@@ -5,13 +5,16 @@ import subprocess
 SHIM = r"""
 #define _GNU_SOURCE
 #include <dlfcn.h>
+#include <errno.h>
 #include <stdlib.h>
 #include <unistd.h>
 static long left = -1;
 static int refuses(void) {
   if (left < 0) { const char *text = getenv("REFUSED_ALLOCATION"); left = text ? atol(text) : 0; }
   if (left == 0 || --left > 0) return 0;
-  return write(atoi(getenv("REFUSAL_MARK")), "x", 1) >= 0 || 1;
+  if (write(atoi(getenv("REFUSAL_MARK")), "x", 1) != 1) abort();
+  errno = ENOMEM;
+  return 1;
 }
 void *malloc(size_t size) {
   static void *(*next)(size_t);
