@@ -33,8 +33,6 @@ mod digest;
 mod fault;
 mod hash;
 mod parse;
-#[cfg(test)]
-mod tests;
 
 pub use digest::Digest;
 pub use fault::{DigestFault, NoMemory};

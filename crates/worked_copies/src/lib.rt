@@ -6,7 +6,7 @@
 //!
 //! `tests` has `graphs` (small graphs, on one thread and with each number of workers), `references` (copies by a reference),
 //! `referrers` (extended copies, of a key and of a reference), `hooks` (when they are called, and that two workers meet), `failing`
-//! (stores that fail once) and `large` (many layers and long chains).
+//! (stores that fail once) and `large` (many layers and long chains); `copies` has the copies that they share.
 #![tactic(auto)]
 
 #[cfg(test)]

@@ -1,7 +1,7 @@
+mod copies;
 mod failing;
 mod graphs;
 mod hooks;
 mod large;
 mod references;
 mod referrers;
-mod stores;

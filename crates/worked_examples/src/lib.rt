@@ -4,9 +4,9 @@
 //! says: that a call succeeds where memory is there, that the numbers, sizes and digests of known contents come out as
 //! other tools have them, and how a refusal prints.
 //!
-//! `worked_contents` makes the contents, and `tests` has a module for each part of the library: `manifests` (what a manifest
-//! lists); `pushes`, `graphs`, `tags` and `traits` (stores); `orders`, `plans` and `climbs`; `copies` (limits, open destinations and
-//! what else `worked_copies` leaves out); and `faults`, how each refusal prints.
+//! `worked_contents` makes the contents, `worked_stores` the stores that have them, and `tests` has a module for each part of the
+//! library: `digests`; `manifests` (what a manifest lists); `pushes`, `graphs`, `tags` and `traits` (stores); `orders`, `plans` and
+//! `climbs`; `copies` (limits, open destinations and what else `worked_copies` leaves out); and `faults`, how each refusal prints.
 #![tactic(auto)]
 
 #[cfg(test)]

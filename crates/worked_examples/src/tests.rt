@@ -1,11 +1,11 @@
 mod climbs;
 mod copies;
+mod digests;
 mod faults;
 mod graphs;
 mod manifests;
 mod orders;
 mod plans;
 mod pushes;
-mod stores;
 mod tags;
 mod traits;

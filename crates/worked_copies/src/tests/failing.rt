@@ -1,29 +1,16 @@
-use crate::tests::stores::{
-    assert_holds, copied_samples, copied_samples_on_one_thread, put_closed,
-};
+use crate::tests::copies::{copied_samples, copied_samples_on_one_thread};
 use oci_store::{ClosedStore, Dest, Source};
-use std::alloc::Global;
 use std::process::Abort;
 use std::sync::Wait;
 use std::test::Fail;
 use std::thread::Threads;
 use worked_contents::Sample;
 use worked_contents::Sample::{Bar, Empty, Foo, Image2, Image3, Index1};
-use worked_stores::{Device, DeviceStore};
+use worked_stores::{Device, DeviceStore, assert_holds, closed, is_closed, on_device};
 
 const ALL: [Sample; 6] = [Empty, Foo, Bar, Image2, Image3, Index1];
 
-/// Two images, and the index that lists them, on a device.
-fn images<'d>(alloc: Global, device: &'d Device) -> Result<DeviceStore<'d>, Fail> {
-    put_closed(alloc, DeviceStore::new(alloc, device), &ALL)
-}
-
-/// The same in memory.
-fn images_in_memory(alloc: Global) -> Result<ClosedStore, Fail> {
-    put_closed(alloc, ClosedStore::new(alloc), &ALL)
-}
-
-/// Copies them by so many workers, or on the calling thread.
+/// Copies the index by so many workers, or on the calling thread.
 fn copied<A: Source + Sync, D: Dest + Drop + Send, R: AllocGlobal + Threads + Wait + Sync>(
     rt: &R,
     source: &A,
@@ -36,13 +23,13 @@ fn copied<A: Source + Sync, D: Dest + Drop + Send, R: AllocGlobal + Threads + Wa
     }
 }
 
-/// Copies them into a device.
+/// Copies it from a store in memory into a device.
 fn copied_into<'d, R: AllocGlobal + Threads + Wait + Sync>(
     rt: &R,
     destination: DeviceStore<'d>,
     workers: Option<u32>,
 ) -> Result<(DeviceStore<'d>, String), Fail> {
-    let source = images_in_memory(rt.alloc())?;
+    let source = closed(rt.alloc(), &ALL)?;
     copied(rt, &source, destination, workers)
 }
 
@@ -57,7 +44,7 @@ fn assert_failed<R: AllocGlobal + Abort>(
         "{told}"
     );
     assert_eq!(rt; destination.failures(), 1);
-    assert!(rt; destination.missing()?.is_none());
+    assert!(rt; is_closed(destination)?);
     Ok(())
 }
 
@@ -68,7 +55,7 @@ fn left_by_failed<R: AllocGlobal + Threads + Wait + Sync + Abort>(
     workers: Option<u32>,
 ) -> Result<u64, Fail> {
     let device = Device::failing(Some(passing), None);
-    let (destination, told) = copied_into(rt, DeviceStore::new(rt.alloc(), &device), workers)?;
+    let (destination, told) = copied_into(rt, on_device(rt.alloc(), &device, &[])?, workers)?;
     assert_failed(rt, &destination, told.as_str())?;
     let left = destination.count() as u64;
     let (destination, told) = copied_into(rt, destination, workers)?;
@@ -101,7 +88,7 @@ fn assert_not_fetched<R: AllocGlobal + Abort>(
     let planning = told.starts_with("81 Plan 57 Fetch ");
     assert!(rt; planning || told.starts_with("88 Fetch "), "{told}");
     assert!(rt; !planning || destination.count() == 0);
-    assert!(rt; destination.missing()?.is_none());
+    assert!(rt; is_closed(destination)?);
     Ok(())
 }
 
@@ -111,7 +98,7 @@ fn copied_once<R: AllocGlobal + Threads + Wait + Sync + Abort>(
     source: &DeviceStore<'_>,
     workers: Option<u32>,
 ) -> Result<(ClosedStore, bool), Fail> {
-    let (destination, told) = copied(rt, source, ClosedStore::new(rt.alloc()), workers)?;
+    let (destination, told) = copied(rt, source, closed(rt.alloc(), &[])?, workers)?;
     let refused = told.ends_with(" 22 Device");
     if refused {
         assert_not_fetched(rt, &destination, told.as_str())?;
@@ -126,7 +113,7 @@ fn is_refused<R: AllocGlobal + Threads + Wait + Sync + Abort>(
     workers: Option<u32>,
 ) -> Result<bool, Fail> {
     let device = Device::failing(None, Some(passing));
-    let source = images(rt.alloc(), &device)?;
+    let source = on_device(rt.alloc(), &device, &ALL)?;
     let (destination, refused) = copied_once(rt, &source, workers)?;
     let (destination, _) = copied(rt, &source, destination, workers)?;
     assert_holds(rt, &destination, &ALL)?;

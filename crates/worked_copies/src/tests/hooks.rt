@@ -1,14 +1,12 @@
-use crate::tests::stores::{copied_samples_with, memory, put_closed};
+use crate::tests::copies::copied_samples_with;
 use oci_manifest::Key;
 use oci_pool::Hooks;
-use oci_store::ClosedStore;
-use std::alloc::Global;
 use std::sync::Wait;
 use std::sync::atomic::{AtomicU64, Ordering};
 use std::test::Fail;
 use std::thread::Threads;
 use worked_contents::Sample::{Bar, Empty, Foo, Image2, Image3, Index1};
-use worked_stores::{Device, DeviceStore};
+use worked_stores::{Device, DeviceStore, closed, memory, on_device};
 
 /// Hooks of which each call before a fetch raises a count, and looks until two have.
 #[derive(Drop)]
@@ -39,7 +37,7 @@ fn copied_two<R: AllocGlobal + Threads + Wait + Sync>(
     hooks: &MeetingHooks,
 ) -> Result<String, Fail> {
     let source = memory(rt.alloc(), &[Foo, Bar])?;
-    let destination = ClosedStore::new(rt.alloc());
+    let destination = closed(rt.alloc(), &[])?;
     let (_, told) = copied_samples_with(rt, &source, destination, &[Foo, Bar], 2, hooks)?;
     Ok(told)
 }
@@ -125,16 +123,11 @@ fn copied_images<R: AllocGlobal + Threads + Wait + Sync>(
     Ok(told)
 }
 
-/// A store that has a config and two layers.
-fn layers<'d>(alloc: Global, device: &'d Device) -> Result<DeviceStore<'d>, Fail> {
-    put_closed(alloc, DeviceStore::new(alloc, device), &[Empty, Foo, Bar])
-}
-
 /// Each held root is told once and first; each key that is brought is told before it is pushed, and once it is.
 #[test]
 fn calls_of_hooks(rt: HostRuntime) -> Result<(), Fail> {
     let device = Device::failing(None, None);
-    let destination = layers(rt.alloc(), &device)?;
+    let destination = on_device(rt.alloc(), &device, &[Empty, Foo, Bar])?;
     let hooks = Counting::new(&device);
     let told = copied_images(&rt, destination, &hooks)?;
     assert_eq!(rt; told.as_str(), "planned 3 pushed 3 skipped 2");

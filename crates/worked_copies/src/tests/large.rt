@@ -1,5 +1,4 @@
-use crate::tests::stores::{copied, copied_one, gives, line, memory, put};
-use bytes::Bytes;
+use crate::tests::copies::{copied, copied_one, line};
 use oci_manifest::Key;
 use oci_pool::NoHooks;
 use oci_store::{ClosedStore, Dest, MemoryStore};
@@ -9,7 +8,8 @@ use std::sync::Wait;
 use std::test::Fail;
 use std::thread::Threads;
 use worked_contents::Sample::Empty;
-use worked_contents::{Content, LAYER, image, image_0, index};
+use worked_contents::{Content, LAYER, index};
+use worked_stores::{closed, gives, memory, put_chain, put_content};
 
 /// The store has each entry of another.
 fn has_all(store: &MemoryStore, other: &MemoryStore) -> bool {
@@ -31,7 +31,7 @@ fn on_one_thread<R: AllocGlobal + Abort>(
     roots: &[Key],
     want: &str,
 ) -> Result<ClosedStore, Fail> {
-    let empty = ClosedStore::new(rt.alloc());
+    let empty = closed(rt.alloc(), &[])?;
     let (destination, answer) = copied_one(rt.alloc(), source, empty, roots);
     let told = line(rt.alloc(), &answer)?;
     assert_eq!(rt; told.as_str(), want);
@@ -46,7 +46,7 @@ fn by_workers<R: AllocGlobal + Threads + Wait + Sync + Abort>(
     workers: u32,
     want: &str,
 ) -> Result<ClosedStore, Fail> {
-    let destination = ClosedStore::new(rt.alloc());
+    let destination = closed(rt.alloc(), &[])?;
     let (destination, told) = copied(rt, source, destination, roots, workers, &NoHooks)?;
     assert_eq!(rt; told.as_str(), want);
     Ok(destination)
@@ -65,40 +65,6 @@ fn assert_same<R: AllocGlobal + Threads + Wait + Sync + Abort>(
     assert_eq!(rt; copied.count(), single.count());
     assert!(rt; has_all(copied.memory(), single.memory()));
     Ok(())
-}
-
-/// The bytes of a content.
-fn bytes_of(content: Content) -> Result<Bytes, Fail> {
-    let Content { bytes, .. } = content;
-    Ok(Bytes::from_vec(bytes.into_bytes())?)
-}
-
-fn put_content(alloc: Global, store: &mut MemoryStore, content: Content) -> Result<Key, Fail> {
-    let key = content.key(alloc)?;
-    put(store, &key, bytes_of(content)?);
-    Ok(key)
-}
-
-/// An image whose subject is the content with this descriptor.
-fn image_on(alloc: Global, subject: &str) -> Result<Content, Fail> {
-    let rest = format!(in alloc; "null,\"subject\":{subject}}}")?;
-    image(alloc, rest.as_str())
-}
-
-/// Puts a content into the store, and gives the image that has it as its subject.
-fn put_subject(alloc: Global, store: &mut MemoryStore, subject: Content) -> Result<Content, Fail> {
-    let next = image_on(alloc, subject.descriptor(alloc)?.as_str())?;
-    put_content(alloc, store, subject)?;
-    Ok(next)
-}
-
-/// Puts a chain of images into the store, each with the one before as its subject, and gives the key of the last.
-fn put_chain(alloc: Global, store: &mut MemoryStore, length: u32) -> Result<Key, Fail> {
-    let mut last = image_0(alloc)?;
-    for _ in 1..length {
-        last = put_subject(alloc, store, last)?;
-    }
-    put_content(alloc, store, last)
 }
 
 /// A chain, of which one key at a time can be pushed.

@@ -1,4 +1,4 @@
-use crate::tests::stores::{assert_holds, by, closed, memory};
+use crate::tests::copies::by;
 use oci_copy::{CopyFault, Report, copy};
 use oci_manifest::Key;
 use oci_pool::NoHooks;
@@ -10,6 +10,7 @@ use std::test::Fail;
 use std::thread::Threads;
 use worked_contents::Sample;
 use worked_contents::Sample::{Empty, Foo, Image0, Image2};
+use worked_stores::{assert_holds, closed, memory};
 
 fn tag<D: Tagger>(store: &mut D, key: &Key, name: &str) -> bool {
     store.tag(key, name).is_ok()
@@ -110,7 +111,7 @@ fn copied_row<R: AllocGlobal + Threads + Wait + Sync>(
         to: row.to,
         workers: 0,
     };
-    copied(rt, &source, ClosedStore::new(rt.alloc()), words)
+    copied(rt, &source, closed(rt.alloc(), &[])?, words)
 }
 
 /// What a copy of this key tells.

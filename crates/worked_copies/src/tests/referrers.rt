@@ -1,5 +1,5 @@
+use crate::tests::copies::{by, copied_samples, line};
 use crate::tests::references::{assert_name, told_by_reference};
-use crate::tests::stores::{assert_holds, by, closed, copied_samples, line, memory};
 use oci_copy::{CopyFault, Report, extended_copy, extended_copy_graph};
 use oci_manifest::Key;
 use oci_pool::NoHooks;
@@ -13,6 +13,7 @@ use worked_contents::Sample;
 use worked_contents::Sample::{
     Bar, Empty, Foo, Image0, Image2, Index3, Index4, Index5, Index6, Referrer,
 };
+use worked_stores::{assert_holds, closed, memory};
 
 /// An extended copy from a key.
 fn extended_by<
@@ -63,7 +64,7 @@ fn assert_brought<R: AllocGlobal + Threads + Wait + Sync + Abort>(
     report: &str,
     samples: &[Sample],
 ) -> Result<(), Fail> {
-    let empty = ClosedStore::new(rt.alloc());
+    let empty = closed(rt.alloc(), &[])?;
     let (destination, told) = extended(rt, source, Image2, depth, empty, 0)?;
     assert_eq!(rt; told.as_str(), report);
     assert_holds(rt, &destination, samples)
@@ -74,7 +75,7 @@ fn assert_alone<R: AllocGlobal + Threads + Wait + Sync + Abort>(
     rt: &R,
     source: &MemoryStore,
 ) -> Result<(), Fail> {
-    let empty = ClosedStore::new(rt.alloc());
+    let empty = closed(rt.alloc(), &[])?;
     let (destination, told) = copied_samples(rt, source, empty, &[Image2], 0)?;
     assert_eq!(rt; told.as_str(), "planned 3 pushed 3 skipped 0");
     assert_holds(rt, &destination, &[Empty, Foo, Image2])
@@ -185,7 +186,7 @@ fn extended_image<R: AllocGlobal + Threads + Wait + Sync>(
 /// The image comes with what lists it, and the name is the image's.
 #[test]
 fn referrers_of_a_tag(rt: HostRuntime) -> Result<(), Fail> {
-    let (destination, told) = extended_image(&rt, "t", ClosedStore::new(rt.alloc()), 0)?;
+    let (destination, told) = extended_image(&rt, "t", closed(rt.alloc(), &[])?, 0)?;
     let key = Image2.key(rt.alloc())?;
     let want = format!(in rt.alloc(); "{key} planned 5 pushed 5 skipped 0")?;
     assert_eq!(rt; told.as_str(), want.as_str());

@@ -1,14 +1,12 @@
-use crate::tests::stores::{keys, memory, push};
-use bytes::Bytes;
 use oci_plan::climb;
-use oci_store::{GraphSource, MemoryStore};
-use std::alloc::Global;
+use oci_store::GraphSource;
 use std::process::Abort;
 use std::test::Fail;
+use worked_contents::Sample;
 use worked_contents::Sample::{
     Bar, Empty, Foo, Image0, Image2, Index3, Index4, Index5, Index6, Referrer,
 };
-use worked_contents::{Content, Sample, image, image_0};
+use worked_stores::{keys, memory, put_chain};
 
 /// A climb from the sample's key gives the keys of these samples, in this order.
 fn assert_climb<R: AllocGlobal + Abort, G: GraphSource>(
@@ -53,30 +51,6 @@ fn climb_of_a_key_that_is_not_held(rt: HostRuntime) -> Result<(), Fail> {
     assert_climb(&rt, &store, Bar, 0, &[Bar])?;
     assert_climb(&rt, &store, Bar, 3, &[Bar])?;
     assert_climb(&rt, &store, Empty, 1, &[Empty, Image0])
-}
-
-fn put(alloc: Global, store: &mut MemoryStore, content: Content) -> Result<(), Fail> {
-    let key = content.key(alloc)?;
-    let Content { bytes, .. } = content;
-    push(alloc, store, &key, Bytes::from_vec(bytes.into_bytes())?)?;
-    Ok(())
-}
-
-/// An image whose subject is the content with this descriptor.
-fn image_on(alloc: Global, subject: &str) -> Result<Content, Fail> {
-    let rest = format!(in alloc; "null,\"subject\":{subject}}}")?;
-    image(alloc, rest.as_str())
-}
-
-/// Puts a chain of images into the store, each with the one before as its subject.
-fn put_chain(alloc: Global, store: &mut MemoryStore, length: u32) -> Result<(), Fail> {
-    let mut last = image_0(alloc)?;
-    for _ in 1..length {
-        let next = image_on(alloc, last.descriptor(alloc)?.as_str())?;
-        put(alloc, store, last)?;
-        last = next;
-    }
-    put(alloc, store, last)
 }
 
 #[test]

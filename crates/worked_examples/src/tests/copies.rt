@@ -1,8 +1,7 @@
-use crate::tests::stores::{assert_holds, closed, keys, memory};
 use oci_copy::{CopyFault, Options, Report, copy_memory, copy_one};
 use oci_digest::Digest;
 use oci_manifest::Key;
-use oci_store::{ClosedStore, Dest, Source};
+use oci_store::{ClosedStore, Dest, MemoryStore, Source};
 use std::alloc::Global;
 use std::process::Abort;
 use std::test::Fail;
@@ -10,6 +9,7 @@ use worked_contents::Sample::{
     Bar, DockerImage, Empty, Foo, FooBySha512, Image0, Image2, Image3, Image5, Index1,
 };
 use worked_contents::{IMAGE, Sample, descriptor};
+use worked_stores::{assert_holds, closed, keys, memory};
 
 /// A copy between stores in memory, and what comes of it.
 #[derive(Clone, Copy)]
@@ -48,7 +48,17 @@ pub(crate) fn copied<A: Source, D: Dest + Drop>(
     Ok((destination, told))
 }
 
-/// The same between stores of samples in memory.
+/// Copies by the call between stores in memory.
+fn copied_keys_in_memory(
+    alloc: Global,
+    source: &MemoryStore,
+    destination: ClosedStore,
+    roots: &[Key],
+) -> (ClosedStore, Result<Report, CopyFault>) {
+    copy_memory(alloc, source, destination, roots, &Options::default())
+}
+
+/// The same between stores of samples, with the answer as text.
 fn copied_in_memory(
     alloc: Global,
     source: &[Sample],
@@ -58,8 +68,7 @@ fn copied_in_memory(
     let source = memory(alloc, source)?;
     let destination = closed(alloc, destination)?;
     let roots = keys(alloc, roots)?;
-    let options = Options::default();
-    let (destination, answer) = copy_memory(alloc, &source, destination, &roots, &options);
+    let (destination, answer) = copied_keys_in_memory(alloc, &source, destination, &roots);
     let told = line(alloc, &answer)?;
     Ok((destination, told))
 }

@@ -1,6 +1,5 @@
 //! How each refusal prints: its number, its name, and what it carries.
 
-use crate::tests::stores::keys;
 use oci_copy::CopyFault;
 use oci_manifest::{KeyFault, ManifestFault};
 use oci_plan::PlanFault;
@@ -8,6 +7,7 @@ use oci_store::{FetchFault, OpenFault, PushFault, RefFault};
 use std::process::Abort;
 use std::test::Fail;
 use worked_contents::Sample::{Bar, Foo};
+use worked_stores::keys;
 
 /// A printed fault begins with its number.
 fn assert_line<R: AllocGlobal + Abort>(
@@ -137,12 +137,16 @@ fn plan_faults(rt: HostRuntime) -> Result<(), Fail> {
     assert_plan_fault(&rt, fault, "Fetch", " 21 Corrupt")?;
     let fault = PlanFault::Cycle(keys(alloc, &[Foo, Bar])?);
     let bar = format!(in alloc; " {}", Bar.key(alloc)?)?;
-    assert_plan_fault(&rt, fault, "Cycle", bar.as_str())?;
+    assert_plan_fault(&rt, fault, "Cycle", bar.as_str())
+}
+
+#[test]
+fn plan_faults_without_a_key(rt: HostRuntime) -> Result<(), Fail> {
     for (fault, rest) in [
         (PlanFault::Memory, "Memory"),
         (PlanFault::TooMany, "TooMany"),
     ] {
-        assert_line(&rt, fault.to_string(alloc)?, fault.number(), rest)?;
+        assert_line(&rt, fault.to_string(rt.alloc())?, fault.number(), rest)?;
     }
     Ok(())
 }
@@ -170,7 +174,11 @@ fn copy_faults(rt: HostRuntime) -> Result<(), Fail> {
     assert_copy_fault(&rt, fault, "Fetch", " 22 Device")?;
     assert_copy_fault(&rt, CopyFault::Stuck(Foo.key(alloc)?), "Stuck", "")?;
     let fault = CopyFault::Incomplete(Foo.key(alloc)?);
-    assert_copy_fault(&rt, fault, "Incomplete", "")?;
+    assert_copy_fault(&rt, fault, "Incomplete", "")
+}
+
+#[test]
+fn copy_faults_without_a_key(rt: HostRuntime) -> Result<(), Fail> {
     for (fault, rest) in [
         (CopyFault::Plan(PlanFault::TooMany), "Plan 59 TooMany"),
         (CopyFault::BadWorkers, "BadWorkers"),
@@ -180,7 +188,7 @@ fn copy_faults(rt: HostRuntime) -> Result<(), Fail> {
             "Reference 37 NotHeld",
         ),
     ] {
-        assert_line(&rt, fault.to_string(alloc)?, fault.number(), rest)?;
+        assert_line(&rt, fault.to_string(rt.alloc())?, fault.number(), rest)?;
     }
     Ok(())
 }

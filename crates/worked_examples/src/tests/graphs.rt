@@ -1,4 +1,3 @@
-use crate::tests::stores::{assert_holds, closed, keys, memory};
 use oci_store::{ClosedStore, Dest, GraphSource, MemoryStore};
 use std::alloc::Global;
 use std::process::Abort;
@@ -7,6 +6,7 @@ use worked_contents::Sample;
 use worked_contents::Sample::{
     Bar, Empty, Foo, Image0, Image1, Image2, Image3, Index3, Index4, Referrer,
 };
+use worked_stores::{assert_holds, closed, keys, memory};
 
 /// The keys that list a sample's key are those of these samples, in this order.
 fn assert_predecessors<R: AllocGlobal + Abort, G: GraphSource>(

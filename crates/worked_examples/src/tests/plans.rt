@@ -1,4 +1,3 @@
-use crate::tests::stores::{closed, keys, memory};
 use bytes::Bytes;
 use oci_manifest::Key;
 use oci_plan::{Plan, PlanFault, gather};
@@ -9,6 +8,7 @@ use std::process::Abort;
 use std::test::Fail;
 use worked_contents::Sample;
 use worked_contents::Sample::{Bar, Empty, Foo, Image2, Image3, Index1};
+use worked_stores::{closed, keys, memory};
 
 /// A source that counts its fetches.
 #[derive(Drop)]

@@ -1,13 +1,36 @@
-use crate::tests::stores::{assert_holds, closed, memory, push, push_closed};
 use bytes::Bytes;
 use oci_digest::Digest;
 use oci_manifest::Key;
-use oci_store::{ClosedStore, MemoryStore};
+use oci_store::{ClosedStore, Dest, MemoryStore, PushFault};
 use std::alloc::Global;
 use std::process::Abort;
 use std::test::Fail;
 use worked_contents::Sample::{Empty, Foo, FooBySha512, Image0};
 use worked_contents::{EMPTY, IMAGE, Sample};
+use worked_stores::{assert_holds, closed, memory};
+
+/// What a push answers, as text: the place, or the fault.
+fn told(alloc: Global, pushed: &Result<usize, PushFault>) -> Result<String, Fail> {
+    Ok(match pushed {
+        Ok(place) => format!(in alloc; "place {place}")?,
+        Err(fault) => format!(in alloc; "{fault}")?,
+    })
+}
+
+/// Pushes content under a key, which need not be its own.
+fn push(alloc: Global, store: &mut MemoryStore, key: &Key, bytes: Bytes) -> Result<String, Fail> {
+    told(alloc, &store.push(key, bytes))
+}
+
+/// Pushes content whose successors have to be held.
+fn push_closed<D: Dest>(
+    alloc: Global,
+    store: &mut D,
+    key: &Key,
+    bytes: Bytes,
+) -> Result<String, Fail> {
+    told(alloc, &store.push_closed(key, bytes))
+}
 
 fn key(alloc: Global, media_type: &str, digest: Digest, size: u64) -> Result<Key, Fail> {
     let media_type = String::from_str(alloc, media_type)?;

@@ -1,4 +1,3 @@
-use crate::tests::stores::{closed, memory};
 use oci_manifest::Key;
 use oci_store::{MemoryStore, Tagger};
 use std::alloc::Global;
@@ -6,6 +5,7 @@ use std::process::Abort;
 use std::test::Fail;
 use worked_contents::Sample;
 use worked_contents::Sample::{Empty, Foo, Image0, Image0AsLayer};
+use worked_stores::{closed, memory};
 
 /// What `tag` answers, as text: nothing, or the fault.
 pub(crate) fn tag<T: Tagger>(

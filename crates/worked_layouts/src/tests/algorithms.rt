@@ -1,13 +1,13 @@
 use crate::tests::layouts::{
-    assert_resolves, assert_text, created, fetch, memory, opened, push_sample, summary, text,
+    assert_resolves, assert_text, created, fetch, opened, push_sample, saved, summary, text,
 };
 use oci_copy::{Options, copy_one};
 use oci_layout::{Dir, FsDir, Layout, MemDir};
-use oci_store::Dest;
 use std::process::Abort;
 use std::test::Fail;
 use worked_contents::Sample;
 use worked_contents::Sample::{Empty, Foo, FooBySha512, Image5};
+use worked_stores::{is_closed, memory};
 
 const FOO_DIGITS: &str = "2c26b46b68ffc68ff99b453c1d30413413422d706483bfa0f98a5e886266e7ae";
 
@@ -48,8 +48,7 @@ fn assert_sha512_blob<R: AllocGlobal + Abort, D: Dir + Drop>(rt: &R, dir: D) -> 
         push_sample(rt.alloc(), &mut layout, FooBySha512)?,
         "place 0",
     )?;
-    layout.save()?;
-    let dir = layout.into_dir();
+    let dir = saved(layout)?;
     assert_foo(rt, &dir, "sha512", FOO_SHA512_DIGITS, "foo")?;
     assert_foo(rt, &dir, "sha256", FOO_SHA512_DIGITS, "none")?;
     assert_foo(rt, &dir, "sha256", FOO_DIGITS, "none")?;
@@ -76,11 +75,10 @@ fn copied_by_two_algorithms<R: AllocGlobal + Abort>(rt: &R) -> Result<MemDir, Fa
     let source = memory(alloc, &[Empty, Foo, FooBySha512, Image5])?;
     let roots = [Foo.key(alloc)?, Image5.key(alloc)?];
     let layout = created(alloc, MemDir::new(alloc))?;
-    let (mut layout, answer) = copy_one(alloc, &source, layout, &roots, &Options::default());
+    let (layout, answer) = copy_one(alloc, &source, layout, &roots, &Options::default());
     let told = answer?.to_string(alloc)?;
     assert_text(rt, told, "planned 4 pushed 4 skipped 0")?;
-    layout.save()?;
-    Ok(layout.into_dir())
+    saved(layout)
 }
 
 /// One content under both algorithms is two keys with a file each, and stays so when it is opened again.
@@ -91,7 +89,7 @@ fn foo_by_two_algorithms(rt: HostRuntime) -> Result<(), Fail> {
     assert_foo(&rt, &dir, "sha512", FOO_SHA512_DIGITS, "foo")?;
     let layout = opened(rt.alloc(), dir)?;
     assert_text(&rt, summary(rt.alloc(), &layout)?, "held 4")?;
-    assert!(rt; layout.missing()?.is_none());
+    assert!(rt; is_closed(&layout)?);
     assert_held(&rt, &layout, Foo, "sha256", FOO_DIGITS)?;
     assert_held(&rt, &layout, FooBySha512, "sha512", FOO_SHA512_DIGITS)
 }

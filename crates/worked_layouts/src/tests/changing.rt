@@ -1,13 +1,15 @@
-use crate::tests::layouts::{assert_text, blob, created, push_sample, tag};
+use crate::tests::layouts::{assert_text, blob, created, push_sample, saved, tag};
 use bytes::Bytes;
-use oci_copy::{Options, copy_one};
+use oci_copy::{CopyFault, Options, Report, copy_one};
 use oci_layout::{Dir, DirFault, Layout, MemDir};
-use oci_store::{ClosedStore, Dest};
+use oci_manifest::Key;
+use oci_store::ClosedStore;
 use std::alloc::Global;
 use std::cell::Cell;
 use std::process::Abort;
 use std::test::Fail;
 use worked_contents::Sample::{Empty, Image0};
+use worked_stores::{closed, is_closed, keys};
 
 /// A directory that answers the right bytes for so many reads, and other bytes for each later read of one file.
 #[derive(Drop)]
@@ -57,35 +59,48 @@ impl<D: Dir> Dir for ChangingDir<D> {
 }
 
 /// The files of a layout of one image.
-fn saved(alloc: Global) -> Result<MemDir, Fail> {
+fn saved_image(alloc: Global) -> Result<MemDir, Fail> {
     let mut layout = created(alloc, MemDir::new(alloc))?;
     push_sample(alloc, &mut layout, Empty)?;
     push_sample(alloc, &mut layout, Image0)?;
     tag(alloc, &mut layout, Image0, "v1")?;
-    layout.save()?;
-    Ok(layout.into_dir())
+    saved(layout)
 }
 
 /// The same, the manifest of which changes after so many reads.
 fn changing(alloc: Global, right: u64) -> Result<ChangingDir<MemDir>, Fail> {
     Ok(ChangingDir {
         alloc,
-        dir: saved(alloc)?,
+        dir: saved_image(alloc)?,
         path: blob(alloc, Image0)?,
         right: Cell::new(right),
     })
 }
 
+/// Copies keys of a layout into a store in memory.
+fn copied_keys<D: Dir>(
+    alloc: Global,
+    source: &Layout<D>,
+    destination: ClosedStore,
+    roots: &[Key],
+) -> (ClosedStore, Result<Report, CopyFault>) {
+    copy_one(alloc, source, destination, roots, &Options::default())
+}
+
+/// What a copy answers, as text.
+fn line(alloc: Global, answer: &Result<Report, CopyFault>) -> Result<String, Fail> {
+    Ok(match answer {
+        Ok(report) => format!(in alloc; "{report}")?,
+        Err(fault) => format!(in alloc; "{fault}")?,
+    })
+}
+
 /// Copies the image of a layout: what is told, and whether the destination is closed.
 fn copied<D: Dir>(alloc: Global, source: &Layout<D>) -> Result<(String, bool), Fail> {
-    let roots = [Image0.key(alloc)?];
-    let destination = ClosedStore::new(alloc);
-    let (destination, answer) = copy_one(alloc, source, destination, &roots, &Options::default());
-    let closed = destination.missing()?.is_none();
-    match answer {
-        Ok(report) => Ok((format!(in alloc; "{report}")?, closed)),
-        Err(fault) => Ok((format!(in alloc; "{fault}")?, closed)),
-    }
+    let roots = keys(alloc, &[Image0])?;
+    let (destination, answer) = copied_keys(alloc, source, closed(alloc, &[])?, &roots);
+    let told = line(alloc, &answer)?;
+    Ok((told, is_closed(&destination)?))
 }
 
 /// Opens the layout and copies its image.

@@ -1,9 +1,9 @@
 //! Layouts of samples, their files, and what they then hold.
 
 use bytes::Bytes;
-use oci_layout::{Dir, Layout, MemDir};
+use oci_layout::{Dir, Layout, LayoutFault, MemDir};
 use oci_manifest::Key;
-use oci_store::{Dest, FetchFault, MemoryStore, PushFault, RefFault, Source, Tagger};
+use oci_store::{Dest, FetchFault, PushFault, RefFault, Source, Tagger};
 use std::alloc::Global;
 use std::process::Abort;
 use std::test::Fail;
@@ -12,29 +12,32 @@ use worked_contents::Sample;
 /// `oci-layout` as this crate makes it.
 pub(crate) const LAYOUT: &str = "{\"imageLayoutVersion\":\"1.0.0\"}";
 
-/// A store in memory to which these samples came, in this order.
-pub(crate) fn memory(alloc: Global, samples: &[Sample]) -> Result<MemoryStore, Fail> {
-    let mut store = MemoryStore::new(alloc);
-    for sample in samples {
-        store.push(&sample.key(alloc)?, sample.bytes(alloc)?)?;
+fn made<D: Dir + Drop>(answer: Result<Layout<D>, (D, LayoutFault)>) -> Result<Layout<D>, Fail> {
+    match answer {
+        Ok(layout) => Ok(layout),
+        Err((_, fault)) => Err(Fail::from(fault)),
     }
-    Ok(store)
 }
 
 /// A layout that was just made.
 pub(crate) fn created<D: Dir + Drop>(alloc: Global, dir: D) -> Result<Layout<D>, Fail> {
-    match Layout::create(alloc, dir) {
-        Ok(layout) => Ok(layout),
-        Err((_, fault)) => Err(Fail::from(fault)),
-    }
+    made(Layout::create(alloc, dir))
 }
 
 /// The layout that a directory is.
 pub(crate) fn opened<D: Dir + Drop>(alloc: Global, dir: D) -> Result<Layout<D>, Fail> {
-    match Layout::open(alloc, dir) {
-        Ok(layout) => Ok(layout),
-        Err((_, fault)) => Err(Fail::from(fault)),
-    }
+    made(Layout::open(alloc, dir))
+}
+
+/// Saves a layout, and gives its directory.
+pub(crate) fn saved<D: Dir + Drop>(mut layout: Layout<D>) -> Result<D, Fail> {
+    layout.save()?;
+    Ok(layout.into_dir())
+}
+
+/// The directory of a layout.
+pub(crate) fn dir_of_layout<D: Dir + Drop>(layout: Layout<D>) -> D {
+    layout.into_dir()
 }
 
 /// What `create` answers, as text.
@@ -84,6 +87,17 @@ pub(crate) fn push_sample<D: Dest>(
     sample: Sample,
 ) -> Result<String, Fail> {
     push(alloc, layout, &sample.key(alloc)?, sample.bytes(alloc)?)
+}
+
+/// What a push of a sample's bytes under another media type answers, as text.
+pub(crate) fn push_as<D: Dest>(
+    alloc: Global,
+    layout: &mut D,
+    sample: Sample,
+    media_type: &str,
+) -> Result<String, Fail> {
+    let key = sample.content(alloc)?.key_as(alloc, media_type)?;
+    push(alloc, layout, &key, sample.bytes(alloc)?)
 }
 
 /// What `fetch` of a sample's key answers, as text: the bytes, which are text, or the fault.

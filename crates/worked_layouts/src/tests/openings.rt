@@ -1,4 +1,4 @@
-use crate::tests::layouts::{LAYOUT, assert_text, dir_of, opened, opening, resolve, text};
+use crate::tests::layouts::{LAYOUT, assert_text, dir_of, opened, opening, resolve, saved, text};
 use oci_manifest::Key;
 use std::alloc::Global;
 use std::process::Abort;
@@ -202,9 +202,8 @@ fn names_of_an_index(rt: HostRuntime) -> Result<(), Fail> {
 /// The index that is saved after one was opened.
 fn saved_again(alloc: Global, index: &str, samples: &[Sample]) -> Result<String, Fail> {
     let files = [("oci-layout", LAYOUT), ("index.json", index)];
-    let mut layout = opened(alloc, dir_of(alloc, &files, samples)?)?;
-    layout.save()?;
-    text(alloc, &layout.into_dir(), "index.json")
+    let layout = opened(alloc, dir_of(alloc, &files, samples)?)?;
+    text(alloc, &saved(layout)?, "index.json")
 }
 
 /// An entry as `save` writes it, after its annotations.

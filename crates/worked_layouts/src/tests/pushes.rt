@@ -1,8 +1,9 @@
 use crate::tests::layouts::{
-    assert_text, blob, created, fetch, opened, push, push_sample, summary, tag, text,
+    assert_text, blob, created, dir_of_layout, fetch, opened, push, push_as, push_sample, saved,
+    summary, tag, text,
 };
 use oci_layout::{Dir, Layout, MemDir};
-use oci_store::GraphSource;
+use oci_store::{Dest, GraphSource};
 use std::alloc::Global;
 use std::process::Abort;
 use std::test::Fail;
@@ -20,16 +21,30 @@ fn assert_push<R: AllocGlobal + Abort>(
     assert_text(rt, told, want)
 }
 
+/// How the refusal of what lists a missing sample prints.
+fn missing(alloc: Global, sample: Sample) -> Result<String, Fail> {
+    let key = sample.key(alloc)?;
+    Ok(format!(in alloc; "42 MissingSuccessor {key}")?)
+}
+
+/// What a push of a sample's bytes under another one's key tells.
+fn push_under<D: Dest>(
+    alloc: Global,
+    layout: &mut D,
+    sample: Sample,
+    other: Sample,
+) -> Result<String, Fail> {
+    push(alloc, layout, &other.key(alloc)?, sample.bytes(alloc)?)
+}
+
 #[test]
 fn refused_pushes(rt: HostRuntime) -> Result<(), Fail> {
     let mut layout = created(rt.alloc(), MemDir::new(rt.alloc()))?;
-    let key = Empty.key(rt.alloc())?;
-    let want = format!(in rt.alloc(); "42 MissingSuccessor {key}")?;
+    let want = missing(rt.alloc(), Empty)?;
     assert_push(&rt, &mut layout, Image0, want.as_str())?;
     assert_push(&rt, &mut layout, Empty, "place 0")?;
     assert_push(&rt, &mut layout, Empty, "30 AlreadyExists")?;
-    let bytes = Empty.bytes(rt.alloc())?;
-    let told = push(rt.alloc(), &mut layout, &Foo.key(rt.alloc())?, bytes)?;
+    let told = push_under(rt.alloc(), &mut layout, Empty, Foo)?;
     assert_text(&rt, told, "31 SizeMismatch")
 }
 
@@ -49,8 +64,7 @@ fn twice(alloc: Global) -> Result<Layout<MemDir>, Fail> {
     let mut layout = created(alloc, MemDir::new(alloc))?;
     push_sample(alloc, &mut layout, Empty)?;
     push_sample(alloc, &mut layout, Image0)?;
-    let key = Image0.content(alloc)?.key_as(alloc, LAYER)?;
-    push(alloc, &mut layout, &key, Image0.bytes(alloc)?)?;
+    push_as(alloc, &mut layout, Image0, LAYER)?;
     Ok(layout)
 }
 
@@ -78,7 +92,7 @@ fn old_file(rt: HostRuntime) -> Result<(), Fail> {
     assert_push(&rt, &mut layout, Foo, "place 0")?;
     assert_text(&rt, fetch(rt.alloc(), &layout, Foo)?, "foo")?;
     let path = blob(rt.alloc(), Foo)?;
-    let told = text(rt.alloc(), &layout.into_dir(), path.as_str())?;
+    let told = text(rt.alloc(), &dir_of_layout(layout), path.as_str())?;
     assert_text(&rt, told, "foo")
 }
 
@@ -87,25 +101,23 @@ fn old_file(rt: HostRuntime) -> Result<(), Fail> {
 fn file_of_two_keys(rt: HostRuntime) -> Result<(), Fail> {
     let mut layout = created(rt.alloc(), MemDir::with_fuse(rt.alloc(), 3))?;
     assert_push(&rt, &mut layout, Foo, "place 0")?;
-    let key = Foo.content(rt.alloc())?.key_as(rt.alloc(), "text/plain")?;
-    let told = push(rt.alloc(), &mut layout, &key, Foo.bytes(rt.alloc())?)?;
+    let told = push_as(rt.alloc(), &mut layout, Foo, "text/plain")?;
     assert_text(&rt, told, "place 1")?;
     assert_push(&rt, &mut layout, Empty, "43 Device")
 }
 
 /// The files of a layout of one layer.
-fn saved(alloc: Global) -> Result<MemDir, Fail> {
+fn saved_layer(alloc: Global) -> Result<MemDir, Fail> {
     let mut layout = created(alloc, MemDir::new(alloc))?;
     push_sample(alloc, &mut layout, Foo)?;
     tag(alloc, &mut layout, Foo, "foo")?;
-    layout.save()?;
-    Ok(layout.into_dir())
+    saved(layout)
 }
 
 /// What `fetch` answers of a held key whose file then has another text.
 fn changed(alloc: Global, bytes: &str) -> Result<String, Fail> {
     let path = blob(alloc, Foo)?;
-    let mut dir = saved(alloc)?;
+    let mut dir = saved_layer(alloc)?;
     dir.put(path.as_str(), bytes.as_bytes())?;
     let layout = opened(alloc, dir)?;
     fetch(alloc, &layout, Foo)

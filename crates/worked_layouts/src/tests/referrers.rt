@@ -1,4 +1,4 @@
-use crate::tests::layouts::{assert_text, created, memory, tag, text};
+use crate::tests::layouts::{assert_text, created, saved, tag, text};
 use oci_copy::{CopyFault, Options, Report, extended_copy_graph};
 use oci_layout::{Layout, MemDir};
 use oci_manifest::Key;
@@ -11,6 +11,7 @@ use std::test::Fail;
 use std::thread::Threads;
 use worked_contents::Sample;
 use worked_contents::Sample::{Empty, Foo, Image2, Index3, Index4, Referrer};
+use worked_stores::memory;
 
 /// Copies a key and what lists it into a layout.
 fn extended<R: AllocGlobal + Threads + Wait + Sync>(
@@ -53,15 +54,20 @@ fn entry(alloc: Global, annotations: &str, sample: Sample) -> Result<String, Fai
     )?)
 }
 
+/// An index of three entries.
+fn index_of(alloc: Global, first: &str, second: &str, third: &str) -> Result<String, Fail> {
+    Ok(format!(in alloc;
+        "{{\"manifests\":[{first},{second},{third}],\"mediaType\":\"application/vnd.oci.image.index.v1+json\",\"schemaVersion\":2}}"
+    )?)
+}
+
 /// The index of the image with its name, and of the index and the signature above it.
 fn wanted(alloc: Global) -> Result<String, Fail> {
     let name = "\"annotations\":{\"org.opencontainers.image.ref.name\":\"t\"},";
     let image = entry(alloc, name, Image2)?;
     let above = entry(alloc, "", Index3)?;
     let signature = entry(alloc, "", Referrer)?;
-    Ok(format!(in alloc;
-        "{{\"manifests\":[{image},{above},{signature}],\"mediaType\":\"application/vnd.oci.image.index.v1+json\",\"schemaVersion\":2}}"
-    )?)
+    index_of(alloc, image.as_str(), above.as_str(), signature.as_str())
 }
 
 /// Manifests without a name stand in the saved index too, in key order, after the names.
@@ -71,7 +77,6 @@ fn referrers_in_an_index(rt: HostRuntime) -> Result<(), Fail> {
     let source = memory(alloc, &[Empty, Foo, Image2, Referrer, Index3, Index4])?;
     let mut layout = filled(&rt, &source)?;
     tag(alloc, &mut layout, Image2, "t")?;
-    layout.save()?;
-    let index = text(alloc, &layout.into_dir(), "index.json")?;
+    let index = text(alloc, &saved(layout)?, "index.json")?;
     assert_text(&rt, index, wanted(alloc)?.as_str())
 }

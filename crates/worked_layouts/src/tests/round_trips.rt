@@ -1,6 +1,6 @@
 use crate::tests::layouts::{
-    LAYOUT, assert_resolves, assert_text, assert_unresolved, blob, created, creating, fetch,
-    memory, opened, summary, tag, text,
+    LAYOUT, assert_resolves, assert_text, assert_unresolved, blob, created, creating,
+    dir_of_layout, fetch, opened, saved, summary, tag, text,
 };
 use oci_copy::{CopyFault, Options, Report, copy};
 use oci_layout::{Dir, FsDir, Layout, MemDir};
@@ -15,6 +15,7 @@ use std::test::Fail;
 use std::thread::Threads;
 use worked_contents::Sample;
 use worked_contents::Sample::{Empty, Image0};
+use worked_stores::memory;
 
 /// What a copy by reference answers, as text.
 fn line(alloc: Global, answer: &Result<(Key, Report), CopyFault>) -> Result<String, Fail> {
@@ -62,9 +63,8 @@ fn filled<D: Dir + Drop + Send, R: AllocGlobal + Threads + Wait + Sync>(
     let alloc = rt.alloc();
     let mut source = memory(alloc, &[Empty, Image0])?;
     tag(alloc, &mut source, Image0, "m")?;
-    let (mut layout, told) = copied(rt, &source, created(alloc, dir)?)?;
-    layout.save()?;
-    Ok((layout.into_dir(), told))
+    let (layout, told) = copied(rt, &source, created(alloc, dir)?)?;
+    Ok((saved(layout)?, told))
 }
 
 /// The index of one image with the name `v1`.
@@ -128,7 +128,7 @@ fn assert_round_trip<D: Dir + Drop + Send, R: AllocGlobal + Abort + Threads + Wa
     assert_files(rt, &dir)?;
     let layout = opened(rt.alloc(), dir)?;
     assert_layout(rt, &layout)?;
-    let (dir, told) = creating(rt.alloc(), layout.into_dir())?;
+    let (dir, told) = creating(rt.alloc(), dir_of_layout(layout))?;
     assert_text(rt, told, "78 AlreadyLayout")?;
     Ok(dir)
 }
@@ -149,18 +149,24 @@ fn layout_round_trip_in_a_folder(rt: HostRuntime) -> Result<(), Fail> {
     assert_gone(&rt, dir, "round_trip")
 }
 
+/// Removes the file of a sample from a folder.
+fn remove<R: AllocGlobal + Files>(rt: &R, folder: &str, sample: Sample) -> Result<(), Fail> {
+    let path = blob(rt.alloc(), sample)?;
+    let place = format!(in rt.alloc(); "{folder}/{path}")?;
+    std::fs::remove_file(rt, place.as_str())?;
+    Ok(())
+}
+
 /// A held key whose file is removed is told by its fetch; where the folder is opened again, it is not held.
 fn assert_gone<D: Dir + Drop, R: AllocGlobal + Abort + Files>(
     rt: &R,
     dir: D,
     folder: &str,
 ) -> Result<(), Fail> {
-    let path = blob(rt.alloc(), Empty)?;
-    let place = format!(in rt.alloc(); "{folder}/{path}")?;
     let layout = opened(rt.alloc(), dir)?;
-    std::fs::remove_file(rt, place.as_str())?;
+    remove(rt, folder, Empty)?;
     assert_text(rt, fetch(rt.alloc(), &layout, Empty)?, "21 Corrupt")?;
-    let layout = opened(rt.alloc(), layout.into_dir())?;
+    let layout = opened(rt.alloc(), dir_of_layout(layout))?;
     assert_text(rt, summary(rt.alloc(), &layout)?, "held 1 v1")?;
     assert_text(rt, fetch(rt.alloc(), &layout, Empty)?, "20 NotFound")
 }

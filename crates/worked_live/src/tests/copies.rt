@@ -1,4 +1,4 @@
-use crate::tests::stores::{by, has, live, memory, numbers};
+use crate::tests::stores::{by, has, live, numbers};
 use oci_copy::{copy_graph, copy_one, extended_copy_graph};
 use oci_pool::NoHooks;
 use oci_store::MemoryStore;
@@ -8,6 +8,7 @@ use std::test::Fail;
 use std::thread::Threads;
 use worked_contents::Sample;
 use worked_contents::Sample::{Bar, Empty, Foo, Image2, Image3, Index1, Index3, Index4, Referrer};
+use worked_stores::memory;
 
 /// The images, and what they reach.
 const IMAGES: [Sample; 6] = [Empty, Foo, Bar, Image2, Image3, Index1];

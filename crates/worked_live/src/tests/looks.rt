@@ -1,7 +1,7 @@
 ghost use Rattle.std.specs.Prelude.{◌≡◌};
 
 use crate::telling::copy_and_tell;
-use crate::tests::stores::{by, counts, has, looked_at, memory, numbers, shows, shows_at};
+use crate::tests::stores::{by, counts, has, looked_at, numbers, shows, shows_at};
 use oci_copy::copy_graph;
 use oci_live::{LiveStore, Look, Note};
 use oci_manifest::Key;
@@ -13,6 +13,7 @@ use std::sync::atomic::{AtomicBool, Ordering};
 use std::test::Fail;
 use std::thread::{Threads, join};
 use worked_contents::Sample::{Empty, Foo, Image0};
+use worked_stores::memory;
 
 /// How often a look or a hook looks for what has to come.
 const LOOKS: u64 = 1_000_000_000;

@@ -3,29 +3,12 @@ ghost use Rattle.std.specs.Prelude.{◌≡◌, IfOk};
 
 use oci_copy::{CopyFault, Options, Report};
 use oci_live::{LiveStore, Look};
-use oci_store::{ClosedStore, Dest, MemoryStore, Source};
+use oci_store::{Dest, Source};
 use std::alloc::Global;
 use std::sync::Wait;
 use std::test::Fail;
 use worked_contents::Sample;
-
-/// A store in memory to which these samples came, in this order.
-pub(crate) fn memory(alloc: Global, samples: &[Sample]) -> Result<MemoryStore, Fail> {
-    let mut store = MemoryStore::new(alloc);
-    for sample in samples {
-        store.push(&sample.key(alloc)?, sample.bytes(alloc)?)?;
-    }
-    Ok(store)
-}
-
-/// A closed store to which these samples came, in this order.
-fn closed(alloc: Global, samples: &[Sample]) -> Result<ClosedStore, Fail> {
-    let mut store = ClosedStore::new(alloc);
-    for sample in samples {
-        store.push_closed(&sample.key(alloc)?, sample.bytes(alloc)?)?;
-    }
-    Ok(store)
-}
+use worked_stores::{closed, gives_sample};
 
 /// A live store that was opened on these samples, in this order.
 pub(crate) fn live<R: Wait + Drop>(
@@ -66,11 +49,6 @@ pub(crate) fn numbers(copied: Result<Report, CopyFault>) -> Option<[u64; 3]> {
     Some([report.planned, report.pushed, report.skipped])
 }
 
-/// Whether a store gives a sample's bytes.
-fn gives(alloc: Global, store: &ClosedStore, sample: Sample) -> Result<bool, Fail> {
-    Ok(store.fetch(&sample.key(alloc)?)? == sample.bytes(alloc)?)
-}
-
 /// Whether a live store has these samples, and nothing else: what is copied out of it.
 pub(crate) fn has<R: Wait + Drop>(
     alloc: Global,
@@ -79,7 +57,7 @@ pub(crate) fn has<R: Wait + Drop>(
 ) -> Result<bool, Fail> {
     let out = live.copy_out()?;
     for sample in samples {
-        if !gives(alloc, &out, *sample)? {
+        if !gives_sample(alloc, &out, *sample)? {
             return Ok(false);
         }
     }

@@ -1,4 +1,4 @@
-use crate::{Digest, DigestFault, NoMemory};
+use oci_digest::{Digest, DigestFault, NoMemory};
 use std::alloc::{AllocError, Global};
 use std::test::Fail;
 
