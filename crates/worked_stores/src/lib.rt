@@ -12,6 +12,5 @@ mod samples;
 pub use device::{Device, DeviceStore};
 pub use published::PublishedStore;
 pub use samples::{
-    assert_holds, closed, gives, gives_sample, is_closed, keys, memory, on_device, put_chain,
-    put_content,
+    closed, gives, gives_sample, holds, is_closed, keys, memory, on_device, put_chain, put_content,
 };

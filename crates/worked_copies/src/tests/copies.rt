@@ -5,11 +5,22 @@ use oci_manifest::Key;
 use oci_pool::{Hooks, NoHooks};
 use oci_store::{Dest, Source};
 use std::alloc::Global;
+use std::process::Abort;
 use std::sync::Wait;
 use std::test::Fail;
 use std::thread::Threads;
 use worked_contents::Sample;
-use worked_stores::keys;
+use worked_stores::{holds, keys};
+
+/// The store holds these samples, and nothing else.
+pub(crate) fn assert_holds<R: AllocGlobal + Abort, A: Source + Dest>(
+    rt: &R,
+    store: &A,
+    samples: &[Sample],
+) -> Result<(), Fail> {
+    assert!(rt; holds(rt.alloc(), store, samples)?);
+    Ok(())
+}
 
 /// The options of a copy by so many workers.
 pub(crate) fn by(workers: u32) -> Options {

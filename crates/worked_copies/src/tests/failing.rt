@@ -1,4 +1,4 @@
-use crate::tests::copies::{copied_samples, copied_samples_on_one_thread};
+use crate::tests::copies::{assert_holds, copied_samples, copied_samples_on_one_thread};
 use oci_store::{ClosedStore, Dest, Source};
 use std::process::Abort;
 use std::sync::Wait;
@@ -6,7 +6,7 @@ use std::test::Fail;
 use std::thread::Threads;
 use worked_contents::Sample;
 use worked_contents::Sample::{Bar, Empty, Foo, Image2, Image3, Index1};
-use worked_stores::{Device, DeviceStore, assert_holds, closed, is_closed, on_device};
+use worked_stores::{Device, DeviceStore, closed, is_closed, on_device};
 
 const ALL: [Sample; 6] = [Empty, Foo, Bar, Image2, Image3, Index1];
 

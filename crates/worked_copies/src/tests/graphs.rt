@@ -1,4 +1,4 @@
-use crate::tests::copies::{by, copied_samples, copied_samples_on_one_thread, line};
+use crate::tests::copies::{assert_holds, by, copied_samples, copied_samples_on_one_thread, line};
 use oci_copy::{CopyFault, Report, copy_memory_by_workers};
 use oci_manifest::Key;
 use oci_pool::NoHooks;
@@ -12,7 +12,7 @@ use worked_contents::Sample;
 use worked_contents::Sample::{
     Bar, Empty, Foo, Image0, Image0AsLayer, Image1, Image2, Image3, Image4, Index1, Index2,
 };
-use worked_stores::{assert_holds, closed, keys, memory};
+use worked_stores::{closed, keys, memory};
 
 /// A copy between stores in memory, and what comes of it.
 #[derive(Clone, Copy)]

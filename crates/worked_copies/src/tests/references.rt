@@ -1,4 +1,4 @@
-use crate::tests::copies::by;
+use crate::tests::copies::{assert_holds, by};
 use oci_copy::{CopyFault, Report, copy};
 use oci_manifest::Key;
 use oci_pool::NoHooks;
@@ -10,7 +10,7 @@ use std::test::Fail;
 use std::thread::Threads;
 use worked_contents::Sample;
 use worked_contents::Sample::{Empty, Foo, Image0, Image2};
-use worked_stores::{assert_holds, closed, memory};
+use worked_stores::{closed, memory};
 
 fn tag<D: Tagger>(store: &mut D, key: &Key, name: &str) -> bool {
     store.tag(key, name).is_ok()

@@ -1,4 +1,4 @@
-use crate::tests::copies::{by, copied_samples, line};
+use crate::tests::copies::{assert_holds, by, copied_samples, line};
 use crate::tests::references::{assert_name, told_by_reference};
 use oci_copy::{CopyFault, Report, extended_copy, extended_copy_graph};
 use oci_manifest::Key;
@@ -13,7 +13,7 @@ use worked_contents::Sample;
 use worked_contents::Sample::{
     Bar, Empty, Foo, Image0, Image2, Index3, Index4, Index5, Index6, Referrer,
 };
-use worked_stores::{assert_holds, closed, memory};
+use worked_stores::{closed, memory};
 
 /// An extended copy from a key.
 fn extended_by<

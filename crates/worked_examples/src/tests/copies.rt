@@ -1,3 +1,4 @@
+use crate::tests::graphs::assert_holds;
 use oci_copy::{CopyFault, Options, Report, copy_memory, copy_one};
 use oci_digest::Digest;
 use oci_manifest::Key;
@@ -9,7 +10,7 @@ use worked_contents::Sample::{
     Bar, DockerImage, Empty, Foo, FooBySha512, Image0, Image2, Image3, Image5, Index1,
 };
 use worked_contents::{IMAGE, Sample, descriptor};
-use worked_stores::{assert_holds, closed, keys, memory};
+use worked_stores::{closed, keys, memory};
 
 /// A copy between stores in memory, and what comes of it.
 #[derive(Clone, Copy)]

@@ -1,4 +1,4 @@
-use oci_store::{ClosedStore, Dest, GraphSource, MemoryStore};
+use oci_store::{ClosedStore, Dest, GraphSource, MemoryStore, Source};
 use std::alloc::Global;
 use std::process::Abort;
 use std::test::Fail;
@@ -6,7 +6,17 @@ use worked_contents::Sample;
 use worked_contents::Sample::{
     Bar, Empty, Foo, Image0, Image1, Image2, Image3, Index3, Index4, Referrer,
 };
-use worked_stores::{assert_holds, closed, keys, memory};
+use worked_stores::{closed, holds, keys, memory};
+
+/// The store holds these samples, and nothing else.
+pub(crate) fn assert_holds<R: AllocGlobal + Abort, A: Source + Dest>(
+    rt: &R,
+    store: &A,
+    samples: &[Sample],
+) -> Result<(), Fail> {
+    assert!(rt; holds(rt.alloc(), store, samples)?);
+    Ok(())
+}
 
 /// The keys that list a sample's key are those of these samples, in this order.
 fn assert_predecessors<R: AllocGlobal + Abort, G: GraphSource>(

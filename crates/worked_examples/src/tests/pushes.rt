@@ -1,3 +1,4 @@
+use crate::tests::graphs::assert_holds;
 use bytes::Bytes;
 use oci_digest::Digest;
 use oci_manifest::Key;
@@ -7,7 +8,7 @@ use std::process::Abort;
 use std::test::Fail;
 use worked_contents::Sample::{Empty, Foo, FooBySha512, Image0};
 use worked_contents::{EMPTY, IMAGE, Sample};
-use worked_stores::{assert_holds, closed, memory};
+use worked_stores::{closed, memory};
 
 /// What a push answers, as text: the place, or the fault.
 fn told(alloc: Global, pushed: &Result<usize, PushFault>) -> Result<String, Fail> {
