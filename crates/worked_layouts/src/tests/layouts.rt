@@ -3,7 +3,7 @@
 use bytes::Bytes;
 use oci_layout::{Dir, Layout, LayoutFault, MemDir};
 use oci_manifest::Key;
-use oci_store::{Dest, FetchFault, PushFault, RefFault, Source, Tagger};
+use oci_store::{Dest, Source, Tagger};
 use std::alloc::Global;
 use std::process::Abort;
 use std::test::Fail;

@@ -3,7 +3,6 @@ ghost use Rattle.std.specs.Prelude.{◌≡◌, IfOk};
 
 use oci_copy::{CopyFault, Options, Report};
 use oci_live::{LiveStore, Look};
-use oci_store::{Dest, Source};
 use std::alloc::Global;
 use std::sync::Wait;
 use std::test::Fail;
