@@ -1,9 +1,10 @@
-ghost use Rattle.std.specs.Prelude.{◌≡◌, true, Contains, IfErr};
+ghost use Rattle.std.specs.Prelude.{◌≡◌, true, Contains, IfOk, IfErr};
 ghost use Rattle.oci_store.specs.Keyed.{has_key};
 ghost use Rattle.oci_copy.specs.Planned.{CanBeRead};
 ghost use Rattle.oci_copy.specs.Work.{IsNoted, IsWorkCause, CanFail};
 
 use super::guarded::Guarded;
+use super::held::Held;
 use super::opening::Opening;
 use super::waiting::push_later;
 use crate::fault::CopyFault;
@@ -43,18 +44,19 @@ impl<'a, A: Source, D: Dest, T: Opening, R: Wait, H: Hooks> Model for CopyJob<'a
 }
 
 /// Fetches a planned key and reads it, and then pushes it, once all that it lists is held.
-fn copy_key<A: Source, D: Dest + Drop, T: Opening, R: Wait>(
+fn copy_key<'k, A: Source, D: Dest + Drop, T: Opening, R: Wait>(
     rt: &R,
     source: &A,
     lock: &Mutex<Option<Guarded<D, T>>>,
     pushed: &Condvar,
-    key: &Key,
-) -> Result<(), CopyFault>
+    key: &'k Key,
+) -> Result<Held<'k>, CopyFault>
     requires noted { IsNoted T.source (A.state source.now) }
     requires planned { Contains T.planned key.now }
     requires there { has_key T.source.entries key.now ≡ true }
     requires reads { T.source.is_honest → CanBeRead T.source.entries key.now }
-    ensures { IfErr result (IsWorkCause (CanFail D.state T.opening) T.source T.opening T.planned) }
+    ensures held { IfOk result (λ held. held ≡ key.now) }
+    ensures cause { IfErr result (IsWorkCause (CanFail D.state T.opening) T.source T.opening T.planned) }
 {
     let content = fetch_planned(source, key)?;
     push_later(rt, lock, pushed, key, content)
@@ -68,24 +70,25 @@ impl<
     R: Wait + Sync,
     H: Hooks + Sync,
 > Job for CopyJob<'a, A, D, T, R, H> {
-    type Out = ();
+    /// That the key is held: nothing for what is no number of the plan.
+    type Out = Option<Held<'a>>;
 
     type Fault = CopyFault;
 
-    ghost use Rattle.std.specs.Prelude.{⊤};
+    ghost use Rattle.std.specs.Prelude.{◌≡◌, slice_get};
     ghost use Rattle.oci_copy.specs.Work.{IsWorkCause, CanFail};
 
-    ghost answers = { λ j k x. ⊤ };
+    ghost answers = { λ j k held. held ≡ slice_get T.planned k };
 
     ghost fails = { λ j k f. IsWorkCause (CanFail D.state T.opening) T.source T.opening T.planned f };
 
-    fn run(&self, number: u32, _pass: Pass) -> Result<(), CopyFault> {
+    fn run(&self, number: u32, _pass: Pass) -> Result<Option<Held<'a>>, CopyFault> {
         let Some(key) = self.plan.key(number) else {
-            return Ok(());
+            return Ok(None);
         };
         self.hooks.pre_copy(key);
-        copy_key(self.rt, self.source, self.lock, self.pushed, key)?;
+        let held = copy_key(self.rt, self.source, self.lock, self.pushed, key)?;
         self.hooks.post_copy(key);
-        Ok(())
+        Ok(Some(held))
     }
 }

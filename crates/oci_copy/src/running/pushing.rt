@@ -1,10 +1,11 @@
-ghost use Rattle.std.specs.Prelude.{◌≡◌, true, List, Some, Contains, OnOk, IfErr, IsSomeAnd};
+ghost use Rattle.std.specs.Prelude.{◌≡◌, true, List, Some, Contains, OnOk, IfOk, IfErr, IsSomeAnd};
 ghost use Rattle.oci_manifest.specs.Descriptor.{Descriptor};
 ghost use Rattle.oci_store.specs.Content.{IsChecked, successors_in};
 ghost use Rattle.oci_store.specs.Keyed.{has_key, value_at, HasAll};
 ghost use Rattle.oci_copy.specs.Work.{IsWorkCause, CanFail};
 
 use super::guarded::Guarded;
+use super::held::Held;
 use super::opening::Opening;
 use crate::fault::CopyFault;
 use crate::fetching::push_fault;
@@ -41,22 +42,26 @@ fn push_ready<D: Dest, T: Opening>(
     }
 }
 
-/// The same, where the destination is there.
-pub(crate) fn push_there<D: Dest, T: Opening>(
+/// The same, where the destination is there. Answers that the key is held.
+pub(crate) fn push_there<'k, D: Dest, T: Opening>(
     guarded: &mut Option<Guarded<D, T>>,
-    key: &Key,
+    key: &'k Key,
     content: CheckedContent,
-) -> Result<(), CopyFault>
+) -> Result<Held<'k>, CopyFault>
     requires same { content.0 ≡ key.now }
     requires planned { Contains T.planned key.now }
     requires checked { (listed : List Descriptor) × IsChecked key.now content.1 listed }
     requires own { T.source.is_honest → value_at T.source.entries key.now ≡ Some content.1 }
     requires ready { IsSomeAnd guarded.old (λ g. HasAll g (successors_in key.now content.1)) }
     ensures held { OnOk result (IsSomeAnd guarded.new (λ g. has_key g key.now ≡ true)) }
+    ensures answer { IfOk result (λ held. held ≡ key.now) }
     ensures cause { IfErr result (IsWorkCause (CanFail D.state T.opening) T.source T.opening T.planned) }
 {
     match guarded {
-        Some(guarded) => push_ready(guarded, key, content),
+        Some(guarded) => {
+            push_ready(guarded, key, content)?;
+            Ok(Held::by(guarded, key))
+        }
         None => unreachable!(),
     }
 }

@@ -1,9 +1,10 @@
-ghost use Rattle.std.specs.Prelude.{◌≡◌, ◌↔◌, Some, Contains, IfErr, IsSomeAnd, IsTrue};
+ghost use Rattle.std.specs.Prelude.{◌≡◌, ◌↔◌, Some, Contains, IfOk, IfErr, IsSomeAnd, IsTrue};
 ghost use Rattle.std.specs.Sync.Mutex.{mutex_guard_value};
 ghost use Rattle.oci_store.specs.Keyed.{value_at, HasAll};
 ghost use Rattle.oci_copy.specs.Work.{IsWorkCause, CanFail};
 
 use super::guarded::Guarded;
+use super::held::Held;
 use super::opening::Opening;
 use super::pushing::push_there;
 use crate::fault::CopyFault;
@@ -48,18 +49,20 @@ fn wait_for<'b, D: Dest + Drop, T: Opening, R: Wait>(
     unreachable!()
 }
 
-/// Pushes a key's content, once all that it lists is held. Nothing is hashed or read while the lock is held.
-pub(crate) fn push_later<D: Dest + Drop, T: Opening, R: Wait>(
+/// Pushes a key's content, once all that it lists is held, and answers that it is held. Nothing is hashed or read while the
+/// lock is held.
+pub(crate) fn push_later<'k, D: Dest + Drop, T: Opening, R: Wait>(
     rt: &R,
     lock: &Mutex<Option<Guarded<D, T>>>,
     pushed: &Condvar,
-    key: &Key,
+    key: &'k Key,
     content: CheckedContent,
-) -> Result<(), CopyFault>
+) -> Result<Held<'k>, CopyFault>
     requires same { content.0 ≡ key.now }
     requires planned { Contains T.planned key.now }
     requires own { T.source.is_honest → value_at T.source.entries key.now ≡ Some content.1 }
-    ensures { IfErr result (IsWorkCause (CanFail D.state T.opening) T.source T.opening T.planned) }
+    ensures held { IfOk result (λ held. held ≡ key.now) }
+    ensures cause { IfErr result (IsWorkCause (CanFail D.state T.opening) T.source T.opening T.planned) }
 {
     let mut guard = wait_for(rt, lock, pushed, content.successors());
     let answer = push_there(&mut *guard, key, content);
