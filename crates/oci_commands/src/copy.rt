@@ -117,10 +117,8 @@ fn copied_into<
 
 /// Whether the source has what is to be copied.
 fn check_reference<T: Tagger>(source: &T, reference: &str) -> Result<(), ProgramFault> {
-    match source.resolve(reference) {
-        Ok(_) => Ok(()),
-        Err(fault) => Err(ProgramFault::Reference(fault)),
-    }
+    source.resolve(reference)?;
+    Ok(())
 }
 
 /// Saves a destination after a copy that was not refused.
@@ -128,7 +126,7 @@ fn saved<D: Dir + Drop>(
     mut destination: Layout<D>,
     answer: Result<(Key, Report), CopyFault>,
 ) -> Result<(Key, Report), ProgramFault> {
-    let copied = answer.map_err(ProgramFault::Copy)?;
-    destination.save().map_err(ProgramFault::Layout)?;
+    let copied = answer?;
+    destination.save()?;
     Ok(copied)
 }

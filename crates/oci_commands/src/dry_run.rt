@@ -45,9 +45,7 @@ fn roots<A: GraphSource + Tagger>(
     source: &A,
     words: &CopyWords<'_>,
 ) -> Result<Vec<Key>, ProgramFault> {
-    let root = source
-        .resolve(words.source_reference)
-        .map_err(ProgramFault::Reference)?;
+    let root = source.resolve(words.source_reference)?;
     match words.referrers {
         Some(depth) => Ok(climb(alloc, source, &root, depth)?),
         None => alone(alloc, root),

@@ -60,7 +60,7 @@ impl Item {
     ) -> Result<Item, ProgramFault> {
         let key = key_of(alloc, media_type, &bytes, algorithm)?;
         let content = Bytes::from_vec(bytes)?;
-        let content = CheckedContent::of_matching(&key, content).map_err(ProgramFault::Push)?;
+        let content = CheckedContent::of_matching(&key, content)?;
         Ok(Item { key, content })
     }
 }
@@ -76,7 +76,7 @@ fn key_of(
 {
     let media_type = String::from_str(alloc, media_type)?;
     let digest = algorithm.digest_of(bytes);
-    Key::new(media_type, digest, bytes.len() as u64).map_err(ProgramFault::Key)
+    Ok(Key::new(media_type, digest, bytes.len() as u64)?)
 }
 
 /// The bytes of a file.

@@ -70,10 +70,8 @@ fn push_item<R: Files + AllocGlobal>(
     algorithm: Algorithm,
 ) -> Result<Key, ProgramFault> {
     let Item { key, content } = Item::read(rt, item, algorithm)?;
-    match store.push_content(content) {
-        Ok(_) => Ok(key),
-        Err(fault) => Err(ProgramFault::Push(fault)),
-    }
+    store.push_content(content)?;
+    Ok(key)
 }
 
 /// Copies into an empty store, by so many workers, or on this thread.
@@ -102,7 +100,7 @@ fn print_copied<W: Write>(
     report: Result<Report, CopyFault>,
     out: &mut W,
 ) -> Result<Outcome, ProgramFault> {
-    let report = report.map_err(ProgramFault::Copy)?;
+    let report = report?;
     print_keys(alloc, copied, out)?;
     writeln!(out, "{report}").map_err(output_fault)?;
     Ok(Outcome::Good)

@@ -9,7 +9,7 @@ pub(crate) fn predecessors<A: GraphSource + Tagger, W: Write>(
     reference: &str,
     out: &mut W,
 ) -> Result<Outcome, ProgramFault> {
-    let key = store.resolve(reference).map_err(ProgramFault::Reference)?;
+    let key = store.resolve(reference)?;
     print_lines(&store.predecessors(&key)?, out)?;
     Ok(Outcome::Good)
 }

@@ -9,7 +9,7 @@ pub(crate) fn resolve<T: Tagger, W: Write>(
     reference: &str,
     out: &mut W,
 ) -> Result<Outcome, ProgramFault> {
-    let key = store.resolve(reference).map_err(ProgramFault::Reference)?;
+    let key = store.resolve(reference)?;
     writeln!(out, "{key}").map_err(output_fault)?;
     Ok(Outcome::Good)
 }

@@ -27,22 +27,22 @@ pub enum ProgramFault {
     Output,
     /// The file is too long for a key.
     #[error("{0}")]
-    Key(KeyFault),
+    Key(#[from] KeyFault),
     /// The store refused the file.
     #[error("{0}")]
-    Push(PushFault),
+    Push(#[from] PushFault),
     /// The copy was refused.
     #[error("{0}")]
-    Copy(CopyFault),
+    Copy(#[from] CopyFault),
     /// A folder is no layout, or could not be read or written.
     #[error("{0}")]
-    Layout(LayoutFault),
+    Layout(#[from] LayoutFault),
     /// The layout has no such reference.
     #[error("{0}")]
-    Reference(RefFault),
+    Reference(#[from] RefFault),
     /// A file of the layout could not be read.
     #[error("{0}")]
-    Fetch(FetchFault),
+    Fetch(#[from] FetchFault),
     /// Memory was wanting.
     #[error("memory")]
     Memory,
