@@ -5,8 +5,9 @@
 //! once, when hooks are called, and what a store that fails once leaves.
 //!
 //! `tests` has `graphs` (small graphs, on one thread and with each number of workers), `references` (copies by a reference),
-//! `referrers` (extended copies, of a key and of a reference), `hooks` (when they are called, and that two workers meet), `failing`
-//! (stores that fail once) and `large` (many layers and long chains); `copies` has the copies that they share.
+//! `referrers` (extended copies, of a key and of a reference), `refusals` (limits and open destinations), `faults` (how each refusal
+//! prints), `hooks` (when they are called, and that two workers meet), `failing` (stores that fail once) and `large` (many layers
+//! and long chains); `copies` has the copies that they share.
 #![tactic(auto)]
 
 #[cfg(test)]

@@ -1,7 +1,9 @@
 mod copies;
 mod failing;
+mod faults;
 mod graphs;
 mod hooks;
 mod large;
 mod references;
 mod referrers;
+mod refusals;

@@ -6,7 +6,7 @@
 //!
 //! `worked_contents` makes the contents, `worked_stores` the stores that have them, and `tests` has a module for each part of the
 //! library: `digests`; `manifests` (what a manifest lists); `pushes`, `graphs`, `tags` and `traits` (stores); `orders`, `plans` and
-//! `climbs`; `copies` (limits, open destinations and what else `worked_copies` leaves out); and `faults`, how each refusal prints.
+//! `climbs`; and `faults`, how each refusal of these prints.
 #![tactic(auto)]
 
 #[cfg(test)]

@@ -1,5 +1,4 @@
 mod climbs;
-mod copies;
 mod digests;
 mod faults;
 mod graphs;

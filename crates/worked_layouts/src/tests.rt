@@ -1,5 +1,6 @@
 mod algorithms;
 mod changing;
+mod copies;
 mod fuses;
 mod layouts;
 mod openings;

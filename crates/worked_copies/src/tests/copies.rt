@@ -102,14 +102,19 @@ pub(crate) fn copied_samples<
     copied_samples_with(rt, source, destination, roots, workers, &NoHooks)
 }
 
-/// Copies on the calling thread.
+/// Copies on the calling thread, with a limit of what is read; 0 is the usual one.
 pub(crate) fn copied_one<A: Source, D: Dest + Drop>(
     alloc: Global,
     source: &A,
     destination: D,
     roots: &[Key],
+    max_metadata_bytes: u64,
 ) -> (D, Result<Report, CopyFault>) {
-    copy_one(alloc, source, destination, roots, &Options::default())
+    let options = Options {
+        workers: 0,
+        max_metadata_bytes,
+    };
+    copy_one(alloc, source, destination, roots, &options)
 }
 
 /// The same of samples, with the answer as text.
@@ -120,7 +125,7 @@ pub(crate) fn copied_samples_on_one_thread<A: Source, D: Dest + Drop>(
     roots: &[Sample],
 ) -> Result<(D, String), Fail> {
     let roots = keys(alloc, roots)?;
-    let (destination, answer) = copied_one(alloc, source, destination, &roots);
+    let (destination, answer) = copied_one(alloc, source, destination, &roots, 0);
     let told = line(alloc, &answer)?;
     Ok((destination, told))
 }

@@ -1,5 +1,5 @@
 use crate::tests::copies::{assert_holds, by, copied_samples, copied_samples_on_one_thread, line};
-use oci_copy::{CopyFault, Report, copy_memory_by_workers};
+use oci_copy::{CopyFault, Options, Report, copy_memory, copy_memory_by_workers};
 use oci_manifest::Key;
 use oci_pool::NoHooks;
 use oci_store::{ClosedStore, MemoryStore};
@@ -8,10 +8,11 @@ use std::process::Abort;
 use std::sync::Wait;
 use std::test::Fail;
 use std::thread::Threads;
-use worked_contents::Sample;
 use worked_contents::Sample::{
-    Bar, Empty, Foo, Image0, Image0AsLayer, Image1, Image2, Image3, Image4, Index1, Index2,
+    Bar, DockerImage, Empty, Foo, FooBySha512, Image0, Image0AsLayer, Image1, Image2, Image3,
+    Image4, Image5, Index1, Index2,
 };
+use worked_contents::{Sample, descriptor};
 use worked_stores::{closed, keys, memory};
 
 /// A copy between stores in memory, and what comes of it.
@@ -87,6 +88,26 @@ fn row_in_memory<R: AllocGlobal + Threads + Wait + Sync>(
     let source = memory(rt.alloc(), row.source)?;
     let destination = closed(rt.alloc(), row.destination)?;
     told_in_memory(rt, &source, destination, row.roots, workers)
+}
+
+/// Copies by the call between stores in memory, on the calling thread.
+fn copied_in_memory_on_one_thread(
+    alloc: Global,
+    source: &MemoryStore,
+    destination: ClosedStore,
+    roots: &[Key],
+) -> (ClosedStore, Result<Report, CopyFault>) {
+    copy_memory(alloc, source, destination, roots, &Options::default())
+}
+
+/// The same of a row, with the answer as text.
+fn row_in_memory_on_one_thread(alloc: Global, row: Row<'_>) -> Result<(ClosedStore, String), Fail> {
+    let source = memory(alloc, row.source)?;
+    let destination = closed(alloc, row.destination)?;
+    let roots = keys(alloc, row.roots)?;
+    let (destination, answer) = copied_in_memory_on_one_thread(alloc, &source, destination, &roots);
+    let told = line(alloc, &answer)?;
+    Ok((destination, told))
 }
 
 /// What the row's copy is to tell and to leave.
@@ -207,7 +228,7 @@ fn two_images(rt: HostRuntime) -> Result<(), Fail> {
     assert_copied_by(&rt, refused, 65)
 }
 
-/// The call between stores in memory is the same copy.
+/// The calls between stores in memory are the same copy, on one thread and by workers.
 #[test]
 fn two_images_in_memory(rt: HostRuntime) -> Result<(), Fail> {
     let source = [Empty, Foo, Bar, Image2, Image3, Index1];
@@ -218,8 +239,66 @@ fn two_images_in_memory(rt: HostRuntime) -> Result<(), Fail> {
         told: "planned 4 pushed 4 skipped 1",
         copied: &[Bar, Empty, Foo, Image2, Image3],
     };
+    let (destination, told) = row_in_memory_on_one_thread(rt.alloc(), row)?;
+    assert_row(&rt, row, &destination, told.as_str())?;
     let (destination, told) = row_in_memory(&rt, row, 3)?;
     assert_row(&rt, row, &destination, told.as_str())
+}
+
+/// Roots are copied whichever way they stand to each other, each key once.
+#[test]
+fn many_roots(rt: HostRuntime) -> Result<(), Fail> {
+    let row = Row {
+        source: &[Empty, Foo, Bar, Image0, Image2, Image3, Index1],
+        destination: &[],
+        roots: &[Image2, Image3],
+        told: "planned 5 pushed 5 skipped 0",
+        copied: &[Empty, Foo, Bar, Image2, Image3],
+    };
+    assert_copied(&rt, row)?;
+    assert_copied(
+        &rt,
+        Row {
+            destination: &[Empty, Foo],
+            roots: &[Image3, Foo, Image2],
+            told: "planned 3 pushed 3 skipped 1",
+            ..row
+        },
+    )
+}
+
+/// A layer whose digest is by SHA-512 comes as any other.
+#[test]
+fn sha512_layer(rt: HostRuntime) -> Result<(), Fail> {
+    let layer = descriptor(rt.alloc(), &FooBySha512.key(rt.alloc())?)?;
+    assert_eq!(rt; layer.len(), 210);
+    assert_eq!(rt; Image5.key(rt.alloc())?.size(), 449);
+    let all = [Empty, FooBySha512, Image5];
+    assert_copied(
+        &rt,
+        Row {
+            source: &all,
+            destination: &[],
+            roots: &[Image5],
+            told: "planned 3 pushed 3 skipped 0",
+            copied: &all,
+        },
+    )
+}
+
+/// The only layer of a Docker image stays where it is, which is nowhere.
+#[test]
+fn foreign_layer(rt: HostRuntime) -> Result<(), Fail> {
+    assert_copied(
+        &rt,
+        Row {
+            source: &[Empty, DockerImage],
+            destination: &[],
+            roots: &[DockerImage],
+            told: "planned 2 pushed 2 skipped 0",
+            copied: &[Empty, DockerImage],
+        },
+    )
 }
 
 /// One digest under two media types is two keys, and both come.

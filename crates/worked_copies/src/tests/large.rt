@@ -32,7 +32,7 @@ fn on_one_thread<R: AllocGlobal + Abort>(
     want: &str,
 ) -> Result<ClosedStore, Fail> {
     let empty = closed(rt.alloc(), &[])?;
-    let (destination, answer) = copied_one(rt.alloc(), source, empty, roots);
+    let (destination, answer) = copied_one(rt.alloc(), source, empty, roots, 0);
     let told = line(rt.alloc(), &answer)?;
     assert_eq!(rt; told.as_str(), want);
     Ok(destination)

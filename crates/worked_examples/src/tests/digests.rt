@@ -1,5 +1,6 @@
 use oci_digest::{Digest, DigestFault, NoMemory};
 use std::alloc::{AllocError, Global};
+use std::process::Abort;
 use std::test::Fail;
 
 const EMPTY: &str = "sha256:e3b0c44298fc1c149afbf4c8996fb92427ae41e4649b934ca495991b7852b855";
@@ -205,7 +206,7 @@ fn order_is_that_of_the_texts(rt: HostRuntime) {
 #[test]
 fn printed_texts(rt: HostRuntime) -> Result<(), Fail> {
     let digest = Digest::of(b"abc");
-    assert_eq!(rt; format!(in rt.alloc(); "{digest}")?.as_str(), ABC);
+    assert_eq!(rt; digest.to_string(rt.alloc())?.as_str(), ABC);
     let debug = format!(in rt.alloc(); "{digest:?}")?;
     assert_eq!(rt;
         debug.as_str(),
@@ -213,20 +214,38 @@ fn printed_texts(rt: HostRuntime) -> Result<(), Fail> {
     );
     let long = Digest::of_sha512(b"abc");
     assert!(rt; long != digest);
-    assert_eq!(rt; format!(in rt.alloc(); "{long}")?.as_str(), ABC_SHA512);
-    assert_eq!(rt; long.algorithm(), "sha512");
-    assert_eq!(rt; long.encoded(rt.alloc())?.as_str(), &ABC_SHA512[7..]);
-    assert_eq!(rt; digest.algorithm(), "sha256");
-    assert_eq!(rt; digest.encoded(rt.alloc())?.as_str(), &ABC[7..]);
-    let faults = [
+    assert_eq!(rt; long.to_string(rt.alloc())?.as_str(), ABC_SHA512);
+    Ok(())
+}
+
+/// The digest is by this algorithm, and has these digits.
+fn assert_parts<R: AllocGlobal + Abort>(
+    rt: &R,
+    digest: &Digest,
+    algorithm: &str,
+    digits: &str,
+) -> Result<(), Fail> {
+    assert_eq!(rt; digest.algorithm(), algorithm);
+    assert_eq!(rt; digest.encoded(rt.alloc())?.as_str(), digits);
+    Ok(())
+}
+
+#[test]
+fn parts_of_a_digest(rt: HostRuntime) -> Result<(), Fail> {
+    assert_parts(&rt, &Digest::of(b"abc"), "sha256", &ABC[7..])?;
+    assert_parts(&rt, &Digest::of_sha512(b"abc"), "sha512", &ABC_SHA512[7..])
+}
+
+#[test]
+fn printed_faults(rt: HostRuntime) -> Result<(), Fail> {
+    for (fault, number, text) in [
         (DigestFault::BadForm, 1, "1 BadForm"),
         (DigestFault::UnknownAlgorithm, 2, "2 UnknownAlgorithm"),
         (DigestFault::BadEncoding, 3, "3 BadEncoding"),
-    ];
-    for (fault, number, text) in faults {
+    ] {
         assert_eq!(rt; fault.number(), number);
-        assert_eq!(rt; format!(in rt.alloc(); "{fault}")?.as_str(), text);
+        assert_eq!(rt; fault.to_string(rt.alloc())?.as_str(), text);
     }
-    assert_eq!(rt; format!(in rt.alloc(); "{}", NoMemory)?.as_str(), "memory");
+    assert_eq!(rt; NoMemory.to_string(rt.alloc())?.as_str(), "memory");
     Ok(())
 }

@@ -1,6 +1,5 @@
 //! How each refusal prints: its number, its name, and what it carries.
 
-use oci_copy::CopyFault;
 use oci_manifest::{KeyFault, ManifestFault};
 use oci_plan::PlanFault;
 use oci_store::{FetchFault, OpenFault, PushFault, RefFault};
@@ -145,48 +144,6 @@ fn plan_faults_without_a_key(rt: HostRuntime) -> Result<(), Fail> {
     for (fault, rest) in [
         (PlanFault::Memory, "Memory"),
         (PlanFault::TooMany, "TooMany"),
-    ] {
-        assert_line(&rt, fault.to_string(rt.alloc())?, fault.number(), rest)?;
-    }
-    Ok(())
-}
-
-/// The fault of a copy prints as this name, the key of `foo`, and the rest.
-fn assert_copy_fault<R: AllocGlobal + Abort>(
-    rt: &R,
-    fault: CopyFault,
-    name: &str,
-    rest: &str,
-) -> Result<(), Fail> {
-    let line = fault.to_string(rt.alloc())?;
-    assert_keyed(rt, line, fault.number(), name, rest)
-}
-
-#[test]
-fn copy_faults(rt: HostRuntime) -> Result<(), Fail> {
-    let alloc = rt.alloc();
-    let fault = CopyFault::DestinationOpen(Foo.key(alloc)?, Bar.key(alloc)?);
-    let bar = format!(in alloc; " {}", Bar.key(alloc)?)?;
-    assert_copy_fault(&rt, fault, "DestinationOpen", bar.as_str())?;
-    let fault = CopyFault::Push(Foo.key(alloc)?, PushFault::Device);
-    assert_copy_fault(&rt, fault, "Push", " 43 Device")?;
-    let fault = CopyFault::Fetch(Foo.key(alloc)?, FetchFault::Device);
-    assert_copy_fault(&rt, fault, "Fetch", " 22 Device")?;
-    assert_copy_fault(&rt, CopyFault::Stuck(Foo.key(alloc)?), "Stuck", "")?;
-    let fault = CopyFault::Incomplete(Foo.key(alloc)?);
-    assert_copy_fault(&rt, fault, "Incomplete", "")
-}
-
-#[test]
-fn copy_faults_without_a_key(rt: HostRuntime) -> Result<(), Fail> {
-    for (fault, rest) in [
-        (CopyFault::Plan(PlanFault::TooMany), "Plan 59 TooMany"),
-        (CopyFault::BadWorkers, "BadWorkers"),
-        (CopyFault::Memory, "Memory"),
-        (
-            CopyFault::Reference(RefFault::NotHeld),
-            "Reference 37 NotHeld",
-        ),
     ] {
         assert_line(&rt, fault.to_string(rt.alloc())?, fault.number(), rest)?;
     }

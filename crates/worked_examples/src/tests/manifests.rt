@@ -8,22 +8,22 @@ use worked_contents::{
     image_1, index_1, referrer,
 };
 
-/// What `successors` answers, as text: each key and a `;`, or the fault.
-fn answer(alloc: Global, kind: Kind, bytes: &[u8]) -> Result<String, Fail> {
+/// Keys as text, a `;` after each.
+fn line(alloc: Global, keys: &[Key]) -> Result<String, Fail> {
     let mut text = String::new(alloc);
-    match successors(alloc, kind, bytes) {
-        Ok(keys) => {
-            for key in &keys {
-                let line = format!(in alloc; "{key};")?;
-                text.push_str(line.as_str())?;
-            }
-        }
-        Err(fault) => {
-            let line = format!(in alloc; "{fault}")?;
-            text.push_str(line.as_str())?;
-        }
+    for key in keys {
+        text.push_str(key.to_string(alloc)?.as_str())?;
+        text.push_str(";")?;
     }
     Ok(text)
+}
+
+/// What `successors` answers, as text: the keys, or the fault.
+fn answer(alloc: Global, kind: Kind, bytes: &[u8]) -> Result<String, Fail> {
+    match successors(alloc, kind, bytes) {
+        Ok(keys) => line(alloc, &keys),
+        Err(fault) => Ok(fault.to_string(alloc)?),
+    }
 }
 
 fn expect(rt: &impl Abort, alloc: Global, kind: Kind, bytes: &str, want: &str) -> Result<(), Fail> {

@@ -1,8 +1,9 @@
+use crate::tests::copies::copied_samples;
 use crate::tests::layouts::{
     assert_resolves, assert_text, created, fetch, opened, push_sample, saved, summary, text,
 };
-use oci_copy::{Options, copy_one};
 use oci_layout::{Dir, FsDir, Layout, MemDir};
+use std::alloc::Global;
 use std::process::Abort;
 use std::test::Fail;
 use worked_contents::Sample;
@@ -69,27 +70,33 @@ fn sha512_blob_in_a_folder(rt: HostRuntime) -> Result<(), Fail> {
     assert_sha512_blob(&rt, FsDir::new(&rt, "sha512_blob")?)
 }
 
-/// What a copy of an image with the layer by SHA-512, and of the same layer by SHA-256, leaves in a new layout that is saved.
-fn copied_by_two_algorithms<R: AllocGlobal + Abort>(rt: &R) -> Result<MemDir, Fail> {
-    let alloc = rt.alloc();
+/// Copies an image with the layer by SHA-512, and the same layer by SHA-256, into a new layout.
+fn copied_by_two_algorithms(alloc: Global) -> Result<(Layout<MemDir>, String), Fail> {
     let source = memory(alloc, &[Empty, Foo, FooBySha512, Image5])?;
-    let roots = [Foo.key(alloc)?, Image5.key(alloc)?];
     let layout = created(alloc, MemDir::new(alloc))?;
-    let (layout, answer) = copy_one(alloc, &source, layout, &roots, &Options::default());
-    let told = answer?.to_string(alloc)?;
-    assert_text(rt, told, "planned 4 pushed 4 skipped 0")?;
-    saved(layout)
+    copied_samples(alloc, &source, layout, &[Foo, Image5])
+}
+
+/// There is a file for each of the two keys.
+fn assert_two_files<R: AllocGlobal + Abort, D: Dir>(rt: &R, dir: &D) -> Result<(), Fail> {
+    assert_foo(rt, dir, "sha256", FOO_DIGITS, "foo")?;
+    assert_foo(rt, dir, "sha512", FOO_SHA512_DIGITS, "foo")
+}
+
+/// Both keys are held, with the image and its config.
+fn assert_two_keys<R: AllocGlobal + Abort, D: Dir>(rt: &R, layout: &Layout<D>) -> Result<(), Fail> {
+    assert_text(rt, summary(rt.alloc(), layout)?, "held 4")?;
+    assert!(rt; is_closed(layout)?);
+    assert_held(rt, layout, Foo, "sha256", FOO_DIGITS)?;
+    assert_held(rt, layout, FooBySha512, "sha512", FOO_SHA512_DIGITS)
 }
 
 /// One content under both algorithms is two keys with a file each, and stays so when it is opened again.
 #[test]
 fn foo_by_two_algorithms(rt: HostRuntime) -> Result<(), Fail> {
-    let dir = copied_by_two_algorithms(&rt)?;
-    assert_foo(&rt, &dir, "sha256", FOO_DIGITS, "foo")?;
-    assert_foo(&rt, &dir, "sha512", FOO_SHA512_DIGITS, "foo")?;
-    let layout = opened(rt.alloc(), dir)?;
-    assert_text(&rt, summary(rt.alloc(), &layout)?, "held 4")?;
-    assert!(rt; is_closed(&layout)?);
-    assert_held(&rt, &layout, Foo, "sha256", FOO_DIGITS)?;
-    assert_held(&rt, &layout, FooBySha512, "sha512", FOO_SHA512_DIGITS)
+    let (layout, told) = copied_by_two_algorithms(rt.alloc())?;
+    assert_text(&rt, told, "planned 4 pushed 4 skipped 0")?;
+    let dir = saved(layout)?;
+    assert_two_files(&rt, &dir)?;
+    assert_two_keys(&rt, &opened(rt.alloc(), dir)?)
 }

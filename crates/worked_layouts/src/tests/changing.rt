@@ -1,15 +1,13 @@
+use crate::tests::copies::copied_samples;
 use crate::tests::layouts::{assert_text, blob, created, push_sample, saved, tag};
 use bytes::Bytes;
-use oci_copy::{CopyFault, Options, Report, copy_one};
 use oci_layout::{Dir, DirFault, Layout, MemDir};
-use oci_manifest::Key;
-use oci_store::ClosedStore;
 use std::alloc::Global;
 use std::cell::Cell;
 use std::process::Abort;
 use std::test::Fail;
 use worked_contents::Sample::{Empty, Image0};
-use worked_stores::{closed, is_closed, keys};
+use worked_stores::{closed, is_closed};
 
 /// A directory that answers the right bytes for so many reads, and other bytes for each later read of one file.
 #[derive(Drop)]
@@ -77,29 +75,9 @@ fn changing(alloc: Global, right: u64) -> Result<ChangingDir<MemDir>, Fail> {
     })
 }
 
-/// Copies keys of a layout into a store in memory.
-fn copied_keys<D: Dir>(
-    alloc: Global,
-    source: &Layout<D>,
-    destination: ClosedStore,
-    roots: &[Key],
-) -> (ClosedStore, Result<Report, CopyFault>) {
-    copy_one(alloc, source, destination, roots, &Options::default())
-}
-
-/// What a copy answers, as text.
-fn line(alloc: Global, answer: &Result<Report, CopyFault>) -> Result<String, Fail> {
-    Ok(match answer {
-        Ok(report) => format!(in alloc; "{report}")?,
-        Err(fault) => format!(in alloc; "{fault}")?,
-    })
-}
-
 /// Copies the image of a layout: what is told, and whether the destination is closed.
 fn copied<D: Dir>(alloc: Global, source: &Layout<D>) -> Result<(String, bool), Fail> {
-    let roots = keys(alloc, &[Image0])?;
-    let (destination, answer) = copied_keys(alloc, source, closed(alloc, &[])?, &roots);
-    let told = line(alloc, &answer)?;
+    let (destination, told) = copied_samples(alloc, source, closed(alloc, &[])?, &[Image0])?;
     Ok((told, is_closed(&destination)?))
 }
 
