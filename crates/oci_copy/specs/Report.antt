@@ -1,5 +1,6 @@
 -- The numbers of a copy's report.
-use Rattle.std.specs.Prelude.{◌≡◌, ◌+◌, ℕ, List, length, filter, ◌↔◌, Contains}
+use Rattle.std.specs.Prelude.{◌≡◌, ◌+◌, ◌++◌, ℕ, List, length, filter, ◌↔◌, Contains, codes}
+use Rattle.std.specs.Fmt.{decimal}
 use Rattle.std.specs.List.{IsDistinct}
 use Rattle.oci_manifest.specs.Descriptor.{Descriptor, same_key}
 use Rattle.oci_manifest.specs.Manifest.{first_places}
@@ -28,3 +29,7 @@ pub record IsReport (source opening : State) (roots : List Descriptor) (now : St
   pub gained : length now.nodes ≡ length opening.nodes + report.pushed
   -- so many distinct roots were held
   pub skipped : report.skipped ≡ held_count opening.nodes roots
+
+-- how a report prints: each number in decimal after its name, with a space between
+abbrev pub report_text : Report → List ℕ
+report_text r = codes "planned " ++ decimal r.planned ++ codes " pushed " ++ decimal r.pushed ++ codes " skipped " ++ decimal r.skipped

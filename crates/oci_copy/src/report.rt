@@ -1,4 +1,4 @@
-ghost use Rattle.std.specs.Prelude.{◌≡◌, length};
+ghost use Rattle.std.specs.Prelude.{◌≡◌, Some, length};
 
 use oci_plan::Plan;
 use std::fmt;
@@ -18,6 +18,10 @@ pub struct Report {
 }
 
 impl Display for Report {
+    ghost use Rattle.oci_copy.specs.Report.{report_text};
+
+    ghost output = { λ r. Some (report_text r) };
+
     fn fmt<W: fmt::Write>(&self, f: &mut fmt::Formatter<W>) -> fmt::Result {
         let Report {
             planned,
