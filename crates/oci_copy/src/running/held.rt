@@ -9,8 +9,8 @@ use std::marker::Model;
 
 /// That the destination of a run came to hold a key. To a contract it is that key.
 ///
-/// One is made under the lock alone, of a key that the destination then holds. So a job that answers one has pushed its key, or
-/// has found it held, and nobody waits for that key in vain.
+/// One is made from a guarded destination that holds the key. A job reaches no other than that of its run, under the lock: so
+/// one that answers has pushed its key, or has found it held.
 #[derive(Drop)]
 pub(crate) struct Held<'k> {
     key: &'k Key,
