@@ -1,9 +1,13 @@
--- Media types of manifests, and of layers that are not distributed. They are compared byte for byte.
-use Rattle.std.specs.Prelude.{ℕ, Bool, List, [], ◌∷◌, codes, if◌then◌else◌}
+-- Media types: of manifests, of layers that are not distributed, and those that are commonly met. They are compared byte for byte.
+use Rattle.std.specs.Prelude.{ℕ, Bool, List, [], ◌∷◌, codes, string_bytes, if◌then◌else◌}
 use Rattle.std.specs.List.{list_any}
 use Rattle.std.specs.Str.{bytes_eq}
 use Rattle.oci_manifest.specs.declared.kind.Kind.{Kind}
 use Rattle.oci_manifest.specs.declared.kind.Kind.TheVariants.{Image, Index, DockerImage, DockerList, Artifact, Leaf}
+use Rattle.oci_manifest.specs.declared.media_type.Common.{Common}
+use Rattle.oci_manifest.specs.declared.media_type.Common.TheVariants as common
+use Rattle.oci_manifest.specs.declared.media_type.MediaType.{MediaType}
+use Rattle.oci_manifest.specs.declared.media_type.MediaType.TheVariants as kept
 
 -- the media types that are read as manifests, and the kind of each (OCI image-spec 1.1, media-types.md; Docker Image
 -- Manifest V2, Schema 2; OCI image-spec 1.1.0-rc2, artifact.md)
@@ -38,3 +42,22 @@ undistributed_types =
 -- whether a media type is one of those
 unfoldable pub is_undistributed : List ℕ → Bool
 is_undistributed media_type = list_any (bytes_eq media_type) undistributed_types
+
+-- the text of a media type that is commonly met (OCI image-spec 1.1, media-types.md; Docker Image Manifest V2, Schema 2)
+abbrev pub common_text : Common → List ℕ
+common_text common.Image = codes "application/vnd.oci.image.manifest.v1+json"
+common_text common.Index = codes "application/vnd.oci.image.index.v1+json"
+common_text common.Config = codes "application/vnd.oci.image.config.v1+json"
+common_text common.Empty = codes "application/vnd.oci.empty.v1+json"
+common_text common.Layer = codes "application/vnd.oci.image.layer.v1.tar"
+common_text common.LayerGzip = codes "application/vnd.oci.image.layer.v1.tar+gzip"
+common_text common.LayerZstd = codes "application/vnd.oci.image.layer.v1.tar+zstd"
+common_text common.DockerImage = codes "application/vnd.docker.distribution.manifest.v2+json"
+common_text common.DockerList = codes "application/vnd.docker.distribution.manifest.list.v2+json"
+common_text common.DockerConfig = codes "application/vnd.docker.container.image.v1+json"
+common_text common.DockerLayer = codes "application/vnd.docker.image.rootfs.diff.tar.gzip"
+
+-- the text that a kept media type stands for
+abbrev pub text_in : MediaType → List ℕ
+text_in (kept.Common common) = common_text common
+text_in (kept.Other text) = string_bytes text

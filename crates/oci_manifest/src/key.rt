@@ -1,8 +1,10 @@
 ghost use Rattle.std.specs.Prelude.{◌≡◌, ◌<◌, ◌^◌, ◌↔◌, Some, IsOk, IfOk, IfErr, string_bytes};
 ghost use Rattle.oci_manifest.specs.Descriptor.{IsKey};
+ghost use Rattle.oci_manifest.specs.MediaTypes.{text_in};
 ghost use Rattle.oci_manifest.specs.declared.fault.KeyFault.TheVariants.{BadSize};
 
 use crate::fault::KeyFault;
+use crate::media_type::MediaType;
 use oci_digest::{Digest, NoMemory};
 use std::alloc::Global;
 use std::cmp::Ordering;
@@ -17,20 +19,22 @@ pub const MAX_SIZE: u64 = 9_223_372_036_854_775_807;
 /// These are the required properties of a descriptor (OCI image-spec 1.1, descriptor.md, "Properties"); oras-go names
 /// a node of a graph by the same three. Two media types over the same bytes are two keys. A contract sees a key as a
 /// record of the media type's bytes, the digest's text and the size.
-#[derive(Debug, Drop)]
+#[derive(Drop)]
 pub struct Key {
-    media_type: String,
+    alloc: Global,
+    media_type: MediaType,
     digest: Digest,
     size: u64,
 }
 
 impl Model for Key {
-    ghost use Rattle.std.specs.Prelude.{string_bytes, ◌<◌, ◌^◌};
+    ghost use Rattle.std.specs.Prelude.{◌<◌, ◌^◌};
+    ghost use Rattle.oci_manifest.specs.MediaTypes.{text_in};
     ghost use Rattle.oci_manifest.specs.Descriptor.{Descriptor};
 
     ghost Value = { Descriptor };
 
-    ghost view = { λ k. record { media_type = string_bytes k.media_type; digest = k.digest; size = k.size } };
+    ghost view = { λ k. record { media_type = text_in k.media_type; digest = k.digest; size = k.size } };
 
     ghost invariant = { λ k. k.size < 2 ^ 63 };
 }
@@ -47,10 +51,27 @@ impl Key {
         ensures fits { IsOk result ↔ (size < 2 ^ 63) }
         ensures refused { IfErr result (λ e. e ≡ BadSize) }
     {
+        let alloc = *media_type.allocator();
+        Key::from_parts(alloc, MediaType::new(media_type), digest, size)
+    }
+
+    /// The key of these parts.
+    pub(crate) fn from_parts(
+        alloc: Global,
+        media_type: MediaType,
+        digest: Digest,
+        size: u64,
+    ) -> Result<Key, KeyFault>
+        ensures parts { IfOk result
+            (λ k. k ≡ record { media_type = text_in media_type; digest = digest; size = size }) }
+        ensures fits { IsOk result ↔ (size < 2 ^ 63) }
+        ensures refused { IfErr result (λ e. e ≡ BadSize) }
+    {
         if size > MAX_SIZE {
             return Err(KeyFault::BadSize);
         }
         Ok(Key {
+            alloc,
             media_type,
             digest,
             size,
@@ -82,17 +103,18 @@ impl Key {
         self.size
     }
 
-    /// The allocator that its media type is kept by.
+    /// Where its memory comes from.
     pub fn allocator(&self) -> Global {
-        *self.media_type.allocator()
+        self.alloc
     }
 
-    /// An equal key, which takes memory for its media type.
+    /// An equal key. It takes memory for a media type that is not a common one.
     pub fn try_clone(&self) -> Result<Key, NoMemory>
         ensures { IfOk result (λ k. k ≡ self.now) }
     {
         Ok(Key {
-            media_type: self.media_type.clone()?,
+            alloc: self.alloc,
+            media_type: self.media_type.try_clone()?,
             digest: self.digest,
             size: self.size,
         })
@@ -111,6 +133,17 @@ impl fmt::Display for Key {
     }
 }
 
+impl fmt::Debug for Key {
+    ghost use Rattle.std.specs.Prelude.{◌++◌, codes};
+    ghost use Rattle.oci_manifest.specs.Descriptor.{key_text};
+
+    ghost debug_output = { λ k. Some (codes "Key(" ++ key_text k ++ codes ")") };
+
+    fn fmt<W: fmt::Write>(&self, f: &mut fmt::Formatter<W>) -> fmt::Result {
+        write!(f, "Key({self})")
+    }
+}
+
 /// Whether all three parts are equal.
 impl PartialEq for Key {
     ghost use Rattle.std.proofs.Common.{rules};
@@ -122,7 +155,7 @@ impl PartialEq for Key {
     ghost laws = { Prim.search (comparing, rules) };
 
     fn eq(&self, other: &Key) -> bool {
-        self.media_type == other.media_type
+        self.media_type() == other.media_type()
             && self.digest == other.digest
             && self.size == other.size
     }
@@ -150,8 +183,8 @@ impl Ord for Key {
     ghost matches_eq = { Prim.search (comparing, rules) };
 
     fn cmp(&self, other: &Key) -> Ordering {
-        self.media_type
-            .cmp(&other.media_type)
+        self.media_type()
+            .cmp(other.media_type())
             .then(self.digest.cmp(&other.digest))
             .then(self.size.cmp(&other.size))
     }

@@ -31,6 +31,7 @@ mod fault;
 mod key;
 mod kind;
 mod manifest;
+mod media_type;
 
 pub use fault::{KeyFault, ManifestFault};
 pub use key::{Key, MAX_SIZE};

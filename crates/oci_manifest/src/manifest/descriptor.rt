@@ -4,6 +4,7 @@ ghost use Rattle.oci_manifest.specs.Reading.{descriptor_of, descriptors_from, si
 
 use crate::fault::ManifestFault;
 use crate::key::Key;
+use crate::media_type::MediaType;
 use oci_digest::{Digest, NoMemory};
 use serde_json::Value;
 use std::alloc::Global;
@@ -25,8 +26,8 @@ fn key_of(alloc: Global, value: &Value) -> Result<Option<Key>, NoMemory>
     let Ok(digest) = Digest::parse(text) else {
         return Ok(None);
     };
-    let media_type = String::from_str(alloc, media_type)?;
-    Ok(Key::new(media_type, digest, size).ok())
+    let media_type = MediaType::copied(alloc, media_type)?;
+    Ok(Key::from_parts(alloc, media_type, digest, size).ok())
 }
 
 /// Adds the key of the descriptor that the member `name` is.
