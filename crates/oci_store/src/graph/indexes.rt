@@ -26,7 +26,7 @@ pub(crate) struct Indexes {
 
 impl Indexes {
     pub(crate) fn new(alloc: Global) -> Indexes
-        ensures { IsIndexed [] result.places result.holders.sets result.by_digest.keys }
+        ensures { IsIndexed [] result.places result.holders.lists result.by_digest.keys }
     {
         Indexes {
             places: BTreeMap::new(alloc),
@@ -42,11 +42,11 @@ impl Indexes {
         nodes: &[Listing],
         node: &Listing,
     ) -> Result<(), NoMemory>
-        requires indexed { IsIndexed nodes.now self.old.places self.old.holders.sets self.old.by_digest.keys }
+        requires indexed { IsIndexed nodes.now self.old.places self.old.holders.lists self.old.by_digest.keys }
         requires new { has_key nodes.now node.now.0 ≡ false }
         requires key { IsKey node.now.0 }
-        ensures noted { OnOk result (IsIndexed (nodes.now ++ node.now ∷ []) self.new.places self.new.holders.sets self.new.by_digest.keys) }
-        ensures refused { OnErr result (IsIndexed nodes.now self.new.places self.new.holders.sets self.new.by_digest.keys) }
+        ensures noted { OnOk result (IsIndexed (nodes.now ++ node.now ∷ []) self.new.places self.new.holders.lists self.new.by_digest.keys) }
+        ensures refused { OnErr result (IsIndexed nodes.now self.new.places self.new.holders.lists self.new.by_digest.keys) }
     {
         let key = node.key().try_clone()?;
         self.places.insert(key, nodes.len())?;
@@ -61,8 +61,8 @@ impl Indexes {
 
     /// Takes back the last node. It needs no memory.
     pub(crate) fn forget(&mut self, node: Listing)
-        ensures { (graph : List Node) → IsIndexed (graph ++ node ∷ []) self.old.places self.old.holders.sets self.old.by_digest.keys
-            → IsIndexed graph self.new.places self.new.holders.sets self.new.by_digest.keys }
+        ensures { (graph : List Node) → IsIndexed (graph ++ node ∷ []) self.old.places self.old.holders.lists self.old.by_digest.keys
+            → IsIndexed graph self.new.places self.new.holders.lists self.new.by_digest.keys }
     {
         forget_place(&mut self.places, node.key());
         self.holders.forget_all(node.key(), node.successors());
@@ -85,13 +85,13 @@ fn note_key(
     alloc: Global,
     node: &Listing,
 ) -> Result<(), NoMemory>
-    requires { (key : Descriptor) → is_holder holders.old.sets node.now.0 key ≡ false }
-    ensures listed { OnOk result ((other key : Descriptor) → is_holder holders.new.sets other key
-        ≡ (is_holder holders.old.sets other key || (same_key node.now.0 other && is_among node.now.1 key))) }
+    requires { (key : Descriptor) → is_holder holders.old.lists node.now.0 key ≡ false }
+    ensures listed { OnOk result ((other key : Descriptor) → is_holder holders.new.lists other key
+        ≡ (is_holder holders.old.lists other key || (same_key node.now.0 other && is_among node.now.1 key))) }
     ensures digest { OnOk result ((k : Descriptor) → contains digest_cmp by_digest.new.keys k
         ≡ (contains digest_cmp by_digest.old.keys k || same_key node.now.0 k)) }
-    ensures unlisted { OnErr result ((other key : Descriptor) → is_holder holders.new.sets other key
-        ≡ is_holder holders.old.sets other key) }
+    ensures unlisted { OnErr result ((other key : Descriptor) → is_holder holders.new.lists other key
+        ≡ is_holder holders.old.lists other key) }
     ensures no_digest { OnErr result ((k : Descriptor) → contains digest_cmp by_digest.new.keys k
         ≡ contains digest_cmp by_digest.old.keys k) }
 {

@@ -12,9 +12,9 @@ pub returns : goal.returns
 returns c = λ graph h.
     let node = c.args.node in
     let old = c.args.self.now in
-    let sets = c.forget_all.new.self.sets in
+    let lists = c.forget_all.new.self.lists in
     let keys = c.remove.new.self.keys in
-    IsIndexed-forgotten graph node old.places c.forget_place.new.places old.holders.sets sets old.by_digest.keys keys h
+    IsIndexed-forgotten graph node old.places c.forget_place.new.places old.holders.lists lists old.by_digest.keys keys h
     (subst (λ (k : Descriptor). (other : Descriptor) → get key_cmp c.forget_place.new.places other ≡ cond (is_eq (key_cmp k other)) None (get key_cmp old.places other)) c.key.ensures c.forget_place.ensures.0)
-    (subst (λ (k : Descriptor). IsForgottenAt old.holders.sets sets k node.1) c.key-2.ensures (subst (λ (ks : List Descriptor). IsForgottenAt old.holders.sets sets c.key-2.result.now ks) c.successors.ensures c.forget_all.ensures))
+    (subst (λ (k : Descriptor). IsForgottenAt old.holders.lists lists k node.1) c.key-2.ensures (subst (λ (ks : List Descriptor). IsForgottenAt old.holders.lists lists c.key-2.result.now ks) c.successors.ensures c.forget_all.ensures))
     (subst (λ (k : Descriptor). (other : Descriptor) → contains digest_cmp keys other ≡ (contains digest_cmp old.by_digest.keys other && not (same_key k other))) c.into_key.ensures c.remove.ensures)
