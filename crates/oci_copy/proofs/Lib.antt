@@ -5,6 +5,7 @@ pub mod Places
 pub mod Headline
 pub mod References
 pub mod Unfailing
+pub mod InMemory
 pub mod Tagging
 pub mod Roots
 pub mod Workers

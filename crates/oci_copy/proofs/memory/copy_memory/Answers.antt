@@ -1,51 +1,39 @@
-use Rattle.std.proofs.Common.{◌≡◌, true, refl}
-use Rattle.std.proofs.lemmas.Result.{IfOk-weaker, IfErr-weaker}
-use Rattle.oci_manifest.specs.Descriptor.{Descriptor}
-use Rattle.oci_store.specs.Keyed.{has_key}
-use Rattle.oci_store.specs.Graph.{nodes_of, Reaches}
-use Rattle.oci_store.specs.GraphLaws.{keys_of-nodes_of}
-use Rattle.oci_store.specs.Copied.{Agree, IsCopied}
+use Rattle.std.proofs.lemmas.Result.{IfErr-weaker}
+use Rattle.oci_store.specs.Graph.{nodes_of}
 use Rattle.oci_store.specs.State.{in_memory}
-use Rattle.oci_store.proofs.Lookups.{has_key-same_keys}
-use Rattle.oci_copy.specs.Copy.{IsCopy}
 use Rattle.oci_copy.specs.Options.{limit_of}
 use Rattle.oci_copy.specs.Plain.{IsUnfailing, RefusedForPlan}
 use Rattle.oci_copy.specs.declared.fault.CopyFault.{CopyFault}
-use Rattle.oci_copy.specs.declared.report.Report.{Report}
-use Rattle.oci_copy.proofs.Headline.{Agree-nodes_of}
-use Rattle.oci_copy.proofs.Unfailing.{told_in_memory}
+use Rattle.oci_copy.proofs.InMemory.{copied, reached, planned, skipped, grown}
+use Rattle.oci_copy.proofs.Unfailing.{unfailing_in_memory}
 use Rattle.oci_copy.proofs.memory.copy_memory.Goals as goal
 
 pub returns-clause-copied : goal.returns-clause-copied
 returns-clause-copied c =
-    let s = c.args.source.now in
-    let d = c.args.destination in
-    let n = c.copy_one-destination.result.0 in
-    IfOk-weaker c.copy_one-destination.result.1
-    (λ (r : Report). IsCopy ⊥ (limit_of c.args.options.now) (in_memory s.entries s.tags) (in_memory d.entries d.tags) c.args.roots.now (in_memory n.entries n.tags))
-    (λ (r : Report). Agree s.entries d.entries → IsCopied (nodes_of s.entries) s.entries c.args.roots.now d.entries n.entries)
-    (λ r copy. copy.content (told_in_memory s d n)) c.copy_one-destination.ensures.copied
+    copied (limit_of c.args.options.now) c.args.source.now c.args.destination c.copy_one-destination.result.0 c.args.roots.now c.copy_one-destination.result.1 c.copy_one-destination.ensures.copied
 
 pub returns-clause-reached : goal.returns-clause-reached
 returns-clause-reached c =
-    let s = c.args.source.now in
-    let d = c.args.destination in
-    let n = c.copy_one-destination.result.0 in
-    IfOk-weaker c.copy_one-destination.result.1
-    (λ (r : Report). IsCopy ⊥ (limit_of c.args.options.now) (in_memory s.entries s.tags) (in_memory d.entries d.tags) c.args.roots.now (in_memory n.entries n.tags))
-    (λ (r : Report). Agree s.entries d.entries → (k : Descriptor) → Reaches (nodes_of s.entries) c.args.roots.now k → has_key n.entries k ≡ true)
-    (λ r copy agree k there. has_key-same_keys (nodes_of n.entries) n.entries k (keys_of-nodes_of n.entries) (copy.reached tt (Agree-nodes_of s.entries d.entries agree) k there))
-    c.copy_one-destination.ensures.copied
+    reached (limit_of c.args.options.now) c.args.source.now c.args.destination c.copy_one-destination.result.0 c.args.roots.now c.copy_one-destination.result.1 c.copy_one-destination.ensures.copied
+
+pub returns-clause-planned : goal.returns-clause-planned
+returns-clause-planned c =
+    planned c.args.source.now c.args.destination c.copy_one-destination.result.0 c.args.roots.now c.copy_one-destination.result.1 c.copy_one-destination.ensures.report
+
+pub returns-clause-skipped : goal.returns-clause-skipped
+returns-clause-skipped c =
+    skipped c.args.source.now c.args.destination c.copy_one-destination.result.0 c.args.roots.now c.copy_one-destination.result.1 c.copy_one-destination.ensures.report
+
+pub returns-clause-grown : goal.returns-clause-grown
+returns-clause-grown c = grown c.args.source.now c.args.destination c.copy_one-destination.result.0 c.args.roots.now c.copy_one-destination.ensures.grows
 
 pub returns-clause-refused : goal.returns-clause-refused
 returns-clause-refused c =
     let s = c.args.source.now in
     let d = c.args.destination in
     let n = c.copy_one-destination.result.0 in
-    let closed = rw c.memory-closed.ensures.same at c.memory-closed.ensures.closed in
     let refused = RefusedForPlan s.entries (limit_of c.args.options.now) (nodes_of d.entries) c.args.roots.now in
-    let unfailing : IsUnfailing (in_memory s.entries s.tags) (in_memory d.entries d.tags) (in_memory n.entries n.tags) =
-    record { is_honest = tt; content = c.len-readable.ensures.content; gives = λ k. refl; closed = closed; takes = λ never. never; no_failures = refl } in
+    let closed = rw c.memory-closed.ensures.same at c.memory-closed.ensures.closed in
     IfErr-weaker c.copy_one-destination.result.1
     (λ (e : CopyFault). IsUnfailing (in_memory s.entries s.tags) (in_memory d.entries d.tags) (in_memory n.entries n.tags) → refused e) refused
-    (λ e plain. plain unfailing) c.copy_one-destination.ensures.plain
+    (λ e plain. plain (unfailing_in_memory s d n c.len-readable.ensures.content closed)) c.copy_one-destination.ensures.plain
