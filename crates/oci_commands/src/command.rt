@@ -1,11 +1,13 @@
-use crate::copy::CopyWords;
+use crate::copy::{CopyWords, Selection, Shown};
+use crate::explain::explanation;
 use crate::item::Algorithm;
 use crate::look::Look;
 use crate::mem::MemWords;
 use clap::error::ErrorKind;
 use clap::{ArgMatches, Error};
-use oci_endings::{Ending, ProgramFault};
-use std::alloc::Global;
+use oci_exit::{Ending, ProgramFault};
+use oci_plan::Existing;
+use std::alloc::{AllocError, Global};
 
 mod words;
 
@@ -14,8 +16,10 @@ use crate::command::words::command;
 /// What the words ask for.
 #[derive(Drop)]
 pub(crate) enum Request<'w> {
-    /// The text that `--help` prints.
-    Help(Error),
+    /// The text that `--help` or `--version` prints.
+    Text(Error),
+    /// What the number of a refusal means.
+    Explain(&'static str),
     /// `mem` with its items and flags.
     Mem(MemWords<'w>),
     /// `copy` with its folders, references and flags.
@@ -25,23 +29,27 @@ pub(crate) enum Request<'w> {
 }
 
 impl<'w> Request<'w> {
-    /// Reads the words after the program's name.
-    pub(crate) fn parse(alloc: Global, words: &'w [String]) -> Result<Request<'w>, Ending> {
+    /// Reads the words after the program's name, of a run whose stderr is a terminal or is none.
+    pub(crate) fn parse(
+        alloc: Global,
+        words: &'w [String],
+        on_terminal: bool,
+    ) -> Result<Request<'w>, Ending> {
         let matches = match command(alloc)?.try_get_matches_from(words) {
             Ok(matches) => matches,
             Err(error) => return asked_or_refused(error),
         };
         match matches.subcommand() {
-            Some((name, matches)) => request_of(alloc, name, matches),
+            Some((name, matches)) => request_of(alloc, name, matches, on_terminal),
             None => Ok(Request::Mem(MemWords::none(alloc))),
         }
     }
 }
 
-/// What came in place of matches: the text that was asked for, or how the program is used.
+/// What came in place of matches: the text that was asked for, or an invalid command line.
 fn asked_or_refused<'w>(error: Error) -> Result<Request<'w>, Ending> {
     match error.kind() {
-        ErrorKind::DisplayHelp => Ok(Request::Help(error)),
+        ErrorKind::DisplayHelp | ErrorKind::DisplayVersion => Ok(Request::Text(error)),
         ErrorKind::OutOfMemory => Err(Ending::Fault(ProgramFault::Memory)),
         _ => Err(Ending::Usage(error)),
     }
@@ -52,13 +60,16 @@ fn request_of<'w>(
     alloc: Global,
     name: &str,
     matches: &ArgMatches<'w>,
+    on_terminal: bool,
 ) -> Result<Request<'w>, Ending> {
     match name {
-        "copy" => Ok(Request::Copy(copy_words(matches))),
+        "copy" => Ok(Request::Copy(copy_words(matches, on_terminal))),
         "tags" => Ok(of_folder(matches, Look::Tags)),
         "resolve" => Ok(of_folder(matches, Look::Resolve(word(matches, "reference")))),
         "predecessors" => Ok(of_folder(matches, Look::Predecessors(word(matches, "reference")))),
+        "tree" => Ok(of_folder(matches, tree_of(matches))),
         "verify" => Ok(of_folder(matches, Look::Verify)),
+        "explain" => explained(alloc, word(matches, "number")),
         _ => Ok(Request::Mem(mem_words(alloc, matches)?)),
     }
 }
@@ -71,6 +82,28 @@ fn word<'w>(matches: &ArgMatches<'w>, id: &str) -> &'w str {
 /// A look into the folder that the words name.
 fn of_folder<'w>(matches: &ArgMatches<'w>, look: Look<'w>) -> Request<'w> {
     Request::Look(word(matches, "folder"), look)
+}
+
+/// The tree of the reference that the words name.
+fn tree_of<'w>(matches: &ArgMatches<'w>) -> Look<'w> {
+    Look::Tree {
+        reference: word(matches, "reference"),
+        shows_referrers: matches.get_flag("referrers"),
+    }
+}
+
+/// The explanation of a refusal. A number that no refusal has makes the command line invalid.
+fn explained<'w>(alloc: Global, number: &str) -> Result<Request<'w>, Ending> {
+    match explanation(number) {
+        Some(text) => Ok(Request::Explain(text)),
+        None => Err(Ending::Usage(unknown_number(alloc, number)?)),
+    }
+}
+
+/// The error of a command line that asks for a number that no refusal has.
+fn unknown_number(alloc: Global, number: &str) -> Result<Error, AllocError> {
+    let message = format!(in alloc; "no error has the number '{number}'")?;
+    command(alloc)?.error(ErrorKind::InvalidValue, &message)
 }
 
 fn mem_words<'w>(alloc: Global, matches: &ArgMatches<'w>) -> Result<MemWords<'w>, Ending> {
@@ -92,20 +125,52 @@ fn algorithm(matches: &ArgMatches<'_>) -> Algorithm {
     }
 }
 
-fn copy_words<'w>(matches: &ArgMatches<'w>) -> CopyWords<'w> {
+fn copy_words<'w>(matches: &ArgMatches<'w>, on_terminal: bool) -> CopyWords<'w> {
+    let (selection, destination) = selected(matches);
     CopyWords {
         source: word(matches, "source"),
-        source_reference: word(matches, "source-reference"),
-        destination: word(matches, "destination"),
-        destination_reference: word(matches, "destination-reference"),
+        selection,
+        destination,
         workers: matches.get_one("workers").unwrap_or(0),
         referrers: referrers(matches),
-        shows_progress: matches.get_flag("progress"),
+        shown: shown(matches, on_terminal),
         is_dry: matches.get_flag("dry-run"),
+        existing: existing(matches),
     }
 }
 
-/// How far up what refers to the content is copied too; none where it is not.
+/// What is shown while the copy goes on.
+fn shown(matches: &ArgMatches<'_>, on_terminal: bool) -> Shown {
+    match (matches.get_flag("progress"), on_terminal) {
+        (true, _) => Shown::EachBlob,
+        (false, true) => Shown::Line,
+        (false, false) => Shown::Nothing,
+    }
+}
+
+/// What is copied, and the folder that it is copied into, which is the second word where `--all` is given.
+fn selected<'w>(matches: &ArgMatches<'w>) -> (Selection<'w>, &'w str) {
+    let second = word(matches, "source-reference");
+    if matches.get_flag("all") {
+        return (Selection::AllTags, second);
+    }
+    let selection = Selection::Reference {
+        source: second,
+        destination: word(matches, "destination-reference"),
+    };
+    (selection, word(matches, "destination"))
+}
+
+/// What is done about blobs that the destination has.
+fn existing(matches: &ArgMatches<'_>) -> Existing {
+    if matches.get_flag("descend") {
+        Existing::Descend
+    } else {
+        Existing::Skip
+    }
+}
+
+/// How many steps up referrers are copied too; `None` where they are not copied.
 fn referrers(matches: &ArgMatches<'_>) -> Option<u32> {
     if matches.get_flag("referrers") {
         Some(matches.get_one("depth").unwrap_or(0))

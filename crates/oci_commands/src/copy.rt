@@ -1,31 +1,62 @@
+use crate::alone::{Lockable, alone_in};
+use crate::copied::{copied_reference, copied_tags};
+use crate::dry_run::plan_of;
 use crate::opened::{opened, opened_or_made};
 use crate::output::output_fault;
 use crate::progress::Progress;
-use oci_copy::{CopyFault, Options, Report, extended_copy};
-use oci_endings::{Outcome, ProgramFault};
+use crate::progress_line::ProgressLine;
+use oci_copy::{Options, Report};
+use oci_exit::{Outcome, ProgramFault};
 use oci_layout::{Dir, Layout};
 use oci_manifest::Key;
+use oci_plan::Existing;
 use oci_pool::{Hooks, NoHooks};
-use oci_store::{GraphSource, Tagger};
+use oci_store::Tagger;
 use std::io::Write;
+use std::rt::Files;
 use std::sync::Wait;
 use std::thread::Threads;
+use std::time::Clock;
+
+/// What a copy copies.
+#[derive(Clone, Copy)]
+pub(crate) enum Selection<'w> {
+    /// What a reference of the source resolves to.
+    Reference {
+        source: &'w str,
+        /// The tag that it gets in the destination; the source's reference where this is empty.
+        destination: &'w str,
+    },
+    /// What each tag of the source resolves to.
+    AllTags,
+}
+
+/// What is shown on stderr while a copy goes on.
+#[derive(Clone, Copy)]
+pub(crate) enum Shown {
+    Nothing,
+    /// A line for each blob as it arrives.
+    EachBlob,
+    /// One line that says how far the copy is, on a terminal.
+    Line,
+}
 
 /// The words of `copy`.
 #[derive(Clone, Copy)]
 pub(crate) struct CopyWords<'w> {
+    /// The folder to copy from.
     pub(crate) source: &'w str,
-    pub(crate) source_reference: &'w str,
+    pub(crate) selection: Selection<'w>,
+    /// The folder to copy into.
     pub(crate) destination: &'w str,
-    /// The name that the copied content gets; the empty text stands for the source's reference.
-    pub(crate) destination_reference: &'w str,
     pub(crate) workers: u32,
-    /// Within how many edges what refers to the content is copied too, 0 for any number; none where it is not.
+    /// How many steps up referrers are copied too, 0 for any number; `None` where they are not copied.
     pub(crate) referrers: Option<u32>,
-    /// Whether each content is told as it arrives.
-    pub(crate) shows_progress: bool,
+    pub(crate) shown: Shown,
     /// Whether nothing is to be changed.
     pub(crate) is_dry: bool,
+    /// What is done about blobs that the destination has.
+    pub(crate) existing: Existing,
 }
 
 impl<'w> CopyWords<'w> {
@@ -33,16 +64,21 @@ impl<'w> CopyWords<'w> {
     pub(crate) fn options(&self) -> Options {
         Options {
             workers: self.workers,
-            max_metadata_bytes: 0,
+            existing: self.existing,
+            ..Options::default()
         }
     }
 }
 
-/// `copy SRC SRCREF DST [DSTREF]`: copies what the reference stands for, with `--referrers` also what refers to it, saves the
-/// destination, and prints the key and the report; with `--progress` it tells each content on `err` as it arrives. The destination
-/// is made where it is no layout, once the source is open and the reference resolved. A copy that is refused does not save.
+/// `copy SRC SRCREF DST [DSTREF]` and `copy --all SRC DST`: copies what is selected, tags it in the destination, saves that,
+/// and prints the key of each tag and the report. With `--progress` each blob is printed on `err` as it arrives; without it, on a
+/// terminal, one line says how far the copy is.
+///
+/// A destination without `oci-layout` is made a layout, once the source is open and its reference resolved. A copy that is
+/// refused does not save, so it names nothing. From before the destination is opened until after it is saved no other process
+/// copies into its folder.
 pub(crate) fn copy<
-    R: AllocGlobal + Threads + Wait + Sync,
+    R: Files + AllocGlobal + Clock + Threads + Wait + Sync,
     S: Dir + Drop + Sync,
     D: Dir + Drop + Send,
     W: Write,
@@ -54,79 +90,94 @@ pub(crate) fn copy<
     words: &CopyWords<'_>,
     out: &mut W,
     err: &mut X,
-) -> Result<Outcome, ProgramFault> {
+) -> Result<Outcome, ProgramFault>
+where
+    R::File: Lockable,
+    S::Draft: Send,
+    D::Draft: Send,
+{
     let source = opened(rt.alloc(), source)?;
-    let (root, report) = if words.shows_progress {
-        copied(rt, &source, destination, words, &Progress::new(rt, err))?
-    } else {
-        copied(rt, &source, destination, words, &NoHooks)?
-    };
-    writeln!(out, "copied {root}\n{report}").map_err(output_fault)?;
-    Ok(Outcome::Good)
-}
-
-/// Copies from an open layout, and saves the destination.
-fn copied<
-    R: AllocGlobal + Threads + Wait + Sync,
-    A: GraphSource + Tagger + Sync,
-    D: Dir + Drop + Send,
-    H: Hooks + Sync,
->(
-    rt: &R,
-    source: &A,
-    destination: D,
-    words: &CopyWords<'_>,
-    hooks: &H,
-) -> Result<(Key, Report), ProgramFault> {
-    check_reference(source, words.source_reference)?;
+    check_selection(&source, words.selection)?;
+    let _lock = alone_in(rt, words.destination, err)?;
     let destination = opened_or_made(rt.alloc(), destination)?;
-    let (destination, answer) = copied_into(rt, source, destination, words, hooks);
-    saved(destination, answer)
-}
-
-/// Copies into an open layout.
-fn copied_into<
-    R: AllocGlobal + Threads + Wait + Sync,
-    A: GraphSource + Tagger + Sync,
-    D: Dir + Drop + Send,
-    H: Hooks + Sync,
->(
-    rt: &R,
-    source: &A,
-    destination: Layout<D>,
-    words: &CopyWords<'_>,
-    hooks: &H,
-) -> (Layout<D>, Result<(Key, Report), CopyFault>) {
-    let (from, to) = (words.source_reference, words.destination_reference);
-    let (alloc, options) = (rt.alloc(), words.options());
-    match words.referrers {
-        Some(depth) => extended_copy(
-            rt,
-            alloc,
-            source,
-            from,
-            depth,
-            destination,
-            to,
-            &options,
-            hooks,
-        ),
-        None => oci_copy::copy(rt, alloc, source, from, destination, to, &options, hooks),
-    }
+    let (keys, report) = match words.shown {
+        Shown::Nothing => copied(rt, &source, destination, words, &NoHooks)?,
+        Shown::EachBlob => { copied(rt, &source, destination, words, &Progress::new(rt, err))? }
+        Shown::Line => copied_with_line(rt, &source, destination, words, err)?,
+    };
+    print_copied(&keys, report, out)
 }
 
 /// Whether the source has what is to be copied.
-fn check_reference<T: Tagger>(source: &T, reference: &str) -> Result<(), ProgramFault> {
-    source.resolve(reference)?;
+fn check_selection<T: Tagger>(source: &T, selection: Selection<'_>) -> Result<(), ProgramFault> {
+    if let Selection::Reference {
+        source: reference,
+        ..
+    } = selection
+    {
+        source.resolve(reference)?;
+    }
     Ok(())
 }
 
-/// Saves a destination after a copy that was not refused.
-fn saved<D: Dir + Drop>(
-    mut destination: Layout<D>,
-    answer: Result<(Key, Report), CopyFault>,
-) -> Result<(Key, Report), ProgramFault> {
-    let copied = answer?;
-    destination.save()?;
-    Ok(copied)
+/// Copies with a line on a terminal that says how far that is. It says of how much, so the copy is planned before it is made.
+fn copied_with_line<
+    R: AllocGlobal + Clock + Threads + Wait + Sync,
+    S: Dir + Sync,
+    D: Dir + Drop + Send,
+    X: Write + Send,
+>(
+    rt: &R,
+    source: &Layout<S>,
+    destination: Layout<D>,
+    words: &CopyWords<'_>,
+    err: &mut X,
+) -> Result<(Vec<Key>, Report), ProgramFault>
+where
+    S::Draft: Send,
+    D::Draft: Send,
+{
+    let plan = plan_of(rt.alloc(), source, &destination, words)?;
+    let line = ProgressLine::new(rt, err, &plan);
+    let answer = copied(rt, source, destination, words, &line);
+    line.erase();
+    answer
+}
+
+/// Copies from an open layout, and saves the destination. Gives the key of each tag.
+fn copied<
+    R: AllocGlobal + Threads + Wait + Sync,
+    S: Dir + Sync,
+    D: Dir + Drop + Send,
+    H: Hooks + Sync,
+>(
+    rt: &R,
+    source: &Layout<S>,
+    destination: Layout<D>,
+    words: &CopyWords<'_>,
+    hooks: &H,
+) -> Result<(Vec<Key>, Report), ProgramFault>
+where
+    S::Draft: Send,
+    D::Draft: Send,
+{
+    match words.selection {
+        Selection::Reference {
+            source: from,
+            destination: to,
+        } => copied_reference(rt, source, from, destination, to, words, hooks),
+        Selection::AllTags => copied_tags(rt, source, destination, words, hooks),
+    }
+}
+
+fn print_copied<W: Write>(
+    keys: &[Key],
+    report: Report,
+    out: &mut W,
+) -> Result<Outcome, ProgramFault> {
+    for key in keys {
+        writeln!(out, "copied {key}").map_err(output_fault)?;
+    }
+    writeln!(out, "{report}").map_err(output_fault)?;
+    Ok(Outcome::Good)
 }

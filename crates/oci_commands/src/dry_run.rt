@@ -1,17 +1,18 @@
-use crate::copy::CopyWords;
+use crate::copy::{CopyWords, Selection};
 use crate::opened::{opened, opened_if_there};
 use crate::output::output_fault;
-use oci_copy::CopyFault;
-use oci_endings::{Outcome, ProgramFault};
-use oci_layout::Dir;
+use crate::roots::{roots_of_reference, roots_of_tags};
+use oci_copy::plan_copy;
+use oci_exit::{Outcome, ProgramFault};
+use oci_layout::{Dir, Layout};
 use oci_manifest::Key;
-use oci_plan::{Plan, PlanFault, climb, gather};
-use oci_store::{ClosedStore, Dest, GraphSource, Source, Tagger};
+use oci_plan::Plan;
+use oci_store::{ClosedStore, Dest};
 use std::alloc::Global;
 use std::io::Write;
 
-/// `copy --dry-run`: prints the key of each content that the copy would push, in the order in which it would, and then how many,
-/// how many bytes they have, and how many roots are there. Nothing is changed: a destination that is no layout is taken to
+/// `copy --dry-run`: prints the key of each blob that the copy would push, each after what it lists, and then how many, how many
+/// bytes they have, and how many roots are there. Nothing is changed: a destination that is no layout is taken to
 /// hold nothing, and is not made.
 pub(crate) fn dry_run<S: Dir + Drop, D: Dir + Drop, W: Write>(
     alloc: Global,
@@ -26,55 +27,43 @@ pub(crate) fn dry_run<S: Dir + Drop, D: Dir + Drop, W: Write>(
 }
 
 /// The plan of a copy from an open layout.
-fn plan_from<A: GraphSource + Tagger, D: Dir + Drop>(
+fn plan_from<S: Dir, D: Dir + Drop>(
     alloc: Global,
-    source: &A,
+    source: &Layout<S>,
     destination: D,
     words: &CopyWords<'_>,
 ) -> Result<Plan, ProgramFault> {
-    let roots = roots(alloc, source, words)?;
     match opened_if_there(alloc, destination)? {
-        Some(destination) => planned(alloc, source, &destination, &roots, words),
-        None => planned(alloc, source, &ClosedStore::new(alloc), &roots, words),
+        Some(destination) => plan_of(alloc, source, &destination, words),
+        None => plan_of(alloc, source, &ClosedStore::new(alloc), words),
     }
 }
 
-/// The roots of a copy: what the reference stands for, and with `--referrers` what refers to it.
-fn roots<A: GraphSource + Tagger>(
+/// The plan of a copy from an open layout to a store.
+pub(crate) fn plan_of<S: Dir, D: Dest>(
     alloc: Global,
-    source: &A,
-    words: &CopyWords<'_>,
-) -> Result<Vec<Key>, ProgramFault> {
-    let root = source.resolve(words.source_reference)?;
-    match words.referrers {
-        Some(depth) => Ok(climb(alloc, source, &root, depth)?),
-        None => alone(alloc, root),
-    }
-}
-
-/// A list of one root.
-fn alone(alloc: Global, root: Key) -> Result<Vec<Key>, ProgramFault> {
-    let mut roots = Vec::new(alloc);
-    roots.push(root)?;
-    Ok(roots)
-}
-
-/// The plan of a copy, which is refused as the copy is.
-fn planned<A: Source, D: Dest>(
-    alloc: Global,
-    source: &A,
+    source: &Layout<S>,
     destination: &D,
-    roots: &[Key],
     words: &CopyWords<'_>,
 ) -> Result<Plan, ProgramFault> {
-    if let Some((holder, missing)) = destination.missing()? {
-        return Err(ProgramFault::Copy(CopyFault::DestinationOpen(holder, missing)));
-    }
-    let limit = words.options().metadata_limit();
-    match gather(alloc, source, destination, roots, limit) {
-        Ok(plan) => Ok(plan),
-        Err(PlanFault::Memory) => Err(ProgramFault::Memory),
-        Err(fault) => Err(ProgramFault::Copy(CopyFault::Plan(fault))),
+    let roots = roots(alloc, source, words)?;
+    Ok(plan_copy(alloc, source, destination, &roots, &words.options())?)
+}
+
+/// The keys that a copy starts from.
+fn roots<S: Dir>(
+    alloc: Global,
+    source: &Layout<S>,
+    words: &CopyWords<'_>,
+) -> Result<Vec<Key>, ProgramFault> {
+    match words.selection {
+        Selection::Reference {
+            source: reference,
+            ..
+        } => { Ok(roots_of_reference(alloc, source, reference, words.referrers)?) }
+        Selection::AllTags => {
+            Ok(roots_of_tags(alloc, source, &source.tags()?, words.referrers)?)
+        }
     }
 }
 

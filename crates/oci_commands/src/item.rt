@@ -4,7 +4,7 @@ ghost use Rattle.oci_store.specs.Content.{Matches};
 
 use bytes::Bytes;
 use oci_digest::Digest;
-use oci_endings::ProgramFault;
+use oci_exit::ProgramFault;
 use oci_manifest::Key;
 use oci_store::CheckedContent;
 use std::alloc::Global;

@@ -4,9 +4,13 @@
 //! status. [`run_process`] calls it with the words and the outputs of the process.
 #![tactic(auto)]
 
+mod alone;
+mod between;
 mod command;
+mod copied;
 mod copy;
 mod dry_run;
+mod explain;
 mod item;
 mod lines;
 mod look;
@@ -16,10 +20,16 @@ mod output;
 mod predecessors;
 mod process;
 mod progress;
+mod progress_line;
+mod readable;
 mod resolve;
+mod roots;
 mod run;
 mod tags;
+mod tree;
 mod verify;
 
+pub use alone::Lockable;
+pub use between::{copy_between, extended_copy_between};
 pub use process::run_process;
 pub use run::run_words;

@@ -1,5 +1,5 @@
 use crate::output::output_fault;
-use oci_endings::ProgramFault;
+use oci_exit::ProgramFault;
 use std::fmt::Display;
 use std::io::Write;
 

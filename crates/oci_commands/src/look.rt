@@ -2,8 +2,9 @@ use crate::opened::opened;
 use crate::predecessors::predecessors;
 use crate::resolve::resolve;
 use crate::tags::tags;
+use crate::tree::tree;
 use crate::verify::verify;
-use oci_endings::{Outcome, ProgramFault};
+use oci_exit::{Outcome, ProgramFault};
 use oci_layout::{Dir, Layout};
 use std::alloc::Global;
 use std::io::Write;
@@ -11,13 +12,19 @@ use std::io::Write;
 /// What is asked of one layout, which is not changed.
 #[derive(Clone, Copy)]
 pub(crate) enum Look<'w> {
-    /// Its names.
+    /// Its tags.
     Tags,
-    /// What a reference stands for.
+    /// What a reference resolves to.
     Resolve(&'w str),
-    /// What lists what a reference stands for.
+    /// What lists the blob that a reference resolves to.
     Predecessors(&'w str),
-    /// Whether its files match, and all that is listed is there.
+    /// What a reference reaches.
+    Tree {
+        reference: &'w str,
+        /// Whether what refers to it is shown too.
+        shows_referrers: bool,
+    },
+    /// Whether its files match, and nothing that is listed is missing.
     Verify,
 }
 
@@ -43,6 +50,10 @@ fn look_at<D: Dir, W: Write>(
         Look::Tags => tags(layout, out),
         Look::Resolve(reference) => resolve(layout, reference, out),
         Look::Predecessors(reference) => predecessors(layout, reference, out),
+        Look::Tree {
+            reference,
+            shows_referrers,
+        } => tree(alloc, layout, reference, shows_referrers, out),
         Look::Verify => verify(alloc, layout, out),
     }
 }

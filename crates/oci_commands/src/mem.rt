@@ -2,7 +2,7 @@ use crate::item::{Algorithm, Item};
 use crate::lines::print_lines;
 use crate::output::output_fault;
 use oci_copy::{CopyFault, Options, Report, copy_memory, copy_memory_by_workers};
-use oci_endings::{Outcome, ProgramFault};
+use oci_exit::{Outcome, ProgramFault};
 use oci_manifest::Key;
 use oci_pool::NoHooks;
 use oci_store::{ClosedStore, MemoryStore};

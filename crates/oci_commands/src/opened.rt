@@ -1,4 +1,4 @@
-use oci_endings::ProgramFault;
+use oci_exit::ProgramFault;
 use oci_layout::{Dir, Layout, LayoutFault};
 use std::alloc::Global;
 

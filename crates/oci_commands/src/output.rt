@@ -1,4 +1,4 @@
-use oci_endings::ProgramFault;
+use oci_exit::ProgramFault;
 use std::io;
 
 /// What a writer's error means for the run.

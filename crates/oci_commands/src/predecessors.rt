@@ -1,9 +1,9 @@
 use crate::lines::print_lines;
-use oci_endings::{Outcome, ProgramFault};
+use oci_exit::{Outcome, ProgramFault};
 use oci_store::{GraphSource, Tagger};
 use std::io::Write;
 
-/// `predecessors FOLDER REF`: prints each held key that lists the one that the reference stands for, in key order.
+/// `predecessors FOLDER REF`: prints each held key that lists the one that the reference resolves to, in key order.
 pub(crate) fn predecessors<A: GraphSource + Tagger, W: Write>(
     store: &A,
     reference: &str,

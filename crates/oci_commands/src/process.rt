@@ -1,21 +1,22 @@
 use crate::output::output_fault;
-use crate::run_words;
-use oci_endings::{Ending, ProgramFault};
-use std::io::{BufWriter, Write};
+use crate::{Lockable, run_words};
+use oci_exit::{Ending, ProgramFault};
+use std::io::{BufWriter, IsTerminal, Write};
 use std::rt::{Env, Files};
 use std::sync::Wait;
 use std::thread::Threads;
+use std::time::Clock;
 use std::{env, io};
 
 /// Runs the program on the words that the process was given, with an output that is written through a buffer, and answers the
-/// status, as [`run_words`] does. A word that is not UTF-8 is no use of the program: status 2.
+/// status, as [`run_words`] does. A word that is not UTF-8 makes the command line invalid: status 2.
 pub fn run_process<
-    R: Env + Files + AllocGlobal + Threads + Wait + Sync,
+    R: Env + Files + AllocGlobal + Clock + Threads + Wait + Sync,
     W: Write + Drop,
-    X: Write + Send,
+    X: Write + IsTerminal + Send,
 >(rt: &R, out: W, err: &mut X) -> u8
 where
-    R::File: Send,
+    R::File: Lockable + Send,
     R::Dir: Send,
 {
     match words(rt) {
@@ -25,18 +26,17 @@ where
 }
 
 /// Runs the program on an output that is written through a buffer.
-fn run_buffered<R: Files + AllocGlobal + Threads + Wait + Sync, W: Write + Drop, X: Write + Send>(
-    rt: &R,
-    words: &[String],
-    out: W,
-    err: &mut X,
-) -> u8
+fn run_buffered<
+    R: Files + AllocGlobal + Clock + Threads + Wait + Sync,
+    W: Write + Drop,
+    X: Write + IsTerminal + Send,
+>(rt: &R, words: &[String], out: W, err: &mut X) -> u8
 where
-    R::File: Send,
+    R::File: Lockable + Send,
     R::Dir: Send,
 {
     match BufWriter::new(rt.alloc(), out) {
-        Ok(mut out) => run_words(rt, words, &mut out, err),
+        Ok(mut out) => run_words(rt, words, err.is_terminal(), &mut out, err),
         Err(error) => Ending::Fault(output_fault(error)).tell(err),
     }
 }
@@ -48,7 +48,7 @@ fn words<R: Env + AllocGlobal>(rt: &R) -> Result<Vec<String>, Ending> {
     Ok(words)
 }
 
-/// Why the words could not be read: one of them is not UTF-8, or memory was wanting.
+/// Why the words could not be read: one of them is not UTF-8, or memory ran out.
 fn unread(error: io::Error) -> Ending {
     match error.kind() {
         io::ErrorKind::InvalidData => Ending::NotUtf8,

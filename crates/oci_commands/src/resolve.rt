@@ -1,9 +1,9 @@
 use crate::output::output_fault;
-use oci_endings::{Outcome, ProgramFault};
+use oci_exit::{Outcome, ProgramFault};
 use oci_store::Tagger;
 use std::io::Write;
 
-/// `resolve FOLDER REF`: prints the key that the reference stands for.
+/// `resolve FOLDER REF`: prints the key that the reference resolves to.
 pub(crate) fn resolve<T: Tagger, W: Write>(
     store: &T,
     reference: &str,

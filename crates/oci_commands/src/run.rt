@@ -1,64 +1,76 @@
 ghost use Rattle.std.specs.Prelude.{◌≤◌};
 
+use crate::alone::Lockable;
 use crate::command::Request;
 use crate::copy::{CopyWords, copy};
 use crate::dry_run::dry_run;
 use crate::look::{Look, look_into};
 use crate::mem::mem;
 use crate::output::output_fault;
-use oci_endings::{Ending, Outcome, ProgramFault};
+use oci_exit::{Ending, Outcome, ProgramFault};
 use oci_layout::{Dir, FsDir};
 use std::alloc::Global;
 use std::io::Write;
 use std::rt::Files;
 use std::sync::Wait;
 use std::thread::Threads;
+use std::time::Clock;
 
 /// Runs the program on the words after its name, and answers the status.
 ///
 /// 0: done, what was asked for is on `out`. 1: refused, with one line on `err`: `ocicp:` and the
 /// faults from the outermost to the innermost; or `verify` found something wrong, which is on `out`.
-/// 2: the words are no use of the program, with the usage on `err`. 3: memory was wanting, with the
-/// line `ocicp: memory`. With `copy --progress` lines of the copy stand on `err` before.
-pub fn run_words<R: Files + AllocGlobal + Threads + Wait + Sync, W: Write, X: Write + Send>(
+/// 2: an invalid command line, with the usage on `err`. 3: out of memory, with the line
+/// `ocicp: memory`. `copy` prints to `err` before that how far it is: with `--progress` a line a blob, and otherwise, where
+/// `err` is a terminal (`on_terminal`), a line that is drawn again and taken away at the end.
+pub fn run_words<R: Files + AllocGlobal + Clock + Threads + Wait + Sync, W: Write, X: Write + Send>(
     rt: &R,
     words: &[String],
+    on_terminal: bool,
     out: &mut W,
     err: &mut X,
 ) -> u8
 where
-    R::File: Send,
+    R::File: Lockable + Send,
     R::Dir: Send,
     ensures { result ≤ 3 }
 {
-    match Request::parse(rt.alloc(), words) {
+    match Request::parse(rt.alloc(), words, on_terminal) {
         Ok(request) => run_request(rt, &request, out, err),
         Err(ending) => ending.tell(err),
     }
 }
 
 /// Does what is asked for, and answers the status.
-fn run_request<R: Files + AllocGlobal + Threads + Wait + Sync, W: Write, X: Write + Send>(
+fn run_request<R: Files + AllocGlobal + Clock + Threads + Wait + Sync, W: Write, X: Write + Send>(
     rt: &R,
     request: &Request<'_>,
     out: &mut W,
     err: &mut X,
 ) -> u8
 where
-    R::File: Send,
+    R::File: Lockable + Send,
     R::Dir: Send,
     ensures { result ≤ 3 }
 {
     match request {
-        Request::Help(text) => end(print_help(text, out), out, err),
+        Request::Text(text) => end(print_text(text, out), out, err),
+        Request::Explain(text) => end(print_explanation(text, out), out, err),
         Request::Mem(words) => end(mem(rt, words, out), out, err),
         Request::Copy(words) => run_copy(rt, words, out, err),
         Request::Look(folder, look) => run_look(rt, folder, *look, out, err),
     }
 }
 
-fn print_help<W: Write>(text: &clap::Error, out: &mut W) -> Result<Outcome, ProgramFault> {
+/// Prints the text of `--help` or `--version`, which ends its lines itself.
+fn print_text<W: Write>(text: &clap::Error, out: &mut W) -> Result<Outcome, ProgramFault> {
     write!(out, "{text}").map_err(output_fault)?;
+    Ok(Outcome::Good)
+}
+
+/// `explain NUMBER`: prints what the number of a refusal means.
+fn print_explanation<W: Write>(text: &str, out: &mut W) -> Result<Outcome, ProgramFault> {
+    writeln!(out, "{text}").map_err(output_fault)?;
     Ok(Outcome::Good)
 }
 
@@ -92,14 +104,14 @@ fn end_look<D: Dir + Drop, W: Write, X: Write>(
 }
 
 /// Copies from folder to folder.
-fn run_copy<R: Files + AllocGlobal + Threads + Wait + Sync, W: Write, X: Write + Send>(
+fn run_copy<R: Files + AllocGlobal + Clock + Threads + Wait + Sync, W: Write, X: Write + Send>(
     rt: &R,
     words: &CopyWords<'_>,
     out: &mut W,
     err: &mut X,
 ) -> u8
 where
-    R::File: Send,
+    R::File: Lockable + Send,
     R::Dir: Send,
     ensures { result ≤ 3 }
 {
@@ -114,12 +126,16 @@ where
 
 /// Copies from directory to directory, or only tells what would be copied, and answers the status.
 fn end_copy<
-    R: AllocGlobal + Threads + Wait + Sync,
+    R: Files + AllocGlobal + Clock + Threads + Wait + Sync,
     S: Dir + Drop + Sync,
     D: Dir + Drop + Send,
     W: Write,
     X: Write + Send,
 >(rt: &R, source: S, destination: D, words: &CopyWords<'_>, out: &mut W, err: &mut X) -> u8
+where
+    R::File: Lockable,
+    S::Draft: Send,
+    D::Draft: Send,
     ensures { result ≤ 3 }
 {
     if words.is_dry {

@@ -1,9 +1,9 @@
 use crate::output::output_fault;
-use oci_endings::{Outcome, ProgramFault};
+use oci_exit::{Outcome, ProgramFault};
 use oci_layout::{Dir, Layout};
 use std::io::Write;
 
-/// `tags FOLDER`: prints each name and what it stands for, in byte order of the names, which are printed as they are.
+/// `tags FOLDER`: prints each tag and its key, in byte order of the tags, which are printed as they are.
 pub(crate) fn tags<D: Dir, W: Write>(
     layout: &Layout<D>,
     out: &mut W,

@@ -1,13 +1,14 @@
 use crate::output::output_fault;
-use oci_endings::{Outcome, ProgramFault};
+use oci_digest::NoMemory;
+use oci_exit::{Outcome, ProgramFault};
 use oci_layout::{Dir, Layout};
-use oci_manifest::Key;
-use oci_store::{Dest, FetchFault, Source};
+use oci_manifest::{Key, Kind};
+use oci_store::{Dest, Drafting, FetchFault, Source, fetch_into};
 use std::alloc::Global;
 use std::io::Write;
 
-/// `verify FOLDER`: prints, in key order, each held key that the file does not match, then the first that lists what is not
-/// held, with that, and then how many are held.
+/// `verify FOLDER`: prints in key order each key whose file does not match it, then the first key that lists a missing one, with
+/// that one, and then how many keys are held.
 pub(crate) fn verify<D: Dir, W: Write>(
     alloc: Global,
     layout: &Layout<D>,
@@ -34,7 +35,7 @@ fn print_corrupt<D: Dir, W: Write>(
     Ok(outcome)
 }
 
-/// The held keys, in key order.
+/// The keys that the layout holds, in key order.
 fn sorted_keys<'l, D: Dir>(
     alloc: Global,
     layout: &'l Layout<D>,
@@ -49,12 +50,40 @@ fn sorted_keys<'l, D: Dir>(
     Ok(keys)
 }
 
-/// Whether the file of a key has other bytes, or is not there any more.
+/// Whether the file of a key has other bytes, or is gone.
 fn is_corrupt<A: Source>(source: &A, key: &Key) -> Result<bool, ProgramFault> {
-    match source.fetch(key) {
-        Ok(_) => Ok(false),
+    match check(source, key) {
+        Ok(()) => Ok(false),
         Err(FetchFault::Corrupt) => Ok(true),
         Err(fault) => Err(ProgramFault::Fetch(fault)),
+    }
+}
+
+/// Reads a blob and checks it against its key. What may be large is read in parts, and nothing of it is kept.
+fn check<A: Source>(source: &A, key: &Key) -> Result<(), FetchFault> {
+    if source.may_fail(key) && is_leaf(key) {
+        return fetch_into(source, key, &mut Discard);
+    }
+    source.fetch(key)?;
+    Ok(())
+}
+
+/// Whether a key lists nothing. Manifests are small.
+fn is_leaf(key: &Key) -> bool {
+    Kind::of(key.media_type()) == Kind::Leaf
+}
+
+/// A draft that keeps nothing of what it is given.
+#[derive(Drop)]
+struct Discard;
+
+impl Drafting for Discard {
+    ghost use Rattle.std.specs.Prelude.{⊤};
+
+    ghost drafted = { λ d bytes. ⊤ };
+
+    fn append(&mut self, _part: &[u8]) -> Result<(), NoMemory> {
+        Ok(())
     }
 }
 

@@ -4,26 +4,30 @@ use Rattle.std.specs.Prelude.{Contains, IsOk, option_map, unwrap_or}
 use Rattle.std.specs.Result.{result_unwrap_or}
 use Rattle.oci_manifest.specs.Descriptor.{Descriptor}
 use Rattle.oci_manifest.specs.Fault.{Fault}
-use Rattle.oci_store.specs.Closed.{IsClosed}
 use Rattle.oci_store.specs.Graph.{Node, nodes_of}
 use Rattle.oci_store.specs.Keyed.{value_at, has_key, HasAll, first_missing}
 use Rattle.oci_store.specs.Content.{Entry, IsChecked, succ_of, successors_in}
 use Rattle.oci_store.specs.State.{State}
-use Rattle.oci_store.specs.Push.{Refusal, Refused, closed_check, held_check, already_exists, size_mismatch, digest_mismatch, bad_manifest, missing_successor}
+use Rattle.oci_store.specs.Push.{Refusal, Refused, IsRaised, closed_check, held_check, already_exists, size_mismatch, digest_mismatch, bad_manifest, missing_successor}
 use Rattle.oci_store.specs.declared.fault.PushFault.{PushFault}
 use Rattle.oci_store.specs.declared.fault.PushFault.TheVariants as push
 use Rattle.oci_store.proofs.Lookups.{first_missing-from_HasAll}
-use Rattle.oci_plan.specs.Outside.{IsOutside}
 use Rattle.oci_plan.specs.Plan.{Planned}
 use Rattle.oci_plan.specs.Visiting.{successors_at}
 use Rattle.oci_plan.proofs.Items.{value_at-nodes_of}
+use Rattle.oci_copy.specs.declared.options.Options.{Options}
 use Rattle.oci_copy.specs.declared.fault.CopyFault.{CopyFault}
 use Rattle.oci_copy.specs.declared.fault.CopyFault.TheVariants as fault
-use Rattle.oci_copy.specs.Cause.{HasFailed, IsPushCause, IsTooEarly, IsStepCause, IsRunCause, IsStartCause, IsRefusal, IsFetchCause}
+use Rattle.oci_copy.specs.Cause.{HasFailed, IsPushCause, IsTooEarly, IsStepCause, IsRunCause, IsStartCause, IsStillWanted, IsRefusal, IsFetchCause}
 use Rattle.oci_copy.specs.Fault.{IsStuck, IsOtherPush, TellsPush}
+use Rattle.oci_copy.specs.Destination.{IsClosedWhenSkipping}
 use Rattle.oci_copy.specs.Grown.{graph_of}
 use Rattle.oci_copy.specs.Planned.{IsPlanOf}
 use Rattle.oci_copy.proofs.Checks.{closed_check-read}
+
+-- a failure that was counted is a failure
+pub HasFailed-raised : (before now : State) → IsRaised before.failures now.failures → HasFailed before now
+HasFailed-raised before now raised = elim raised [ inl more ↦ inl (omega arith) | inr most ↦ inr most.1 ]
 
 -- what the source's bytes list is what the source lists
 pub listed_at : (entries : List Entry) (k : Descriptor) (bytes : List ℕ) (listed : List Descriptor) → value_at entries k ≡ Some bytes → succ_of k bytes ≡ Ok listed
@@ -111,14 +115,17 @@ step_earlier source opening before now k told halts earlier cause = go told caus
     go other h = absurd h
 
 -- why a copy is refused once it has a plan
-pub refused_in_run : {source : State} {limit : ℕ} {opening : State} {roots : List Descriptor} {p : Planned} (now : State) (told : CopyFault) → IsPlanOf source limit opening roots p
-    → IsClosed opening.nodes → IsRunCause source opening now p.keys told → IsRefusal limit source opening roots now told
-refused_in_run {source} {limit} {opening} {roots} {p} now told plan closed cause = go told cause.2
+pub refused_in_run : {source : State} {options : Options} {opening : State} {roots : List Descriptor} {p : Planned} (now : State) (told : CopyFault) → IsPlanOf source options opening roots p
+    → IsClosedWhenSkipping options.existing opening.nodes → IsRunCause source opening now p.keys told → IsRefusal options source opening roots now told
+refused_in_run {source} {options} {opening} {roots} {p} now told plan closed cause = go told cause.3
   where
-    wanted : (named : Descriptor) → named ≡ cause.0 → source.is_honest → IsOutside (graph_of source) opening.nodes roots named
-    wanted named same h = (plan.outside h named).0 (subst (Contains p.keys) (sym same) cause.1)
+    wanted : (named : Descriptor) → named ≡ cause.0 → IsStillWanted options.existing source opening roots now named
+    wanted named same = (
+      λ h. (plan.outside h named).0 (subst (Contains p.keys) (sym same) cause.1),
+      subst (λ (d : Descriptor). has_key now.nodes d ≡ false) (sym same) cause.2,
+    )
 
-    go : (t : CopyFault) → IsStepCause source opening now cause.0 t → IsRefusal limit source opening roots now t
+    go : (t : CopyFault) → IsStepCause source opening now cause.0 t → IsRefusal options source opening roots now t
     go (fault.Fetch k e) h = (closed, wanted k h.0, subst (λ (d : Descriptor). IsFetchCause source d e) (sym h.0) h.1)
     go (fault.Push k e) h = (closed, wanted k h.0, subst (λ (d : Descriptor). IsPushCause source opening now d e) (sym h.0) h.1)
     go (fault.Stuck k) h = (closed, wanted k h.0, subst (IsTooEarly source now) (sym h.0) h.1)
@@ -126,8 +133,8 @@ refused_in_run {source} {limit} {opening} {roots} {p} now told plan closed cause
     go other h = absurd h
 
 -- why a copy is refused that has none
-pub refused_at_start : (limit : ℕ) (source opening : State) (roots : List Descriptor) (now : State) (told : CopyFault) → IsStartCause limit source opening roots told → IsRefusal limit source opening roots now told
-refused_at_start limit source opening roots now (fault.DestinationOpen holder missing) cause = cause
-refused_at_start limit source opening roots now (fault.Plan e) cause = cause
-refused_at_start limit source opening roots now fault.Memory cause = tt
-refused_at_start limit source opening roots now other cause = absurd cause
+pub refused_at_start : (options : Options) (source opening : State) (roots : List Descriptor) (now : State) (told : CopyFault) → IsStartCause options source opening roots told → IsRefusal options source opening roots now told
+refused_at_start options source opening roots now (fault.DestinationOpen holder missing) cause = cause
+refused_at_start options source opening roots now (fault.Plan e) cause = cause
+refused_at_start options source opening roots now fault.Memory cause = tt
+refused_at_start options source opening roots now other cause = absurd cause

@@ -1,13 +1,13 @@
 -- A push keeps what a run keeps.
-use Rattle.std.proofs.Common.{◌≡◌, ◌≤◌, ◌<◌, ◌-◌, ◌^◌, inl, inr, ℕ, true, false, List, [], ◌∷◌, ◌++◌, Some, Result, Ok, Err, refl, sym, ap, ◌∙◌, append_assoc, append-nil, subst, arith}
-use Rattle.std.specs.Prelude.{Contains, option_map, OnOk, OnErr}
+use Rattle.std.proofs.Common.{◌≡◌, ◌<◌, ◌-◌, ◌^◌, inl, inr, ℕ, true, false, List, [], ◌∷◌, ◌++◌, Some, Result, Ok, Err, refl, sym, ap, ◌∙◌, append_assoc, append-nil, subst, arith}
+use Rattle.std.specs.Prelude.{Contains, option_map}
 use Rattle.std.specs.List.{All}
 use Rattle.std.proofs.lemmas.List.Elements.{All-nil, All-weaker, All-push}
 use Rattle.oci_manifest.specs.Descriptor.{Descriptor}
 use Rattle.oci_store.specs.Keyed.{value_at, has_key, HasAll}
 use Rattle.oci_store.specs.Content.{Entry, IsChecked, successors_in}
 use Rattle.oci_store.specs.Graph.{Node, node_of}
-use Rattle.oci_store.specs.Push.{closed_check, Answers, IsCalm, IsUndisturbed, AgreesAt}
+use Rattle.oci_store.specs.Push.{IsCalm, IsUndisturbed, AgreesAt, IsPush}
 use Rattle.oci_store.specs.declared.fault.PushFault.{PushFault}
 use Rattle.oci_store.specs.State.{State}
 use Rattle.oci_store.proofs.Lookups.{All-value_at, value_at-append_cases, has_key-append_left}
@@ -34,15 +34,14 @@ keeps_start shares source planned opening = record {
   name = refl;
 }
 
-module _ (shares : Type 0) (source : State) (planned : List Descriptor) (opening before after : State) (e : Entry)
-    (own : source.is_honest → value_at source.entries e.0 ≡ Some e.1) (rises : before.failures ≤ after.failures)
-    (sound : IsUndisturbed shares before after e → after.is_sound) (tags : after.tags ≡ before.tags) (name : after.name ≡ before.name)
-    (keeps : Keeps shares source planned opening before) where
+module _ {shares : Type 0} {source : State} {planned : List Descriptor} {opening before after : State} {e : Entry} {pushed : Result ℕ PushFault}
+    (did : IsPush shares before after e pushed) (own : source.is_honest → value_at source.entries e.0 ≡ Some e.1) (keeps : Keeps shares source planned opening before) where
   -- what could be told after a push could be told before it, and nothing disturbed it
   told_before : IsTold shares source opening after → IsTold shares source opening before × IsCalm before.failures after.failures
   told_before told =
       let calm = told.is_calm in
       let up = keeps.rising in
+      let rises = did.failures in
       let same : before.failures ≡ opening.failures = (let e = calm.0 in omega arith) in
       let less : before.failures < 2 ^ 64 - 1 = (let e = calm.0 in let l = calm.1 in omega arith) in
       let now : after.failures ≡ before.failures = (let e = calm.0 in omega arith) in
@@ -64,16 +63,17 @@ module _ (shares : Type 0) (source : State) (planned : List Descriptor) (opening
       let was = keeps.told b.0 in
       record { is_sound = was.0; is_calm = b.1; agrees = agrees_at b.0 was.1 }
 
-  pub keeps_pushed : Contains planned e.0 → after.nodes ≡ before.nodes ++ node_of e ∷ [] → HasAll before.nodes (successors_in e.0 e.1)
+  -- a push keeps it where it is done
+  keeps_pushed : Contains planned e.0 → after.nodes ≡ before.nodes ++ node_of e ∷ [] → HasAll before.nodes (successors_in e.0 e.1)
       → (IsUndisturbed shares before after e → after.entries ≡ before.entries ++ e ∷ []) → Keeps shares source planned opening after
-  keeps_pushed plan did held bytes_are =
+  keeps_pushed plan grown held bytes_are =
       let node = node_of e in
       let Listed : List Node → Node → Type 0 = λ graph n. HasAll graph n.1 in
       record {
         added = keeps.added ++ node ∷ [];
-        is = did ∙ (ap (λ (l : List Node). l ++ node ∷ []) keeps.is ∙ append_assoc opening.nodes keeps.added (node ∷ []));
+        is = grown ∙ (ap (λ (l : List Node). l ++ node ∷ []) keeps.is ∙ append_assoc opening.nodes keeps.added (node ∷ []));
         planned_keys = All-push (λ (n : Node). Contains planned n.0) keeps.added node keeps.planned_keys plan;
-        supported = subst (λ (graph : List Node). All (Listed graph) (keeps.added ++ node ∷ [])) (sym did)
+        supported = subst (λ (graph : List Node). All (Listed graph) (keeps.added ++ node ∷ [])) (sym grown)
             (All-push (Listed (before.nodes ++ node ∷ [])) keeps.added node
             (All-weaker (Listed before.nodes) (Listed (before.nodes ++ node ∷ [])) (λ n h. HasAll-append before.nodes (node ∷ []) n.1 h) keeps.added keeps.supported)
             (HasAll-append before.nodes (node ∷ []) node.1 held));
@@ -82,19 +82,20 @@ module _ (shares : Type 0) (source : State) (planned : List Descriptor) (opening
         told = λ t.
             let calm = undisturbed t in
             let was = (keeps.told (told_before t).0).1 in (
-              sound calm,
+              did.bytes.sound calm,
               record {
                 added = was.added ++ e ∷ [];
                 is = bytes_are calm ∙ (ap (λ (l : List Entry). l ++ e ∷ []) was.is ∙ append_assoc opening.entries was.added (e ∷ []));
                 each = All-push (λ (p : Entry). Contains planned p.0 × (value_at source.entries p.0 ≡ Some p.1)) was.added e was.each (plan, own t.is_honest);
               },
             );
-        rising = (let u = keeps.rising in omega arith);
-        tags = tags ∙ keeps.tags;
-        name = name ∙ keeps.name;
+        rising = (let u = keeps.rising in let rises = did.failures in omega arith);
+        tags = did.tags ∙ keeps.tags;
+        name = did.name ∙ keeps.name;
       }
 
-  pub keeps_refused : after.nodes ≡ before.nodes → (IsUndisturbed shares before after e → after.entries ≡ before.entries) → Keeps shares source planned opening after
+  -- and where it is refused
+  keeps_refused : after.nodes ≡ before.nodes → (IsUndisturbed shares before after e → after.entries ≡ before.entries) → Keeps shares source planned opening after
   keeps_refused same bytes_are = record {
     added = keeps.added;
     is = same ∙ keeps.is;
@@ -104,17 +105,16 @@ module _ (shares : Type 0) (source : State) (planned : List Descriptor) (opening
     told = λ t.
         let calm = undisturbed t in
         let was = (keeps.told (told_before t).0).1 in
-        (sound calm, record { added = was.added; is = bytes_are calm ∙ was.is; each = was.each });
-    rising = (let u = keeps.rising in omega arith);
-    tags = tags ∙ keeps.tags;
-    name = name ∙ keeps.name;
+        (did.bytes.sound calm, record { added = was.added; is = bytes_are calm ∙ was.is; each = was.each });
+    rising = (let u = keeps.rising in let rises = did.failures in omega arith);
+    tags = did.tags ∙ keeps.tags;
+    name = did.name ∙ keeps.name;
   }
 
-  -- a push keeps it however it is answered
-  pub keeps_answered : (pushed : Result ℕ PushFault) (listed : List Descriptor) → Contains planned e.0 → has_key before.nodes e.0 ≡ false → IsChecked e.0 e.1 listed
-      → Answers pushed (closed_check before.nodes e.0 e.1) → OnOk pushed (after.nodes ≡ before.nodes ++ node_of e ∷ []) → OnErr pushed (after.nodes ≡ before.nodes)
-      → OnOk pushed (IsUndisturbed shares before after e → after.entries ≡ before.entries ++ e ∷ []) → OnErr pushed (IsUndisturbed shares before after e → after.entries ≡ before.entries)
-      → Keeps shares source planned opening after
-  keeps_answered (Ok place) listed plan fresh read checked did refused bytes_are same =
-      keeps_pushed plan did (held-from_check before.nodes e.0 e.1 checked.0 fresh read.matching checked.1) bytes_are
-  keeps_answered (Err fault) listed plan fresh read checked did refused bytes_are same = keeps_refused refused same
+-- a push of content that was looked at keeps it, however it is answered
+pub keeps_answered : {shares : Type 0} {source : State} {planned : List Descriptor} {opening before after : State} {e : Entry} {listed : List Descriptor} (pushed : Result ℕ PushFault)
+    → IsPush shares before after e pushed → (source.is_honest → value_at source.entries e.0 ≡ Some e.1) → Contains planned e.0 → has_key before.nodes e.0 ≡ false → IsChecked e.0 e.1 listed
+    → Keeps shares source planned opening before → Keeps shares source planned opening after
+keeps_answered {before = before} {e = e} (Ok place) did own plan fresh read keeps =
+    keeps_pushed did own keeps plan did.keys.pushed (held-from_check before.nodes e.0 e.1 did.keys.checked.0 fresh read.matching did.keys.checked.1) did.bytes.pushed
+keeps_answered (Err fault) did own plan fresh read keeps = keeps_refused did own keeps did.keys.refused did.bytes.refused

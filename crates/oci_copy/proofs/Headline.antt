@@ -15,11 +15,14 @@ use Rattle.oci_store.specs.Closed.{IsClosed}
 use Rattle.oci_store.specs.Copied.{Agree, IsCopied, AreReached}
 use Rattle.oci_store.proofs.Lookups.{All-value_at, value_at-append_cases, has_key-append_left, has_key-same_keys}
 use Rattle.oci_store.proofs.Copies.{holds_reached, grows_to_copy}
-use Rattle.oci_plan.specs.Outside.{IsOutside}
+use Rattle.oci_plan.specs.Outside.{IsOutside, IsToBring}
 use Rattle.oci_plan.specs.Outside as outside
 use Rattle.oci_plan.specs.Plan.{Planned}
-use Rattle.oci_plan.specs.Visiting.{IsSoundItem}
+use Rattle.oci_plan.specs.declared.existing.Existing.{Existing}
+use Rattle.oci_plan.specs.declared.existing.Existing.TheVariants.{Skip, Descend}
 use Rattle.oci_store.specs.State.{State}
+use Rattle.oci_copy.specs.declared.options.Options.{Options}
+use Rattle.oci_copy.specs.Destination.{IsClosedWhenSkipping}
 use Rattle.oci_copy.specs.Copy.{IsCopy, OnlyGrows}
 use Rattle.oci_copy.specs.Grown.{graph_of, IsGrown, IsTold}
 use Rattle.oci_copy.specs.Kept.{Keeps}
@@ -32,6 +35,11 @@ use Rattle.oci_copy.proofs.Growth.{HasAll-append}
 pub reached-from_outside : (source held : List Node) (roots : List Descriptor) (k : Descriptor) → IsOutside source held roots k → Reaches source roots k
 reached-from_outside source held roots k (outside.root there fresh) = graph.root there
 reached-from_outside source held roots k (outside.along {from} {to} before edge fresh) = graph.along (reached-from_outside source held roots from before) edge
+
+-- so is what is to be brought
+pub reached-to_bring : (existing : Existing) (source held : List Node) (roots : List Descriptor) (k : Descriptor) → IsToBring existing source held roots k → Reaches source roots k
+reached-to_bring Skip source held roots k bring = reached-from_outside source held roots k bring
+reached-to_bring Descend source held roots k bring = bring.0
 
 -- a node of a content is that of a pair
 found-nodes_of : (entries : List Entry) (k : Descriptor) (listed : List Descriptor) → value_at (nodes_of entries) k ≡ Some listed
@@ -71,11 +79,11 @@ closed_kept {shares} {source} {planned} {opening} {now} keeps was =
     let old = All-weaker (λ (n : Node). HasAll opening.nodes n.1) (λ (n : Node). HasAll now.nodes n.1) (λ n h. more n.1 h) opening.nodes was in
     subst (λ (l : List Node). All (λ (n : Node). HasAll now.nodes n.1) l) (sym keeps.is) (All-append (λ (n : Node). HasAll now.nodes n.1) opening.nodes keeps.added old keeps.supported)
 
-module _ {shares : Type 0} {source : State} {limit : ℕ} {opening now : State} {p : Planned} {roots : List Descriptor}
-    (plan : IsPlanOf source limit opening roots p) (keeps : Keeps shares source p.keys opening now) where
+module _ {shares : Type 0} {source : State} {options : Options} {opening now : State} {p : Planned} {roots : List Descriptor}
+    (plan : IsPlanOf source options opening roots p) (keeps : Keeps shares source p.keys opening now) where
   -- what is planned is reached
   reached : source.is_honest → (k : Descriptor) → Contains p.keys k → Reaches (graph_of source) roots k
-  reached h k there = reached-from_outside (graph_of source) opening.nodes roots k ((plan.outside h k).0 there)
+  reached h k there = reached-to_bring options.existing (graph_of source) opening.nodes roots k ((plan.outside h k).0 there)
 
   each : source.is_honest → AreReached (graph_of source) (graph_of source) roots keeps.added
   each h = λ i d lt. (keeps.own h i d lt, reached h _ (keeps.planned_keys i d lt))
@@ -92,6 +100,7 @@ module _ {shares : Type 0} {source : State} {limit : ℕ} {opening now : State} 
     grown = λ h. (keeps.added, keeps.is, each h);
     grown_content = grown_content;
     sound = λ told. (keeps.told told).0;
+    whole = (keeps.added, keeps.is, keeps.supported);
     closed = closed_kept keeps;
     failures = keeps.rising;
     name = keeps.name;
@@ -105,14 +114,24 @@ module _ {shares : Type 0} {source : State} {limit : ℕ} {opening now : State} 
       held k (inl old) = subst (λ (l : List Node). has_key l k ≡ true) (sym keeps.is) (has_key-append_left opening.nodes keeps.added k old)
       held k (inr new) = All-contains (λ d. has_key now.nodes d ≡ true) p.keys k all new
 
-  module _ (was_closed : IsClosed opening.nodes) (all : HasAll now.nodes p.keys) where
+  module _ (was_closed : IsClosedWhenSkipping options.existing opening.nodes) (all : HasAll now.nodes p.keys) where
     agrees : source.is_honest → Agree (graph_of source) opening.nodes → Agree (graph_of source) (opening.nodes ++ keeps.added)
     agrees h agree = Agree-grown (graph_of source) opening.nodes keeps.added agree (keeps.own h)
 
     reached_held : source.is_honest → Agree (graph_of source) opening.nodes → (k : Descriptor) → Reaches (graph_of source) roots k → has_key now.nodes k ≡ true
-    reached_held h agree =
-        let after : Agree (graph_of source) now.nodes = subst (Agree (graph_of source)) (sym keeps.is) (agrees h agree) in
-        holds_reached (graph_of source) now.nodes roots after (closed_kept keeps was_closed) (roots_held all)
+    reached_held h agree = holds options.existing was_closed (λ k bring. (plan.outside h k).1 bring)
+      where
+        after : Agree (graph_of source) now.nodes
+        after = subst (Agree (graph_of source)) (sym keeps.is) (agrees h agree)
+
+        -- the destination is closed; or what is reached is held already or to be brought
+        holds : (existing : Existing) → IsClosedWhenSkipping existing opening.nodes → ((k : Descriptor) → IsToBring existing (graph_of source) opening.nodes roots k → Contains p.keys k)
+            → (k : Descriptor) → Reaches (graph_of source) roots k → has_key now.nodes k ≡ true
+        holds Skip was_closed bring = holds_reached (graph_of source) now.nodes roots after (closed_kept keeps was_closed) (roots_held all)
+        holds Descend was bring = λ k r. elim (cases (has_key opening.nodes k)) [
+          | inl old ↦ subst (λ (l : List Node). has_key l k ≡ true) (sym keeps.is) (has_key-append_left opening.nodes keeps.added k old)
+          | inr new ↦ All-contains (λ d. has_key now.nodes d ≡ true) p.keys k all (bring k (r, new))
+        ]
 
     copied : source.is_honest → Agree (graph_of source) opening.nodes → IsCopied (graph_of source) (graph_of source) roots opening.nodes now.nodes
     copied h agree =
@@ -133,20 +152,20 @@ module _ {shares : Type 0} {source : State} {limit : ℕ} {opening now : State} 
         (λ k r. subst (λ (l : List Entry). has_key l k ≡ true) was.is (holds k r)))
 
     -- a run that holds all that is planned made a copy
-    pub is_copy : (opening.is_sound → opening.nodes ≡ graph_of opening) → keys_of now.nodes ≡ keys_of now.entries → IsCopy shares limit source opening roots now
+    pub is_copy : (opening.is_sound → opening.nodes ≡ graph_of opening) → keys_of now.nodes ≡ keys_of now.entries → IsCopy shares options source opening roots now
     is_copy listed same = record {
       graph = copied;
       reached = reached_held;
       content = copied_content listed same;
       roots_held = roots_held all;
       was_closed = was_closed;
-      was_sound = λ h k outside. All-contains (IsSoundItem source.entries limit) p.keys k (plan.sound h) ((plan.outside h k).1 outside);
+      was_sound = plan.visited;
     }
 
 -- the report of a run that holds all that is planned
-pub is_report : {source : State} {limit : ℕ} {opening now : State} {p : Planned} {roots : List Descriptor} → IsPlanOf source limit opening roots p → (report : Report)
+pub is_report : {source : State} {options : Options} {opening now : State} {p : Planned} {roots : List Descriptor} → IsPlanOf source options opening roots p → (report : Report)
     → report.planned ≡ length p.keys → report.pushed ≡ length p.keys → report.skipped ≡ length p.skipped → length now.nodes ≡ length opening.nodes + length p.keys
-    → IsReport source opening roots now report
+    → IsReport options.existing source opening roots now report
 is_report {opening = opening} {p = p} plan report planned pushed skipped count = record {
   planned = λ h. (p.keys, plan.can_push.plan.distinct, plan.outside h, sym planned);
   pushed = planned ∙ sym pushed;
@@ -161,6 +180,7 @@ unchanged_grows shares source opening roots = record {
   grown = λ h. ([], sym (append-nil opening.nodes), All-nil (λ (e : Node). (value_at (graph_of source) e.0 ≡ Some e.1) × Reaches (graph_of source) roots e.0));
   grown_content = λ told. ([], sym (append-nil opening.entries), All-nil (λ (e : Entry). (value_at source.entries e.0 ≡ Some e.1) × Reaches (graph_of source) roots e.0));
   sound = λ told. told.is_sound;
+  whole = ([], sym (append-nil opening.nodes), All-nil (λ (n : Node). HasAll opening.nodes n.1));
   closed = λ was. was;
   failures = omega arith;
   name = refl;

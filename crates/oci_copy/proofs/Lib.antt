@@ -1,5 +1,6 @@
 pub mod Checks
 pub mod Causes
+pub mod Destinations
 pub mod Growth
 pub mod Places
 pub mod Headline

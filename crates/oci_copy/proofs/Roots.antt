@@ -1,14 +1,15 @@
 -- Extended copies: the key is one of the roots, and a copy from the roots is refused as a copy is.
-use Rattle.std.proofs.Common.{◌≡◌, ℕ, zero, true, List, [], Some, inl, inr, refl, arith}
+use Rattle.std.proofs.Common.{◌≡◌, ℕ, zero, true, List, [], inl, inr, refl, arith}
 use Rattle.std.specs.Prelude.{Contains}
 use Rattle.std.proofs.lemmas.List.Elements.{All-contains}
 use Rattle.oci_manifest.specs.Descriptor.{Descriptor}
-use Rattle.oci_store.specs.Closed.{first_open}
 use Rattle.oci_store.specs.Graph.{Node}
 use Rattle.oci_store.specs.Keyed.{has_key, HasAll}
 use Rattle.oci_store.specs.State.{State}
 use Rattle.oci_plan.specs.Up.{IsUp}
+use Rattle.oci_plan.specs.declared.existing.Existing.{Existing}
 use Rattle.oci_copy.specs.Cause.{IsOpenCause}
+use Rattle.oci_copy.specs.Destination.{IsOpenWhenSkipping}
 use Rattle.oci_copy.specs.Extended.{AreRootsOf, AreRootsOfReference, RefusedExtended}
 use Rattle.oci_copy.specs.Tagged.{ResolvesIn}
 use Rattle.oci_copy.specs.declared.fault.CopyFault.{CopyFault}
@@ -41,8 +42,8 @@ module _ (source : State) (k : Descriptor) (depth : ℕ) (cause : List Descripto
   refused_from_roots roots (fault.Fetch at f) up workers opened h = (roots, up, h)
 
   -- a destination that is refused before the climb
-  pub refused_before_roots : (opening : State) (e : CopyFault) → ((holder missing : Descriptor) → first_open opening.nodes ≡ Some (holder, missing) → cause [] (fault.DestinationOpen holder missing))
-      → IsOpenCause opening e → RefusedExtended source k depth cause e
-  refused_before_roots opening (fault.DestinationOpen holder missing) opened h = opened holder missing h
-  refused_before_roots opening fault.Memory opened h = tt
-  refused_before_roots opening other opened h = absurd h
+  pub refused_before_roots : (existing : Existing) (opening : State) (e : CopyFault) → ((holder missing : Descriptor) → IsOpenWhenSkipping existing opening.nodes holder missing → cause [] (fault.DestinationOpen holder missing))
+      → IsOpenCause existing opening e → RefusedExtended source k depth cause e
+  refused_before_roots existing opening (fault.DestinationOpen holder missing) opened h = opened holder missing h
+  refused_before_roots existing opening fault.Memory opened h = tt
+  refused_before_roots existing opening other opened h = absurd h

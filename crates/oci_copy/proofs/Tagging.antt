@@ -1,12 +1,14 @@
 -- A tag is no more than a name: what a copy did stays so.
-use Rattle.std.proofs.Common.{◌≡◌, ℕ, List, Result, Ok, Err}
+use Rattle.std.proofs.Common.{◌≡◌, List, Result, Ok, Err}
 use Rattle.std.specs.Prelude.{IfOk, IfErr}
 use Rattle.oci_manifest.specs.Descriptor.{Descriptor}
 use Rattle.oci_store.specs.State.{State}
+use Rattle.oci_plan.specs.declared.existing.Existing.{Existing}
 use Rattle.oci_copy.specs.Copy.{IsCopy, OnlyGrows}
 use Rattle.oci_copy.specs.Grown.{IsTold}
 use Rattle.oci_copy.specs.Report.{IsReport}
 use Rattle.oci_copy.specs.Tagged.{IsRetagged}
+use Rattle.oci_copy.specs.declared.options.Options.{Options}
 use Rattle.oci_copy.specs.declared.fault.CopyFault.{CopyFault}
 use Rattle.oci_copy.specs.declared.fault.CopyFault.TheVariants as fault
 use Rattle.oci_copy.specs.declared.report.Report.{Report}
@@ -26,12 +28,12 @@ refused_tag (Err e) P a b memory wants = rw (wants a b) memory
 told : {shares : Type 0} {source opening : State} (now tagged : State) → tagged.failures ≡ now.failures → IsTold shares source opening tagged → IsTold shares source opening now
 told now tagged failures t = record { is_honest = t.is_honest; is_sound = t.is_sound; is_calm = rw failures at t.is_calm; same_old = t.same_old; same_source = t.same_source }
 
-pub report_tagged : {source opening : State} {roots : List Descriptor} {now tagged : State} → IsRetagged now tagged → (report : Report)
-    → IsReport source opening roots now report → IsReport source opening roots tagged report
+pub report_tagged : {existing : Existing} {source opening : State} {roots : List Descriptor} {now tagged : State} → IsRetagged now tagged → (report : Report)
+    → IsReport existing source opening roots now report → IsReport existing source opening roots tagged report
 report_tagged stays report is = record { planned = is.planned; pushed = is.pushed; gained = rw stays.nodes is.gained; skipped = is.skipped }
 
 module _ {shares : Type 0} {source opening now tagged : State} {roots : List Descriptor} (stays : IsRetagged now tagged) where
-  pub copy_tagged : {limit : ℕ} → IsCopy shares limit source opening roots now → IsCopy shares limit source opening roots tagged
+  pub copy_tagged : {options : Options} → IsCopy shares options source opening roots now → IsCopy shares options source opening roots tagged
   copy_tagged copy = record {
     graph = λ h agree. rw stays.nodes (copy.graph h agree);
     reached = λ h agree. rw stays.nodes (copy.reached h agree);
@@ -47,6 +49,7 @@ module _ {shares : Type 0} {source opening now tagged : State} {roots : List Des
     grown = λ h. rw stays.nodes (grows.grown h);
     grown_content = λ t. rw stays.entries (grows.grown_content (told now tagged stays.failures t));
     sound = λ t. stays.sound (grows.sound (told now tagged stays.failures t));
+    whole = rw stays.nodes grows.whole;
     closed = λ was. rw stays.nodes (grows.closed was);
     failures = rw stays.failures grows.failures;
     name = rw stays.name grows.name;

@@ -1,38 +1,41 @@
 -- Why a copy is refused where neither store fails.
-use Rattle.std.proofs.Common.{◌≡◌, ℕ, inl, inr, List, Some, None, refl, sym, ◌∙◌, arith}
+use Rattle.std.proofs.Common.{inl, inr, List, refl, sym, ◌∙◌, arith}
 use Rattle.std.specs.Prelude.{IsOk}
-use Rattle.std.proofs.lemmas.Bool.{false≢true}
+use Rattle.std.proofs.lemmas.Bool.{false≢true, false_from_ne_true}
 use Rattle.oci_manifest.specs.Descriptor.{Descriptor}
+use Rattle.oci_store.specs.Keyed.{has_key}
 use Rattle.oci_store.specs.Content.{Entry, IsContent, succ_of}
 use Rattle.oci_store.specs.Contents.{Contents}
 use Rattle.oci_store.specs.Graph.{nodes_of}
-use Rattle.oci_store.specs.Closed.{IsClosed}
 use Rattle.oci_store.specs.State.{State, in_memory}
 use Rattle.oci_store.specs.declared.fault.PushFault.{PushFault}
 use Rattle.oci_store.specs.declared.fault.PushFault.TheVariants as push
-use Rattle.oci_store.proofs.ClosedGraphs.{first_open-from_IsClosed}
+use Rattle.oci_plan.specs.declared.existing.Existing.{Existing}
 use Rattle.oci_store.proofs.Lookups.{All-value_at}
 use Rattle.oci_plan.specs.declared.fault.PlanFault.{PlanFault}
 use Rattle.oci_plan.specs.declared.fault.PlanFault.TheVariants as plan
+use Rattle.oci_copy.specs.declared.options.Options.{Options}
 use Rattle.oci_copy.specs.declared.fault.CopyFault.{CopyFault}
 use Rattle.oci_copy.specs.declared.fault.CopyFault.TheVariants as fault
 use Rattle.oci_copy.specs.Cause.{IsPlanCause, IsPushCause, IsRefusal}
+use Rattle.oci_copy.specs.Destination.{IsClosedWhenSkipping}
 use Rattle.oci_copy.specs.Grown.{IsTold}
 use Rattle.oci_copy.proofs.Causes.{not_err}
+use Rattle.oci_copy.proofs.Destinations.{closed_not_open}
 use Rattle.oci_copy.specs.Plain.{IsUnfailing, NotPlanned, RefusedForPlan}
 
-module _ {source opening now : State} (unfailing : IsUnfailing source opening now) where
-  pub not_planned : (limit : ℕ) (roots : List Descriptor) (e : PlanFault) → IsPlanCause source limit opening roots e → NotPlanned source.entries limit opening.nodes roots e
-  not_planned limit roots (plan.NotFound k) cause = (cause.first unfailing.is_honest, cause.named.1)
-  not_planned limit roots (plan.TooLarge k l) cause = (cause.first unfailing.is_honest, cause.named.0, cause.named.1)
-  not_planned limit roots (plan.Cycle keys) cause = cause.first unfailing.is_honest
-  not_planned limit roots (plan.Manifest k e) cause =
+module _ (options : Options) {source opening now : State} (unfailing : IsUnfailing options.existing source opening now) where
+  pub not_planned : (roots : List Descriptor) (e : PlanFault) → IsPlanCause source options opening roots e → NotPlanned source.entries options opening.nodes roots e
+  not_planned roots (plan.NotFound k) cause = (cause.first unfailing.is_honest, cause.named.1, false_from_ne_true (has_key opening.nodes k) (λ held. cause.spared (held, cause.named.1)))
+  not_planned roots (plan.TooLarge k l) cause = (cause.first unfailing.is_honest, cause.named.0, cause.named.1, cause.spared)
+  not_planned roots (plan.Cycle keys) cause = cause.first unfailing.is_honest
+  not_planned roots (plan.Manifest k e) cause =
       let unread = cause.named.2 in
       let reads = All-value_at (λ (e : Entry). IsOk (succ_of e.0 e.1)) source.entries k unread.bytes unfailing.content.readable (unread.own unfailing.is_honest) in
       absurd (not_err (succ_of k unread.bytes) unread.cause unread.breaks reads)
-  not_planned limit roots (plan.Fetch k e) cause = absurd (false≢true (sym (unfailing.gives k) ∙ cause.named.2))
-  not_planned limit roots plan.Memory cause = absurd cause.told
-  not_planned limit roots plan.TooMany cause = cause.first unfailing.is_honest
+  not_planned roots (plan.Fetch k e) cause = absurd (false≢true (sym (unfailing.gives k) ∙ cause.named.2))
+  not_planned roots plan.Memory cause = absurd cause.told
+  not_planned roots plan.TooMany cause = cause.first unfailing.is_honest
 
   not_refused : (k : Descriptor) (e : PushFault) → IsPushCause source opening now k e → ⊥
   not_refused k (push.BadManifest m) cause = cause.1 unfailing.is_honest
@@ -40,21 +43,19 @@ module _ {source opening now : State} (unfailing : IsUnfailing source opening no
   not_refused k push.Halted cause = unfailing.takes cause
   not_refused k other cause = cause
 
-  pub refused_for_plan : (limit : ℕ) (roots : List Descriptor) (told : CopyFault) → IsRefusal limit source opening roots now told → RefusedForPlan source.entries limit opening.nodes roots told
-  refused_for_plan limit roots (fault.DestinationOpen holder missing) cause =
-      let both : Some (holder, missing) ≡ None = sym cause ∙ first_open-from_IsClosed opening.nodes unfailing.closed in
-      cc both
-  refused_for_plan limit roots (fault.Plan e) cause = not_planned limit roots e cause.1
-  refused_for_plan limit roots (fault.Fetch k e) cause = absurd (false≢true (sym (unfailing.gives k) ∙ cause.2.0))
-  refused_for_plan limit roots (fault.Push k e) cause = absurd (not_refused k e cause.2)
-  refused_for_plan limit roots (fault.Stuck k) cause = absurd (cause.2.dishonest unfailing.is_honest)
-  refused_for_plan limit roots fault.Memory cause = tt
-  refused_for_plan limit roots other cause = absurd cause
+  pub refused_for_plan : (roots : List Descriptor) (told : CopyFault) → IsRefusal options source opening roots now told → RefusedForPlan source.entries options opening.nodes roots told
+  refused_for_plan roots (fault.DestinationOpen holder missing) cause = absurd (closed_not_open options.existing opening.nodes holder missing unfailing.closed cause)
+  refused_for_plan roots (fault.Plan e) cause = not_planned roots e cause.1
+  refused_for_plan roots (fault.Fetch k e) cause = absurd (false≢true (sym (unfailing.gives k) ∙ cause.2.0))
+  refused_for_plan roots (fault.Push k e) cause = absurd (not_refused k e cause.2)
+  refused_for_plan roots (fault.Stuck k) cause = absurd (cause.2.dishonest unfailing.is_honest)
+  refused_for_plan roots fault.Memory cause = tt
+  refused_for_plan roots other cause = absurd cause
 
 -- neither store in memory fails
-pub unfailing_in_memory : (source opening now : Contents) → IsContent source.entries → IsClosed (nodes_of opening.entries)
-    → IsUnfailing (in_memory source.entries source.tags) (in_memory opening.entries opening.tags) (in_memory now.entries now.tags)
-unfailing_in_memory source opening now content closed = record {
+pub unfailing_in_memory : (existing : Existing) (source opening now : Contents) → IsContent source.entries → IsClosedWhenSkipping existing (nodes_of opening.entries)
+    → IsUnfailing existing (in_memory source.entries source.tags) (in_memory opening.entries opening.tags) (in_memory now.entries now.tags)
+unfailing_in_memory existing source opening now content closed = record {
   is_honest = tt;
   content = content;
   gives = λ k. refl;

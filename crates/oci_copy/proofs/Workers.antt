@@ -1,6 +1,6 @@
 -- What workers keep of a destination under a lock, how many keys they pushed, and why they fail.
-use Rattle.std.proofs.Common.{◌≡◌, ◌+◌, ◌≤◌, inl, inr, ℕ, Bool, true, false, List, [], ◌∷◌, ◌++◌, length, Some, None, Result, Ok, Err, refl, sym, ap, subst, ◌∙◌, arith, length-append}
-use Rattle.std.specs.Prelude.{Contains, IsErrOf}
+use Rattle.std.proofs.Common.{◌≡◌, ◌+◌, ◌≤◌, inl, inr, ℕ, Bool, true, false, List, [], ◌∷◌, ◌++◌, length, Option, Some, None, Result, Ok, Err, refl, sym, ap, subst, ◌∙◌, arith, length-append}
+use Rattle.std.specs.Prelude.{Contains, IsErrOf, IsSomeAnd, slice_get}
 use Rattle.std.specs.List.{All, IsDistinct}
 use Rattle.std.specs.Map.{keys_of}
 use Rattle.std.specs.Result.{result_unwrap_or}
@@ -13,28 +13,30 @@ use Rattle.oci_manifest.specs.declared.fault.ManifestFault.{ManifestFault}
 use Rattle.oci_manifest.proofs.Keys.{Decides-same_key}
 use Rattle.oci_store.specs.Keyed.{value_at, has_key, HasAll, HasDistinctKeys}
 use Rattle.oci_store.specs.Content.{IsChecked, successors_in}
-use Rattle.oci_store.specs.Closed.{IsClosed}
 use Rattle.oci_store.specs.Graph.{Node}
 use Rattle.oci_store.specs.State.{State}
 use Rattle.oci_store.specs.Push.{Refusal, Refused, closed_check, held_check, already_exists, size_mismatch, digest_mismatch, bad_manifest, missing_successor}
 use Rattle.oci_store.specs.declared.fault.PushFault.{PushFault}
 use Rattle.oci_store.specs.declared.fault.PushFault.TheVariants as push
-use Rattle.oci_store.proofs.ClosedGraphs.{first_open-from_IsClosed}
 use Rattle.oci_store.proofs.KeyOrder.{same_key_laws}
 use Rattle.oci_store.proofs.Lookups.{found, has_key-from_value, All-value_at, value_at-append_cases, has_key-from_Contains, Contains-from_has_key, has_key-from_HasAll, first_missing-from_HasAll}
 use Rattle.oci_plan.specs.Plan.{Planned}
+use Rattle.oci_copy.specs.declared.options.Options.{Options}
 use Rattle.oci_copy.specs.declared.fault.CopyFault.{CopyFault}
 use Rattle.oci_copy.specs.declared.fault.CopyFault.TheVariants as fault
-use Rattle.oci_copy.specs.Cause.{IsContentCause, IsReadCause, IsPushCauseIf, IsOpenCause, IsStartCause}
+use Rattle.oci_copy.specs.Cause.{IsFetchCause, IsContentCause, IsReadCause, IsPushCauseIf, IsOpenCause, IsStartCause}
 use Rattle.oci_copy.specs.Fault.{TellsPush, IsStuck, IsOtherPush}
+use Rattle.oci_copy.specs.Destination.{IsClosedWhenSkipping}
 use Rattle.oci_copy.specs.Kept.{Keeps}
 use Rattle.oci_copy.specs.Plain.{IsUnfailing}
 use Rattle.oci_copy.specs.Planned.{IsPlanOf}
-use Rattle.oci_copy.specs.Work.{IsNoted, CanFail, IsWorkCause, IsToldHalt, IsRefusalToWorkers, RefusedForPlanOrWorkers}
+use Rattle.oci_copy.specs.Work.{IsNoted, CanFail, IsWorkCause, IsJobCause, IsStopCause, IsToldHalt, IsRefusalToWorkers, RefusedForPlanOrWorkers}
 use Rattle.oci_copy.proofs.Checks.{closed_check-read}
+use Rattle.oci_copy.proofs.Destinations.{closed_not_open}
+use Rattle.oci_copy.proofs.Places.{Contains-from_slice_get}
 use Rattle.oci_copy.proofs.Unfailing.{not_planned}
 
-keys_of-append : {X : Type 0} (a b : List (Descriptor × X)) → keys_of (a ++ b) ≡ keys_of a ++ keys_of b
+pub keys_of-append : {X : Type 0} (a b : List (Descriptor × X)) → keys_of (a ++ b) ≡ keys_of a ++ keys_of b
 keys_of-append [] b = refl
 keys_of-append (e ∷ a) b = ap (λ (ks : List Descriptor). e.0 ∷ ks) (keys_of-append a b)
 
@@ -87,8 +89,8 @@ as_many_pushed {planned = planned} {opening = opening} {now = now} keeps distinc
 pub told_memory : (pushed told : Result ℕ PushFault) (wanting : Bool) → IsToldHalt pushed wanting told → IsErrOf pushed push.Memory → IsErrOf told push.Memory
 told_memory pushed told wanting tells memory = let it : IsToldHalt (Err push.Memory) wanting told = subst (λ (r : Result ℕ PushFault). IsToldHalt r wanting told) memory tells in it
 
-module _ (failed : Type 0) (source opening : State) (planned : List Descriptor) (graph : List Node) (k : Descriptor) (bytes : List ℕ) (listed : List Descriptor)
-    (fresh : has_key graph k ≡ false) (checked : IsChecked k bytes listed) (held : HasAll graph (successors_in k bytes)) (there : Contains planned k) where
+module _ (failed : Type 0) (source opening : State) (graph : List Node) (k : Descriptor) (bytes : List ℕ) (listed : List Descriptor)
+    (fresh : has_key graph k ≡ false) (checked : IsChecked k bytes listed) (held : HasAll graph (successors_in k bytes)) where
   -- nothing is left against the push
   passes : closed_check graph k bytes ≡ Ok listed
   passes =
@@ -115,22 +117,18 @@ module _ (failed : Type 0) (source opening : State) (planned : List Descriptor) 
 
   -- why a push under the lock is refused, once all that the content lists is held
   pub work_from_push : (e : PushFault) (told : CopyFault) → Refused e (closed_check graph k bytes) → (e ≡ push.Device → failed) → (e ≡ push.Halted → opening.is_halted) → TellsPush k e told
-      → IsWorkCause failed source opening planned told
-  work_from_push e (fault.Push named t) refused device halt tells = (
-    subst (Contains planned) (sym tells.0) there,
-    subst (λ (d : Descriptor). IsPushCauseIf failed source opening d t) (sym tells.0) (subst (IsPushCauseIf failed source opening k) (sym tells.1) (lock_cause e refused device halt tells.2)),
-  )
+      → IsWorkCause failed source opening k told
+  work_from_push e (fault.Push named t) refused device halt tells = (tells.0, subst (IsPushCauseIf failed source opening k) (sym tells.1) (lock_cause e refused device halt tells.2))
   work_from_push e (fault.Stuck named) refused device halt tells = absurd (stuck e refused tells.1)
   work_from_push e fault.Memory refused device halt tells = tt
   work_from_push e other refused device halt tells = absurd tells
 
--- a planned key whose content is not to be had is a worker's cause, of what was noted of the source
-pub work_from_content : (failed : Type 0) (noted now opening : State) (planned : List Descriptor) (k : Descriptor) (told : CopyFault) → IsNoted noted now → Contains planned k
-    → IsContentCause now k told → IsWorkCause failed noted opening planned told
-work_from_content failed noted now opening planned k told same there cause = go told cause
+-- a key whose content is not to be had is a worker's cause, of what was noted of the source
+pub work_from_content : (failed : Type 0) (noted now opening : State) (k : Descriptor) (told : CopyFault) → IsNoted noted now → IsContentCause now k told → IsWorkCause failed noted opening k told
+work_from_content failed noted now opening k told same cause = go told cause
   where
-    read : (named : Descriptor) (e : ManifestFault) → IsReadCause now named e → IsReadCause noted named e
-    read named e it = (
+    read : (e : ManifestFault) → IsReadCause now k e → IsReadCause noted k e
+    read e it = (
       record {
         bytes = it.0.bytes;
         cause = it.0.cause;
@@ -142,57 +140,67 @@ work_from_content failed noted now opening planned k told same there cause = go 
       λ h. it.1 (same.honest.1 h),
     )
 
-    at : (named : Descriptor) → named ≡ k → Contains planned named
-    at named is = subst (Contains planned) (sym is) there
-
-    go : (t : CopyFault) → IsContentCause now k t → IsWorkCause failed noted opening planned t
-    go (fault.Fetch named e) h = (at named h.0, (ap noted.fails_at h.0 ∙ (ap (λ (f : Descriptor → Bool). f k) (sym same.fails_at) ∙ h.1.0), h.1.1))
-    go (fault.Push named (push.BadManifest e)) h = (at named h.0, read named e (subst (λ (d : Descriptor). IsReadCause now d e) (sym h.0) h.1))
+    go : (t : CopyFault) → IsContentCause now k t → IsWorkCause failed noted opening k t
+    go (fault.Fetch named e) h = (h.0, (ap (λ (f : Descriptor → Bool). f k) (sym same.fails_at) ∙ h.1.0, h.1.1))
+    go (fault.Push named (push.BadManifest e)) h = (h.0, read e h.1)
     go fault.Memory h = tt
     go other h = absurd h
 
+-- a job that fails is why the run stops
+pub stop_from_job : (failed : Type 0) (source opening : State) (planned : List Descriptor) (n : ℕ) (told : CopyFault) → IsJobCause failed source opening planned n told
+    → IsStopCause failed source opening planned told
+stop_from_job failed source opening planned n told cause = at (slice_get planned n) refl cause
+  where
+    cause_at : (k : Descriptor) → Contains planned k → (e : CopyFault) → IsWorkCause failed source opening k e → IsStopCause failed source opening planned e
+    cause_at k there (fault.Fetch m e) h = (subst (Contains planned) (sym h.0) there, subst (λ (d : Descriptor). IsFetchCause source d e) (sym h.0) h.1)
+    cause_at k there (fault.Push m e) h = (subst (Contains planned) (sym h.0) there, subst (λ (d : Descriptor). IsPushCauseIf failed source opening d e) (sym h.0) h.1)
+    cause_at k there fault.Memory h = tt
+    cause_at k there other h = absurd h
+
+    at : (o : Option Descriptor) → slice_get planned n ≡ o → IsSomeAnd o (λ k. IsWorkCause failed source opening k told) → IsStopCause failed source opening planned told
+    at None is h = absurd h
+    at (Some k) is h = cause_at k (Contains-from_slice_get planned n k is) told h
+
 -- why a copy by workers is refused once it has a plan
-pub refused_in_work : {source : State} {limit : ℕ} {opening : State} {roots : List Descriptor} {p : Planned} (failed : Type 0) (workers : ℕ) (told : CopyFault) → IsPlanOf source limit opening roots p
-    → IsClosed opening.nodes → IsWorkCause failed source opening p.keys told → IsRefusalToWorkers failed limit source opening roots workers told
+pub refused_in_work : {source : State} {options : Options} {opening : State} {roots : List Descriptor} {p : Planned} (failed : Type 0) (workers : ℕ) (told : CopyFault) → IsPlanOf source options opening roots p
+    → IsClosedWhenSkipping options.existing opening.nodes → IsStopCause failed source opening p.keys told → IsRefusalToWorkers failed options source opening roots workers told
 refused_in_work failed workers (fault.Fetch k e) plan closed cause = (closed, λ h. (plan.outside h k).0 cause.0, cause.1)
 refused_in_work failed workers (fault.Push k e) plan closed cause = (closed, λ h. (plan.outside h k).0 cause.0, cause.1)
 refused_in_work failed workers fault.Memory plan closed cause = tt
 refused_in_work failed workers other plan closed cause = absurd cause
 
 -- why a copy by workers is refused that has no plan
-pub refused_without_plan : (failed : Type 0) (limit : ℕ) (source opening : State) (roots : List Descriptor) (workers : ℕ) (told : CopyFault)
-    → IsStartCause limit source opening roots told → IsRefusalToWorkers failed limit source opening roots workers told
-refused_without_plan failed limit source opening roots workers (fault.DestinationOpen holder missing) cause = cause
-refused_without_plan failed limit source opening roots workers (fault.Plan e) cause = cause
-refused_without_plan failed limit source opening roots workers fault.Memory cause = tt
-refused_without_plan failed limit source opening roots workers other cause = absurd cause
+pub refused_without_plan : (failed : Type 0) (options : Options) (source opening : State) (roots : List Descriptor) (workers : ℕ) (told : CopyFault)
+    → IsStartCause options source opening roots told → IsRefusalToWorkers failed options source opening roots workers told
+refused_without_plan failed options source opening roots workers (fault.DestinationOpen holder missing) cause = cause
+refused_without_plan failed options source opening roots workers (fault.Plan e) cause = cause
+refused_without_plan failed options source opening roots workers fault.Memory cause = tt
+refused_without_plan failed options source opening roots workers other cause = absurd cause
 
 -- why a copy by workers is refused whose destination is open
-pub refused_when_open : (failed : Type 0) (limit : ℕ) (source opening : State) (roots : List Descriptor) (workers : ℕ) (told : CopyFault)
-    → IsOpenCause opening told → IsRefusalToWorkers failed limit source opening roots workers told
-refused_when_open failed limit source opening roots workers (fault.DestinationOpen holder missing) cause = cause
-refused_when_open failed limit source opening roots workers fault.Memory cause = tt
-refused_when_open failed limit source opening roots workers other cause = absurd cause
+pub refused_when_open : (failed : Type 0) (options : Options) (source opening : State) (roots : List Descriptor) (workers : ℕ) (told : CopyFault)
+    → IsOpenCause options.existing opening told → IsRefusalToWorkers failed options source opening roots workers told
+refused_when_open failed options source opening roots workers (fault.DestinationOpen holder missing) cause = cause
+refused_when_open failed options source opening roots workers fault.Memory cause = tt
+refused_when_open failed options source opening roots workers other cause = absurd cause
 
 -- why a copy by workers is refused where neither store fails
-module _ (failed : Type 0) (source opening : State) (not_failed : failed → ⊥) (unfailing : IsUnfailing source opening opening) where
+module _ (failed : Type 0) (source opening : State) (not_failed : failed → ⊥) (options : Options) (unfailing : IsUnfailing options.existing source opening opening) where
   not_locked : (k : Descriptor) (e : PushFault) → IsPushCauseIf failed source opening k e → ⊥
   not_locked k (push.BadManifest m) cause = cause.1 unfailing.is_honest
   not_locked k push.Device cause = not_failed cause
   not_locked k push.Halted cause = unfailing.takes cause
   not_locked k other cause = cause
 
-  pub refused_for_plan_or_workers : (limit : ℕ) (roots : List Descriptor) (workers : ℕ) (told : CopyFault) → IsRefusalToWorkers failed limit source opening roots workers told
-      → RefusedForPlanOrWorkers source.entries limit opening.nodes roots workers told
-  refused_for_plan_or_workers limit roots workers fault.BadWorkers cause = cause
-  refused_for_plan_or_workers limit roots workers (fault.DestinationOpen holder missing) cause =
-      let both : Some (holder, missing) ≡ None = sym cause ∙ first_open-from_IsClosed opening.nodes unfailing.closed in
-      cc both
-  refused_for_plan_or_workers limit roots workers (fault.Plan e) cause = not_planned unfailing limit roots e cause.1
-  refused_for_plan_or_workers limit roots workers (fault.Fetch k e) cause = absurd (false≢true (sym (unfailing.gives k) ∙ cause.2.0))
-  refused_for_plan_or_workers limit roots workers (fault.Push k e) cause = absurd (not_locked k e cause.2)
-  refused_for_plan_or_workers limit roots workers fault.Memory cause = tt
-  refused_for_plan_or_workers limit roots workers other cause = absurd cause
+  pub refused_for_plan_or_workers : (roots : List Descriptor) (workers : ℕ) (told : CopyFault) → IsRefusalToWorkers failed options source opening roots workers told
+      → RefusedForPlanOrWorkers source.entries options opening.nodes roots workers told
+  refused_for_plan_or_workers roots workers fault.BadWorkers cause = cause
+  refused_for_plan_or_workers roots workers (fault.DestinationOpen holder missing) cause = absurd (closed_not_open options.existing opening.nodes holder missing unfailing.closed cause)
+  refused_for_plan_or_workers roots workers (fault.Plan e) cause = not_planned options unfailing roots e cause.1
+  refused_for_plan_or_workers roots workers (fault.Fetch k e) cause = absurd (false≢true (sym (unfailing.gives k) ∙ cause.2.0))
+  refused_for_plan_or_workers roots workers (fault.Push k e) cause = absurd (not_locked k e cause.2)
+  refused_for_plan_or_workers roots workers fault.Memory cause = tt
+  refused_for_plan_or_workers roots workers other cause = absurd cause
 
 -- where no put of a store of this kind is counted as failed, none can fail
 pub never_fails : {X : Type 0} (state : X → State) (opening : State) → opening.failures ≡ 0 → ((store : X) → (state store).failures ≡ 0) → CanFail state opening → ⊥

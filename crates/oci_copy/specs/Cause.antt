@@ -1,31 +1,40 @@
 -- Why a copy is refused.
-use Rattle.std.specs.Prelude.{◌≡◌, ℕ, ◌-◌, ◌^◌, ◌<◌, ◌⊎◌, true, List, Some, Ok, Contains}
+use Rattle.std.specs.Prelude.{◌≡◌, ℕ, ◌-◌, ◌^◌, ◌<◌, ◌⊎◌, true, false, List, Some, Ok, Contains}
 use Rattle.oci_manifest.specs.Descriptor.{Descriptor}
 use Rattle.oci_manifest.specs.declared.fault.ManifestFault.{ManifestFault}
-use Rattle.oci_store.specs.Keyed.{first_missing}
-use Rattle.oci_store.specs.Closed.{IsClosed, first_open}
+use Rattle.oci_store.specs.Keyed.{has_key, first_missing}
 use Rattle.oci_store.specs.Content.{Matches, succ_of}
 use Rattle.oci_store.specs.State.{State}
 use Rattle.oci_store.specs.declared.fault.FetchFault.{FetchFault}
 use Rattle.oci_store.specs.declared.fault.PushFault.{PushFault}
 use Rattle.oci_store.specs.declared.fault.PushFault.TheVariants as push
-use Rattle.oci_plan.specs.Outside.{IsOutside}
-use Rattle.oci_plan.specs.Refusal.{IsDeviceFault, IsUnread, IsKeyFault, IsFirstFault}
+use Rattle.oci_plan.specs.Outside.{IsToBring}
+use Rattle.oci_plan.specs.Refusal.{IsDeviceFault, IsUnread, IsKeyFault, NamesNoneOnlyInDestination, IsFirstFault}
+use Rattle.oci_plan.specs.declared.existing.Existing.{Existing}
 use Rattle.oci_plan.specs.declared.fault.PlanFault.{PlanFault}
 use Rattle.oci_copy.specs.Fault.{IsPlanRefusal}
 use Rattle.oci_copy.specs.Grown.{graph_of}
+use Rattle.oci_copy.specs.declared.options.Options.{Options}
+use Rattle.oci_copy.specs.Options.{limit_of}
+use Rattle.oci_copy.specs.Destination.{IsClosedWhenSkipping, IsOpenWhenSkipping}
 use Rattle.oci_copy.specs.declared.fault.CopyFault.{CopyFault}
 use Rattle.oci_copy.specs.declared.fault.CopyFault.TheVariants as fault
 
--- why there is no plan: what the fault names is at fault, and of an honest source it is the first that is
-pub record IsPlanCause (source : State) (limit : ℕ) (opening : State) (roots : List Descriptor) (e : PlanFault) : Type 0 where
+-- why there is no plan: what the fault names is at fault, and it is no key that only the destination has; and of an honest
+-- source it is the first that is at fault
+pub record IsPlanCause (source : State) (options : Options) (opening : State) (roots : List Descriptor) (e : PlanFault) : Type 0 where
   pub told : IsPlanRefusal e
-  pub named : IsKeyFault source.is_honest source.fails_at source.entries limit e
-  pub first : source.is_honest → IsFirstFault source.entries opening.nodes roots limit e
+  pub named : IsKeyFault source.is_honest source.fails_at source.entries (limit_of options) e
+  pub spared : NamesNoneOnlyInDestination source.entries opening.nodes e
+  pub first : source.is_honest → IsFirstFault options.existing source.entries opening.nodes roots (limit_of options) e
 
 -- the copy has to bring the key, as far as the source is honest
-abbrev pub IsWanted : State → State → List Descriptor → Descriptor → Type 0
-IsWanted source opening roots k = source.is_honest → IsOutside (graph_of source) opening.nodes roots k
+abbrev pub IsWanted : Existing → State → State → List Descriptor → Descriptor → Type 0
+IsWanted existing source opening roots k = source.is_honest → IsToBring existing (graph_of source) opening.nodes roots k
+
+-- the copy still has to bring the key: it is wanted, and the destination does not hold it
+abbrev pub IsStillWanted : Existing → State → State → List Descriptor → State → Descriptor → Type 0
+IsStillWanted existing source opening roots now k = IsWanted existing source opening roots k × (has_key now.nodes k ≡ false)
 
 -- why the fetch of a key is refused: the source's device fails there
 abbrev pub IsFetchCause : State → Descriptor → FetchFault → Type 0
@@ -77,30 +86,30 @@ IsStepCause source opening now k (fault.Stuck named) = (named ≡ k) × IsTooEar
 IsStepCause source opening now k fault.Memory = Unit {0}
 IsStepCause source opening now k e = ⊥
 
--- why a run that pushes planned keys in their order stops: one of them is not pushed
+-- why a run that pushes planned keys in their order stops: one of them is not pushed, and the destination does not hold it
 abbrev pub IsRunCause : State → State → State → List Descriptor → CopyFault → Type 0
-IsRunCause source opening now planned e = (k : Descriptor) × Contains planned k × IsStepCause source opening now k e
+IsRunCause source opening now planned e = (k : Descriptor) × Contains planned k × (has_key now.nodes k ≡ false) × IsStepCause source opening now k e
 
 -- why the destination is refused: the first key that is open, or want of memory
-abbrev pub IsOpenCause : State → CopyFault → Type 0
-IsOpenCause opening (fault.DestinationOpen holder missing) = first_open opening.nodes ≡ Some (holder, missing)
-IsOpenCause opening fault.Memory = Unit {0}
-IsOpenCause opening e = ⊥
+abbrev pub IsOpenCause : Existing → State → CopyFault → Type 0
+IsOpenCause existing opening (fault.DestinationOpen holder missing) = IsOpenWhenSkipping existing opening.nodes holder missing
+IsOpenCause existing opening fault.Memory = Unit {0}
+IsOpenCause existing opening e = ⊥
 
 -- why a copy does not begin: the destination is open, or there is no plan
-abbrev pub IsStartCause : ℕ → State → State → List Descriptor → CopyFault → Type 0
-IsStartCause limit source opening roots (fault.DestinationOpen holder missing) = first_open opening.nodes ≡ Some (holder, missing)
-IsStartCause limit source opening roots (fault.Plan e) = IsClosed opening.nodes × IsPlanCause source limit opening roots e
-IsStartCause limit source opening roots fault.Memory = Unit {0}
-IsStartCause limit source opening roots e = ⊥
+abbrev pub IsStartCause : Options → State → State → List Descriptor → CopyFault → Type 0
+IsStartCause options source opening roots (fault.DestinationOpen holder missing) = IsOpenWhenSkipping options.existing opening.nodes holder missing
+IsStartCause options source opening roots (fault.Plan e) = IsClosedWhenSkipping options.existing opening.nodes × IsPlanCause source options opening roots e
+IsStartCause options source opening roots fault.Memory = Unit {0}
+IsStartCause options source opening roots e = ⊥
 
 -- Why a copy on one thread is refused. The causes are looked at in this order: the destination is open; there is no plan; a
--- key that the copy has to bring is not pushed at its turn. Want of memory may come at any point.
-abbrev pub IsRefusal : ℕ → State → State → List Descriptor → State → CopyFault → Type 0
-IsRefusal limit source opening roots now (fault.DestinationOpen holder missing) = first_open opening.nodes ≡ Some (holder, missing)
-IsRefusal limit source opening roots now (fault.Plan e) = IsClosed opening.nodes × IsPlanCause source limit opening roots e
-IsRefusal limit source opening roots now (fault.Fetch k e) = IsClosed opening.nodes × IsWanted source opening roots k × IsFetchCause source k e
-IsRefusal limit source opening roots now (fault.Push k e) = IsClosed opening.nodes × IsWanted source opening roots k × IsPushCause source opening now k e
-IsRefusal limit source opening roots now (fault.Stuck k) = IsClosed opening.nodes × IsWanted source opening roots k × IsTooEarly source now k
-IsRefusal limit source opening roots now fault.Memory = Unit {0}
-IsRefusal limit source opening roots now e = ⊥
+-- key that the copy still has to bring is not pushed at its turn. Want of memory may come at any point.
+abbrev pub IsRefusal : Options → State → State → List Descriptor → State → CopyFault → Type 0
+IsRefusal options source opening roots now (fault.DestinationOpen holder missing) = IsOpenWhenSkipping options.existing opening.nodes holder missing
+IsRefusal options source opening roots now (fault.Plan e) = IsClosedWhenSkipping options.existing opening.nodes × IsPlanCause source options opening roots e
+IsRefusal options source opening roots now (fault.Fetch k e) = IsClosedWhenSkipping options.existing opening.nodes × IsStillWanted options.existing source opening roots now k × IsFetchCause source k e
+IsRefusal options source opening roots now (fault.Push k e) = IsClosedWhenSkipping options.existing opening.nodes × IsStillWanted options.existing source opening roots now k × IsPushCause source opening now k e
+IsRefusal options source opening roots now (fault.Stuck k) = IsClosedWhenSkipping options.existing opening.nodes × IsStillWanted options.existing source opening roots now k × IsTooEarly source now k
+IsRefusal options source opening roots now fault.Memory = Unit {0}
+IsRefusal options source opening roots now e = ⊥

@@ -1,4 +1,5 @@
 pub mod Options
+pub mod Destination
 pub mod Grown
 pub mod Kept
 pub mod Planned
@@ -9,4 +10,5 @@ pub mod Cause
 pub mod Tagged
 pub mod Extended
 pub mod Plain
+pub mod Memory
 pub mod Work

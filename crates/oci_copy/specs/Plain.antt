@@ -1,43 +1,47 @@
 -- Why a copy is refused where neither store fails.
-use Rattle.std.specs.Prelude.{◌≡◌, ℕ, false, List}
+use Rattle.std.specs.Prelude.{◌≡◌, false, List}
 use Rattle.oci_manifest.specs.Descriptor.{Descriptor}
 use Rattle.oci_store.specs.Keyed.{has_key}
-use Rattle.oci_store.specs.Closed.{IsClosed}
 use Rattle.oci_store.specs.Content.{Entry, IsContent}
 use Rattle.oci_store.specs.Graph.{Node, nodes_of}
 use Rattle.oci_store.specs.State.{State}
 use Rattle.oci_plan.specs.declared.fault.PlanFault.{PlanFault}
 use Rattle.oci_plan.specs.declared.fault.PlanFault.TheVariants as plan
-use Rattle.oci_plan.specs.Refusal.{IsTooLarge, IsCycleOutside, HasTooMany}
-use Rattle.oci_plan.specs.Visiting.{IsNextVisited}
+use Rattle.oci_plan.specs.Refusal.{IsTooLarge, IsCycleToBring, HasTooMany}
+use Rattle.oci_plan.specs.declared.existing.Existing.{Existing}
+use Rattle.oci_plan.specs.Visiting.{IsOnlyInDestination, IsNextVisited}
+use Rattle.oci_copy.specs.declared.options.Options.{Options}
+use Rattle.oci_copy.specs.Options.{limit_of}
+use Rattle.oci_copy.specs.Destination.{IsClosedWhenSkipping}
 use Rattle.oci_copy.specs.declared.fault.CopyFault.{CopyFault}
 use Rattle.oci_copy.specs.declared.fault.CopyFault.TheVariants as fault
 
--- neither store fails: the source is honest, its contents read, and it gives each of them; the destination was closed and
--- took content, and none of its puts has failed
-pub record IsUnfailing (source opening now : State) : Type 0 where
+-- neither store fails: the source is honest, its contents read, and it gives each of them; the destination was closed where
+-- the copy skips what it has, it took content, and none of its puts has failed
+pub record IsUnfailing (existing : Existing) (source opening now : State) : Type 0 where
   pub is_honest : source.is_honest
   pub content : IsContent source.entries
   pub gives : (k : Descriptor) → source.fails_at k ≡ false
-  pub closed : IsClosed opening.nodes
+  pub closed : IsClosedWhenSkipping existing opening.nodes
   pub takes : opening.is_halted → ⊥
   pub no_failures : now.failures ≡ 0
 
 -- neither store fails, whatever the destination has become
-abbrev pub NeitherFails : {X : Type 0} → (X → State) → State → State → Type 0
-NeitherFails {X} state source opening = (store : X) → IsUnfailing source opening (state store)
+abbrev pub NeitherFails : {X : Type 0} → Existing → (X → State) → State → State → Type 0
+NeitherFails {X} existing state source opening = (store : X) → IsUnfailing existing source opening (state store)
 
--- why there is no plan: the first visited key that is at fault is not there or too large; or a cycle is outside and every key
--- outside is sound; or too many keys are outside and those visited so far are sound
-abbrev pub NotPlanned : List Entry → ℕ → List Node → List Descriptor → PlanFault → Type 0
-NotPlanned source limit opening roots (plan.NotFound k) = IsNextVisited (nodes_of source) source opening roots limit k × (has_key source k ≡ false)
-NotPlanned source limit opening roots (plan.TooLarge k l) = IsNextVisited (nodes_of source) source opening roots limit k × (l ≡ limit) × IsTooLarge limit k
-NotPlanned source limit opening roots (plan.Cycle keys) = IsCycleOutside source opening roots limit keys.items
-NotPlanned source limit opening roots plan.TooMany = HasTooMany source opening roots limit
-NotPlanned source limit opening roots e = ⊥
+-- why there is no plan: the first visited key that is at fault is in neither store, or it is too large and not only in the
+-- destination; or a cycle is to be brought, and every visited key is sound; or too many keys are to be brought, and those
+-- visited so far are sound
+abbrev pub NotPlanned : List Entry → Options → List Node → List Descriptor → PlanFault → Type 0
+NotPlanned source options opening roots (plan.NotFound k) = IsNextVisited options.existing (nodes_of source) source opening roots (limit_of options) k × (has_key source k ≡ false) × (has_key opening k ≡ false)
+NotPlanned source options opening roots (plan.TooLarge k l) = IsNextVisited options.existing (nodes_of source) source opening roots (limit_of options) k × (l ≡ limit_of options) × IsTooLarge (limit_of options) k × (IsOnlyInDestination source opening k → ⊥)
+NotPlanned source options opening roots (plan.Cycle keys) = IsCycleToBring options.existing source opening roots (limit_of options) keys.items
+NotPlanned source options opening roots plan.TooMany = HasTooMany options.existing source opening roots (limit_of options)
+NotPlanned source options opening roots e = ⊥
 
 -- where neither store fails a copy is refused for its plan, or for want of memory
-abbrev pub RefusedForPlan : List Entry → ℕ → List Node → List Descriptor → CopyFault → Type 0
-RefusedForPlan source limit opening roots (fault.Plan e) = NotPlanned source limit opening roots e
-RefusedForPlan source limit opening roots fault.Memory = Unit {0}
-RefusedForPlan source limit opening roots e = ⊥
+abbrev pub RefusedForPlan : List Entry → Options → List Node → List Descriptor → CopyFault → Type 0
+RefusedForPlan source options opening roots (fault.Plan e) = NotPlanned source options opening roots e
+RefusedForPlan source options opening roots fault.Memory = Unit {0}
+RefusedForPlan source options opening roots e = ⊥

@@ -7,10 +7,12 @@ use Rattle.oci_store.specs.Keyed.{value_at, has_key, HasAll}
 use Rattle.oci_store.specs.Content.{Entry, succ_of}
 use Rattle.oci_store.specs.State.{State}
 use Rattle.oci_plan.specs.Order.{IsOrder}
-use Rattle.oci_plan.specs.Outside.{IsOutside}
+use Rattle.oci_plan.specs.Outside.{IsVisited, IsToBring}
 use Rattle.oci_plan.specs.Plan.{Planned, IsPlan, FollowsListed}
-use Rattle.oci_plan.specs.Visiting.{IsSoundItem}
+use Rattle.oci_plan.specs.Visiting.{IsSoundItem, IsSoundVisit}
 use Rattle.oci_copy.specs.Grown.{graph_of}
+use Rattle.oci_copy.specs.declared.options.Options.{Options}
+use Rattle.oci_copy.specs.Options.{limit_of}
 
 -- the bytes that a content has under the key read
 abbrev pub CanBeRead : List Entry → Descriptor → Type 0
@@ -27,10 +29,11 @@ pub record CanPush (source opening : State) (p : Planned) : Type 0 where
   pub follows : source.is_honest → FollowsListed (graph_of source) opening.nodes p
 
 -- it is the plan of a copy of these roots: they are held or planned, the held ones are told, and of an honest source the keys
--- are those outside the destination, and each is sound under the limit
-pub record IsPlanOf (source : State) (limit : ℕ) (opening : State) (roots : List Descriptor) (p : Planned) : Type 0 where
+-- are those to bring, and each visited key is sound under the limit
+pub record IsPlanOf (source : State) (options : Options) (opening : State) (roots : List Descriptor) (p : Planned) : Type 0 where
   pub can_push : CanPush source opening p
   pub roots_held : All (λ k. (has_key opening.nodes k ≡ true) ⊎ Contains p.keys k) roots
   pub skipped : p.skipped ≡ first_places (filter (has_key opening.nodes) roots)
-  pub sound : source.is_honest → All (IsSoundItem source.entries limit) p.keys
-  pub outside : source.is_honest → (k : Descriptor) → Contains p.keys k ↔ IsOutside (graph_of source) opening.nodes roots k
+  pub sound : source.is_honest → All (IsSoundItem source.entries (limit_of options)) p.keys
+  pub visited : source.is_honest → (k : Descriptor) → IsVisited options.existing (graph_of source) opening.nodes roots k → IsSoundVisit options.existing source.entries opening.nodes (limit_of options) k
+  pub outside : source.is_honest → (k : Descriptor) → Contains p.keys k ↔ IsToBring options.existing (graph_of source) opening.nodes roots k

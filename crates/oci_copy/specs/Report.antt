@@ -7,23 +7,24 @@ use Rattle.oci_manifest.specs.Manifest.{first_places}
 use Rattle.oci_store.specs.Keyed.{has_key}
 use Rattle.oci_store.specs.Graph.{Node}
 use Rattle.oci_store.specs.State.{State}
-use Rattle.oci_plan.specs.Outside.{IsOutside}
+use Rattle.oci_plan.specs.Outside.{IsToBring}
+use Rattle.oci_plan.specs.declared.existing.Existing.{Existing}
 use Rattle.oci_copy.specs.Grown.{graph_of}
 use Rattle.oci_copy.specs.declared.report.Report.{Report}
 
--- this many keys are outside the held ones
-abbrev pub IsOutsideCount : List Node → List Node → List Descriptor → ℕ → Type 0
-IsOutsideCount source held roots n = (keys : List Descriptor) × IsDistinct same_key keys
-    × ((k : Descriptor) → Contains keys k ↔ IsOutside source held roots k) × (length keys ≡ n)
+-- so many keys are to be brought
+abbrev pub IsToBringCount : Existing → List Node → List Node → List Descriptor → ℕ → Type 0
+IsToBringCount existing source held roots n = (keys : List Descriptor) × IsDistinct same_key keys
+    × ((k : Descriptor) → Contains keys k ↔ IsToBring existing source held roots k) × (length keys ≡ n)
 
 -- how many distinct roots are held
 abbrev pub held_count : List Node → List Descriptor → ℕ
 held_count held roots = length (first_places (filter (has_key held) roots))
 
 -- what a copy that succeeded tells
-pub record IsReport (source opening : State) (roots : List Descriptor) (now : State) (report : Report) : Type 0 where
-  -- of an honest source as many keys were planned as were outside the destination
-  pub planned : source.is_honest → IsOutsideCount (graph_of source) opening.nodes roots report.planned
+pub record IsReport (existing : Existing) (source opening : State) (roots : List Descriptor) (now : State) (report : Report) : Type 0 where
+  -- of an honest source as many keys were planned as were to be brought
+  pub planned : source.is_honest → IsToBringCount existing (graph_of source) opening.nodes roots report.planned
   -- all of them were pushed, and so many keys came
   pub pushed : report.planned ≡ report.pushed
   pub gained : length now.nodes ≡ length opening.nodes + report.pushed

@@ -1,7 +1,6 @@
 -- Why a copy by workers is refused, and what is kept of its destination under a lock.
-use Rattle.std.specs.Prelude.{◌≡◌, ◌↔◌, ℕ, ◌<◌, Bool, true, List, Option, Some, None, Result, Err, Contains}
+use Rattle.std.specs.Prelude.{◌≡◌, ◌↔◌, ℕ, ◌<◌, Bool, true, List, Option, Some, None, Result, Err, Contains, slice_get, IsSomeAnd}
 use Rattle.oci_manifest.specs.Descriptor.{Descriptor}
-use Rattle.oci_store.specs.Closed.{IsClosed, first_open}
 use Rattle.oci_store.specs.Content.{Entry}
 use Rattle.oci_store.specs.Graph.{Node}
 use Rattle.oci_store.specs.State.{State}
@@ -9,6 +8,8 @@ use Rattle.oci_store.specs.declared.fault.PushFault.{PushFault}
 use Rattle.oci_store.specs.declared.fault.PushFault.TheVariants as push
 use Rattle.oci_copy.specs.Cause.{HasFailed, IsFetchCause, IsPushCauseIf, IsPlanCause, IsWanted}
 use Rattle.oci_copy.specs.Plain.{NotPlanned}
+use Rattle.oci_copy.specs.declared.options.Options.{Options}
+use Rattle.oci_copy.specs.Destination.{IsClosedWhenSkipping, IsOpenWhenSkipping}
 use Rattle.oci_copy.specs.declared.fault.CopyFault.{CopyFault}
 use Rattle.oci_copy.specs.declared.fault.CopyFault.TheVariants as fault
 use Rattle.oci_pool.specs.declared.fault.PoolFault.{PoolFault}
@@ -29,12 +30,23 @@ IsToldHalt pushed wanted told = told ≡ pushed
 abbrev pub CanFail : {X : Type 0} → (X → State) → State → Type 0
 CanFail {X} state opening = (store : X) × HasFailed opening (state store)
 
--- why a worker fails at a planned key
-abbrev pub IsWorkCause : Type 0 → State → State → List Descriptor → CopyFault → Type 0
-IsWorkCause failed source opening planned (fault.Fetch k e) = Contains planned k × IsFetchCause source k e
-IsWorkCause failed source opening planned (fault.Push k e) = Contains planned k × IsPushCauseIf failed source opening k e
-IsWorkCause failed source opening planned fault.Memory = Unit {0}
-IsWorkCause failed source opening planned e = ⊥
+-- why a worker fails at a key: its fetch or its push is refused, and the fault names this key
+abbrev pub IsWorkCause : Type 0 → State → State → Descriptor → CopyFault → Type 0
+IsWorkCause failed source opening k (fault.Fetch named e) = (named ≡ k) × IsFetchCause source k e
+IsWorkCause failed source opening k (fault.Push named e) = (named ≡ k) × IsPushCauseIf failed source opening k e
+IsWorkCause failed source opening k fault.Memory = Unit {0}
+IsWorkCause failed source opening k e = ⊥
+
+-- why the job of a number fails: its worker fails at the planned key of this number
+abbrev pub IsJobCause : Type 0 → State → State → List Descriptor → ℕ → CopyFault → Type 0
+IsJobCause failed source opening planned n e = IsSomeAnd (slice_get planned n) (λ k. IsWorkCause failed source opening k e)
+
+-- why a run of workers stops: one of them fails at a planned key, or memory was wanting
+abbrev pub IsStopCause : Type 0 → State → State → List Descriptor → CopyFault → Type 0
+IsStopCause failed source opening planned (fault.Fetch k e) = Contains planned k × IsFetchCause source k e
+IsStopCause failed source opening planned (fault.Push k e) = Contains planned k × IsPushCauseIf failed source opening k e
+IsStopCause failed source opening planned fault.Memory = Unit {0}
+IsStopCause failed source opening planned e = ⊥
 
 -- what is told of a run that stopped: its job's fault, or want of memory; a run that is only incomplete goes on by a wait
 abbrev pub told_of : PoolFault CopyFault → Option CopyFault
@@ -46,18 +58,18 @@ told_of pool.Memory = Some fault.Memory
 -- Why a copy by workers is refused. The causes are looked at in this order: there are too many workers; the destination is
 -- open; there is no plan; the fetch or the push of a key that the copy has to bring is refused. Want of memory may come at any
 -- point. No key comes too early or twice, and none is left out.
-abbrev pub IsRefusalToWorkers : Type 0 → ℕ → State → State → List Descriptor → ℕ → CopyFault → Type 0
-IsRefusalToWorkers failed limit source opening roots workers fault.BadWorkers = 64 < workers
-IsRefusalToWorkers failed limit source opening roots workers (fault.DestinationOpen holder missing) = first_open opening.nodes ≡ Some (holder, missing)
-IsRefusalToWorkers failed limit source opening roots workers (fault.Plan e) = IsClosed opening.nodes × IsPlanCause source limit opening roots e
-IsRefusalToWorkers failed limit source opening roots workers (fault.Fetch k e) = IsClosed opening.nodes × IsWanted source opening roots k × IsFetchCause source k e
-IsRefusalToWorkers failed limit source opening roots workers (fault.Push k e) = IsClosed opening.nodes × IsWanted source opening roots k × IsPushCauseIf failed source opening k e
-IsRefusalToWorkers failed limit source opening roots workers fault.Memory = Unit {0}
-IsRefusalToWorkers failed limit source opening roots workers e = ⊥
+abbrev pub IsRefusalToWorkers : Type 0 → Options → State → State → List Descriptor → ℕ → CopyFault → Type 0
+IsRefusalToWorkers failed options source opening roots workers fault.BadWorkers = 64 < workers
+IsRefusalToWorkers failed options source opening roots workers (fault.DestinationOpen holder missing) = IsOpenWhenSkipping options.existing opening.nodes holder missing
+IsRefusalToWorkers failed options source opening roots workers (fault.Plan e) = IsClosedWhenSkipping options.existing opening.nodes × IsPlanCause source options opening roots e
+IsRefusalToWorkers failed options source opening roots workers (fault.Fetch k e) = IsClosedWhenSkipping options.existing opening.nodes × IsWanted options.existing source opening roots k × IsFetchCause source k e
+IsRefusalToWorkers failed options source opening roots workers (fault.Push k e) = IsClosedWhenSkipping options.existing opening.nodes × IsWanted options.existing source opening roots k × IsPushCauseIf failed source opening k e
+IsRefusalToWorkers failed options source opening roots workers fault.Memory = Unit {0}
+IsRefusalToWorkers failed options source opening roots workers e = ⊥
 
 -- where neither store fails, a copy by workers is refused for too many of them, for its plan, or for want of memory
-abbrev pub RefusedForPlanOrWorkers : List Entry → ℕ → List Node → List Descriptor → ℕ → CopyFault → Type 0
-RefusedForPlanOrWorkers source limit opening roots workers (fault.Plan e) = NotPlanned source limit opening roots e
-RefusedForPlanOrWorkers source limit opening roots workers fault.BadWorkers = 64 < workers
-RefusedForPlanOrWorkers source limit opening roots workers fault.Memory = Unit {0}
-RefusedForPlanOrWorkers source limit opening roots workers e = ⊥
+abbrev pub RefusedForPlanOrWorkers : List Entry → Options → List Node → List Descriptor → ℕ → CopyFault → Type 0
+RefusedForPlanOrWorkers source options opening roots workers (fault.Plan e) = NotPlanned source options opening roots e
+RefusedForPlanOrWorkers source options opening roots workers fault.BadWorkers = 64 < workers
+RefusedForPlanOrWorkers source options opening roots workers fault.Memory = Unit {0}
+RefusedForPlanOrWorkers source options opening roots workers e = ⊥

@@ -1,14 +1,93 @@
-ghost use Rattle.std.specs.Prelude.{◌≡◌, ◌≢◌, [], true, OnOk, OnErr, IfOk, IfErr};
+ghost use Rattle.std.specs.Prelude.{◌≡◌, ◌≤◌, [], ◌∷◌, List, true, OnOk, OnErr, IfOk, IfErr, ◌≢◌};
+ghost use Rattle.oci_manifest.specs.Descriptor.{Descriptor};
 ghost use Rattle.oci_store.specs.Keyed.{has_key};
 ghost use Rattle.oci_store.specs.Tags.{set_tag};
-ghost use Rattle.oci_copy.specs.Tagged.{name_of, ResolvesIn, IsResolveCause, IsRetagged, TellsReference};
+ghost use Rattle.oci_copy.specs.Copy.{IsCopy, OnlyGrows};
+ghost use Rattle.oci_copy.specs.Fault.{IsEarly};
+ghost use Rattle.oci_copy.specs.Plain.{NeitherFails};
+ghost use Rattle.oci_copy.specs.Report.{IsReport};
+ghost use Rattle.oci_copy.specs.Tagged.{name_of, ResolvesIn, IsRootOf, RefusedByReference, IsResolveCause, IsRetagged, TellsReference};
+ghost use Rattle.oci_copy.specs.Work.{CanFail, IsRefusalToWorkers, RefusedForPlanOrWorkers};
 
 use crate::fault::CopyFault;
+use crate::graph::copy_graph;
+use crate::options::Options;
 use crate::report::Report;
 use oci_manifest::Key;
-use oci_store::{RefFault, Tagger};
+use oci_pool::Hooks;
+use oci_store::{Dest, RefFault, Source, Tagger};
+use std::alloc::Global;
+use std::slice;
+use std::sync::Wait;
+use std::thread::Threads;
 
-/// The key that a reference of the source stands for.
+/// Copies what a reference of the source resolves to, and tags it in the destination (oras-go v2, "Copy").
+///
+/// The tag is the destination's reference, or the source's where that is empty; it is set last. Beside the report comes the
+/// key that was copied.
+///
+/// Refused, in this order, with `Reference`, where the source's reference does not resolve; with `BadWorkers`, over 64; and as
+/// `copy_graph` of that root. A refusal leaves the tags as they were. With `Memory` the copy may be complete.
+pub fn copy<
+    A: Source + Tagger + Sync,
+    D: Dest + Tagger + Drop + Send,
+    R: Threads + Wait + Sync,
+    H: Hooks + Sync,
+>(
+    rt: &R,
+    alloc: Global,
+    source: &A,
+    source_reference: &str,
+    destination: D,
+    destination_reference: &str,
+    options: &Options,
+    hooks: &H,
+) -> (D, Result<(Key, Report), CopyFault>)
+where
+    D::Draft: Send,
+    ensures root { IfOk result.1 (λ it. ResolvesIn (A.state source.now) source_reference.now it.0) }
+    ensures copied { IfOk result.1 (λ it. IsCopy D.shares options.now (A.state source.now)
+        (D.state destination) (it.0 ∷ []) (D.state result.0)) }
+    ensures report { IfOk result.1 (λ it. IsReport options.now.existing (A.state source.now)
+        (D.state destination) (it.0 ∷ []) (D.state result.0) it.1) }
+    ensures tagged { IfOk result.1 (λ it. (D.state result.0).tags ≡ set_tag
+        (D.state destination).tags (name_of source_reference.now destination_reference.now) it.0) }
+    ensures held { IfOk result.1 (λ it. has_key (D.state result.0).nodes it.0 ≡ true) }
+    ensures workers { OnOk result.1 (options.now.workers ≤ 64) }
+    ensures grows { (roots : List Descriptor)
+        × IsRootOf (A.state source.now) source_reference.now roots
+        × OnlyGrows D.shares (A.state source.now) (D.state destination) roots (D.state result.0) }
+    ensures untagged { OnErr result.1 ((D.state result.0).tags ≡ (D.state destination).tags) }
+    ensures refused { IfErr result.1 (RefusedByReference (A.state source.now) source_reference.now
+        options.now.workers
+        (λ root. IsRefusalToWorkers (CanFail D.state (D.state destination)) options.now
+        (A.state source.now) (D.state destination) (root ∷ []) options.now.workers)) }
+    ensures plain { IfErr result.1 (λ fault. NeitherFails options.now.existing D.state
+        (A.state source.now) (D.state destination)
+        → RefusedByReference (A.state source.now) source_reference.now options.now.workers
+        (λ root. RefusedForPlanOrWorkers (A.state source.now).entries options.now
+        (D.state destination).nodes (root ∷ []) options.now.workers) fault) }
+    ensures unchanged { IfErr result.1 (λ fault. IsEarly fault → result.0 ≡ destination) }
+{
+    let root = match resolve_root(source, source_reference) {
+        Ok(root) => root,
+        Err(fault) => return (destination, Err(fault)),
+    };
+    let roots = slice::from_ref(&root);
+    let (destination, copied) = copy_graph(rt, alloc, source, destination, roots, options, hooks);
+    match copied {
+        Ok(report) => tag_copied(
+            destination,
+            root,
+            report,
+            source_reference,
+            destination_reference,
+        ),
+        Err(fault) => (destination, Err(fault)),
+    }
+}
+
+/// The key that a reference of the source resolves to.
 pub(crate) fn resolve_root<A: Tagger>(source: &A, reference: &str) -> Result<Key, CopyFault>
     ensures found { IfOk result (ResolvesIn (A.state source.now) reference.now) }
     ensures named { OnOk result (reference.now ≢ []) }
@@ -30,10 +109,12 @@ pub(crate) fn tag_copied<D: Tagger>(
 ) -> (D, Result<(Key, Report), CopyFault>)
     ensures root { IfOk result.1 (λ it. it.0 ≡ root) }
     ensures report { IfOk result.1 (λ it. it.1 ≡ report) }
-    ensures tagged { OnOk result.1 ((D.state result.0).tags ≡ set_tag (D.state destination).tags (name_of source_reference.now destination_reference.now) root) }
+    ensures tagged { OnOk result.1 ((D.state result.0).tags ≡ set_tag (D.state destination).tags
+        (name_of source_reference.now destination_reference.now) root) }
     ensures untagged { OnErr result.1 ((D.state result.0).tags ≡ (D.state destination).tags) }
     ensures stays { IsRetagged (D.state destination) (D.state result.0) }
-    ensures wants { IfErr result.1 (λ fault. source_reference.now ≢ [] → has_key (D.state destination).nodes root ≡ true → fault ≡ CopyFault.Memory) }
+    ensures wants { IfErr result.1 (λ fault. source_reference.now ≢ []
+        → has_key (D.state destination).nodes root ≡ true → fault ≡ CopyFault.Memory) }
 {
     let mut destination = destination;
     match destination.tag(&root, tag_name(source_reference, destination_reference)) {

@@ -1,21 +1,17 @@
-ghost use Rattle.std.specs.Prelude.{◌≡◌, ◌↔◌, ◌+◌, ◌<◌, true, length, OnOk, IfOk, IfErr, IsErrOf};
-ghost use Rattle.oci_manifest.specs.Descriptor.{Descriptor};
-ghost use Rattle.oci_store.specs.Keyed.{has_key};
-ghost use Rattle.oci_store.specs.Content.{IsContent};
-ghost use Rattle.oci_store.specs.Graph.{nodes_of, Reaches};
+ghost use Rattle.std.specs.Prelude.{◌≡◌, ◌↔◌, ◌<◌, IfOk, IfErr, IsErrOf};
 ghost use Rattle.oci_store.specs.Closed.{IsClosed};
-ghost use Rattle.oci_store.specs.Copied.{Agree, IsCopied};
-ghost use Rattle.oci_copy.specs.Options.{limit_of};
-ghost use Rattle.oci_copy.specs.Grown.{BeginsWith, IsGrown};
-ghost use Rattle.oci_copy.specs.Report.{IsOutsideCount, held_count};
+ghost use Rattle.oci_store.specs.Graph.{nodes_of};
 ghost use Rattle.oci_copy.specs.Fault.{IsEarly};
+ghost use Rattle.oci_copy.specs.Memory.{IsMemoryCopy, OnlyGrowsInMemory};
+ghost use Rattle.oci_copy.specs.Options.{descending};
 ghost use Rattle.oci_copy.specs.Work.{RefusedForPlanOrWorkers};
 
 use crate::fault::CopyFault;
 use crate::graph::copy_graph;
-use crate::options::Options;
+use crate::options::{Options, descending};
 use crate::report::Report;
 use oci_manifest::Key;
+use oci_plan::Existing;
 use oci_pool::Hooks;
 use oci_store::{ClosedStore, MemoryStore};
 use std::alloc::Global;
@@ -38,26 +34,54 @@ pub fn copy_memory_by_workers<R: Threads + Wait + Sync, H: Hooks + Sync>(
     options: &Options,
     hooks: &H,
 ) -> (ClosedStore, Result<Report, CopyFault>)
-    ensures copied { OnOk result.1 (Agree source.now.entries destination.entries
-        → IsCopied (nodes_of source.now.entries) source.now.entries roots.now destination.entries result.0.entries) }
-    ensures reached { OnOk result.1 (Agree source.now.entries destination.entries
-        → (k : Descriptor) → Reaches (nodes_of source.now.entries) roots.now k → has_key result.0.entries k ≡ true) }
-    ensures planned { IfOk result.1 (λ report. IsOutsideCount (nodes_of source.now.entries) (nodes_of destination.entries) roots.now report.planned) }
-    ensures pushed { IfOk result.1 (λ report. (report.planned ≡ report.pushed)
-        × (length result.0.entries ≡ length destination.entries + report.pushed)) }
-    ensures skipped { IfOk result.1 (λ report. report.skipped ≡ held_count (nodes_of destination.entries) roots.now) }
-    ensures begins { BeginsWith destination.entries result.0.entries }
-    ensures grown { IsGrown (nodes_of source.now.entries) source.now.entries roots.now destination.entries result.0.entries }
-    ensures content { IsContent result.0.entries }
+    ensures copied { IfOk result.1 (IsMemoryCopy options.now.existing
+        source.now roots.now destination result.0) }
+    ensures grows { OnlyGrowsInMemory source.now roots.now destination result.0 }
     ensures closed { IsClosed (nodes_of result.0.entries) }
-    ensures tags { result.0.tags ≡ destination.tags }
     ensures workers { IsErrOf result.1 CopyFault.BadWorkers ↔ (64 < options.now.workers) }
-    ensures refused { IfErr result.1 (RefusedForPlanOrWorkers source.now.entries (limit_of options.now) (nodes_of destination.entries) roots.now options.now.workers) }
+    ensures refused { IfErr result.1 (RefusedForPlanOrWorkers source.now.entries options.now
+        (nodes_of destination.entries) roots.now options.now.workers) }
     ensures unchanged { IfErr result.1 (λ fault. IsEarly fault → result.0 ≡ destination) }
 {
+    // These calls do nothing here. Their contracts tell the proof what each store keeps: before the copy, and below after it.
     let _readable = source.len();
     let _closed = destination.memory();
     let (destination, copied) = copy_graph(rt, alloc, source, destination, roots, options, hooks);
     let _content = destination.memory().len();
+    (destination, copied)
+}
+
+/// Brings what a store in memory lacks under some roots, below what it holds too, from another: `copy_graph` with
+/// [`Existing::Descend`] in the plainest words. The destination need not be closed.
+///
+/// After a repair that succeeds, with any number of workers, where the two stores agree, the destination has exactly what it had
+/// and what the source reaches from the roots, each content matching its key. What it lacked elsewhere it still lacks. The options
+/// say how many workers there are and how large a manifest may be, and no more.
+///
+/// Refused with `BadWorkers`, over 64, and for `Plan` with `NotFound`, `TooLarge`, `Cycle` or `TooMany`, with which nothing is
+/// changed, and for `Memory`; for nothing else. No key that the destination has and the source lacks is at fault.
+pub fn repair_memory_by_workers<R: Threads + Wait + Sync, H: Hooks + Sync>(
+    rt: &R,
+    alloc: Global,
+    source: &MemoryStore,
+    destination: MemoryStore,
+    roots: &[Key],
+    options: &Options,
+    hooks: &H,
+) -> (MemoryStore, Result<Report, CopyFault>)
+    ensures copied { IfOk result.1 (IsMemoryCopy Existing.Descend source.now roots.now destination
+        result.0) }
+    ensures grows { OnlyGrowsInMemory source.now roots.now destination result.0 }
+    ensures workers { IsErrOf result.1 CopyFault.BadWorkers ↔ (64 < options.now.workers) }
+    ensures refused { IfErr result.1 (RefusedForPlanOrWorkers source.now.entries
+        (descending options.now)
+        (nodes_of destination.entries) roots.now options.now.workers) }
+    ensures unchanged { IfErr result.1 (λ fault. IsEarly fault → result.0 ≡ destination) }
+{
+    // This call does nothing here. Its contract tells the proof what the store keeps; so does the one below, after the copy.
+    let _readable = source.len();
+    let descend = descending(options);
+    let (destination, copied) = copy_graph(rt, alloc, source, destination, roots, &descend, hooks);
+    let _content = destination.len();
     (destination, copied)
 }

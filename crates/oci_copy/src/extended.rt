@@ -1,33 +1,94 @@
-ghost use Rattle.std.specs.Prelude.{◌≡◌, ◌≤◌, true, List, OnOk, OnErr, IfOk, IfErr};
+ghost use Rattle.std.specs.Prelude.{◌≡◌, ◌↔◌, ◌<◌, true, List, OnOk, IfOk, IfErr, IsErrOf, ◌≤◌, OnErr};
 ghost use Rattle.oci_manifest.specs.Descriptor.{Descriptor};
 ghost use Rattle.oci_store.specs.Keyed.{has_key};
-ghost use Rattle.oci_store.specs.Tags.{set_tag};
 ghost use Rattle.oci_copy.specs.Copy.{IsCopy, OnlyGrows};
-ghost use Rattle.oci_copy.specs.Extended.{OfUp, AreRootsOfReference, RefusedExtended};
+ghost use Rattle.oci_copy.specs.Extended.{OfUp, AreRootsOf, RefusedExtended, AreRootsOfReference};
 ghost use Rattle.oci_copy.specs.Fault.{IsEarly};
-ghost use Rattle.oci_copy.specs.Options.{limit_of};
 ghost use Rattle.oci_copy.specs.Plain.{NeitherFails};
 ghost use Rattle.oci_copy.specs.Report.{IsReport};
-ghost use Rattle.oci_copy.specs.Tagged.{name_of, ResolvesIn, RefusedByReference};
 ghost use Rattle.oci_copy.specs.Work.{CanFail, IsRefusalToWorkers, RefusedForPlanOrWorkers};
+ghost use Rattle.oci_store.specs.Tags.{set_tag};
+ghost use Rattle.oci_copy.specs.Tagged.{name_of, ResolvesIn, RefusedByReference};
 
 use crate::by_reference::{resolve_root, tag_copied};
-use crate::extended_graph::extended_copy_graph;
 use crate::fault::CopyFault;
+use crate::graph::copy_to_checked;
 use crate::options::Options;
+use crate::planning::check_destination;
 use crate::report::Report;
 use oci_manifest::Key;
-use oci_pool::Hooks;
+use oci_plan::climb;
+use oci_pool::{Hooks, MAX_WORKERS};
 use oci_store::{Dest, GraphSource, Tagger};
 use std::alloc::Global;
 use std::sync::Wait;
 use std::thread::Threads;
 
-/// Copies what a reference of the source stands for with what leads to it, and tags it in the destination (oras-go v2,
+/// Copies a key of the source with what leads to it, and all that those reach, by workers (oras-go v2, "ExtendedCopyGraph").
+///
+/// It is `copy_graph` whose roots are the answer of `climb`: the key, and every key of the source from which a path of at most
+/// `depth` edges leads to it; depth 0 sets no limit. So an image comes with its signatures and with the indexes that list it,
+/// and each of these with all that it lists.
+///
+/// Refused, in this order, with `BadWorkers`; with `DestinationOpen`; and then, once the roots are known, with `Plan`, `Fetch` or
+/// `Push`: each as by `copy_graph`, and with what it leaves. `Memory` may come at any point, in the climb too.
+///
+/// It takes a lock and joins its workers; no clause says that it returns.
+pub fn extended_copy_graph<
+    A: GraphSource + Sync,
+    D: Dest + Drop + Send,
+    R: Threads + Wait + Sync,
+    H: Hooks + Sync,
+>(
+    rt: &R,
+    alloc: Global,
+    source: &A,
+    key: &Key,
+    depth: u32,
+    destination: D,
+    options: &Options,
+    hooks: &H,
+) -> (D, Result<Report, CopyFault>)
+where
+    D::Draft: Send,
+    ensures copied { OnOk result.1 (OfUp (A.state source.now) key.now depth
+        (λ roots. IsCopy D.shares options.now (A.state source.now) (D.state destination) roots
+        (D.state result.0))) }
+    ensures report { IfOk result.1 (λ report. OfUp (A.state source.now) key.now depth
+        (λ roots. IsReport options.now.existing (A.state source.now) (D.state destination) roots
+        (D.state result.0) report)) }
+    ensures held { OnOk result.1 (has_key (D.state result.0).nodes key.now ≡ true) }
+    ensures grows { (roots : List Descriptor) × AreRootsOf (A.state source.now) key.now depth roots
+        × OnlyGrows D.shares (A.state source.now) (D.state destination) roots (D.state result.0) }
+    ensures tags { (D.state result.0).tags ≡ (D.state destination).tags }
+    ensures workers { IsErrOf result.1 CopyFault.BadWorkers ↔ (64 < options.now.workers) }
+    ensures refused { IfErr result.1 (RefusedExtended (A.state source.now) key.now depth
+        (λ roots. IsRefusalToWorkers (CanFail D.state (D.state destination)) options.now
+        (A.state source.now) (D.state destination) roots options.now.workers)) }
+    ensures plain { IfErr result.1 (λ fault. NeitherFails options.now.existing D.state
+        (A.state source.now) (D.state destination)
+        → RefusedExtended (A.state source.now) key.now depth
+        (λ roots. RefusedForPlanOrWorkers (A.state source.now).entries options.now
+        (D.state destination).nodes roots options.now.workers) fault) }
+    ensures unchanged { IfErr result.1 (λ fault. IsEarly fault → result.0 ≡ destination) }
+{
+    if options.workers > MAX_WORKERS {
+        return (destination, Err(CopyFault::BadWorkers));
+    }
+    if let Err(fault) = check_destination(&destination, options) {
+        return (destination, Err(fault));
+    }
+    let Ok(roots) = climb(alloc, source, key, depth) else {
+        return (destination, Err(CopyFault::Memory));
+    };
+    copy_to_checked(rt, alloc, source, destination, &roots, options, hooks)
+}
+
+/// Copies what a reference of the source resolves to with what leads to it, and tags it in the destination (oras-go v2,
 /// "ExtendedCopy").
 ///
 /// It is `copy` by `extended_copy_graph`: the tag is the destination's reference, or the source's where that is empty, it names
-/// the key that the source's reference stands for, and it is set last. Beside the report comes that key.
+/// the key that the source's reference resolves to, and it is set last. Beside the report comes that key.
 ///
 /// Refused, in this order, with `Reference`, where the source's reference does not resolve; and as `extended_copy_graph` of that
 /// key. A refusal leaves the tags as they were. With `Memory` the copy may be complete.
@@ -47,25 +108,34 @@ pub fn extended_copy<
     options: &Options,
     hooks: &H,
 ) -> (D, Result<(Key, Report), CopyFault>)
+where
+    D::Draft: Send,
     ensures root { IfOk result.1 (λ it. ResolvesIn (A.state source.now) source_reference.now it.0) }
     ensures copied { IfOk result.1 (λ it. OfUp (A.state source.now) it.0 depth
-        (λ roots. IsCopy D.shares (limit_of options.now) (A.state source.now) (D.state destination) roots (D.state result.0))) }
+        (λ roots. IsCopy D.shares options.now (A.state source.now) (D.state destination) roots
+        (D.state result.0))) }
     ensures report { IfOk result.1 (λ it. OfUp (A.state source.now) it.0 depth
-        (λ roots. IsReport (A.state source.now) (D.state destination) roots (D.state result.0) it.1)) }
-    ensures tagged { IfOk result.1 (λ it. (D.state result.0).tags ≡ set_tag (D.state destination).tags (name_of source_reference.now destination_reference.now) it.0) }
+        (λ roots. IsReport options.now.existing (A.state source.now) (D.state destination) roots
+        (D.state result.0) it.1)) }
+    ensures tagged { IfOk result.1 (λ it. (D.state result.0).tags ≡ set_tag
+        (D.state destination).tags (name_of source_reference.now destination_reference.now) it.0) }
     ensures held { IfOk result.1 (λ it. has_key (D.state result.0).nodes it.0 ≡ true) }
     ensures workers { OnOk result.1 (options.now.workers ≤ 64) }
-    ensures grows { (roots : List Descriptor) × AreRootsOfReference (A.state source.now) source_reference.now depth roots
+    ensures grows { (roots : List Descriptor)
+        × AreRootsOfReference (A.state source.now) source_reference.now depth roots
         × OnlyGrows D.shares (A.state source.now) (D.state destination) roots (D.state result.0) }
     ensures untagged { OnErr result.1 ((D.state result.0).tags ≡ (D.state destination).tags) }
-    ensures refused { IfErr result.1 (RefusedByReference (A.state source.now) source_reference.now options.now.workers
+    ensures refused { IfErr result.1 (RefusedByReference (A.state source.now) source_reference.now
+        options.now.workers
         (λ root. RefusedExtended (A.state source.now) root depth
-        (λ roots. IsRefusalToWorkers (CanFail D.state (D.state destination)) (limit_of options.now)
+        (λ roots. IsRefusalToWorkers (CanFail D.state (D.state destination)) options.now
         (A.state source.now) (D.state destination) roots options.now.workers))) }
-    ensures plain { IfErr result.1 (λ fault. NeitherFails D.state (A.state source.now) (D.state destination)
+    ensures plain { IfErr result.1 (λ fault. NeitherFails options.now.existing D.state
+        (A.state source.now) (D.state destination)
         → RefusedByReference (A.state source.now) source_reference.now options.now.workers
         (λ root. RefusedExtended (A.state source.now) root depth
-        (λ roots. RefusedForPlanOrWorkers (A.state source.now).entries (limit_of options.now) (D.state destination).nodes roots options.now.workers)) fault) }
+        (λ roots. RefusedForPlanOrWorkers (A.state source.now).entries options.now
+        (D.state destination).nodes roots options.now.workers)) fault) }
     ensures unchanged { IfErr result.1 (λ fault. IsEarly fault → result.0 ≡ destination) }
 {
     let root = match resolve_root(source, source_reference) {

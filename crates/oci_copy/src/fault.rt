@@ -8,7 +8,7 @@ use thiserror::Error;
 
 /// Why a copy is refused.
 ///
-/// A want of memory, at any depth, is `Memory`, and stands in no other variant.
+/// Out of memory, at any depth, is `Memory`, and no other variant contains it.
 #[derive(Debug, Drop, Error)]
 pub enum CopyFault {
     /// The destination is not closed: the first key lists the second, which is not held. Nothing was changed.
@@ -33,7 +33,7 @@ pub enum CopyFault {
     #[error("86 Memory")]
     Memory,
     /// The source's reference does not resolve. Nothing was changed. (A destination refuses the tag of a key that it holds for
-    /// want of memory alone; the copy is then complete.)
+    /// lack of memory alone; the copy is then complete.)
     #[error("87 Reference {0}")]
     Reference(RefFault),
     /// The source refused the key's content. What was pushed before stays.

@@ -1,22 +1,26 @@
-ghost use Rattle.std.specs.Prelude.{◌≡◌, true, List, Some, IfOk, IfErr};
+ghost use Rattle.std.specs.Prelude.{◌≡◌, true, [], List, ℕ, Some, IfOk, OnOk, IfErr, IsTrue};
 ghost use Rattle.oci_manifest.specs.Descriptor.{Descriptor};
 ghost use Rattle.oci_store.specs.Content.{IsChecked};
 ghost use Rattle.oci_store.specs.Keyed.{value_at, has_key};
+ghost use Rattle.oci_store.specs.Parts.{IsLeaf, IsDraftOf};
 ghost use Rattle.oci_copy.specs.Cause.{IsContentCause};
 ghost use Rattle.oci_copy.specs.Fault.{TellsFetch, TellsPush};
 ghost use Rattle.oci_copy.specs.Planned.{CanBeRead};
 
 use crate::fault::CopyFault;
-use oci_manifest::Key;
-use oci_store::{CheckedContent, FetchFault, PushFault, Source};
+use oci_manifest::{Key, Kind};
+use oci_store::{CheckedContent, Drafting, FetchFault, PushFault, Source, fetch_into};
 
 /// The content of a planned key, read. The fetch looked at its bytes, so they are not hashed again.
 pub(crate) fn fetch_planned<A: Source>(source: &A, key: &Key) -> Result<CheckedContent, CopyFault>
     requires there { has_key (A.state source.now).entries key.now ≡ true }
-    requires reads { (A.state source.now).is_honest → CanBeRead (A.state source.now).entries key.now }
+    requires reads { (A.state source.now).is_honest
+        → CanBeRead (A.state source.now).entries key.now }
     ensures key { IfOk result (λ content. content.0 ≡ key.now) }
-    ensures own { IfOk result (λ content. (A.state source.now).is_honest → value_at (A.state source.now).entries key.now ≡ Some content.1) }
-    ensures checked { IfOk result (λ content. (listed : List Descriptor) × IsChecked key.now content.1 listed) }
+    ensures own { IfOk result (λ content. (A.state source.now).is_honest
+        → value_at (A.state source.now).entries key.now ≡ Some content.1) }
+    ensures checked { IfOk result (λ content. (listed : List Descriptor)
+        × IsChecked key.now content.1 listed) }
     ensures cause { IfErr result (IsContentCause (A.state source.now) key.now) }
 {
     let bytes = match source.fetch(key) {
@@ -26,6 +30,34 @@ pub(crate) fn fetch_planned<A: Source>(source: &A, key: &Key) -> Result<CheckedC
     match CheckedContent::of_matching(key, bytes) {
         Ok(content) => Ok(content),
         Err(fault) => Err(push_fault(key, fault)),
+    }
+}
+
+/// Whether a key's content is read part by part: it lists nothing, and its source does not hold it in memory.
+pub(crate) fn goes_by_parts<A: Source>(source: &A, key: &Key) -> bool
+    ensures leaf { IsTrue result → IsLeaf key.now }
+    ensures fails { IsTrue result → (A.state source.now).fails_at key.now ≡ true }
+{
+    Kind::of(key.media_type()) == Kind::Leaf && source.may_fail(key)
+}
+
+/// The content of a planned key, read into a draft.
+pub(crate) fn draft_planned<A: Source, W: Drafting>(
+    source: &A,
+    key: &Key,
+    draft: &mut W,
+) -> Result<(), CopyFault>
+    requires empty { W.drafted draft.old [] }
+    requires fails { (A.state source.now).fails_at key.now ≡ true }
+    requires there { has_key (A.state source.now).entries key.now ≡ true }
+    ensures drafted { OnOk result ((bytes : List ℕ)
+        × IsDraftOf (W.drafted draft.new) key.now (A.state source.now).is_honest
+        (value_at (A.state source.now).entries key.now) bytes) }
+    ensures cause { IfErr result (IsContentCause (A.state source.now) key.now) }
+{
+    match fetch_into(source, key, draft) {
+        Ok(()) => Ok(()),
+        Err(fault) => Err(fetch_fault(key, fault)),
     }
 }
 

@@ -1,31 +1,30 @@
-ghost use Rattle.std.specs.Prelude.{◌≡◌, ◌↔◌, ◌<◌, OnOk, IfOk, IfErr, IsErrOf};
+ghost use Rattle.std.specs.Prelude.{◌≡◌, ◌↔◌, ◌<◌, OnOk, IfOk, IfErr, IsErrOf, ◌≤◌};
 ghost use Rattle.oci_copy.specs.Copy.{IsCopy, OnlyGrows};
 ghost use Rattle.oci_copy.specs.Fault.{IsEarly};
-ghost use Rattle.oci_copy.specs.Options.{limit_of};
 ghost use Rattle.oci_copy.specs.Plain.{NeitherFails};
 ghost use Rattle.oci_copy.specs.Report.{IsReport};
 ghost use Rattle.oci_copy.specs.Work.{CanFail, IsRefusalToWorkers, RefusedForPlanOrWorkers};
+ghost use Rattle.oci_copy.specs.Destination.{IsClosedWhenSkipping};
 
 use crate::fault::CopyFault;
 use crate::options::Options;
-use crate::planning::check_closed;
-use crate::report::Report;
-use crate::to_closed::copy_to_closed;
+use crate::planning::{check_destination, plan_to_checked};
+use crate::report::{Report, report_of};
+use crate::running::workers::copy_planned;
 use oci_manifest::Key;
-use oci_pool::Hooks;
+use oci_plan::Plan;
+use oci_pool::{Hooks, MAX_WORKERS};
 use oci_store::{Dest, Source};
 use std::alloc::Global;
 use std::sync::Wait;
 use std::thread::Threads;
 
-/// The greatest number of workers.
-pub(crate) const MAX_WORKERS: u32 = 64;
-
 /// Copies what the source has under some roots, by workers (oras-go v2, "CopyGraph").
 ///
 /// The destination always comes back. It gains each key that the source reaches from a root along keys that the destination
 /// lacks; nothing that it had is lost, and its tags stay. A key that it has is taken to have all that it lists, so the
-/// destination has to be closed. What comes of it is the same for every number of workers; the order of the new entries is open.
+/// destination has to be closed. With `Existing::Descend` it need not be: it gains each key that the source reaches from a root and
+/// that it lacks. What comes of it is the same for every number of workers; the order of the new entries is open.
 ///
 /// The hooks are told of each distinct root that is held, on the calling thread, before anything else. Then a worker takes a
 /// key whose successors are pushed: it calls `pre_copy`, fetches the key and reads it, pushes it under the lock of the
@@ -33,7 +32,8 @@ pub(crate) const MAX_WORKERS: u32 = 64;
 ///
 /// Refused, in this order, with `BadWorkers`, over 64; with `DestinationOpen`; with `Plan`, where the source cannot give what is
 /// to be brought; and then with `Fetch` or `Push` of a key: of several that fail, the one with the least number of the plan. With
-/// the first three nothing is changed, and with the others the keys pushed before stay and the destination is closed. `Memory`
+/// the first three nothing is changed, and with the others the keys pushed before stay, each with all that it lists, so that a closed destination is
+/// closed. `Memory`
 /// may come at any point, and leaves what the others leave. `Stuck` and `Incomplete` never come: where the source gives other
 /// bytes for a push than for the plan, of one size and one digest, and they list a key that nobody brings, the copy waits for it
 /// and does not return.
@@ -53,22 +53,86 @@ pub fn copy_graph<
     options: &Options,
     hooks: &H,
 ) -> (D, Result<Report, CopyFault>)
-    ensures copied { OnOk result.1 (IsCopy D.shares (limit_of options.now) (A.state source.now) (D.state destination) roots.now (D.state result.0)) }
-    ensures report { IfOk result.1 (IsReport (A.state source.now) (D.state destination) roots.now (D.state result.0)) }
-    ensures grows { OnlyGrows D.shares (A.state source.now) (D.state destination) roots.now (D.state result.0) }
+where
+    D::Draft: Send,
+    ensures copied { OnOk result.1 (IsCopy D.shares options.now (A.state source.now)
+        (D.state destination) roots.now (D.state result.0)) }
+    ensures report { IfOk result.1 (IsReport options.now.existing (A.state source.now)
+        (D.state destination) roots.now (D.state result.0)) }
+    ensures grows { OnlyGrows D.shares (A.state source.now) (D.state destination) roots.now
+        (D.state result.0) }
     ensures tags { (D.state result.0).tags ≡ (D.state destination).tags }
     ensures workers { IsErrOf result.1 CopyFault.BadWorkers ↔ (64 < options.now.workers) }
-    ensures refused { IfErr result.1 (IsRefusalToWorkers (CanFail D.state (D.state destination)) (limit_of options.now)
+    ensures refused { IfErr result.1 (IsRefusalToWorkers (CanFail D.state (D.state destination))
+        options.now
         (A.state source.now) (D.state destination) roots.now options.now.workers) }
-    ensures plain { IfErr result.1 (λ fault. NeitherFails D.state (A.state source.now) (D.state destination)
-        → RefusedForPlanOrWorkers (A.state source.now).entries (limit_of options.now) (D.state destination).nodes roots.now options.now.workers fault) }
+    ensures plain { IfErr result.1 (λ fault. NeitherFails options.now.existing D.state
+        (A.state source.now) (D.state destination)
+        → RefusedForPlanOrWorkers (A.state source.now).entries options.now
+        (D.state destination).nodes roots.now options.now.workers fault) }
     ensures unchanged { IfErr result.1 (λ fault. IsEarly fault → result.0 ≡ destination) }
 {
     if options.workers > MAX_WORKERS {
         return (destination, Err(CopyFault::BadWorkers));
     }
-    if let Err(fault) = check_closed(&destination) {
+    if let Err(fault) = check_destination(&destination, options) {
         return (destination, Err(fault));
     }
-    copy_to_closed(rt, alloc, source, destination, roots, options, hooks)
+    copy_to_checked(rt, alloc, source, destination, roots, options, hooks)
+}
+
+/// Plans a copy to a destination that was looked at, and lets workers make it.
+pub(crate) fn copy_to_checked<
+    A: Source + Sync,
+    D: Dest + Drop + Send,
+    R: Threads + Wait + Sync,
+    H: Hooks + Sync,
+>(
+    rt: &R,
+    alloc: Global,
+    source: &A,
+    destination: D,
+    roots: &[Key],
+    options: &Options,
+    hooks: &H,
+) -> (D, Result<Report, CopyFault>)
+where
+    D::Draft: Send,
+    requires closed { IsClosedWhenSkipping options.now.existing (D.state destination).nodes }
+    requires workers { options.now.workers ≤ 64 }
+    ensures copied { OnOk result.1 (IsCopy D.shares options.now (A.state source.now)
+        (D.state destination) roots.now (D.state result.0)) }
+    ensures report { IfOk result.1 (IsReport options.now.existing (A.state source.now)
+        (D.state destination) roots.now (D.state result.0)) }
+    ensures grows { OnlyGrows D.shares (A.state source.now) (D.state destination) roots.now
+        (D.state result.0) }
+    ensures tags { (D.state result.0).tags ≡ (D.state destination).tags }
+    ensures few { IsErrOf result.1 CopyFault.BadWorkers → ⊥ }
+    ensures refused { IfErr result.1 (IsRefusalToWorkers (CanFail D.state (D.state destination))
+        options.now
+        (A.state source.now) (D.state destination) roots.now options.now.workers) }
+    ensures plain { IfErr result.1 (λ fault. NeitherFails options.now.existing D.state
+        (A.state source.now) (D.state destination)
+        → RefusedForPlanOrWorkers (A.state source.now).entries options.now
+        (D.state destination).nodes roots.now options.now.workers fault) }
+    ensures unchanged { IfErr result.1 (λ fault. IsEarly fault → result.0 ≡ destination) }
+{
+    let plan = match plan_to_checked(alloc, source, &destination, roots, options) {
+        Ok(plan) => plan,
+        Err(fault) => return (destination, Err(fault)),
+    };
+    tell_skipped(hooks, &plan);
+    let workers = options.workers;
+    let (destination, copied) = copy_planned(rt, alloc, source, destination, &plan, workers, hooks);
+    match copied {
+        Ok(()) => (destination, Ok(report_of(&plan))),
+        Err(fault) => (destination, Err(fault)),
+    }
+}
+
+/// Tells the hooks of each root that the destination has.
+fn tell_skipped<H: Hooks>(hooks: &H, plan: &Plan) {
+    for key in plan.skipped() {
+        hooks.skipped(key);
+    }
 }

@@ -2,55 +2,78 @@ ghost use Rattle.std.specs.Prelude.{OnOk, IfOk, IfErr};
 ghost use Rattle.oci_store.specs.Closed.{IsClosed};
 ghost use Rattle.oci_copy.specs.Cause.{IsOpenCause, IsStartCause};
 ghost use Rattle.oci_copy.specs.Fault.{TellsPlan};
-ghost use Rattle.oci_copy.specs.Options.{limit_of};
+ghost use Rattle.oci_copy.specs.Destination.{IsClosedWhenSkipping};
 ghost use Rattle.oci_copy.specs.Planned.{IsPlanOf};
 
 use crate::fault::CopyFault;
 use crate::options::Options;
 use oci_manifest::Key;
-use oci_plan::{Plan, PlanFault, gather};
+use oci_plan::{Existing, Plan, PlanFault, gather};
 use oci_store::{Dest, Source};
 use std::alloc::Global;
 
-/// The plan of a copy to a closed destination.
-pub(crate) fn plan_copy<A: Source, D: Dest>(
+/// What a copy of these roots would bring, and in which order: each key after what it lists.
+///
+/// Refused as the copy is refused before it brings anything: with `DestinationOpen`, with `Plan`, and with `Memory`. Nothing is
+/// changed.
+pub fn plan_copy<A: Source, D: Dest>(
     alloc: Global,
     source: &A,
     destination: &D,
     roots: &[Key],
     options: &Options,
 ) -> Result<Plan, CopyFault>
-    ensures closed { OnOk result (IsClosed (D.state destination.now).nodes) }
-    ensures plan { IfOk result (IsPlanOf (A.state source.now) (limit_of options.now) (D.state destination.now) roots.now) }
-    ensures cause { IfErr result (IsStartCause (limit_of options.now) (A.state source.now) (D.state destination.now) roots.now) }
+    ensures closed { OnOk result (IsClosedWhenSkipping options.now.existing
+        (D.state destination.now).nodes) }
+    ensures plan { IfOk result (IsPlanOf (A.state source.now) options.now (D.state destination.now)
+        roots.now) }
+    ensures cause { IfErr result (IsStartCause options.now (A.state source.now)
+        (D.state destination.now) roots.now) }
 {
-    check_closed(destination)?;
-    plan_to_closed(alloc, source, destination, roots, options)
+    check_destination(destination, options)?;
+    plan_to_checked(alloc, source, destination, roots, options)
 }
 
-/// The plan of a copy to a destination that is known to be closed.
-pub(crate) fn plan_to_closed<A: Source, D: Dest>(
+/// The plan of a copy to a destination that was looked at.
+pub(crate) fn plan_to_checked<A: Source, D: Dest>(
     alloc: Global,
     source: &A,
     destination: &D,
     roots: &[Key],
     options: &Options,
 ) -> Result<Plan, CopyFault>
-    requires closed { IsClosed (D.state destination.now).nodes }
-    ensures plan { IfOk result (IsPlanOf (A.state source.now) (limit_of options.now) (D.state destination.now) roots.now) }
-    ensures cause { IfErr result (IsStartCause (limit_of options.now) (A.state source.now) (D.state destination.now) roots.now) }
+    requires closed { IsClosedWhenSkipping options.now.existing (D.state destination.now).nodes }
+    ensures plan { IfOk result (IsPlanOf (A.state source.now) options.now (D.state destination.now)
+        roots.now) }
+    ensures cause { IfErr result (IsStartCause options.now (A.state source.now)
+        (D.state destination.now) roots.now) }
 {
     let limit = options.metadata_limit();
-    match gather(alloc, source, destination, roots, limit) {
+    match gather(alloc, source, destination, roots, limit, options.existing) {
         Ok(plan) => Ok(plan),
         Err(fault) => Err(plan_fault(fault)),
     }
 }
 
-/// A copy goes to a closed destination alone.
-pub(crate) fn check_closed<D: Dest>(destination: &D) -> Result<(), CopyFault>
+/// Looks at the destination of a copy: it has to be closed where the copy skips what it has.
+pub(crate) fn check_destination<D: Dest>(
+    destination: &D,
+    options: &Options,
+) -> Result<(), CopyFault>
+    ensures closed { OnOk result (IsClosedWhenSkipping options.now.existing
+        (D.state destination.now).nodes) }
+    ensures open { IfErr result (IsOpenCause options.now.existing (D.state destination.now)) }
+{
+    match options.existing {
+        Existing::Skip => check_closed(destination),
+        Existing::Descend => Ok(()),
+    }
+}
+
+/// A destination is closed.
+fn check_closed<D: Dest>(destination: &D) -> Result<(), CopyFault>
     ensures closed { OnOk result (IsClosed (D.state destination.now).nodes) }
-    ensures open { IfErr result (IsOpenCause (D.state destination.now)) }
+    ensures open { IfErr result (IsOpenCause Existing.Skip (D.state destination.now)) }
 {
     match destination.missing() {
         Ok(None) => Ok(()),

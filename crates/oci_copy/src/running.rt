@@ -1,9 +1,8 @@
 //! The run of a copy by workers, and what stands in its lock.
 
-pub(crate) mod guarded;
+pub(crate) mod copy_start;
 mod held;
 mod job;
-pub(crate) mod opening;
-mod pushing;
-mod waiting;
+pub(crate) mod locked;
+mod under_lock;
 pub(crate) mod workers;

@@ -1,29 +1,40 @@
-ghost use Rattle.std.specs.Prelude.{◌≡◌, OnOk, IfOk, IfErr};
-ghost use Rattle.oci_copy.specs.Cause.{IsRefusal};
+ghost use Rattle.std.specs.Prelude.{◌≡◌, OnOk, IfOk, IfErr, ◌+◌, ◌<◌, ℕ, Some, length, slice_get, ◌++◌, ◌∷◌, [], true, false, List, Contains, OnErr};
+ghost use Rattle.oci_copy.specs.Cause.{IsRefusal, IsRunCause, IsStepCause};
 ghost use Rattle.oci_copy.specs.Copy.{IsCopy, OnlyGrows};
 ghost use Rattle.oci_copy.specs.Fault.{IsEarly};
-ghost use Rattle.oci_copy.specs.Options.{limit_of};
 ghost use Rattle.oci_copy.specs.Plain.{IsUnfailing, RefusedForPlan};
 ghost use Rattle.oci_copy.specs.Report.{IsReport};
+ghost use Rattle.oci_store.specs.Keyed.{HasAll, has_key};
+ghost use Rattle.oci_plan.specs.Order.{IsOrder};
+ghost use Rattle.oci_plan.specs.Plan.{IsPlan};
+ghost use Rattle.oci_copy.specs.Kept.{Keeps};
+ghost use Rattle.oci_copy.specs.Planned.{CanPush, CanBeRead};
+ghost use Rattle.std.specs.Map.{keys_of};
+ghost use Rattle.oci_manifest.specs.Descriptor.{Descriptor};
+ghost use Rattle.oci_store.specs.Parts.{IsLeaf};
+ghost use Rattle.oci_plan.specs.Visiting.{successors_at};
+ghost use Rattle.oci_copy.specs.Grown.{graph_of};
 
 use crate::fault::CopyFault;
+use crate::fetching::{draft_planned, fetch_planned, goes_by_parts, push_fault};
 use crate::options::Options;
 use crate::planning::plan_copy;
-use crate::pushing::push_all;
 use crate::report::{Report, report_of};
 use oci_manifest::Key;
+use oci_plan::Plan;
 use oci_store::{Dest, Source};
 use std::alloc::Global;
 
 /// Copies what the source has under some roots, on the calling thread (oras-go v2, "CopyGraph").
 ///
 /// The destination always comes back. It gains each key that the source reaches from a root along keys that the destination
-/// lacks; nothing that it had is lost, and its tags stay. A key that it has is taken to have
-/// all that it lists, so the destination has to be closed.
+/// lacks; nothing that it had is lost, and its tags stay. A key that it has is taken to have all that it lists, so the destination
+/// has to be closed. With `Existing::Descend` it need not be: it gains each key that the source reaches from a root and that it
+/// lacks.
 ///
 /// Refused, in this order, with `DestinationOpen`; with `Plan`, where the source cannot give what is to be brought; and then, for
 /// each key in turn, with `Fetch`, `Push` or `Stuck`. With the first two nothing is changed, and with the others the keys pushed
-/// before stay and the destination is closed. `Memory` may come at any point, and leaves what the others leave.
+/// before stay, each with all that it lists, so that a closed destination is closed. `Memory` may come at any point, and leaves what the others leave.
 ///
 /// Each manifest is fetched once for the plan, and each key once for its push; contents are shared and not copied.
 pub fn copy_one<A: Source, D: Dest>(
@@ -33,13 +44,19 @@ pub fn copy_one<A: Source, D: Dest>(
     roots: &[Key],
     options: &Options,
 ) -> (D, Result<Report, CopyFault>)
-    ensures copied { OnOk result.1 (IsCopy D.shares (limit_of options.now) (A.state source.now) (D.state destination) roots.now (D.state result.0)) }
-    ensures report { IfOk result.1 (IsReport (A.state source.now) (D.state destination) roots.now (D.state result.0)) }
-    ensures grows { OnlyGrows D.shares (A.state source.now) (D.state destination) roots.now (D.state result.0) }
+    ensures copied { OnOk result.1 (IsCopy D.shares options.now (A.state source.now)
+        (D.state destination) roots.now (D.state result.0)) }
+    ensures report { IfOk result.1 (IsReport options.now.existing (A.state source.now)
+        (D.state destination) roots.now (D.state result.0)) }
+    ensures grows { OnlyGrows D.shares (A.state source.now) (D.state destination) roots.now
+        (D.state result.0) }
     ensures tags { (D.state result.0).tags ≡ (D.state destination).tags }
-    ensures refused { IfErr result.1 (IsRefusal (limit_of options.now) (A.state source.now) (D.state destination) roots.now (D.state result.0)) }
-    ensures plain { IfErr result.1 (λ fault. IsUnfailing (A.state source.now) (D.state destination) (D.state result.0)
-        → RefusedForPlan (A.state source.now).entries (limit_of options.now) (D.state destination).nodes roots.now fault) }
+    ensures refused { IfErr result.1 (IsRefusal options.now (A.state source.now)
+        (D.state destination) roots.now (D.state result.0)) }
+    ensures plain { IfErr result.1 (λ fault. IsUnfailing options.now.existing (A.state source.now)
+        (D.state destination) (D.state result.0)
+        → RefusedForPlan (A.state source.now).entries options.now (D.state destination).nodes
+        roots.now fault) }
     ensures unchanged { IfErr result.1 (λ fault. IsEarly fault → result.0 ≡ destination) }
 {
     let plan = match plan_copy(alloc, source, &destination, roots, options) {
@@ -50,5 +67,115 @@ pub fn copy_one<A: Source, D: Dest>(
     match push_all(source, &mut destination, &plan) {
         Ok(()) => (destination, Ok(report_of(&plan))),
         Err(fault) => (destination, Err(fault)),
+    }
+}
+
+/// Pushes the planned keys in the plan's order, up to the first that is refused.
+pub(crate) fn push_all<A: Source, D: Dest>(
+    source: &A,
+    destination: &mut D,
+    plan: &Plan,
+) -> Result<(), CopyFault>
+    requires { CanPush (A.state source.now) (D.state destination.old) plan.now }
+    ensures held { OnOk result (HasAll (D.state destination.new).nodes plan.now.keys) }
+    ensures count { OnOk result (length (D.state destination.new).nodes ≡ length
+        (D.state destination.old).nodes + length plan.now.keys) }
+    ensures keeps { Keeps D.shares (A.state source.now) plan.now.keys (D.state destination.old)
+        (D.state destination.new) }
+    ensures cause { IfErr result (IsRunCause (A.state source.now) (D.state destination.old)
+        (D.state destination.new) plan.now.keys) }
+{
+    for place in 0..plan.len() {
+        push_planned(source, destination, key_at(plan, place))?;
+    }
+    Ok(())
+}
+
+/// The key at a place of the plan's order.
+fn key_at(plan: &Plan, place: usize) -> &Key
+    requires plan { IsPlan plan.now }
+    requires order { IsOrder plan.now.order }
+    requires place { place < length plan.now.keys }
+    ensures { (n : ℕ) × (slice_get plan.now.order.sequence place ≡ Some n)
+        × (slice_get plan.now.keys n ≡ Some result.now) }
+{
+    let Some(number) = plan.order().at(place) else {
+        unreachable!()
+    };
+    let Some(key) = plan.key(number) else {
+        unreachable!()
+    };
+    key
+}
+
+/// Fetches a planned key and pushes it, after what it lists.
+pub(crate) fn push_planned<A: Source, D: Dest>(
+    source: &A,
+    destination: &mut D,
+    key: &Key,
+) -> Result<(), CopyFault>
+    requires there { has_key (A.state source.now).entries key.now ≡ true }
+    requires reads { (A.state source.now).is_honest
+        → CanBeRead (A.state source.now).entries key.now }
+    requires fresh { has_key (D.state destination.old).nodes key.now ≡ false }
+    requires ready { (A.state source.now).is_honest
+        → HasAll (D.state destination.old).nodes (successors_at (graph_of (A.state source.now))
+        key.now) }
+    ensures pushed { OnOk result (keys_of (D.state destination.new).nodes ≡ keys_of
+        (D.state destination.old).nodes ++ key.now ∷ []) }
+    ensures refused { OnErr result ((D.state destination.new).nodes ≡ (D.state
+        destination.old).nodes) }
+    ensures keeps { (planned : List Descriptor) (opening : D) → Contains planned key.now
+        → Keeps D.shares (A.state source.now) planned (D.state opening) (D.state destination.old)
+        → Keeps D.shares (A.state source.now) planned (D.state opening) (D.state destination.new) }
+    ensures cause { IfErr result (IsStepCause (A.state source.now) (D.state destination.old)
+        (D.state destination.new) key.now) }
+    ensures running { OnOk result ((D.state destination.new).is_halted
+        → (D.state destination.old).is_halted) }
+{
+    if goes_by_parts(source, key) {
+        return push_parts(source, destination, key);
+    }
+    let content = fetch_planned(source, key)?;
+    match destination.push_checked(content) {
+        Ok(_) => Ok(()),
+        Err(fault) => Err(push_fault(key, fault)),
+    }
+}
+
+/// The same of a key that lists nothing, whose content is read part by part.
+fn push_parts<A: Source, D: Dest>(
+    source: &A,
+    destination: &mut D,
+    key: &Key,
+) -> Result<(), CopyFault>
+    requires leaf { IsLeaf key.now }
+    requires fails { (A.state source.now).fails_at key.now ≡ true }
+    requires there { has_key (A.state source.now).entries key.now ≡ true }
+    requires reads { (A.state source.now).is_honest
+        → CanBeRead (A.state source.now).entries key.now }
+    requires fresh { has_key (D.state destination.old).nodes key.now ≡ false }
+    requires ready { (A.state source.now).is_honest
+        → HasAll (D.state destination.old).nodes (successors_at (graph_of (A.state source.now))
+        key.now) }
+    ensures pushed { OnOk result (keys_of (D.state destination.new).nodes ≡ keys_of
+        (D.state destination.old).nodes ++ key.now ∷ []) }
+    ensures refused { OnErr result ((D.state destination.new).nodes ≡ (D.state
+        destination.old).nodes) }
+    ensures keeps { (planned : List Descriptor) (opening : D) → Contains planned key.now
+        → Keeps D.shares (A.state source.now) planned (D.state opening) (D.state destination.old)
+        → Keeps D.shares (A.state source.now) planned (D.state opening) (D.state destination.new) }
+    ensures cause { IfErr result (IsStepCause (A.state source.now) (D.state destination.old)
+        (D.state destination.new) key.now) }
+    ensures running { OnOk result ((D.state destination.new).is_halted
+        → (D.state destination.old).is_halted) }
+{
+    let Ok(mut draft) = destination.draft(key) else {
+        return Err(CopyFault::Memory);
+    };
+    draft_planned(source, key, &mut draft)?;
+    match destination.push_draft(key, draft) {
+        Ok(_) => Ok(()),
+        Err(fault) => Err(push_fault(key, fault)),
     }
 }

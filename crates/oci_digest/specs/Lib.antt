@@ -3,5 +3,6 @@ pub mod Algorithm
 pub mod Digest
 pub mod Hash
 pub mod HashLaws
+pub mod Hashing
 pub mod Fault
 pub mod Refusals

@@ -2,6 +2,7 @@
 ghost use Rattle.std.specs.Prelude.{◌≡◌, ◌↔◌, ◌++◌, codes, Some, IsTrue, IsOk, IfOk, IsErrOf, is_ok, string_bytes};
 ghost use Rattle.oci_digest.specs.Algorithm.{sha256, sha512};
 ghost use Rattle.oci_digest.specs.Digest.{digest_of, digest_by, text_by, algorithm_of, encoded_of, IsDigest, is_digest, Verifies, verifies};
+ghost use Rattle.oci_digest.specs.Hash.{IsHash, text_of};
 ghost use Rattle.oci_digest.specs.Refusals.{IsBadForm, HasUnknownAlgorithm, HasBadEncoding};
 
 use crate::fault::{DigestFault, NoMemory};
@@ -99,6 +100,14 @@ impl Digest {
             Hash::Sha256(bytes) => *bytes == Sha256::digest(content),
             Hash::Sha512(bytes) => *bytes == Sha512::digest(content),
         }
+    }
+
+    /// The hash that it keeps.
+    pub(crate) fn hash(&self) -> &Hash
+        ensures is_hash { IsHash result.now }
+        ensures text { self.now ≡ text_of result.now }
+    {
+        &self.hash
     }
 
     /// The part of its text before the colon, `sha256` or `sha512` (descriptor.md, "Digests").

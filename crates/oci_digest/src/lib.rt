@@ -32,7 +32,9 @@
 mod digest;
 mod fault;
 mod hash;
+mod hasher;
 mod parse;
 
 pub use digest::Digest;
 pub use fault::{DigestFault, NoMemory};
+pub use hasher::Hasher;

@@ -9,8 +9,9 @@ use Rattle.oci_manifest.specs.declared.fault.ManifestFault.{ManifestFault}
 use Rattle.oci_manifest.specs.declared.kind.Kind.TheVariants.{Leaf}
 use Rattle.oci_store.specs.Content.{Matches, succ_of}
 use Rattle.oci_layout.specs.Blobs.{blob_path}
-use Rattle.oci_layout.specs.Device.{File, IsRaised}
+use Rattle.oci_layout.specs.Device.{File}
 use Rattle.oci_layout.specs.Index.{index_file, layout_file, layout_version, version_in, HasLayoutFile}
+use Rattle.oci_store.specs.Push.{IsRaised}
 use Rattle.oci_store.specs.Visiting.{IsVisiting}
 use Rattle.oci_layout.specs.Opened.{IsGood, IsIndexFile, listed_in, any}
 use Rattle.oci_layout.specs.declared.fault.LayoutFault.{LayoutFault}

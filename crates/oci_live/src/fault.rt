@@ -6,7 +6,7 @@ use thiserror::Error;
 /// Why a store is not opened for looks.
 #[derive(Clone, Copy, Debug, PartialEq, Eq, Error)]
 pub enum LiveFault {
-    /// Memory was wanting.
+    /// Out of memory.
     #[error("48 Memory")]
     Memory,
 }
@@ -20,7 +20,7 @@ pub enum LookFault {
     /// There is no place for one more look, or the store is gone.
     #[error("46 Unavailable")]
     Unavailable,
-    /// Memory was wanting.
+    /// Out of memory.
     #[error("47 Memory")]
     Memory,
 }

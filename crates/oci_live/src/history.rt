@@ -99,7 +99,10 @@ impl History {
     /// memory itself.
     pub(crate) fn append(&mut self, key: &Key, bytes: &Bytes) -> Result<Witness, NoMemory>
         ensures book { self.new.front.book ≡ self.old.front.book }
-        ensures appended { OnOk result (self.new.front.log ≡ self.old.front.log ++ (key.now, bytes.now) ∷ []) }
+        ensures appended { OnOk result (self.new.front.log ≡ self.old.front.log ++ (
+          key.now,
+          bytes.now,
+        ) ∷ []) }
         ensures witness { IfOk result (λ witness. witness ≡ self.new.front) }
     {
         if self.len == u64::MAX {

@@ -23,7 +23,7 @@ use std::sync::Wait;
 /// A store that is read while it grows. It is closed, and what it holds is what it has published: each push is one
 /// publication, which looks on any thread see at once.
 ///
-/// It is a destination of copies ([`oci_store::Dest`]). Where a publication is refused for want of memory, the store halts: it
+/// It is a destination of copies ([`oci_store::Dest`]). Where a publication runs out of memory, the store halts: it
 /// keeps what it has published, goes on being read, and takes nothing any more.
 pub struct LiveStore<R: Wait + Drop> {
     rt: R,
@@ -114,7 +114,8 @@ impl<R: Wait + Drop> LiveStore<R> {
 
     /// A closed store of what is published, without tags. The contents are shared and not copied.
     pub fn copy_out(&self) -> Result<ClosedStore, NoMemory>
-        ensures { IfOk result (λ closed. closed ≡ record { entries = self.now.entries; tags = [] }) }
+        ensures { IfOk result (λ closed. closed ≡ record
+            { entries = self.now.entries; tags = [] }) }
     {
         Ok(ClosedStore::from_entries(self.shelf().entries.try_clone()?))
     }
@@ -123,7 +124,8 @@ impl<R: Wait + Drop> LiveStore<R> {
     fn publish(&mut self, content: CheckedContent) -> Result<(), NoMemory>
         requires running { self.old.is_halted ≡ false }
         requires closed { IsClosed (nodes_of (self.old.entries ++ content ∷ [])) }
-        ensures done { OnOk result (self.new ≡ record self.old { entries = self.old.entries ++ content ∷ [] }) }
+        ensures done { OnOk result (self.new ≡ record self.old
+            { entries = self.old.entries ++ content ∷ [] }) }
         ensures refused { OnErr result (self.new ≡ record self.old { is_halted = true }) }
     {
         let LiveStore {

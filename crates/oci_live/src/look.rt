@@ -19,8 +19,8 @@ use std::marker::Model;
 /// What one thread has seen of a live store: which store, and the longest beginning of its history that this look has shown or
 /// was told of.
 ///
-/// Each answer is exact for one list: the store's published entries at one moment of the call. That list is closed, begins with
-/// the look's list, and is the look's list afterwards. No call waits; what it takes from memory is said at each.
+/// Each answer is exact for one list, which is a beginning of the store's history. That list is closed, begins with the look's
+/// list, and is the look's list afterwards. No call waits; what it takes from memory is said at each.
 #[derive(Drop)]
 pub struct Look {
     viewer: Viewer,
@@ -53,7 +53,8 @@ impl Look {
     pub fn learn(&mut self, note: &Note)
         requires name { self.old.name ≡ note.now.name }
         ensures name { self.new.name ≡ self.old.name }
-        ensures one { (self.new.entries ≡ self.old.entries) ⊎ (self.new.entries ≡ note.now.entries) }
+        ensures one { (self.new.entries ≡ self.old.entries) ⊎
+            (self.new.entries ≡ note.now.entries) }
         ensures later { IsPrefix self.old.entries self.new.entries }
         ensures told { IsPrefix note.now.entries self.new.entries }
     {
@@ -80,7 +81,8 @@ impl Look {
         ensures name { self.new.name ≡ self.old.name }
         ensures later { IsPrefix self.old.entries self.new.entries }
         ensures closed { IsClosed (nodes_of self.new.entries) }
-        ensures count { IfOk result (λ n. (n ≡ length self.new.entries) × IsContent self.new.entries) }
+        ensures count { IfOk result (λ n. (n ≡ length self.new.entries)
+            × IsContent self.new.entries) }
         ensures refused { IfErr result (λ fault. (fault ≡ Unavailable) × (self.new ≡ self.old)) }
     {
         self.ask(&Count)
@@ -95,7 +97,8 @@ impl Look {
         ensures closed { IsClosed (nodes_of self.new.entries) }
         ensures found { IfOk result (λ found. found ≡ slice_get self.new.entries place) }
         ensures not_found { IsErrOf result LookFault.NotFound → ⊥ }
-        ensures memory { IsErrOf result LookFault.Memory → IsSome (slice_get self.new.entries place) }
+        ensures memory { IsErrOf result LookFault.Memory
+            → IsSome (slice_get self.new.entries place) }
         ensures unavailable { IsErrOf result LookFault.Unavailable → self.new ≡ self.old }
     {
         self.ask(&EntryAt { place })?
@@ -110,7 +113,8 @@ impl Look {
         ensures closed { IsClosed (nodes_of self.new.entries) }
         ensures found { IfOk result (λ bytes. value_at self.new.entries key.now ≡ Some bytes) }
         ensures matching { IfOk result (λ bytes. Matches key.now bytes) }
-        ensures not_found { IsErrOf result LookFault.NotFound → has_key self.new.entries key.now ≡ false }
+        ensures not_found { IsErrOf result LookFault.NotFound
+            → has_key self.new.entries key.now ≡ false }
         ensures memory { IsErrOf result LookFault.Memory → has_key self.new.entries key.now ≡ true }
         ensures unavailable { IsErrOf result LookFault.Unavailable → self.new ≡ self.old }
     {

@@ -43,6 +43,7 @@ impl Note {
     pub(crate) fn is_of_closed_list(&self)
         ensures { IsClosed (nodes_of self.now.entries) }
     {
+        // A look at a field tells the proof what every note keeps.
         let _ = &self.len;
     }
 
@@ -69,7 +70,8 @@ impl Note {
     pub(crate) fn learn(&mut self, note: &Note)
         requires name { self.old.name ≡ note.now.name }
         ensures name { self.new.name ≡ self.old.name }
-        ensures one { (self.new.entries ≡ self.old.entries) ⊎ (self.new.entries ≡ note.now.entries) }
+        ensures one { (self.new.entries ≡ self.old.entries) ⊎
+            (self.new.entries ≡ note.now.entries) }
         ensures later { IsPrefix self.old.entries self.new.entries }
         ensures told { IsPrefix note.now.entries self.new.entries }
     {

@@ -22,7 +22,8 @@ pub(crate) fn opened<R: Wait>(
     entries: &Entries,
 ) -> Result<(Publisher, History), NoMemory>
     requires { IsClosed (nodes_of entries.now) }
-    ensures live { IfOk result (λ o. IsLive (view o.0.desk.place) o.0.desk.shown.value o.1.front.book o.1.front.log
+    ensures live { IfOk result (λ o. IsLive (view o.0.desk.place) o.0.desk.shown.value
+        o.1.front.book o.1.front.log
         (drop o.0.behind o.0.log.items) false) }
     ensures entries { IfOk result (λ o. o.0.desk.shown.value.entries ≡ entries.now) }
 {

@@ -20,12 +20,16 @@ pub(crate) fn publish<R: Wait>(
     requires nothing { drop publisher.old.behind publisher.old.log.items ≡ [] }
     requires shown { IsShown (view publisher.old.desk.place) publisher.old.desk.shown.value }
     requires told { item.witness.log ≡ publisher.old.desk.shown.value.entries ++ item.content ∷ [] }
-    requires name { name_of item.witness.book ≡ name_of publisher.old.desk.shown.value.witness.book }
-    requires closed { IsClosed (nodes_of (publisher.old.desk.shown.value.entries ++ item.content ∷ [])) }
+    requires name { name_of item.witness.book ≡ name_of
+        publisher.old.desk.shown.value.witness.book }
+    requires closed { IsClosed
+        (nodes_of (publisher.old.desk.shown.value.entries ++ item.content ∷ [])) }
     ensures shown { IsShown (view publisher.new.desk.place) publisher.new.desk.shown.value }
-    ensures done { OnOk result (Follows publisher.old.desk.shown.value item.content publisher.new.desk.shown.value
+    ensures done { OnOk result (Follows publisher.old.desk.shown.value item.content
+        publisher.new.desk.shown.value
         × (drop publisher.new.behind publisher.new.log.items ≡ [])) }
-    ensures refused { OnErr result (publisher.new.desk.shown.value ≡ publisher.old.desk.shown.value) }
+    ensures refused { OnErr result
+        (publisher.new.desk.shown.value ≡ publisher.old.desk.shown.value) }
 {
     replace_with(
         publisher,
@@ -46,9 +50,11 @@ fn published<R: Wait>(publisher: Publisher, rt: &R, item: Item) -> (Publisher, R
     requires shown { IsShown (view publisher.desk.place) publisher.desk.shown.value }
     requires told { item.witness.log ≡ publisher.desk.shown.value.entries ++ item.content ∷ [] }
     requires name { name_of item.witness.book ≡ name_of publisher.desk.shown.value.witness.book }
-    requires closed { IsClosed (nodes_of (publisher.desk.shown.value.entries ++ item.content ∷ [])) }
+    requires closed { IsClosed
+        (nodes_of (publisher.desk.shown.value.entries ++ item.content ∷ [])) }
     ensures shown { IsShown (view result.0.desk.place) result.0.desk.shown.value }
-    ensures done { OnOk result.1 (Follows publisher.desk.shown.value item.content result.0.desk.shown.value
+    ensures done { OnOk result.1 (Follows publisher.desk.shown.value item.content
+        result.0.desk.shown.value
         × (drop result.0.behind result.0.log.items ≡ [])) }
     ensures refused { OnErr result.1 (result.0.desk.shown.value ≡ publisher.desk.shown.value) }
 {

@@ -30,7 +30,8 @@ pub(crate) fn ask<Q: Question>(
     question: &Q,
 ) -> Option<(Q::Answer, Witness, usize)>
     requires { (view viewer.old.place).is_told ≡ true }
-    ensures viewer { ((view viewer.new.place).is_told ≡ true) × ((view viewer.new.place).name ≡ (view viewer.old.place).name) }
+    ensures viewer { ((view viewer.new.place).is_told ≡ true)
+        × ((view viewer.new.place).name ≡ (view viewer.old.place).name) }
     ensures answer { IfSome result (λ r. Q.answers question.now r.1.log r.0 × (r.2 ≡ length r.1.log)
         × IsClosed (nodes_of r.1.log) × (name_of r.1.book ≡ (view viewer.old.place).name)) }
 {
@@ -46,8 +47,10 @@ pub(crate) fn ask<Q: Question>(
 /// The viewer once it has asked.
 fn asked<Q: Question>(viewer: Viewer, question: &Q) -> (Viewer, Option<(Q::Answer, Witness, usize)>)
     requires { (view viewer.place).is_told ≡ true }
-    ensures viewer { ((view result.0.place).is_told ≡ true) × ((view result.0.place).name ≡ (view viewer.place).name) }
-    ensures answer { IfSome result.1 (λ r. Q.answers question.now r.1.log r.0 × (r.2 ≡ length r.1.log)
+    ensures viewer { ((view result.0.place).is_told ≡ true)
+        × ((view result.0.place).name ≡ (view viewer.place).name) }
+    ensures answer { IfSome result.1 (λ r. Q.answers question.now r.1.log r.0
+        × (r.2 ≡ length r.1.log)
         × IsClosed (nodes_of r.1.log) × (name_of r.1.book ≡ (view viewer.place).name)) }
 {
     match viewer.enter_as::<Sees>() {

@@ -49,7 +49,8 @@ impl Absorb<Item> for Shelf {
 ///
 /// A key that is there is refused: no publication has one, which no clause of `Absorb` lets a shelf know.
 fn add(entries: &mut Entries, content: &CheckedContent) -> Result<(), NoMemory>
-    ensures { MatchResult result (λ _. entries.new ≡ entries.old ++ content.now ∷ []) (λ _. entries.new ≡ entries.old) }
+    ensures { MatchResult result (λ _. entries.new ≡ entries.old ++ content.now ∷ [])
+        (λ _. entries.new ≡ entries.old) }
 {
     if entries.graph().holds(content.key()) {
         return Err(NoMemory);

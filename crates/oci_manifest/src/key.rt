@@ -47,7 +47,11 @@ impl Key {
     /// [4] BadSize where the size is over [`MAX_SIZE`], and only there.
     pub fn new(media_type: String, digest: Digest, size: u64) -> Result<Key, KeyFault>
         ensures parts { IfOk result
-            (λ k. k ≡ record { media_type = string_bytes media_type; digest = digest; size = size }) }
+            (λ k. k ≡ record {
+              media_type = string_bytes media_type;
+              digest = digest;
+              size = size;
+            }) }
         ensures fits { IsOk result ↔ (size < 2 ^ 63) }
         ensures refused { IfErr result (λ e. e ≡ BadSize) }
     {

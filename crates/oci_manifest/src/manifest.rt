@@ -94,11 +94,13 @@ pub fn successors(alloc: Global, kind: Kind, bytes: &[u8]) -> Result<Vec<Key>, M
     // What is answered is what the content lists.
     ensures found { IfOk result (λ keys. Reads kind bytes.now keys.items) }
     // What reads is answered, unless memory runs out.
-    ensures reads { (L : List Descriptor) → Reads kind bytes.now L → Gives (λ keys. keys.items) result (Ok L) }
+    ensures reads { (L : List Descriptor) → Reads kind bytes.now L
+        → Gives (λ keys. keys.items) result (Ok L) }
     // A refusal tells the first rule that is broken.
     ensures refused { IfErr result (λ e. Refuses e (Breaks kind bytes.now)) }
     // The first broken rule is refused, unless memory runs out.
-    ensures breaks { (f : Fault) → Breaks kind bytes.now f → Gives (λ keys. keys.items) result (Err f) }
+    ensures breaks { (f : Fault) → Breaks kind bytes.now f
+        → Gives (λ keys. keys.items) result (Err f) }
     // No key stands there twice.
     ensures distinct { IfOk result (λ keys. IsDistinct same_key keys.items) }
     // A leaf takes no memory.

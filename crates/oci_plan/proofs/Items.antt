@@ -101,6 +101,17 @@ leaf_lists entries k leaf there =
     let it = held_bytes entries k there in
     sym (successors_at-nodes_of entries k it.0 [] it.1 (leaf_reads k it.0 leaf))
 
+absent_bytes : (entries : List Entry) (k : Descriptor) → has_key entries k ≡ false → value_at entries k ≡ None
+absent_bytes entries k h = go (value_at entries k) refl h
+  where
+    go : (o : Option (List ℕ)) → o ≡ value_at entries k → is_some o ≡ false → value_at entries k ≡ None
+    go (Some bytes) e h = cc h
+    go None e h = sym e
+
+-- a key that the source does not have lists nothing
+pub absent_lists : (entries : List Entry) (k : Descriptor) → has_key entries k ≡ false → [] ≡ successors_at (nodes_of entries) k
+absent_lists entries k h = sym (ap (λ (o : Option (List Descriptor)). unwrap_or o []) (value_at-nodes_of entries k ∙ ap (option_map (successors_in k)) (absent_bytes entries k h)))
+
 -- a fact about the answer of an item, from a fact about its reading
 pub record IsItemAnswer (honest : Type 0) (fails : Descriptor → Bool) (entries : List Entry) (limit : ℕ) (k : Descriptor) (r : Result (Vec Descriptor) PlanFault) : Type 0 where
   pub passed : OnOk r (IsPassed honest entries limit k)

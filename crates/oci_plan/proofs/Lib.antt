@@ -2,6 +2,7 @@ pub mod Climbs
 pub mod Cycles
 pub mod Doubles
 pub mod Ends
+pub mod Fresh
 pub mod Items
 pub mod Lists
 pub mod Names

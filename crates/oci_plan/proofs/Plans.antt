@@ -16,17 +16,18 @@ use Rattle.oci_store.specs.Graph.{Node, nodes_of, IsEdge}
 use Rattle.oci_plan.specs.Graph.{lists_of, successors_of, without_doubles, HasEdge, IsGraph, IsCycle, IsFirstBad}
 use Rattle.oci_plan.specs.Order.{Ordered, IsOrder}
 use Rattle.oci_plan.specs.Fault.{IsCauseOf}
-use Rattle.oci_plan.specs.Outside.{IsOutside, IsKeyCycle}
-use Rattle.oci_plan.specs.Visiting.{successors_at, is_fresh, IsSoundItem}
+use Rattle.oci_plan.specs.Outside.{IsToBring, IsKeyCycle}
+use Rattle.oci_plan.specs.Visiting.{successors_at, is_fresh, IsOnlyInDestination, IsSoundItem}
+use Rattle.oci_plan.specs.declared.existing.Existing.{Existing}
 use Rattle.oci_plan.specs.Plan.{Number, HasEdges, FollowsListed}
-use Rattle.oci_plan.specs.Refusal.{IsFirstFault}
-use Rattle.oci_plan.specs.Walk.{IsListOf, IsPassed, IsWalk, IsTellable, TellsKeys, IsNamedCycle}
+use Rattle.oci_plan.specs.Refusal.{NamesNoneOnlyInDestination, IsFirstFault}
+use Rattle.oci_plan.specs.Walk.{IsListOf, IsPassed, IsGathered, IsTellable, TellsKeys, IsNamedCycle}
 use Rattle.oci_plan.specs.declared.fault.OrderFault.{OrderFault}
 use Rattle.oci_plan.specs.declared.fault.OrderFault.TheVariants as ordering
 use Rattle.oci_plan.specs.declared.fault.PlanFault.{PlanFault}
 use Rattle.oci_plan.specs.declared.fault.PlanFault.TheVariants as fault
-use Rattle.oci_store.proofs.Membership.{Keys, Contains-from_among, among_from_Contains, among-filter, among_filter_from, among_from_place, place_from_among, All-from_among, one_place}
-use Rattle.oci_plan.proofs.Visits.{found_outside, outside_found, successors_at-edge}
+use Rattle.oci_store.proofs.Membership.{Keys, Contains-from_among, among-filter, among_filter_from, among_from_place, place_from_among, All-from_among, All-among, one_place}
+use Rattle.oci_plan.proofs.Visits.{successors_at-edge}
 use Rattle.oci_plan.proofs.Names.{first_two}
 use Rattle.oci_plan.proofs.Walks.{sound_item}
 
@@ -137,7 +138,7 @@ doubles-at (l ∷ lists) zero v at =
     ap (λ (x : Vec ℕ). without_doubles x.items) same
 doubles-at (l ∷ lists) (suc n) v at = doubles-at lists n v at
 
-module _ (honest : Type 0) (entries : List Entry) (held : List Node) (roots : Keys) (limit : ℕ) (keys : Keys) (lists : List (Vec ℕ)) (walk : IsWalk honest entries held roots limit keys keys lists) (distinct : IsDistinct same_key keys) where
+module _ (honest : Type 0) (existing : Existing) (entries : List Entry) (held : List Node) (roots : Keys) (limit : ℕ) (keys : Keys) (lists : List (Vec ℕ)) (walk : IsGathered honest existing entries held roots limit keys lists) (distinct : IsDistinct same_key keys) where
   abbrev source : List Node
   source = nodes_of entries
 
@@ -258,39 +259,51 @@ module _ (honest : Type 0) (entries : List Entry) (held : List Node) (roots : Ke
                 absurd (cycle.distinct i j 0 lt (omega (arith, within, same_len)) one)
           ]
 
-  -- all were visited, so every key outside is sound
-  outside_sound : honest → (k : Descriptor) → IsOutside source held roots k → IsSoundItem entries limit k
-  outside_sound h k outside =
-      let there = Contains-from_among keys k (outside_found source held roots keys (walk.found h) k outside) in
-      sound_item honest entries held roots limit h k (All-contains (IsPassed honest entries limit) keys k walk.passed there)
-
-  -- what is told of an order's fault is a cause against the plan
-  pub told_first : (f : OrderFault) (e : PlanFault) → IsCauseOf (lists_of lists) f → TellsKeys keys f e → honest → IsFirstFault entries held roots limit e
-  told_first (ordering.Cycle numbers) e cause told h = go e told
+  -- what is told of an order's fault names no key that only the destination has: a cycle is one of planned keys
+  pub told_spared : (f : OrderFault) (e : PlanFault) → TellsKeys keys f e → NamesNoneOnlyInDestination entries held e
+  told_spared (ordering.Cycle numbers) e told = go e told
     where
-      outside : (named : Keys) → Number keys numbers.items named → All (IsOutside source held roots) named
-      outside named names = All-from_among (IsOutside source held roots) named (λ k there.
+      planned : (named : Keys) → Number keys numbers.items named → All (λ k. IsOnlyInDestination entries held k → ⊥) named
+      planned named names = All-from_among (λ k. IsOnlyInDestination entries held k → ⊥) named (λ k there only.
           let it = numbered_key keys numbers.items named k names there in
-          found_outside source held roots keys k (walk.visiting h) (ap (λ (t : Keys). is_among t k) (sym (walk.found h)) ∙ among_from_place keys it.0 k it.2))
+          both_ways (has_key held k) (All-among (λ x. has_key held x ≡ false) keys k walk.fresh (among_from_place keys it.0 k it.2)) only.0)
 
-      go : (e : PlanFault) → IsNamedCycle keys numbers.items e → IsFirstFault entries held roots limit e
+      go : (e : PlanFault) → IsNamedCycle keys numbers.items e → NamesNoneOnlyInDestination entries held e
       go (fault.TooLarge k l) told' = absurd told'
       go (fault.NotFound k) told' = absurd told'
       go (fault.Fetch k x) told' = absurd told'
       go (fault.Manifest k x) told' = absurd told'
-      go (fault.Cycle named) told' = (named_cycle numbers.items named.items cause.1 told' h, outside named.items told', outside_sound h)
+      go (fault.Cycle named) told' = planned named.items told'
+      go fault.Memory told' = tt
+      go fault.TooMany told' = absurd told'
+  told_spared (ordering.BadNumber list number) e told = absurd told
+  told_spared ordering.Memory e told = subst (λ (x : PlanFault). NamesNoneOnlyInDestination entries held x) (sym told) tt
+
+  -- what is told of an order's fault is a cause against the plan
+  pub told_first : (f : OrderFault) (e : PlanFault) → IsCauseOf (lists_of lists) f → TellsKeys keys f e → honest → IsFirstFault existing entries held roots limit e
+  told_first (ordering.Cycle numbers) e cause told h = go e told
+    where
+      bring : (named : Keys) → Number keys numbers.items named → All (IsToBring existing source held roots) named
+      bring named names = All-from_among (IsToBring existing source held roots) named (λ k there.
+          let it = numbered_key keys numbers.items named k names there in
+          (walk.exactly h k).0 (Contains-from_among keys k (among_from_place keys it.0 k it.2)))
+
+      go : (e : PlanFault) → IsNamedCycle keys numbers.items e → IsFirstFault existing entries held roots limit e
+      go (fault.TooLarge k l) told' = absurd told'
+      go (fault.NotFound k) told' = absurd told'
+      go (fault.Fetch k x) told' = absurd told'
+      go (fault.Manifest k x) told' = absurd told'
+      go (fault.Cycle named) told' = (named_cycle numbers.items named.items cause.1 told' h, bring named.items told', walk.sound h)
       go fault.Memory told' = tt
       go fault.TooMany told' = absurd told'
   told_first (ordering.BadNumber list number) e cause told h = absurd told
-  told_first ordering.Memory e cause told h = subst (λ (x : PlanFault). IsFirstFault entries held roots limit x) (sym told) tt
+  told_first ordering.Memory e cause told h = subst (λ (x : PlanFault). IsFirstFault existing entries held roots limit x) (sym told) tt
+
+  -- what passed its checks is sound
+  pub planned_sound : honest → All (IsSoundItem entries limit) keys
+  planned_sound h = All-weaker (IsPassed honest entries limit) (IsSoundItem entries limit) (sound_item honest entries limit h) keys walk.passed
 
   -- ---- a plan
-
-  pub outside_exactly : honest → (k : Descriptor) → (Contains keys k → IsOutside source held roots k) × (IsOutside source held roots k → Contains keys k)
-  outside_exactly h k = (
-    λ there. found_outside source held roots keys k (walk.visiting h) (ap (λ (t : Keys). is_among t k) (sym (walk.found h)) ∙ among_from_Contains keys k there),
-    λ outside. Contains-from_among keys k (outside_found source held roots keys (walk.found h) k outside),
-  )
 
   module _ (o : Ordered) (ordered : o.lists ≡ map without_doubles (lists_of lists)) where
     pub numbered : length o.lists ≡ length keys

@@ -3,12 +3,28 @@ use Rattle.std.specs.Prelude.{◌≡◌, ℕ, ◌+◌, ◌-◌, ◌<◌, false, 
 use Rattle.std.specs.List.{IsDistinct}
 use Rattle.oci_manifest.specs.Descriptor.{Descriptor, same_key}
 use Rattle.oci_store.specs.Keyed.{has_key}
-use Rattle.oci_store.specs.Graph.{Node, IsEdge}
+use Rattle.oci_store.specs.Graph.{Node, IsEdge, Reaches}
+use Rattle.oci_plan.specs.declared.existing.Existing.{Existing}
+use Rattle.oci_plan.specs.declared.existing.Existing.TheVariants.{Skip, Descend}
 
 -- the key stands at the end of a path of the source from a root, and no key of the path is held
 pub data IsOutside (source held : List Node) (roots : List Descriptor) : Descriptor → Type 0 where
   root : {k : Descriptor} → Contains roots k → has_key held k ≡ false → IsOutside source held roots k
   along : {from to : Descriptor} → IsOutside source held roots from → IsEdge source from to → has_key held to ≡ false → IsOutside source held roots to
+
+-- the key is reached from a root, whatever is held on the way, and is not held itself
+abbrev pub IsLacking : List Node → List Node → List Descriptor → Descriptor → Type 0
+IsLacking source held roots k = Reaches source roots k × (has_key held k ≡ false)
+
+-- what a plan visits: what is outside, or what is reached
+abbrev pub IsVisited : Existing → List Node → List Node → List Descriptor → Descriptor → Type 0
+IsVisited Skip source held roots = IsOutside source held roots
+IsVisited Descend source held roots = Reaches source roots
+
+-- what a plan has to bring: what is outside, or what is lacking
+abbrev pub IsToBring : Existing → List Node → List Node → List Descriptor → Descriptor → Type 0
+IsToBring Skip source held roots = IsOutside source held roots
+IsToBring Descend source held roots = IsLacking source held roots
 
 -- a cycle: one or more distinct keys, with an edge from each to the next, and from the last to the first
 pub record IsKeyCycle (source : List Node) (keys : List Descriptor) : Type 0 where

@@ -12,9 +12,10 @@ use Rattle.oci_store.specs.Content.{Entry, Matches, succ_of}
 use Rattle.oci_store.specs.Graph.{Node, nodes_of}
 use Rattle.oci_store.specs.declared.fault.FetchFault.{FetchFault}
 use Rattle.oci_store.specs.declared.fault.FetchFault.TheVariants as fetch
-use Rattle.oci_plan.specs.Outside.{IsOutside, IsKeyCycle}
+use Rattle.oci_plan.specs.Outside.{IsVisited, IsToBring, IsKeyCycle}
 use Rattle.oci_store.specs.Visiting.{candidates, IsVisiting}
-use Rattle.oci_plan.specs.Visiting.{successors_at, is_fresh, IsWithin, IsSoundItem, IsNextVisited}
+use Rattle.oci_plan.specs.Visiting.{successors_at, is_fresh, passes, IsWithin, IsOnlyInDestination, IsSoundVisit, IsNextVisited}
+use Rattle.oci_plan.specs.declared.existing.Existing.{Existing}
 use Rattle.oci_plan.specs.declared.fault.PlanFault.{PlanFault}
 use Rattle.oci_plan.specs.declared.fault.PlanFault.TheVariants as fault
 
@@ -68,31 +69,41 @@ IsOfKey k (fault.Cycle keys) = ⊥
 IsOfKey k fault.Memory = Unit {0}
 IsOfKey k fault.TooMany = ⊥
 
--- the keys are a cycle of the source, all of them are outside, and every key outside is sound
-abbrev pub IsCycleOutside : List Entry → List Node → List Descriptor → ℕ → List Descriptor → Type 0
-IsCycleOutside entries held roots limit keys = IsKeyCycle (nodes_of entries) keys × All (IsOutside (nodes_of entries) held roots) keys
-    × ((k : Descriptor) → IsOutside (nodes_of entries) held roots k → IsSoundItem entries limit k)
+-- the fault names no key that only the destination has
+abbrev pub NamesNoneOnlyInDestination : List Entry → List Node → PlanFault → Type 0
+NamesNoneOnlyInDestination entries held (fault.TooLarge k l) = IsOnlyInDestination entries held k → ⊥
+NamesNoneOnlyInDestination entries held (fault.NotFound k) = IsOnlyInDestination entries held k → ⊥
+NamesNoneOnlyInDestination entries held (fault.Fetch k e) = IsOnlyInDestination entries held k → ⊥
+NamesNoneOnlyInDestination entries held (fault.Manifest k e) = IsOnlyInDestination entries held k → ⊥
+NamesNoneOnlyInDestination entries held (fault.Cycle keys) = All (λ k. IsOnlyInDestination entries held k → ⊥) keys.items
+NamesNoneOnlyInDestination entries held fault.Memory = Unit {0}
+NamesNoneOnlyInDestination entries held fault.TooMany = Unit {0}
 
--- Every key visited so far is sound; and of the roots and what the visited keys list, each taken once, more are not held than
--- there are numbers: all these are outside.
-pub record HasTooMany (entries : List Entry) (held : List Node) (roots : List Descriptor) (limit : ℕ) : Type 0 where
+-- the keys are a cycle of the source, all of them are to be brought, and every visited key is sound
+abbrev pub IsCycleToBring : Existing → List Entry → List Node → List Descriptor → ℕ → List Descriptor → Type 0
+IsCycleToBring existing entries held roots limit keys = IsKeyCycle (nodes_of entries) keys × All (IsToBring existing (nodes_of entries) held roots) keys
+    × ((k : Descriptor) → IsVisited existing (nodes_of entries) held roots k → IsSoundVisit existing entries held limit k)
+
+-- Every key visited so far is sound. Of the roots and the keys that the visited ones list, each taken once, more are not held
+-- than there are numbers; all of these are to be brought.
+pub record HasTooMany (existing : Existing) (entries : List Entry) (held : List Node) (roots : List Descriptor) (limit : ℕ) : Type 0 where
   pub visited : List Descriptor
-  pub visiting : IsVisiting (successors_at (nodes_of entries)) (is_fresh held) roots visited
-  pub sound : All (IsSoundItem entries limit) visited
+  pub visiting : IsVisiting (successors_at (nodes_of entries)) (passes existing held) roots visited
+  pub sound : All (IsSoundVisit existing entries held limit) visited
   pub keys : List Descriptor
   pub found : keys ≡ first_places (filter (is_fresh held) (candidates (successors_at (nodes_of entries)) roots visited))
   pub many : 4294967295 < length keys
   pub distinct : IsDistinct same_key keys
-  pub outside : All (IsOutside (nodes_of entries) held roots) keys
+  pub outside : All (IsToBring existing (nodes_of entries) held roots) keys
 
 -- Where the plan is refused, of what an honest source lists: every key visited before the key that a fault names is sound; a
--- cycle is one of keys outside, and every key outside is sound; where there are too many keys, they are outside, and every
--- key visited so far is sound.
-abbrev pub IsFirstFault : List Entry → List Node → List Descriptor → ℕ → PlanFault → Type 0
-IsFirstFault entries held roots limit (fault.TooLarge k l) = IsNextVisited (nodes_of entries) entries held roots limit k
-IsFirstFault entries held roots limit (fault.NotFound k) = IsNextVisited (nodes_of entries) entries held roots limit k
-IsFirstFault entries held roots limit (fault.Fetch k e) = IsNextVisited (nodes_of entries) entries held roots limit k
-IsFirstFault entries held roots limit (fault.Manifest k e) = IsNextVisited (nodes_of entries) entries held roots limit k
-IsFirstFault entries held roots limit (fault.Cycle keys) = IsCycleOutside entries held roots limit keys.items
-IsFirstFault entries held roots limit fault.Memory = Unit {0}
-IsFirstFault entries held roots limit fault.TooMany = HasTooMany entries held roots limit
+-- cycle is one of keys to bring, and every visited key is sound; where there are too many keys, they are to be brought, and
+-- every key visited so far is sound.
+abbrev pub IsFirstFault : Existing → List Entry → List Node → List Descriptor → ℕ → PlanFault → Type 0
+IsFirstFault existing entries held roots limit (fault.TooLarge k l) = IsNextVisited existing (nodes_of entries) entries held roots limit k
+IsFirstFault existing entries held roots limit (fault.NotFound k) = IsNextVisited existing (nodes_of entries) entries held roots limit k
+IsFirstFault existing entries held roots limit (fault.Fetch k e) = IsNextVisited existing (nodes_of entries) entries held roots limit k
+IsFirstFault existing entries held roots limit (fault.Manifest k e) = IsNextVisited existing (nodes_of entries) entries held roots limit k
+IsFirstFault existing entries held roots limit (fault.Cycle keys) = IsCycleToBring existing entries held roots limit keys.items
+IsFirstFault existing entries held roots limit fault.Memory = Unit {0}
+IsFirstFault existing entries held roots limit fault.TooMany = HasTooMany existing entries held roots limit

@@ -1,5 +1,5 @@
 -- The walk that finds what a plan needs: which keys were visited, and the numbers that stand for their successors.
-use Rattle.std.specs.Prelude.{◌≡◌, ℕ, ◌<◌, ◌≤◌, ◌⊎◌, true, false, List, length, Some, Ok, Err, filter, Contains}
+use Rattle.std.specs.Prelude.{◌≡◌, ◌↔◌, ℕ, ◌<◌, ◌≤◌, ◌⊎◌, Bool, true, false, List, length, Some, Ok, Err, filter, Contains}
 use Rattle.std.specs.List.{All, AllZip, IsDistinct}
 use Rattle.std.specs.Global.{Vec}
 use Rattle.oci_manifest.specs.Descriptor.{Descriptor, same_key}
@@ -12,9 +12,12 @@ use Rattle.oci_manifest.specs.declared.fault.ManifestFault.{ManifestFault}
 use Rattle.oci_manifest.specs.declared.fault.ManifestFault.TheVariants as reading
 use Rattle.oci_store.specs.declared.fault.FetchFault.{FetchFault}
 use Rattle.oci_store.specs.declared.fault.FetchFault.TheVariants as fetch
-use Rattle.oci_store.specs.Visiting.{candidates, IsVisiting}
-use Rattle.oci_plan.specs.Visiting.{successors_at, is_fresh, IsWithin}
+use Rattle.oci_store.specs.Visiting.{candidates, with_keys, IsVisiting}
+use Rattle.oci_plan.specs.Outside.{IsVisited, IsToBring}
+use Rattle.oci_plan.specs.Visiting.{successors_at, is_fresh, passes, IsWithin, IsSoundVisit}
 use Rattle.oci_plan.specs.Plan.{Number}
+use Rattle.oci_plan.specs.declared.existing.Existing.{Existing}
+use Rattle.oci_plan.specs.declared.existing.Existing.TheVariants.{Skip, Descend}
 use Rattle.oci_plan.specs.declared.fault.OrderFault.{OrderFault}
 use Rattle.oci_plan.specs.declared.fault.OrderFault.TheVariants as ordering
 use Rattle.oci_plan.specs.declared.fault.PlanFault.{PlanFault}
@@ -33,16 +36,52 @@ pub record IsPassed (honest : Type 0) (entries : List Entry) (limit : ℕ) (k : 
   pub within : IsWithin limit k
   pub reads : honest → (bytes : List ℕ) × (successors : List Descriptor) × (value_at entries k ≡ Some bytes) × (succ_of k bytes ≡ Ok successors)
 
--- how far the walk is: the visited keys are the first of the keys, and the keys are what is not held among the roots and
--- what the visited ones list
-pub record IsWalk (honest : Type 0) (entries : List Entry) (held : List Node) (roots : List Descriptor) (limit : ℕ) (keys visited : List Descriptor) (lists : List (Vec ℕ)) : Type 0 where
+-- the key passed its checks; or nothing was checked, since it is held, as the Bool says, and the source does not have it
+abbrev pub MayPass : Type 0 → List Entry → Bool → ℕ → Descriptor → Type 0
+MayPass honest entries is_held limit k = ((is_held ≡ true) × (has_key entries k ≡ false)) ⊎ IsPassed honest entries limit k
+
+-- whether a visited key is held
+abbrev pub held_at : Existing → List Node → Descriptor → Bool
+held_at Skip held k = false
+held_at Descend held k = has_key held k
+
+-- the keys to visit, of those to bring and of all that were met
+abbrev pub visits_of : Existing → List Descriptor → List Descriptor → List Descriptor
+visits_of Skip keys all = keys
+visits_of Descend keys all = all
+
+-- all keys that were met, with these, where they are noted
+abbrev pub noted : Existing → List Descriptor → List Descriptor → List Descriptor
+noted Skip all met = all
+noted Descend all met = with_keys all met
+
+-- a visited key is one to visit, and passed its checks where it had to
+pub record IsVisitPassed (honest : Type 0) (existing : Existing) (entries : List Entry) (held : List Node) (limit : ℕ) (k : Descriptor) : Type 0 where
+  pub pass : passes existing held k ≡ true
+  pub may : MayPass honest entries (has_key held k) limit k
+
+-- How far the walk is: the visited keys are the first of all keys to visit; these are what passes among the roots and what the
+-- visited ones list; and the keys to bring are those of them that are not held.
+pub record IsWalk (honest : Type 0) (existing : Existing) (entries : List Entry) (held : List Node) (roots : List Descriptor) (limit : ℕ) (all keys visited : List Descriptor) (lists : List (Vec ℕ)) : Type 0 where
+  pub few : length keys ≤ 4294967295
+  pub kept : keys ≡ filter (is_fresh held) all
+  pub pass : All (λ k. passes existing held k ≡ true) all
+  pub has_roots : All (λ k. (has_key held k ≡ true) ⊎ Contains keys k) roots
+  pub passed : All (IsVisitPassed honest existing entries held limit) visited
+  pub listed : AllZip (IsListOf honest entries held keys) (filter (is_fresh held) visited) lists
+  pub visiting : honest → IsVisiting (successors_at (nodes_of entries)) (passes existing held) roots visited
+  pub found : honest → all ≡ first_places (filter (passes existing held) (candidates (successors_at (nodes_of entries)) roots visited))
+  pub found_keys : honest → keys ≡ first_places (filter (is_fresh held) (candidates (successors_at (nodes_of entries)) roots visited))
+
+-- what a walk that came to its end found: the keys to bring, with a list for each
+pub record IsGathered (honest : Type 0) (existing : Existing) (entries : List Entry) (held : List Node) (roots : List Descriptor) (limit : ℕ) (keys : List Descriptor) (lists : List (Vec ℕ)) : Type 0 where
   pub few : length keys ≤ 4294967295
   pub fresh : All (λ k. has_key held k ≡ false) keys
   pub has_roots : All (λ k. (has_key held k ≡ true) ⊎ Contains keys k) roots
-  pub passed : All (IsPassed honest entries limit) visited
-  pub listed : AllZip (IsListOf honest entries held keys) visited lists
-  pub visiting : honest → IsVisiting (successors_at (nodes_of entries)) (is_fresh held) roots visited
-  pub found : honest → keys ≡ first_places (filter (is_fresh held) (candidates (successors_at (nodes_of entries)) roots visited))
+  pub passed : All (IsPassed honest entries limit) keys
+  pub listed : AllZip (IsListOf honest entries held keys) keys lists
+  pub exactly : honest → (k : Descriptor) → Contains keys k ↔ IsToBring existing (nodes_of entries) held roots k
+  pub sound : honest → (k : Descriptor) → IsVisited existing (nodes_of entries) held roots k → IsSoundVisit existing entries held limit k
 
 -- numbers are refused for want of memory, or where there are more keys than numbers
 abbrev pub IsNumberFault : List Descriptor → PlanFault → Type 0

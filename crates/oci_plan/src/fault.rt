@@ -2,7 +2,7 @@ ghost use Rattle.std.specs.Prelude.{◌≡◌};
 ghost use Rattle.oci_plan.specs.Fault.{number_of};
 ghost use Rattle.oci_plan.specs.Refusal.{plan_number_of};
 
-use crate::spaced::Spaced;
+use crate::space_separated::SpaceSeparated;
 use oci_digest::NoMemory;
 use oci_manifest::{Key, ManifestFault};
 use oci_store::FetchFault;
@@ -14,7 +14,7 @@ use thiserror::Error;
 pub enum OrderFault {
     /// A cycle of the graph: distinct numbers, each a successor of the one before, and the first a successor of the last.
     /// Where there are several cycles, which one is told is open.
-    #[error("50 Cycle{}", Spaced(.0))]
+    #[error("50 Cycle{}", SpaceSeparated(.0))]
     Cycle(Vec<u32>),
     /// A list, and a number in it that is none of the graph's: of the first such list the first such number.
     #[error("51 BadNumber {0} {1}")]
@@ -68,7 +68,7 @@ pub enum PlanFault {
     TooLarge(Key, u64),
     /// A cycle of the source: distinct keys, each listed by the one before, and the first by the last. Where there are
     /// several cycles, which one is told is open.
-    #[error("55 Cycle{}", Spaced(.0))]
+    #[error("55 Cycle{}", SpaceSeparated(.0))]
     Cycle(Vec<Key>),
     /// The content of the key is no manifest of its media type.
     #[error("56 Manifest {0} {1}")]

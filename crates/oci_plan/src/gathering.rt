@@ -1,21 +1,23 @@
-ghost use Rattle.std.specs.Prelude.{◌≡◌, ◌↔◌, ◌⊎◌, true, false, filter, Contains, IfOk, IfErr};
+ghost use Rattle.std.specs.Prelude.{◌≡◌, ◌↔◌, ◌⊎◌, true, false, filter, Contains, IfOk, IfErr, OnOk};
 ghost use Rattle.std.specs.List.{All};
 ghost use Rattle.oci_manifest.specs.Descriptor.{Descriptor};
 ghost use Rattle.oci_manifest.specs.Manifest.{first_places};
 ghost use Rattle.oci_store.specs.Keyed.{has_key, HasAll};
 ghost use Rattle.oci_store.specs.Graph.{nodes_of};
 ghost use Rattle.oci_plan.specs.Order.{IsOrder};
-ghost use Rattle.oci_plan.specs.Outside.{IsOutside};
-ghost use Rattle.oci_plan.specs.Visiting.{IsWithin, IsSoundItem};
+ghost use Rattle.oci_plan.specs.Outside.{IsVisited, IsToBring};
+ghost use Rattle.oci_plan.specs.Visiting.{IsWithin, IsSoundItem, IsSoundVisit};
 ghost use Rattle.oci_plan.specs.Plan.{IsPlan, HasEdges, FollowsListed};
-ghost use Rattle.oci_plan.specs.Refusal.{IsKeyFault, IsFirstFault};
+ghost use Rattle.oci_plan.specs.Refusal.{IsKeyFault, IsFirstFault, NamesNoneOnlyInDestination};
 ghost use Rattle.oci_plan.specs.Walk.{IsTellable, TellsKeys};
 
 mod cycle;
 mod item;
 mod skipped;
+mod visits;
 mod walk;
 
+use crate::existing::Existing;
 use crate::fault::{OrderFault, PlanFault};
 use crate::ordering::topological::order;
 use crate::plan::Plan;
@@ -44,8 +46,9 @@ fn told(alloc: Global, keys: &[Key], fault: OrderFault) -> PlanFault
 /// The plan of a copy from a source: what it has to bring so that the destination has the roots.
 ///
 /// Keys are visited first come, first served: the roots in their order, then what each visited key lists, in its order
-/// (OCI image-spec 1.1, manifest.md and image-index.md). A key that the destination has is not visited, and nothing below
-/// it is looked at. A manifest is fetched once, a leaf never.
+/// (OCI image-spec 1.1, manifest.md and image-index.md). With [`Existing::Skip`] a key that the destination has is not visited,
+/// and nothing below it is looked at. With [`Existing::Descend`] it is visited too; where the source does not have it, that is no
+/// fault, and the plan goes on with the next key. A manifest is fetched once, a leaf never.
 ///
 /// The first visited key that is at fault decides: [`PlanFault::TooLarge`] where it is a manifest's and its size is over the
 /// limit, then [`PlanFault::NotFound`] where the source lacks it, [`PlanFault::Fetch`] where the device refuses it, and
@@ -58,29 +61,49 @@ pub fn gather<A: Source, D: Dest>(
     destination: &D,
     roots: &[Key],
     limit: u64,
+    existing: Existing,
 ) -> Result<Plan, PlanFault>
     // What is planned.
     ensures plan { IfOk result IsPlan }
     ensures order { IfOk result (λ p. IsOrder p.order) }
-    ensures fresh { IfOk result (λ p. All (λ k. has_key (D.state destination.now).nodes k ≡ false) p.keys) }
+    ensures fresh { IfOk result (λ p. All (λ k. has_key (D.state destination.now).nodes k ≡ false)
+        p.keys) }
     ensures there { IfOk result (λ p. HasAll (A.state source.now).entries p.keys) }
     ensures within { IfOk result (λ p. All (IsWithin limit) p.keys) }
-    ensures roots { IfOk result (λ p. All (λ k. (has_key (D.state destination.now).nodes k ≡ true) ⊎ Contains p.keys k) roots.now) }
-    ensures skipped { IfOk result (λ p. p.skipped ≡ first_places (filter (has_key (D.state destination.now).nodes) roots.now)) }
+    ensures roots { IfOk result (λ p. All (λ k. (has_key (D.state destination.now).nodes k ≡ true) ⊎
+        Contains p.keys k) roots.now) }
+    ensures skipped { IfOk result (λ p. p.skipped ≡ first_places
+        (filter (has_key (D.state destination.now).nodes) roots.now)) }
 
     // What is planned, where the source's bytes can be told.
     ensures outside { IfOk result (λ p. (A.state source.now).is_honest
-        → (k : Descriptor) → Contains p.keys k ↔ IsOutside (nodes_of (A.state source.now).entries) (D.state destination.now).nodes roots.now k) }
-    ensures sound { IfOk result (λ p. (A.state source.now).is_honest → All (IsSoundItem (A.state source.now).entries limit) p.keys) }
-    ensures edges { IfOk result (λ p. (A.state source.now).is_honest → HasEdges (nodes_of (A.state source.now).entries) (D.state destination.now).nodes p) }
-    ensures follows { IfOk result (λ p. (A.state source.now).is_honest → FollowsListed (nodes_of (A.state source.now).entries) (D.state destination.now).nodes p) }
+        → (k : Descriptor) → Contains p.keys k
+        ↔ IsToBring existing (nodes_of (A.state source.now).entries) (D.state destination.now).nodes
+        roots.now k) }
+    ensures sound { IfOk result (λ p. (A.state source.now).is_honest
+        → All (IsSoundItem (A.state source.now).entries limit) p.keys) }
+    ensures visited { OnOk result ((A.state source.now).is_honest
+        → (k : Descriptor)
+        → IsVisited existing (nodes_of (A.state source.now).entries) (D.state destination.now).nodes
+        roots.now k
+        → IsSoundVisit existing (A.state source.now).entries (D.state destination.now).nodes
+        limit k) }
+    ensures edges { IfOk result (λ p. (A.state source.now).is_honest
+        → HasEdges (nodes_of (A.state source.now).entries) (D.state destination.now).nodes p) }
+    ensures follows { IfOk result (λ p. (A.state source.now).is_honest
+        → FollowsListed (nodes_of (A.state source.now).entries) (D.state destination.now).nodes p) }
 
     // Why nothing is planned.
-    ensures cause { IfErr result (IsKeyFault (A.state source.now).is_honest (A.state source.now).fails_at (A.state source.now).entries limit) }
-    ensures first { IfErr result (λ e. (A.state source.now).is_honest → IsFirstFault (A.state source.now).entries (D.state destination.now).nodes roots.now limit e) }
+    ensures cause { IfErr result (IsKeyFault (A.state source.now).is_honest
+        (A.state source.now).fails_at (A.state source.now).entries limit) }
+    ensures spared { IfErr result (NamesNoneOnlyInDestination (A.state source.now).entries
+        (D.state destination.now).nodes) }
+    ensures first { IfErr result (λ e. (A.state source.now).is_honest
+        → IsFirstFault existing (A.state source.now).entries (D.state destination.now).nodes
+        roots.now limit e) }
 {
     let skipped = held_roots(alloc, destination, roots)?;
-    let Visited { keys, lists } = visit(alloc, source, destination, roots, limit)?;
+    let Visited { keys, lists } = visit(alloc, source, destination, roots, limit, existing)?;
     match order(lists) {
         Ok(order) => Ok(Plan::new(keys, order, skipped)),
         Err(fault) => Err(told(alloc, &keys, fault)),

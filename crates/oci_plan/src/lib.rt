@@ -15,14 +15,16 @@
 #![tactic(auto)]
 
 mod climbing;
+mod existing;
 mod fault;
 mod gathering;
 mod laws;
 mod ordering;
 mod plan;
-mod spaced;
+mod space_separated;
 
 pub use climbing::climb;
+pub use existing::Existing;
 pub use fault::{OrderFault, PlanFault};
 pub use gathering::gather;
 pub use laws::up_is_one_list;

@@ -26,9 +26,8 @@
 //! shares a thread with has ended: until then the others empty its deque, and afterwards the run has ended.
 ghost use Rattle.std.specs.Prelude.{◌≡◌, IfSome};
 
-use crate::board::Board;
+use crate::board::{Board, Pass};
 use crate::deque::OwnDeque;
-use crate::pass::Pass;
 use std::alloc::AllocError;
 use std::sync::{Condvar, Mutex, Wait};
 

@@ -50,8 +50,10 @@ fn run_one<J: Job, R: Wait>(
     worker: &mut Worker<J::Out, J::Fault>,
     number: u32,
 )
-    requires { Worked count (J.answers job.now) (J.fails job.now) worker.old.done.items worker.old.fault }
-    ensures { Worked count (J.answers job.now) (J.fails job.now) worker.new.done.items worker.new.fault }
+    requires { Worked count (J.answers job.now) (J.fails job.now) worker.old.done.items
+        worker.old.fault }
+    ensures { Worked count (J.answers job.now) (J.fails job.now) worker.new.done.items
+        worker.new.fault }
 {
     if count <= number as usize {
         return;
@@ -86,8 +88,10 @@ pub(crate) fn work<J: Job, R: Wait>(
     count: usize,
     worker: &mut Worker<J::Out, J::Fault>,
 )
-    requires { Worked count (J.answers job.now) (J.fails job.now) worker.old.done.items worker.old.fault }
-    ensures { Worked count (J.answers job.now) (J.fails job.now) worker.new.done.items worker.new.fault }
+    requires { Worked count (J.answers job.now) (J.fails job.now) worker.old.done.items
+        worker.old.fault }
+    ensures { Worked count (J.answers job.now) (J.fails job.now) worker.new.done.items
+        worker.new.fault }
 {
     for _ in rt.forever() {
         let Some(read) = shared.puts(rt) else {

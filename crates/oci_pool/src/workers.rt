@@ -19,8 +19,10 @@ pub(crate) fn work_all<J: Job, R: Threads + Wait + Sync>(
     count: usize,
     workers: &mut [Worker<J::Out, J::Fault>],
 )
-    requires { All (λ w. Worked count (J.answers job.now) (J.fails job.now) w.done.items w.fault) workers.old }
-    ensures { All (λ w. Worked count (J.answers job.now) (J.fails job.now) w.done.items w.fault) workers.new }
+    requires { All (λ w. Worked count (J.answers job.now) (J.fails job.now) w.done.items w.fault)
+        workers.old }
+    ensures { All (λ w. Worked count (J.answers job.now) (J.fails job.now) w.done.items w.fault)
+        workers.new }
 {
     let threads = workers.len();
     if threads > 0 {
@@ -29,8 +31,10 @@ pub(crate) fn work_all<J: Job, R: Threads + Wait + Sync>(
             workers,
             threads,
             &|_, worker: &mut Worker<J::Out, J::Fault>|
-                requires { Worked count (J.answers job.now) (J.fails job.now) worker.old.done.items worker.old.fault }
-                ensures { Worked count (J.answers job.entry.now) (J.fails job.entry.now) worker.new.done.items worker.new.fault }
+                requires { Worked count (J.answers job.now) (J.fails job.now) worker.old.done.items
+                    worker.old.fault }
+                ensures { Worked count (J.answers job.entry.now) (J.fails job.entry.now)
+                    worker.new.done.items worker.new.fault }
             { work(rt, shared, job, count, worker) },
         );
     }
@@ -74,8 +78,10 @@ fn add_worker<J: Job>(
     own: OwnDeque,
     others: Vec<OtherDeque>,
 ) -> Result<(), AllocError>
-    requires { All (λ w. Worked count (J.answers job.now) (J.fails job.now) w.done.items w.fault) all.old.items }
-    ensures { All (λ w. Worked count (J.answers job.now) (J.fails job.now) w.done.items w.fault) all.new.items }
+    requires { All (λ w. Worked count (J.answers job.now) (J.fails job.now) w.done.items w.fault)
+        all.old.items }
+    ensures { All (λ w. Worked count (J.answers job.now) (J.fails job.now) w.done.items w.fault)
+        all.new.items }
 {
     all.push(idle_worker(job, alloc, count, own, others))?;
     Ok(())
@@ -88,7 +94,8 @@ pub(crate) fn idle_workers<J: Job>(
     count: usize,
     mut deques: Vec<OwnDeque>,
 ) -> Result<Vec<Worker<J::Out, J::Fault>>, AllocError>
-    ensures { IfOk result (λ v. All (λ w. Worked count (J.answers job.now) (J.fails job.now) w.done.items w.fault) v.items) }
+    ensures { IfOk result (λ v. All (λ w. Worked count (J.answers job.now) (J.fails job.now)
+        w.done.items w.fault) v.items) }
 {
     let number = deques.len();
     let mut held = Vec::with_capacity(alloc, number)?;

@@ -1,13 +1,17 @@
 -- What the checks of a push give of content that was looked at.
-use Rattle.std.proofs.Common.{◌≡◌, ℕ, true, false, ◌==◌, List, length, Result, Ok, Err, refl, ap, ◌∙◌}
+use Rattle.std.proofs.Common.{◌≡◌, ℕ, true, false, ◌==◌, List, [], ◌∷◌, ◌++◌, length, Result, Ok, Err, inl, refl, sym, ap, ◌∙◌, subst, arith}
+use Rattle.std.specs.Prelude.{IfOk, IfErr, OnOk, OnErr}
+use Rattle.std.proofs.lemmas.List.{map-append, length-map}
 use Rattle.std.proofs.lemmas.Bool.{eq-eqb}
 use Rattle.oci_digest.specs.Digest.{verifies}
 use Rattle.oci_digest.proofs.DigestLemmas.{Decides-verifies}
 use Rattle.oci_manifest.specs.Descriptor.{Descriptor}
-use Rattle.oci_store.specs.Content.{IsChecked}
-use Rattle.oci_store.specs.Graph.{Node}
+use Rattle.oci_store.specs.Content.{Entry, IsChecked}
+use Rattle.oci_store.specs.Contents.{Contents}
+use Rattle.oci_store.specs.Graph.{Node, node_of, nodes_of}
 use Rattle.oci_store.specs.Keyed.{has_key, first_missing}
-use Rattle.oci_store.specs.Push.{Refusal, already_exists, content_check, push_check, held_check, successors_check, closed_check, Refused, IsPlain}
+use Rattle.oci_store.specs.Push.{Refusal, already_exists, content_check, push_check, held_check, successors_check, closed_check, Refused, Answers, IsPlain, IsPush}
+use Rattle.oci_store.specs.State.{State, in_memory}
 use Rattle.oci_store.specs.declared.fault.PushFault.{PushFault}
 use Rattle.oci_store.specs.declared.fault.PushFault.TheVariants as fault
 
@@ -51,3 +55,34 @@ pub Refused-closed : (graph : List Node) (k : Descriptor) (bytes : List ℕ) (e 
     → Refused e (closed_check graph k bytes)
 unfolding closed_check
 Refused-closed graph k bytes e absent plain h = refused_so graph e (push_check graph k bytes) plain (rw (push_check-fresh graph k bytes absent) h)
+
+-- a push that is refused for its content leaves all as it was
+pub IsPush-refused : (shares : Type 0) (s : State) (e : Entry) (f : PushFault) → IsPlain f → Refused f (closed_check s.nodes e.0 e.1) → IsPush shares s s e (Err f)
+IsPush-refused shares s e f plain refused = record {
+  keys = record { place = tt; pushed = tt; refused = refl; checked = refused };
+  bytes = record { pushed = tt; refused = λ u. refl; sound = λ u. u.is_sound };
+  failures = omega arith;
+  device = λ is. let same : f ≡ fault.Device = cc is in absurd (subst IsPlain same plain);
+  calm = λ less. absurd (omega arith);
+  halted = λ is. let same : f ≡ fault.Halted = cc is in absurd (subst IsPlain same plain);
+  running = λ halted. inl halted;
+  tags = refl;
+  name = refl;
+}
+
+-- a push that puts its entry at the end in memory
+pub IsPush-in_memory : (shares : Type 0) (old new : Contents) (e : Entry) (r : Result ℕ PushFault) → IfOk r (λ place. place ≡ length old.entries)
+    → OnOk r (new ≡ record old { entries = old.entries ++ e ∷ [] }) → OnErr r (new ≡ old) → Answers r (closed_check (nodes_of old.entries) e.0 e.1) → IfErr r IsPlain
+    → IsPush shares (in_memory old.entries old.tags) (in_memory new.entries new.tags) e r
+IsPush-in_memory shares old new e (Ok n) place pushed refused checked plain = rw pushed (record {
+  keys = record { place = place ∙ sym (length-map old.entries node_of); pushed = map-append node_of old.entries (e ∷ []); refused = tt; checked = checked };
+  bytes = record { pushed = λ u. refl; refused = tt; sound = λ u. tt };
+  failures = omega arith;
+  device = λ is. absurd (cc is);
+  calm = λ less. absurd (omega arith);
+  halted = λ is. absurd (cc is);
+  running = λ halted. inl halted;
+  tags = refl;
+  name = refl;
+})
+IsPush-in_memory shares old new e (Err f) place pushed refused checked plain = rw refused (IsPush-refused shares (in_memory old.entries old.tags) e f plain checked)

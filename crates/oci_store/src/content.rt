@@ -1,5 +1,6 @@
 ghost use Rattle.std.specs.Prelude.{◌≡◌, IfOk, IfErr};
 ghost use Rattle.oci_store.specs.Content.{Matches, succ_of, IsChecked};
+ghost use Rattle.oci_store.specs.Parts.{IsLeaf};
 ghost use Rattle.oci_store.specs.Push.{read_check, content_check, Answers, IsPlain};
 
 use crate::fault::{PushFault, unread};
@@ -66,6 +67,19 @@ impl CheckedContent {
             }),
             Err(fault) => Err(unread(fault)),
         }
+    }
+
+    /// The same of bytes that list nothing. Nothing is read.
+    pub fn of_leaf(key: &Key, bytes: Bytes) -> Result<CheckedContent, NoMemory>
+        requires leaf { IsLeaf key.now }
+        requires matching { Matches key.now bytes }
+        ensures { IfOk result (λ content. content ≡ (key.now, bytes)) }
+    {
+        Ok(CheckedContent {
+            key: key.try_clone()?,
+            bytes,
+            successors: Vec::new(key.allocator()),
+        })
     }
 
     /// The key that the bytes match.

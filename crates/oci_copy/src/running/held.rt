@@ -1,15 +1,15 @@
 ghost use Rattle.std.specs.Prelude.{◌≡◌, true};
 ghost use Rattle.oci_store.specs.Keyed.{has_key};
 
-use super::guarded::Guarded;
-use super::opening::Opening;
+use super::copy_start::CopyStart;
+use super::locked::LockedDestination;
 use oci_manifest::Key;
 use oci_store::Dest;
 use std::marker::Model;
 
 /// That the destination of a run came to hold a key. To a contract it is that key.
 ///
-/// One is made from a guarded destination that holds the key. A job reaches no other than that of its run, under the lock: so
+/// One is made from a locked destination that holds the key. A job reaches no other than that of its run, under the lock: so
 /// one that answers has pushed its key, or has found it held.
 #[derive(Drop)]
 pub(crate) struct Held<'k> {
@@ -26,8 +26,8 @@ impl<'k> Model for Held<'k> {
 
 impl<'k> Held<'k> {
     /// That this destination holds the key.
-    pub(crate) fn by<D: Dest, T: Opening>(_guarded: &Guarded<D, T>, key: &'k Key) -> Self
-        requires held { has_key _guarded.now key.now ≡ true }
+    pub(crate) fn by<D: Dest, T: CopyStart>(_locked: &LockedDestination<D, T>, key: &'k Key) -> Self
+        requires held { has_key _locked.now key.now ≡ true }
         ensures { result ≡ key.now }
     {
         Held { key }

@@ -3,12 +3,12 @@ ghost use Rattle.oci_store.specs.Keyed.{HasAll, HasDistinctKeys};
 ghost use Rattle.oci_pool.specs.Run.{IsCause};
 ghost use Rattle.oci_copy.specs.Kept.{Keeps};
 ghost use Rattle.oci_copy.specs.Planned.{CanPush};
-ghost use Rattle.oci_copy.specs.Work.{IsNoted, IsWorkCause, CanFail, told_of};
+ghost use Rattle.oci_copy.specs.Work.{IsNoted, IsJobCause, IsStopCause, CanFail, told_of};
 
-use super::guarded::Guarded;
+use super::copy_start::CopyStart;
 use super::job::CopyJob;
-use super::opening::Opening;
-use super::waiting::{take_any, take_whole};
+use super::locked::LockedDestination;
+use super::under_lock::{take_any, take_whole};
 use crate::fault::CopyFault;
 use oci_plan::Plan;
 use oci_pool::{Hooks, PoolFault, run};
@@ -19,22 +19,25 @@ use std::sync::{Condvar, Mutex, Wait};
 use std::thread::Threads;
 
 /// The destination, with what the lock kept.
-fn finish<D: Dest, T: Opening>(guarded: Guarded<D, T>) -> D
-    ensures nodes { (D.state result).nodes ≡ guarded }
+fn finish<D: Dest, T: CopyStart>(locked: LockedDestination<D, T>) -> D
+    ensures nodes { (D.state result).nodes ≡ locked }
     ensures distinct { HasDistinctKeys (D.state result).nodes }
     ensures keeps { Keeps D.shares T.source T.planned T.opening (D.state result) }
 {
-    let destination = guarded.into_destination();
+    let destination = locked.into_destination();
+    // The count tells the proof that no key is held twice.
     let _distinct = destination.count();
     destination
 }
 
 /// The fault of a copy whose run stopped. A run that is only incomplete goes on by a wait.
-fn told<D: Dest, T: Opening>(workers: u32, fault: PoolFault<CopyFault>) -> Option<CopyFault>
+fn reported<D: Dest, T: CopyStart>(workers: u32, fault: PoolFault<CopyFault>) -> Option<CopyFault>
     requires workers { workers ≤ 64 }
-    requires fault { IsCause workers (λ _ f. IsWorkCause (CanFail D.state T.opening) T.source T.opening T.planned f) fault }
-    ensures cause { IfSome result (IsWorkCause (CanFail D.state T.opening) T.source T.opening T.planned) }
-    ensures told { result ≡ told_of fault }
+    requires fault { IsCause workers (IsJobCause (CanFail D.state T.opening) T.source T.opening
+        T.planned) fault }
+    ensures cause { IfSome result (IsStopCause (CanFail D.state T.opening) T.source T.opening
+        T.planned) }
+    ensures reported { result ≡ told_of fault }
 {
     match fault {
         PoolFault::Job(_, fault) => Some(fault),
@@ -49,7 +52,7 @@ fn work<
     'a,
     A: Source + Sync,
     D: Dest + Drop + Send,
-    T: Opening + Send + Sync,
+    T: CopyStart + Send + Sync,
     R: Threads + Wait + Sync,
     H: Hooks + Sync,
 >(
@@ -61,6 +64,8 @@ fn work<
     workers: u32,
     hooks: &'a H,
 ) -> (D, Result<(), CopyFault>)
+where
+    D::Draft: Send,
     requires workers { workers ≤ 64 }
     requires noted { IsNoted T.source (A.state source.now) }
     requires planned { plan.now.keys ≡ T.planned }
@@ -70,9 +75,10 @@ fn work<
     ensures held { OnOk result.1 (HasAll (D.state result.0).nodes plan.now.keys) }
     ensures distinct { HasDistinctKeys (D.state result.0).nodes }
     ensures keeps { Keeps D.shares T.source T.planned T.opening (D.state result.0) }
-    ensures cause { IfErr result.1 (IsWorkCause (CanFail D.state T.opening) T.source T.opening T.planned) }
+    ensures cause { IfErr result.1 (IsStopCause (CanFail D.state T.opening) T.source T.opening
+        T.planned) }
 {
-    let lock = Mutex::new(Some(Guarded::<D, T>::new(destination)));
+    let lock = Mutex::new(Some(LockedDestination::<D, T>::new(destination)));
     let pushed = Condvar::new();
     let job: CopyJob<'_, A, D, T, R, H> = CopyJob {
         rt,
@@ -84,16 +90,16 @@ fn work<
     };
     let fault = match run(rt, alloc, plan.order(), workers, &job) {
         Ok(_) => None,
-        Err(stopped) => told::<D, T>(workers, stopped.into_fault()),
+        Err(stopped) => reported::<D, T>(workers, stopped.into_fault()),
     };
     match fault {
         None => {
-            let guarded = take_whole(rt, &lock, &pushed, plan.keys());
-            (finish(guarded), Ok(()))
+            let locked = take_whole(rt, &lock, &pushed, plan.keys());
+            (finish(locked), Ok(()))
         }
         Some(fault) => {
-            let guarded = take_any(rt, &lock, &pushed);
-            (finish(guarded), Err(fault))
+            let locked = take_any(rt, &lock, &pushed);
+            (finish(locked), Err(fault))
         }
     }
 }
@@ -113,12 +119,17 @@ pub(crate) fn copy_planned<
     workers: u32,
     hooks: &H,
 ) -> (D, Result<(), CopyFault>)
+where
+    D::Draft: Send,
     requires workers { workers ≤ 64 }
     requires can_push { CanPush (A.state source.now) (D.state destination) plan.now }
     ensures held { OnOk result.1 (HasAll (D.state result.0).nodes plan.now.keys) }
-    ensures count { OnOk result.1 (length (D.state result.0).nodes ≡ length (D.state destination).nodes + length plan.now.keys) }
-    ensures keeps { Keeps D.shares (A.state source.now) plan.now.keys (D.state destination) (D.state result.0) }
-    ensures cause { IfErr result.1 (IsWorkCause (CanFail D.state (D.state destination)) (A.state source.now) (D.state destination) plan.now.keys) }
+    ensures count { OnOk result.1 (length (D.state result.0).nodes ≡ length
+        (D.state destination).nodes + length plan.now.keys) }
+    ensures keeps { Keeps D.shares (A.state source.now) plan.now.keys (D.state destination)
+        (D.state result.0) }
+    ensures cause { IfErr result.1 (IsStopCause (CanFail D.state (D.state destination))
+        (A.state source.now) (D.state destination) plan.now.keys) }
 {
     work::<A, D, Brand, R, H>(rt, alloc, source, destination, plan, workers, hooks)
 }

@@ -19,8 +19,10 @@ pub(crate) fn read_index<D: Dir>(
     alloc: Global,
     dir: &D,
 ) -> Result<(Vec<Key>, Vec<Option<String>>), LayoutFault>
-    ensures read { IfOk result (λ p. D.is_honest dir.now → IsIndexFile (D.file dir.now index_file) p.0.items (map text_of p.1.items)) }
-    ensures cause { IfErr result (IsIndexFileFault (D.is_honest dir.now) (D.file dir.now) (D.fails_reads dir.now)) }
+    ensures read { IfOk result (λ p. D.is_honest dir.now
+        → IsIndexFile (D.file dir.now index_file) p.0.items (map text_of p.1.items)) }
+    ensures cause { IfErr result (IsIndexFileFault (D.is_honest dir.now) (D.file dir.now)
+        (D.fails_reads dir.now)) }
 {
     let Some(bytes) = dir.read("index.json")? else {
         return Ok((Vec::new(alloc), Vec::new(alloc)));
@@ -47,7 +49,8 @@ fn entries(alloc: Global, bytes: &[u8]) -> Result<(Vec<Key>, Vec<Option<String>>
 
 /// The refusal of an index that does not read.
 fn bad_index(fault: ManifestFault) -> LayoutFault
-    ensures { (found : Result (List Descriptor) Fault) → Fails fault found → IsIndexFault found result }
+    ensures { (found : Result (List Descriptor) Fault) → Fails fault found
+        → IsIndexFault found result }
 {
     match fault {
         ManifestFault::Memory => LayoutFault::Memory,

@@ -4,7 +4,7 @@ ghost use Rattle.oci_store.specs.Tags.{AreNames};
 
 use oci_digest::NoMemory;
 use oci_manifest::Key;
-use oci_store::{Graph, Names};
+use oci_store::{Graph, Tags};
 use std::alloc::Global;
 
 /// The tags that entries give, where their keys are held.
@@ -13,11 +13,12 @@ pub(crate) fn tags_of(
     graph: &Graph,
     keys: &[Key],
     names: &[Option<String>],
-) -> Result<Names, NoMemory>
-    ensures tags { IfOk result (λ tags. tags ≡ named graph.now keys.now (map text_of names.now) []) }
+) -> Result<Tags, NoMemory>
+    ensures tags { IfOk result (λ tags. tags ≡ named graph.now keys.now
+        (map text_of names.now) []) }
     ensures names { IfOk result (λ tags. AreNames graph.now tags) }
 {
-    let mut tags = Names::new(alloc);
+    let mut tags = Tags::new(alloc);
     for place in 0..keys.len() {
         let Some(name) = names.get(place) else {
             return Ok(tags);
@@ -28,12 +29,7 @@ pub(crate) fn tags_of(
 }
 
 /// Sets the tag that an entry gives, where its key is held.
-fn tag_one(
-    graph: &Graph,
-    key: &Key,
-    name: &Option<String>,
-    tags: &mut Names,
-) -> Result<(), NoMemory>
+fn tag_one(graph: &Graph, key: &Key, name: &Option<String>, tags: &mut Tags) -> Result<(), NoMemory>
     requires names { AreNames graph.now tags.old }
     ensures set { OnOk result (tags.new ≡ tag_with graph.now key.now (text_of name.now) tags.old) }
     ensures names { AreNames graph.now tags.new }

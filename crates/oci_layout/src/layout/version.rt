@@ -12,7 +12,8 @@ use std::alloc::Global;
 #[tactic(auto, unfolding(crate::specs::Index::layout_file))]
 pub(crate) fn check_version<D: Dir>(alloc: Global, dir: &D) -> Result<(), LayoutFault>
     ensures stated { OnOk result (D.is_honest dir.now → HasLayoutFile (D.file dir.now)) }
-    ensures cause { IfErr result (IsOpenFault (D.is_honest dir.now) (D.file dir.now) (D.fails_reads dir.now)) }
+    ensures cause { IfErr result (IsOpenFault (D.is_honest dir.now) (D.file dir.now)
+        (D.fails_reads dir.now)) }
 {
     let Some(bytes) = dir.read("oci-layout")? else {
         return Err(LayoutFault::NoLayoutFile);

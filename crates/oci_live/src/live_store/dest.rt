@@ -1,13 +1,12 @@
-ghost use Rattle.std.specs.Prelude.{◌≡◌, ◌⊎◌, [], ◌∷◌, ◌++◌, true, false, length, IfOk, OnOk, OnErr, IsErrOf};
+ghost use Rattle.std.specs.Prelude.{◌≡◌, ◌⊎◌, [], ◌∷◌, ◌++◌, true, false, OnOk, OnErr, IsErrOf};
 ghost use Rattle.std.specs.Result.{IsErr};
-ghost use Rattle.oci_store.specs.Graph.{node_of};
-ghost use Rattle.oci_store.specs.Push.{closed_check, Answers, IsUndisturbed};
+ghost use Rattle.oci_store.specs.Push.{closed_check, IsPush};
 ghost use Rattle.oci_live.specs.Live.{state_of};
 
 use crate::live_store::LiveStore;
 use oci_digest::NoMemory;
 use oci_manifest::Key;
-use oci_store::{CheckedContent, Dest, PushFault, Store};
+use oci_store::{CheckedContent, Dest, MemoryDraft, PushFault, Store};
 use std::sync::Wait;
 
 impl<R: Wait + Drop> Store for LiveStore<R> {
@@ -37,6 +36,7 @@ impl<R: Wait + Drop> Dest for LiveStore<R> {
 
     /// None: it is closed.
     fn missing(&self) -> Result<Option<(Key, Key)>, NoMemory> {
+        // The shelf tells the proof that what it has is closed.
         let _closed = self.shelf();
         Ok(None)
     }
@@ -45,24 +45,16 @@ impl<R: Wait + Drop> Dest for LiveStore<R> {
     ///
     /// Where the publication finds no memory the store is halted afterwards, and a halted store publishes nothing any more.
     fn push_checked(&mut self, content: CheckedContent) -> Result<usize, PushFault>
-        ensures place { IfOk result (λ place. place ≡ length (state_of self.old).nodes) }
-        ensures pushed { OnOk result ((state_of self.new).nodes ≡ (state_of self.old).nodes ++ node_of content ∷ []) }
-        ensures refused { OnErr result ((state_of self.new).nodes ≡ (state_of self.old).nodes) }
-        ensures checked { Answers result (closed_check (state_of self.old).nodes content.0 content.1) }
-        ensures untouched { IsErr (closed_check (state_of self.old).nodes content.0 content.1) → self.new ≡ self.old }
-        ensures bytes { OnOk result (IsUndisturbed ⊥ (state_of self.old) (state_of self.new) content
-            → (state_of self.new).entries ≡ (state_of self.old).entries ++ content ∷ []) }
-        ensures same { OnErr result (IsUndisturbed ⊥ (state_of self.old) (state_of self.new) content
-            → (state_of self.new).entries ≡ (state_of self.old).entries) }
-        ensures device { IsErrOf result PushFault.Device → ⊥ }
-        ensures halted { IsErrOf result PushFault.Halted → (state_of self.old).is_halted }
-        ensures running { (state_of self.new).is_halted → (state_of self.old).is_halted ⊎ IsErrOf result PushFault.Memory }
-        ensures name { (state_of self.new).name ≡ (state_of self.old).name }
+        ensures pushed { IsPush ⊥ (state_of self.old) (state_of self.new) content result }
+        ensures untouched { IsErr (closed_check (state_of self.old).nodes content.0 content.1)
+            → self.new ≡ self.old }
 
-        // Of a live store alone: only a running one publishes, and a refusal leaves all as it was, or halts it.
+        // Of a live store alone: it has no device, only a running one publishes, and a refusal leaves all as it was, or halts it.
+        ensures device { IsErrOf result PushFault.Device → ⊥ }
         ensures published { OnOk result ((self.old.is_halted ≡ false)
             × (self.new ≡ record self.old { entries = self.old.entries ++ content ∷ [] })) }
-        ensures left { OnErr result ((self.new ≡ self.old) ⊎ (self.new ≡ record self.old { is_halted = true })) }
+        ensures left { OnErr result ((self.new ≡ self.old) ⊎
+            (self.new ≡ record self.old { is_halted = true })) }
     {
         let entries = &self.shelf().entries;
         entries.graph().check_closed(&content)?;
@@ -72,6 +64,17 @@ impl<R: Wait + Drop> Dest for LiveStore<R> {
         }
         self.publish(content)?;
         Ok(place)
+    }
+
+    type Draft = MemoryDraft;
+
+    fn draft(&self, key: &Key) -> Result<MemoryDraft, NoMemory> {
+        Ok(MemoryDraft::new(key.allocator()))
+    }
+
+    fn push_draft(&mut self, key: &Key, draft: MemoryDraft) -> Result<usize, PushFault> {
+        let content = draft.into_content(key)?;
+        self.push_checked(content)
     }
 
     fn failures(&self) -> u64 {

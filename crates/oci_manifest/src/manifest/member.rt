@@ -61,7 +61,8 @@ fn push_field(
     manifest: &Value,
     found: &mut Vec<Key>,
 ) -> Result<(), ManifestFault>
-    ensures { Adds found.old.items found.new.items result (keys_of (view manifest.now) (field_of field)) }
+    ensures { Adds found.old.items found.new.items result
+        (keys_of (view manifest.now) (field_of field)) }
 {
     match field {
         Field::Optional(name) => match present(manifest, name) {
@@ -104,7 +105,8 @@ pub(crate) fn push_manifests(
     index: &Value,
     found: &mut Vec<Key>,
 ) -> Result<(), ManifestFault>
-    ensures { Adds found.old.items found.new.items result (keys_of (view index.now) (listed (codes "manifests"))) }
+    ensures { Adds found.old.items found.new.items result
+        (keys_of (view index.now) (listed (codes "manifests"))) }
 {
     push_field(alloc, MANIFESTS, index, found)
 }

@@ -9,7 +9,8 @@ use oci_manifest::Key;
 /// The keys in key order.
 pub(crate) fn sorted(keys: Vec<Key>) -> Result<Vec<Key>, NoMemory>
     requires { IsDistinct same_key keys.items }
-    ensures each { IfOk result (λ sorted. (k : Descriptor) → Contains sorted.items k ↔ Contains keys.items k) }
+    ensures each { IfOk result (λ sorted. (k : Descriptor) → Contains sorted.items k
+        ↔ Contains keys.items k) }
     ensures order { IfOk result (λ sorted. IsStrictlySortedBy key_cmp sorted.items) }
 {
     let mut keys = keys;

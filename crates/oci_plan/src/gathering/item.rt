@@ -1,4 +1,4 @@
-ghost use Rattle.std.specs.Prelude.{◌≡◌, ◌≢◌, ◌<◌, ◌≤◌, true, Some, Ok, IfOk, IfErr, OnOk, MatchBool};
+ghost use Rattle.std.specs.Prelude.{◌≡◌, ◌≢◌, ◌<◌, ◌≤◌, ◌⊎◌, true, false, Some, Ok, IfOk, IfErr, OnOk, OnErr, MatchBool};
 ghost use Rattle.std.specs.List.{IsDistinct};
 ghost use Rattle.oci_manifest.specs.Descriptor.{same_key};
 ghost use Rattle.oci_manifest.specs.MediaTypes.{kind_of};
@@ -8,7 +8,7 @@ ghost use Rattle.oci_store.specs.Graph.{nodes_of};
 ghost use Rattle.oci_store.specs.Keyed.{has_key, value_at};
 ghost use Rattle.oci_plan.specs.Refusal.{IsKeyFault, IsOfKey};
 ghost use Rattle.oci_plan.specs.Visiting.{successors_at, IsWithin};
-ghost use Rattle.oci_plan.specs.Walk.{IsPassed, IsReadFault, fetch_refusal, read_refusal};
+ghost use Rattle.oci_plan.specs.Walk.{IsPassed, MayPass, IsReadFault, fetch_refusal, read_refusal};
 
 use crate::fault::PlanFault;
 use bytes::Bytes;
@@ -30,7 +30,8 @@ fn is_within(kind: Kind, size: u64, limit: u64) -> bool
 fn check<A: Source>(source: &A, key: &Key, limit: u64) -> Result<(), PlanFault>
     ensures there { OnOk result (has_key (A.state source.now).entries key.now ≡ true) }
     ensures within { OnOk result (IsWithin limit key.now) }
-    ensures cause { IfErr result (IsKeyFault (A.state source.now).is_honest (A.state source.now).fails_at (A.state source.now).entries limit) }
+    ensures cause { IfErr result (IsKeyFault (A.state source.now).is_honest
+        (A.state source.now).fails_at (A.state source.now).entries limit) }
     ensures named { IfErr result (IsOfKey key.now) }
 {
     if !is_within(Kind::of(key.media_type()), key.size(), limit) {
@@ -60,8 +61,10 @@ fn fetch<A: Source>(source: &A, key: &Key, limit: u64) -> Result<Bytes, PlanFaul
     requires there { has_key (A.state source.now).entries key.now ≡ true }
     requires within { IsWithin limit key.now }
     ensures matching { IfOk result (λ bytes. Matches key.now bytes) }
-    ensures own { IfOk result (λ bytes. (A.state source.now).is_honest → value_at (A.state source.now).entries key.now ≡ Some bytes) }
-    ensures cause { IfErr result (IsKeyFault (A.state source.now).is_honest (A.state source.now).fails_at (A.state source.now).entries limit) }
+    ensures own { IfOk result (λ bytes. (A.state source.now).is_honest
+        → value_at (A.state source.now).entries key.now ≡ Some bytes) }
+    ensures cause { IfErr result (IsKeyFault (A.state source.now).is_honest
+        (A.state source.now).fails_at (A.state source.now).entries limit) }
     ensures named { IfErr result (IsOfKey key.now) }
 {
     match source.fetch(key) {
@@ -98,20 +101,23 @@ fn read(alloc: Global, key: &Key, kind: Kind, bytes: &[u8]) -> Result<Vec<Key>, 
     }
 }
 
-/// The keys that a visited key lists.
+/// The keys that the content of a key lists.
 ///
 /// Of a manifest the size is looked at first, then whether the source has it; then it is fetched and read. A leaf is never
 /// fetched.
-pub(crate) fn item_successors<A: Source>(
+fn item_successors<A: Source>(
     alloc: Global,
     source: &A,
     key: &Key,
     limit: u64,
 ) -> Result<Vec<Key>, PlanFault>
-    ensures passed { OnOk result (IsPassed (A.state source.now).is_honest (A.state source.now).entries limit key.now) }
-    ensures listed { IfOk result (λ keys. (A.state source.now).is_honest → keys.items ≡ successors_at (nodes_of (A.state source.now).entries) key.now) }
+    ensures passed { OnOk result (IsPassed (A.state source.now).is_honest
+        (A.state source.now).entries limit key.now) }
+    ensures listed { IfOk result (λ keys. (A.state source.now).is_honest
+        → keys.items ≡ successors_at (nodes_of (A.state source.now).entries) key.now) }
     ensures distinct { IfOk result (λ keys. IsDistinct same_key keys.items) }
-    ensures cause { IfErr result (IsKeyFault (A.state source.now).is_honest (A.state source.now).fails_at (A.state source.now).entries limit) }
+    ensures cause { IfErr result (IsKeyFault (A.state source.now).is_honest
+        (A.state source.now).fails_at (A.state source.now).entries limit) }
     ensures named { IfErr result (IsOfKey key.now) }
 {
     check(source, key, limit)?;
@@ -123,4 +129,29 @@ pub(crate) fn item_successors<A: Source>(
             read(alloc, key, kind, &bytes)
         }
     }
+}
+
+/// The keys that a visited key lists: none where the destination alone has it, of which nothing more is asked.
+pub(crate) fn visited_successors<A: Source>(
+    alloc: Global,
+    source: &A,
+    key: &Key,
+    is_held: bool,
+    limit: u64,
+) -> Result<Vec<Key>, PlanFault>
+    ensures passed { OnOk result (MayPass (A.state source.now).is_honest
+        (A.state source.now).entries is_held limit key.now) }
+    ensures listed { IfOk result (λ keys. (A.state source.now).is_honest
+        → keys.items ≡ successors_at (nodes_of (A.state source.now).entries) key.now) }
+    ensures distinct { IfOk result (λ keys. IsDistinct same_key keys.items) }
+    ensures cause { IfErr result (IsKeyFault (A.state source.now).is_honest
+        (A.state source.now).fails_at (A.state source.now).entries limit) }
+    ensures named { IfErr result (IsOfKey key.now) }
+    ensures asked { OnErr result ((is_held ≡ false) ⊎
+        (has_key (A.state source.now).entries key.now ≡ true)) }
+{
+    if is_held && !source.exists(key) {
+        return Ok(Vec::new(alloc));
+    }
+    item_successors(alloc, source, key, limit)
 }

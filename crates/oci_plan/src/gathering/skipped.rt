@@ -10,7 +10,8 @@ use std::alloc::Global;
 
 /// Keeps a root that the destination has.
 fn keep_held<D: Dest>(destination: &D, held: &mut KeyList, root: &Key) -> Result<(), NoMemory>
-    ensures { OnOk result (held.new ≡ (if has_key (D.state destination.now).nodes root.now then with_key held.old root.now else held.old)) }
+    ensures { OnOk result (held.new ≡ (if has_key (D.state destination.now).nodes root.now
+        then with_key held.old root.now else held.old)) }
 {
     if destination.has(root) {
         held.place(root)?;
@@ -24,7 +25,8 @@ pub(crate) fn held_roots<D: Dest>(
     destination: &D,
     roots: &[Key],
 ) -> Result<Vec<Key>, NoMemory>
-    ensures { IfOk result (λ held. held.items ≡ first_places (filter (has_key (D.state destination.now).nodes) roots.now)) }
+    ensures { IfOk result (λ held. held.items ≡ first_places
+        (filter (has_key (D.state destination.now).nodes) roots.now)) }
 {
     let mut held = KeyList::new(alloc);
     for root in roots {

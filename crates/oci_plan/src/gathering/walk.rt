@@ -2,18 +2,20 @@ ghost use Rattle.std.specs.Prelude.{◌≡◌, ◌≤◌, length, filter, Some, 
 ghost use Rattle.std.specs.List.{IsDistinct};
 ghost use Rattle.oci_manifest.specs.Descriptor.{same_key};
 ghost use Rattle.oci_plan.specs.Plan.{Number};
-ghost use Rattle.oci_plan.specs.Refusal.{IsKeyFault, IsFirstFault};
+ghost use Rattle.oci_plan.specs.Refusal.{IsKeyFault, IsFirstFault, NamesNoneOnlyInDestination};
 ghost use Rattle.oci_store.specs.Visiting.{with_key, with_keys};
 ghost use Rattle.oci_plan.specs.Visiting.{is_fresh};
-ghost use Rattle.oci_plan.specs.Walk.{IsNumberFault, IsWalk};
+ghost use Rattle.oci_plan.specs.Walk.{IsNumberFault, IsGathered};
 
-use super::item::item_successors;
+use super::item::visited_successors;
+use super::visits::{is_held, keep, note, visit_at};
+use crate::existing::Existing;
 use crate::fault::PlanFault;
 use oci_manifest::Key;
 use oci_store::{Dest, KeyList, Source};
 use std::alloc::Global;
 
-/// The keys that a walk visited, in that order, and for each the numbers of its successors that are among them.
+/// The keys to bring that a walk met, in that order, and for each the numbers of its successors that are among them.
 pub(crate) struct Visited {
     pub(crate) keys: Vec<Key>,
     pub(crate) lists: Vec<Vec<u32>>,
@@ -41,10 +43,13 @@ fn number_fresh<D: Dest>(
     successors: &[Key],
 ) -> Result<Vec<u32>, PlanFault>
     requires { length keys.old ≤ 4294967295 }
-    ensures keys { OnOk result (keys.new ≡ with_keys keys.old (filter (is_fresh (D.state destination.now).nodes) successors.now)) }
-    ensures numbers { IfOk result (λ numbers. Number keys.new numbers.items (filter (is_fresh (D.state destination.now).nodes) successors.now)) }
+    ensures keys { OnOk result (keys.new ≡ with_keys keys.old
+        (filter (is_fresh (D.state destination.now).nodes) successors.now)) }
+    ensures numbers { IfOk result (λ numbers. Number keys.new numbers.items
+        (filter (is_fresh (D.state destination.now).nodes) successors.now)) }
     ensures few { OnOk result (length keys.new ≤ 4294967295) }
-    ensures refused { IfErr result (IsNumberFault (with_keys keys.old (filter (is_fresh (D.state destination.now).nodes) successors.now))) }
+    ensures refused { IfErr result (IsNumberFault (with_keys keys.old
+        (filter (is_fresh (D.state destination.now).nodes) successors.now))) }
 {
     let mut numbers = Vec::new(alloc);
     for key in successors {
@@ -56,26 +61,40 @@ fn number_fresh<D: Dest>(
     Ok(numbers)
 }
 
-/// Visits what the source has under the roots and the destination does not have, first come, first served.
+/// Visits what the source has under the roots, first come, first served: what the destination does not have, or all of it.
 pub(crate) fn visit<A: Source, D: Dest>(
     alloc: Global,
     source: &A,
     destination: &D,
     roots: &[Key],
     limit: u64,
+    existing: Existing,
 ) -> Result<Visited, PlanFault>
-    ensures walked { IfOk result (λ w. IsWalk (A.state source.now).is_honest (A.state source.now).entries (D.state destination.now).nodes roots.now limit w.keys.items w.keys.items w.lists.items) }
+    ensures gathered { IfOk result (λ w. IsGathered (A.state source.now).is_honest existing
+        (A.state source.now).entries (D.state destination.now).nodes roots.now limit w.keys.items
+        w.lists.items) }
     ensures distinct { IfOk result (λ w. IsDistinct same_key w.keys.items) }
-    ensures cause { IfErr result (IsKeyFault (A.state source.now).is_honest (A.state source.now).fails_at (A.state source.now).entries limit) }
-    ensures first { IfErr result (λ e. (A.state source.now).is_honest → IsFirstFault (A.state source.now).entries (D.state destination.now).nodes roots.now limit e) }
+    ensures cause { IfErr result (IsKeyFault (A.state source.now).is_honest
+        (A.state source.now).fails_at (A.state source.now).entries limit) }
+    ensures spared { IfErr result (NamesNoneOnlyInDestination (A.state source.now).entries
+        (D.state destination.now).nodes) }
+    ensures first { IfErr result (λ e. (A.state source.now).is_honest
+        → IsFirstFault existing (A.state source.now).entries (D.state destination.now).nodes
+        roots.now limit e) }
 {
     let mut keys = KeyList::new(alloc);
+    let mut all = KeyList::new(alloc);
     let _ = number_fresh(alloc, destination, &mut keys, roots)?;
+    note(existing, &mut all, roots)?;
     let mut lists = Vec::new(alloc);
-    while let Some(key) = keys.get(lists.len()) {
-        let successors = item_successors(alloc, source, key, limit)?;
+    let mut place = 0;
+    while let Some(key) = visit_at(existing, &keys, &all, place) {
+        let held = is_held(existing, destination, key);
+        let successors = visited_successors(alloc, source, key, held, limit)?;
         let numbers = number_fresh(alloc, destination, &mut keys, &successors)?;
-        lists.push(numbers)?;
+        note(existing, &mut all, &successors)?;
+        keep(&mut lists, numbers, held)?;
+        place += 1;
     }
     Ok(Visited {
         keys: keys.into_keys(),

@@ -60,10 +60,12 @@ impl Search {
     fn enter(&mut self, lists: &[Vec<u32>], number: u32) -> Result<(), OrderFault>
         requires number { number < length lists.now }
         requires fresh { progress_of self.old.progress.items number ≡ New }
-        requires edge { (last : ℕ) → EndsWith self.old.path.items last → HasEdge (lists_of lists.now) last number }
+        requires edge { (last : ℕ) → EndsWith self.old.path.items last
+            → HasEdge (lists_of lists.now) last number }
         requires sound { IsBetween (lists_of lists.now) self.old }
         ensures sound { OnOk result (IsBetween (lists_of lists.now) self.new) }
-        ensures smaller { OnOk result (work_left self.new.progress.items < work_left self.old.progress.items) }
+        ensures smaller { OnOk result (work_left self.new.progress.items < work_left
+            self.old.progress.items) }
         ensures met { OnOk result (progress_of self.new.progress.items number ≢ New) }
         ensures keeps { OnOk result (KeepsMet self.old.progress.items self.new.progress.items) }
         ensures refused { IfErr result (IsCycleFault (lists_of lists.now)) }
@@ -96,7 +98,8 @@ impl Search {
         requires all { length (successors_of (lists_of lists.now) number) ≤ finished }
         requires sound { IsBetween (lists_of lists.now) self.old }
         ensures sound { OnOk result (IsBetween (lists_of lists.now) self.new) }
-        ensures smaller { OnOk result (work_left self.new.progress.items < work_left self.old.progress.items) }
+        ensures smaller { OnOk result (work_left self.new.progress.items < work_left
+            self.old.progress.items) }
         ensures keeps { OnOk result (KeepsMet self.old.progress.items self.new.progress.items) }
         ensures refused { IfErr result (IsCycleFault (lists_of lists.now)) }
     {
@@ -123,7 +126,8 @@ impl Search {
         requires last { EndsWith self.old.path.items number }
         requires sound { IsBetween (lists_of lists.now) self.old }
         ensures sound { OnOk result (IsBetween (lists_of lists.now) self.new) }
-        ensures smaller { OnOk result (work_left self.new.progress.items < work_left self.old.progress.items) }
+        ensures smaller { OnOk result (work_left self.new.progress.items < work_left
+            self.old.progress.items) }
         ensures keeps { OnOk result (KeepsMet self.old.progress.items self.new.progress.items) }
         ensures refused { IfErr result (IsCycleFault (lists_of lists.now)) }
     {

@@ -39,11 +39,13 @@ pub fn order(lists: Vec<Vec<u32>>) -> Result<Order, OrderFault>
     // An order of the given graph, doubles dropped.
     ensures lists { IfOk result (λ o. o.lists ≡ map without_doubles (lists_of lists.items)) }
     ensures order { IfOk result IsOrder }
-    ensures no_cycle { OnOk result ((numbers : List ℕ) → IsCycle (lists_of lists.items) numbers → ⊥) }
+    ensures no_cycle { OnOk result ((numbers : List ℕ) → IsCycle (lists_of lists.items) numbers
+        → ⊥) }
 
     // Each refusal has its cause in the graph, and a bad number is always told.
     ensures refused { IfErr result (IsCauseOf (lists_of lists.items)) }
-    ensures bad_number { (i n : ℕ) → IsFirstBad (lists_of lists.items) i n → result ≡ Err (OrderFault.BadNumber i n) }
+    ensures bad_number { (i n : ℕ) → IsFirstBad (lists_of lists.items) i n
+        → result ≡ Err (OrderFault.BadNumber i n) }
 {
     if let Some((list, number)) = first_bad_number(&lists) {
         return Err(OrderFault::BadNumber(list, number));

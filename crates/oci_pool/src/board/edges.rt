@@ -2,21 +2,28 @@ ghost use Rattle.std.specs.Prelude.{◌≡◌, ℕ, ◌<◌, ◌++◌, ◌∷◌
 ghost use Rattle.oci_plan.specs.Graph.{lists_of, successors_of, IsDistinct};
 ghost use Rattle.oci_plan.specs.Doubles.{has};
 ghost use Rattle.oci_plan.specs.Order.{IsOrder};
-ghost use Rattle.oci_pool.specs.Board.{holders_of};
+ghost use Rattle.oci_pool.specs.Board.{predecessors_of};
 
 use oci_digest::NoMemory;
 use oci_plan::Order;
 use std::alloc::Global;
 
-/// Adds a number to the holders of each that it lists.
-fn add_holder(holders: &mut Vec<Vec<u32>>, list: &[u32], number: u32) -> Result<(), NoMemory>
-    requires numbers { All (λ k. k < length holders.old.items) list.now }
+/// Adds a number to the predecessors of each that it lists.
+fn add_predecessor(
+    predecessors: &mut Vec<Vec<u32>>,
+    list: &[u32],
+    number: u32,
+) -> Result<(), NoMemory>
+    requires numbers { All (λ k. k < length predecessors.old.items) list.now }
     requires distinct { IsDistinct list.now }
-    ensures len { OnOk result (length holders.new.items ≡ length holders.old.items) }
-    ensures added { OnOk result ((k : ℕ) → k < length holders.old.items → successors_of (lists_of holders.new.items) k ≡ successors_of (lists_of holders.old.items) k ++ cond (has k list.now) (number ∷ []) []) }
+    ensures len { OnOk result (length predecessors.new.items ≡ length predecessors.old.items) }
+    ensures added { OnOk result ((k : ℕ) → k < length predecessors.old.items
+        → successors_of (lists_of predecessors.new.items) k ≡ successors_of
+        (lists_of predecessors.old.items)
+        k ++ cond (has k list.now) (number ∷ []) []) }
 {
     for listed in list {
-        holders[*listed as usize].push(number)?;
+        predecessors[*listed as usize].push(number)?;
     }
     Ok(())
 }
@@ -44,24 +51,30 @@ fn list_of(order: &Order, number: u32) -> &[u32]
 }
 
 /// The numbers that list each number, rising.
-pub(crate) fn holders(alloc: Global, order: &Order) -> Result<Vec<Vec<u32>>, NoMemory>
+pub(crate) fn predecessors(alloc: Global, order: &Order) -> Result<Vec<Vec<u32>>, NoMemory>
     requires { IsOrder order.now }
     ensures len { IfOk result (λ v. vec_len v ≡ length order.now.lists) }
-    ensures holders { IfOk result (λ v. (k : ℕ) → k < length order.now.lists → successors_of (lists_of v.items) k ≡ holders_of order.now.lists k) }
+    ensures predecessors { IfOk result (λ v. (k : ℕ) → k < length order.now.lists
+        → successors_of (lists_of v.items) k ≡ predecessors_of order.now.lists k) }
 {
     let count = order.len();
-    let mut holders = empty_lists(alloc, count)?;
+    let mut predecessors = empty_lists(alloc, count)?;
     for number in 0..count {
-        add_holder(&mut holders, list_of(order, number as u32), number as u32)?;
+        add_predecessor(
+            &mut predecessors,
+            list_of(order, number as u32),
+            number as u32,
+        )?;
     }
-    Ok(holders)
+    Ok(predecessors)
 }
 
 /// How many successors each number has.
 pub(crate) fn counts(alloc: Global, order: &Order) -> Result<Vec<usize>, NoMemory>
     requires { IsOrder order.now }
     ensures len { IfOk result (λ v. vec_len v ≡ length order.now.lists) }
-    ensures counts { IfOk result (λ v. (n : ℕ) → n < length order.now.lists → slice_index v.items n ≡ length (successors_of order.now.lists n)) }
+    ensures counts { IfOk result (λ v. (n : ℕ) → n < length order.now.lists
+        → slice_index v.items n ≡ length (successors_of order.now.lists n)) }
 {
     let count = order.len();
     let mut counts = Vec::with_capacity(alloc, count)?;

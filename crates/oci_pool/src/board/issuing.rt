@@ -21,7 +21,9 @@ pub(crate) fn lower(list: &[u32], waiting: &mut Vec<usize>)
     requires positive { All (λ n. 0 < slice_index waiting.old.items n) list.now }
     requires distinct { IsDistinct list.now }
     ensures len { length waiting.new.items ≡ length waiting.old.items }
-    ensures each { (n : ℕ) → n < length waiting.old.items → slice_index waiting.new.items n + unit_if (has n list.now) ≡ slice_index waiting.old.items n }
+    ensures each { (n : ℕ) → n < length waiting.old.items
+        → slice_index waiting.new.items n + unit_if (has n list.now) ≡ slice_index
+        waiting.old.items n }
 {
     for number in list {
         waiting[*number as usize] -= 1;
@@ -47,7 +49,8 @@ fn issue_if_ready(issue: &mut Vec<u32>, issued: &mut Vec<bool>, waiting: &Vec<us
     requires waiting { length waiting.now.items ≡ length issued.old.items }
     requires fresh { has number issue.old.items ≡ false }
     requires listed { IsListed issue.old.items (vec_capacity issue.old) issued.old.items }
-    ensures issue { issue.new.items ≡ issue.old.items ++ cond (slice_index waiting.now.items number == 0) (number ∷ []) [] }
+    ensures issue { issue.new.items ≡ issue.old.items ++ cond
+        (slice_index waiting.now.items number == 0) (number ∷ []) [] }
     ensures listed { IsListed issue.new.items (vec_capacity issue.new) issued.new.items }
     ensures len { length issued.new.items ≡ length issued.old.items }
 {
@@ -68,7 +71,8 @@ pub(crate) fn issue_ready(
     requires distinct { IsDistinct list.now }
     requires fresh { All (λ n. has n issue.old.items ≡ false) list.now }
     requires listed { IsListed issue.old.items (vec_capacity issue.old) issued.old.items }
-    ensures issue { issue.new.items ≡ issue.old.items ++ filter (λ n. slice_index waiting.now.items n == 0) list.now }
+    ensures issue { issue.new.items ≡ issue.old.items ++ filter
+        (λ n. slice_index waiting.now.items n == 0) list.now }
     ensures listed { IsListed issue.new.items (vec_capacity issue.new) issued.new.items }
     ensures len { length issued.new.items ≡ length issued.old.items }
 {
@@ -83,7 +87,8 @@ pub(crate) fn issue_leaves(issue: &mut Vec<u32>, issued: &mut Vec<bool>, waiting
     requires waiting { length waiting.now.items ≡ length issued.old.items }
     requires none { issue.old.items ≡ [] }
     requires listed { IsListed issue.old.items (vec_capacity issue.old) issued.old.items }
-    ensures issue { issue.new.items ≡ filter (λ n. slice_index waiting.now.items n == 0) (range_with_len 0 (length waiting.now.items)) }
+    ensures issue { issue.new.items ≡ filter (λ n. slice_index waiting.now.items n == 0)
+        (range_with_len 0 (length waiting.now.items)) }
     ensures listed { IsListed issue.new.items (vec_capacity issue.new) issued.new.items }
     ensures len { length issued.new.items ≡ length issued.old.items }
 {

@@ -18,9 +18,11 @@ pub(super) fn answer<J: Job>(
 ) -> Result<Vec<J::Out>, Stopped<J>>
     requires workers { _workers ≤ 64 }
     requires place { InPlace (J.answers job.now) table.items }
-    requires room { (done.items ≡ []) × (all.items ≡ []) × (vec_len table ≤ vec_capacity done) × (vec_len table ≤ vec_capacity all) × (vec_len table ≤ 4294967295) }
+    requires room { (done.items ≡ []) × (all.items ≡ []) × (vec_len table ≤ vec_capacity done)
+        × (vec_len table ≤ vec_capacity all) × (vec_len table ≤ 4294967295) }
     requires fault { MayCome (vec_len table) (J.fails job.now) fault }
-    ensures results { IfOk result (λ v. (k : ℕ) (d : _) → k < vec_len v → J.answers job.now k (slice_index_or v.items k d)) }
+    ensures results { IfOk result (λ v. (k : ℕ) (d : _) → k < vec_len v
+        → J.answers job.now k (slice_index_or v.items k d)) }
     ensures len { IfOk result (λ v. vec_len v ≡ vec_len table) }
     ensures done { IfErr result (λ s. AreDone (vec_len table) (J.answers job.now) s.done.items) }
     ensures cause { IfErr result (λ s. IsCause _workers (J.fails job.now) s.fault) }

@@ -44,7 +44,8 @@ fn take_worker<J: Job>(
     told: Option<PoolFault<J::Fault>>,
 ) -> Option<PoolFault<J::Fault>>
     requires place { InPlace (J.answers job.now) table.old.items }
-    requires worker { Worked count (J.answers job.now) (J.fails job.now) worker.done.items worker.fault }
+    requires worker { Worked count (J.answers job.now) (J.fails job.now) worker.done.items
+        worker.fault }
     requires told { MayCome count (J.fails job.now) told }
     ensures len { vec_len table.new ≡ vec_len table.old }
     ensures place { InPlace (J.answers job.now) table.new.items }
@@ -72,7 +73,8 @@ pub(super) fn gather<J: Job>(
     workers: Vec<Worker<J::Out, J::Fault>>,
 ) -> Option<PoolFault<J::Fault>>
     requires place { InPlace (J.answers job.now) table.old.items }
-    requires workers { All (λ w. Worked count (J.answers job.now) (J.fails job.now) w.done.items w.fault) workers.items }
+    requires workers { All (λ w. Worked count (J.answers job.now) (J.fails job.now) w.done.items
+        w.fault) workers.items }
     ensures len { vec_len table.new ≡ vec_len table.old }
     ensures place { InPlace (J.answers job.now) table.new.items }
     ensures fault { MayCome count (J.fails job.now) result }

@@ -4,13 +4,13 @@ ghost use Rattle.std.specs.BTreeSet.{contains};
 ghost use Rattle.oci_manifest.specs.Descriptor.{Descriptor, IsKey, key_cmp, same_key, is_among};
 ghost use Rattle.oci_store.specs.ByDigest.{digest_cmp};
 ghost use Rattle.oci_store.specs.Graph.{Node};
-ghost use Rattle.oci_store.specs.Holders.{is_holder};
+ghost use Rattle.oci_store.specs.Predecessors.{is_predecessor};
 ghost use Rattle.oci_store.specs.Indexed.{IsIndexed};
 ghost use Rattle.oci_store.specs.Keyed.{has_key};
 
 use crate::graph::by_digest::ByDigest;
-use crate::graph::holders::Holders;
 use crate::graph::node::Listing;
+use crate::graph::predecessors::Predecessors;
 use oci_digest::NoMemory;
 use oci_manifest::Key;
 use std::alloc::Global;
@@ -20,17 +20,17 @@ use std::collections::BTreeMap;
 #[derive(Drop)]
 pub(crate) struct Indexes {
     pub(crate) places: BTreeMap<Key, usize>,
-    pub(crate) holders: Holders,
+    pub(crate) predecessors: Predecessors,
     pub(crate) by_digest: ByDigest,
 }
 
 impl Indexes {
     pub(crate) fn new(alloc: Global) -> Indexes
-        ensures { IsIndexed [] result.places result.holders.lists result.by_digest.keys }
+        ensures { IsIndexed [] result.places result.predecessors.lists result.by_digest.keys }
     {
         Indexes {
             places: BTreeMap::new(alloc),
-            holders: Holders::new(alloc),
+            predecessors: Predecessors::new(alloc),
             by_digest: ByDigest::new(alloc),
         }
     }
@@ -42,15 +42,19 @@ impl Indexes {
         nodes: &[Listing],
         node: &Listing,
     ) -> Result<(), NoMemory>
-        requires indexed { IsIndexed nodes.now self.old.places self.old.holders.lists self.old.by_digest.keys }
+        requires indexed { IsIndexed nodes.now self.old.places self.old.predecessors.lists
+            self.old.by_digest.keys }
         requires new { has_key nodes.now node.now.0 ≡ false }
         requires key { IsKey node.now.0 }
-        ensures noted { OnOk result (IsIndexed (nodes.now ++ node.now ∷ []) self.new.places self.new.holders.lists self.new.by_digest.keys) }
-        ensures refused { OnErr result (IsIndexed nodes.now self.new.places self.new.holders.lists self.new.by_digest.keys) }
+        ensures noted { OnOk result (IsIndexed (nodes.now ++ node.now ∷ []) self.new.places
+            self.new.predecessors.lists self.new.by_digest.keys) }
+        ensures refused { OnErr result (IsIndexed nodes.now self.new.places
+            self.new.predecessors.lists
+            self.new.by_digest.keys) }
     {
         let key = node.key().try_clone()?;
         self.places.insert(key, nodes.len())?;
-        match note_key(&mut self.holders, &mut self.by_digest, alloc, node) {
+        match note_key(&mut self.predecessors, &mut self.by_digest, alloc, node) {
             Ok(()) => Ok(()),
             Err(refused) => {
                 forget_place(&mut self.places, node.key());
@@ -61,11 +65,13 @@ impl Indexes {
 
     /// Takes back the last node. It needs no memory.
     pub(crate) fn forget(&mut self, node: Listing)
-        ensures { (graph : List Node) → IsIndexed (graph ++ node ∷ []) self.old.places self.old.holders.lists self.old.by_digest.keys
-            → IsIndexed graph self.new.places self.new.holders.lists self.new.by_digest.keys }
+        ensures { (graph : List Node)
+            → IsIndexed (graph ++ node ∷ []) self.old.places self.old.predecessors.lists
+            self.old.by_digest.keys
+            → IsIndexed graph self.new.places self.new.predecessors.lists self.new.by_digest.keys }
     {
         forget_place(&mut self.places, node.key());
-        self.holders.forget_all(node.key(), node.successors());
+        self.predecessors.forget_all(node.key(), node.successors());
         self.by_digest.remove(node.into_key());
     }
 }
@@ -80,26 +86,29 @@ fn forget_place(places: &mut BTreeMap<Key, usize>, key: &Key)
 /// Notes a key under each key that it lists, and under its digest. A refusal takes back what was
 /// noted.
 fn note_key(
-    holders: &mut Holders,
+    predecessors: &mut Predecessors,
     by_digest: &mut ByDigest,
     alloc: Global,
     node: &Listing,
 ) -> Result<(), NoMemory>
-    requires { (key : Descriptor) → is_holder holders.old.lists node.now.0 key ≡ false }
-    ensures listed { OnOk result ((other key : Descriptor) → is_holder holders.new.lists other key
-        ≡ (is_holder holders.old.lists other key || (same_key node.now.0 other && is_among node.now.1 key))) }
+    requires { (key : Descriptor) → is_predecessor predecessors.old.lists node.now.0 key ≡ false }
+    ensures listed { OnOk result ((other key : Descriptor)
+        → is_predecessor predecessors.new.lists other key
+        ≡ (is_predecessor predecessors.old.lists other key ||
+        (same_key node.now.0 other && is_among node.now.1 key))) }
     ensures digest { OnOk result ((k : Descriptor) → contains digest_cmp by_digest.new.keys k
         ≡ (contains digest_cmp by_digest.old.keys k || same_key node.now.0 k)) }
-    ensures unlisted { OnErr result ((other key : Descriptor) → is_holder holders.new.lists other key
-        ≡ is_holder holders.old.lists other key) }
+    ensures unlisted { OnErr result ((other key : Descriptor)
+        → is_predecessor predecessors.new.lists other key
+        ≡ is_predecessor predecessors.old.lists other key) }
     ensures no_digest { OnErr result ((k : Descriptor) → contains digest_cmp by_digest.new.keys k
         ≡ contains digest_cmp by_digest.old.keys k) }
 {
-    holders.note_all(alloc, node.key(), node.successors())?;
+    predecessors.note_all(alloc, node.key(), node.successors())?;
     match by_digest.insert(node.key()) {
         Ok(()) => Ok(()),
         Err(refused) => {
-            holders.forget_all(node.key(), node.successors());
+            predecessors.forget_all(node.key(), node.successors());
             Err(refused)
         }
     }

@@ -6,6 +6,7 @@ use std::io::Write;
 use std::rt::Files;
 use std::sync::Wait;
 use std::thread::Threads;
+use std::time::{Clock, Duration};
 
 /// A writer that fails in this way, with errors of this kind.
 #[derive(Drop)]
@@ -104,6 +105,16 @@ impl<'r, R: Files> Files for Unreadable<'r, R> {
 
     fn remove_dir_all<B: std::alloc::Allocator>(&self, alloc: B, path: &str) -> io::Result<()> {
         self.rt.remove_dir_all(alloc, path)
+    }
+}
+
+impl<'r, R: Files + Clock> Clock for Unreadable<'r, R> {
+    fn monotonic(&self) -> io::Result<Duration> {
+        self.rt.monotonic()
+    }
+
+    fn since_1970(&self) -> io::Result<Duration> {
+        self.rt.since_1970()
     }
 }
 

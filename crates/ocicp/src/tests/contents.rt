@@ -1,7 +1,7 @@
 //! Contents, and texts in which they are named. Their digests were computed with `sha256sum` and `sha512sum`.
 //!
-//! `<E>` stands for the line of a content's key, and `<E digest>`, `<E descriptor>`, `<E bytes>` and `<E file>` for its digest,
-//! its descriptor, its bytes, and the place of its blob in a layout.
+//! `<E>` stands for the line of a content's key, and `<E digest>`, `<E short>`, `<E descriptor>`, `<E bytes>` and `<E file>` for
+//! its digest, the digest's first twelve digits, its descriptor, its bytes, and the place of its blob in a layout.
 
 use std::alloc::Global;
 use std::fmt::Write;
@@ -162,6 +162,7 @@ fn push_part_of(told: &mut String, sample: Sample, part: &str) -> Result<(), Fai
     match part {
         "key" => write!(told, "{algorithm}:{digits} {size} {media_type}")?,
         "digest" => write!(told, "{algorithm}:{digits}")?,
+        "short" => write!(told, "{algorithm}:{digits:.12}")?,
         "descriptor" => write!(
             told,
             "{{\"mediaType\":\"{media_type}\",\"digest\":\"{algorithm}:{digits}\",\"size\":{size}}}"

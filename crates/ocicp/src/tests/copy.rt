@@ -81,6 +81,35 @@ $ cat @/N/index.json
     assert_session(&rt, &folder, IMAGE, session)
 }
 
+/// A copy that descends brings what a destination lacks below what it holds. A damaged file is held, until somebody deletes it.
+#[test]
+fn copy_below_what_is_held(rt: HostRuntime) -> Result<(), Fail> {
+    let folder = folder(&rt, "copy_below")?;
+    let session = r"
+$ ocicp copy @/L v1 @/N w
+copied <M0>
+planned 2 pushed 2 skipped 0
+$ write @/N/<E file> []
+$ ocicp verify @/N
+corrupt <E>
+held 2
+? 1
+$ ocicp copy --descend @/L v1 @/N w
+copied <M0>
+planned 0 pushed 0 skipped 1
+$ rm @/N/<E file>
+$ ocicp copy --dry-run --descend @/L v1 @/N w
+<E>
+planned 1 bytes 2 skipped 1
+$ ocicp copy --descend @/L v1 @/N w
+copied <M0>
+planned 1 pushed 1 skipped 1
+$ ocicp verify @/N
+held 2
+";
+    assert_session(&rt, &folder, IMAGE, session)
+}
+
 /// A copy that is refused after its destination was made names nothing there.
 #[test]
 fn copy_from_an_open_layout(rt: HostRuntime) -> Result<(), Fail> {
@@ -128,14 +157,20 @@ planned 5 pushed 5 skipped 0
 $ ocicp predecessors @/N t
 <I3>
 <S>
+$ ocicp copy --dry-run --referrers --depth 1 @/R t @/N
+planned 0 bytes 0 skipped 3
 $ ocicp copy --dry-run --referrers @/R t @/N
 <I4>
 planned 1 bytes 183 skipped 3
 $ ocicp copy --referrers @/R t @/N
 copied <M2>
 planned 1 pushed 1 skipped 3
+$ ocicp copy --referrers @/R t @/N w
+copied <M2>
+planned 0 pushed 0 skipped 4
 $ ocicp tags @/N
 t <M2>
+w <M2>
 $ ocicp verify @/N
 held 6
 ";

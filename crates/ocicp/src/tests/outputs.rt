@@ -4,7 +4,7 @@ use crate::tests::broken::{Broken, Step};
 use crate::tests::contents::filled;
 use crate::tests::layouts::IMAGE;
 use crate::tests::sessions::{assert_runs, assert_session, folder, told, words_of};
-use oci_commands::run_words;
+use oci_commands::{Lockable, run_words};
 use std::fs;
 use std::io::ErrorKind;
 use std::process::Abort;
@@ -12,9 +12,9 @@ use std::rt::Files;
 use std::sync::Wait;
 use std::test::Fail;
 use std::thread::Threads;
+use std::time::Clock;
 
-/// Each command tells an output that cannot be written, or not be flushed; want of memory of the output is want of memory of
-/// the run.
+/// Each command reports an output that cannot be written or flushed. If memory runs out there, the run is out of memory.
 #[test]
 fn failing_outputs(rt: HostRuntime) -> Result<(), Fail> {
     let folder = folder(&rt, "failing_outputs")?;
@@ -22,11 +22,16 @@ fn failing_outputs(rt: HostRuntime) -> Result<(), Fail> {
     assert_runs(&rt, &folder, IMAGE)?;
     let lines = "\
 --help
+--version
+explain 80
 mem text/plain=@/abc.txt
 tags @/L
 resolve @/L v1
 predecessors @/L <E digest>
+tree --referrers @/L v1
 verify @/L
+copy --all --dry-run @/L @/N
+copy --all @/L @/N
 copy --dry-run @/L v1 @/N
 copy @/L v1 @/N";
     assert_failing(&rt, &folder, lines)?;
@@ -34,13 +39,13 @@ copy @/L v1 @/N";
 }
 
 /// Runs the program on each line with outputs that fail.
-fn assert_failing<R: Files + AllocGlobal + Threads + Wait + Sync + Abort>(
+fn assert_failing<R: Files + AllocGlobal + Clock + Threads + Wait + Sync + Abort>(
     rt: &R,
     folder: &str,
     lines: &str,
 ) -> Result<(), Fail>
 where
-    R::File: Send,
+    R::File: Lockable + Send,
     R::Dir: Send,
 {
     let lines = filled(rt.alloc(), folder, lines)?;
@@ -56,7 +61,7 @@ where
 }
 
 /// Runs the program with an output that fails in this way, and compares its status and the error output.
-fn assert_broken<R: Files + AllocGlobal + Threads + Wait + Sync + Abort>(
+fn assert_broken<R: Files + AllocGlobal + Clock + Threads + Wait + Sync + Abort>(
     rt: &R,
     line: &str,
     at: Step,
@@ -64,19 +69,19 @@ fn assert_broken<R: Files + AllocGlobal + Threads + Wait + Sync + Abort>(
     wanted: &str,
 ) -> Result<(), Fail>
 where
-    R::File: Send,
+    R::File: Lockable + Send,
     R::Dir: Send,
 {
     let words = words_of(rt.alloc(), line)?;
     let mut out = Broken { at, kind };
     let mut err = Vec::new(rt.alloc());
-    let status = run_words(rt, &words, &mut out, &mut err);
+    let status = run_words(rt, &words, false, &mut out, &mut err);
     let told = told(rt.alloc(), &[], &err, status)?;
     assert_eq!(rt; told.as_str(), wanted, "{line}");
     Ok(())
 }
 
-/// A file that cannot be read for want of memory is want of memory of the run, and no fault of the file.
+/// A run that has no memory to read a file is out of memory; the file is not at fault.
 #[test]
 fn files_without_memory(rt: HostRuntime) -> Result<(), Fail> {
     let folder = folder(&rt, "files_without_memory")?;

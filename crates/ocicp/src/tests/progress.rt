@@ -1,10 +1,15 @@
 use crate::tests::contents::filled;
 use crate::tests::layouts::{IMAGE, REFERRERS};
-use crate::tests::sessions::{assert_runs, assert_session, folder, transcript};
+use crate::tests::sessions::{assert_runs, assert_session, folder, transcript, words_of};
+use oci_commands::{Lockable, run_words};
 use std::alloc::Global;
 use std::fs;
 use std::process::Abort;
+use std::rt::Files;
+use std::sync::Wait;
 use std::test::Fail;
+use std::thread::Threads;
+use std::time::Clock;
 
 /// A content is told once it is there, after what it lists; of what is there already only what was asked for is told.
 #[test]
@@ -64,6 +69,52 @@ planned 6 pushed 6 skipped 0
     let wanted = filled(rt.alloc(), &folder, wanted)?;
     let told = transcript(&rt, words.as_str())?;
     assert_same_lines(&rt, told.as_str(), wanted.as_str())?;
+    fs::remove_dir_all(&rt, folder.as_str())?;
+    Ok(())
+}
+
+/// What a run on a terminal writes to stderr.
+fn drawn<R: Files + AllocGlobal + Clock + Threads + Wait + Sync>(
+    rt: &R,
+    folder: &str,
+    words: &str,
+) -> Result<String, Fail>
+where
+    R::File: Lockable + Send,
+    R::Dir: Send,
+{
+    let words = filled(rt.alloc(), folder, words)?;
+    let words = words_of(rt.alloc(), words.as_str())?;
+    let mut out = Vec::new(rt.alloc());
+    let mut err = Vec::new(rt.alloc());
+    run_words(rt, &words, true, &mut out, &mut err);
+    Ok(String::from_str(rt.alloc(), str::from_utf8(&err)?)?)
+}
+
+/// A run on a terminal draws this.
+fn assert_drawn<R: Files + AllocGlobal + Clock + Threads + Wait + Sync + Abort>(
+    rt: &R,
+    folder: &str,
+    words: &str,
+    wanted: &str,
+) -> Result<(), Fail>
+where
+    R::File: Lockable + Send,
+    R::Dir: Send,
+{
+    assert_eq!(rt; drawn(rt, folder, words)?.as_str(), wanted, "{words}");
+    Ok(())
+}
+
+/// On a terminal one line is drawn and taken away; with `--progress`, and where nothing arrives, none is.
+#[test]
+fn progress_on_a_terminal(rt: HostRuntime) -> Result<(), Fail> {
+    let folder = folder(&rt, "progress_on_a_terminal")?;
+    assert_runs(&rt, &folder, IMAGE)?;
+    let line = "\r1 of 1 blobs, 2 B of 2 B\x1b[K\r\x1b[K";
+    assert_drawn(&rt, &folder, "copy @/L <E digest> @/N e", line)?;
+    assert_drawn(&rt, &folder, "copy @/L <E digest> @/N e", "")?;
+    assert_drawn(&rt, &folder, "copy --dry-run @/L v1 @/N", "")?;
     fs::remove_dir_all(&rt, folder.as_str())?;
     Ok(())
 }

@@ -8,16 +8,17 @@
 //! | Line | What it does |
 //! |---|---|
 //! | `$ locked PART WORDS` | runs the program, which may not open files that have this part in their path |
-//! | `$ starved PART WORDS` | runs the program, where memory is wanting as it opens such a file |
+//! | `$ starved PART WORDS` | runs the program, which runs out of memory as it opens such a file |
 //! | `$ write PATH TEXT` | writes a file, and makes the folders above it |
 //! | `$ mkdir PATH` | makes a folder |
+//! | `$ link PATH TARGET` | makes a symbolic link |
 //! | `$ rm PATH` | removes a file |
 //! | `$ cat PATH` | prints a file, and a line feed |
 //! | `$ exists PATH` | prints `yes` or `no` |
 
 use crate::tests::broken::Unreadable;
 use crate::tests::contents::filled;
-use oci_commands::run_words;
+use oci_commands::{Lockable, run_words};
 use std::alloc::Global;
 use std::fmt::Write;
 use std::io::ErrorKind;
@@ -26,6 +27,7 @@ use std::rt::Files;
 use std::sync::Wait;
 use std::test::Fail;
 use std::thread::Threads;
+use std::time::Clock;
 use std::{env, fs, process};
 
 /// The path of a folder for one test.
@@ -36,14 +38,14 @@ pub(crate) fn folder(rt: &HostRuntime, name: &str) -> Result<String, Fail> {
 }
 
 /// Goes through two sessions in a folder, which then goes.
-pub(crate) fn assert_session<R: Files + AllocGlobal + Threads + Wait + Sync + Abort>(
+pub(crate) fn assert_session<R: Files + AllocGlobal + Clock + Threads + Wait + Sync + Abort>(
     rt: &R,
     folder: &str,
     before: &str,
     session: &str,
 ) -> Result<(), Fail>
 where
-    R::File: Send,
+    R::File: Lockable + Send,
     R::Dir: Send,
 {
     fs::create_dir_all(rt, folder)?;
@@ -54,13 +56,13 @@ where
 }
 
 /// Goes through a session.
-pub(crate) fn assert_runs<R: Files + AllocGlobal + Threads + Wait + Sync + Abort>(
+pub(crate) fn assert_runs<R: Files + AllocGlobal + Clock + Threads + Wait + Sync + Abort>(
     rt: &R,
     folder: &str,
     session: &str,
 ) -> Result<(), Fail>
 where
-    R::File: Send,
+    R::File: Lockable + Send,
     R::Dir: Send,
 {
     let session = filled(rt.alloc(), folder, session)?;
@@ -71,12 +73,12 @@ where
 }
 
 /// What a line tells is what stands below it.
-fn assert_run<R: Files + AllocGlobal + Threads + Wait + Sync + Abort>(
+fn assert_run<R: Files + AllocGlobal + Clock + Threads + Wait + Sync + Abort>(
     rt: &R,
     run: &str,
 ) -> Result<(), Fail>
 where
-    R::File: Send,
+    R::File: Lockable + Send,
     R::Dir: Send,
 {
     let (line, wanted) = run.split_once('\n').unwrap_or((run, ""));
@@ -86,12 +88,12 @@ where
 }
 
 /// What a line tells.
-fn telling<R: Files + AllocGlobal + Threads + Wait + Sync>(
+fn telling<R: Files + AllocGlobal + Clock + Threads + Wait + Sync>(
     rt: &R,
     line: &str,
 ) -> Result<String, Fail>
 where
-    R::File: Send,
+    R::File: Lockable + Send,
     R::Dir: Send,
 {
     let (command, rest) = halves(line);
@@ -109,13 +111,13 @@ fn halves(line: &str) -> (&str, &str) {
 }
 
 /// Runs the program where some files cannot be opened.
-fn hindered<R: Files + AllocGlobal + Threads + Wait + Sync>(
+fn hindered<R: Files + AllocGlobal + Clock + Threads + Wait + Sync>(
     rt: &R,
     line: &str,
     kind: ErrorKind,
 ) -> Result<String, Fail>
 where
-    R::File: Send,
+    R::File: Lockable + Send,
     R::Dir: Send,
 {
     let (part, words) = halves(line);
@@ -123,18 +125,18 @@ where
 }
 
 /// All that a run of the program tells.
-pub(crate) fn transcript<R: Files + AllocGlobal + Threads + Wait + Sync>(
+pub(crate) fn transcript<R: Files + AllocGlobal + Clock + Threads + Wait + Sync>(
     rt: &R,
     words: &str,
 ) -> Result<String, Fail>
 where
-    R::File: Send,
+    R::File: Lockable + Send,
     R::Dir: Send,
 {
     let words = words_of(rt.alloc(), words)?;
     let mut out = Vec::new(rt.alloc());
     let mut err = Vec::new(rt.alloc());
-    let status = run_words(rt, &words, &mut out, &mut err);
+    let status = run_words(rt, &words, false, &mut out, &mut err);
     told(rt.alloc(), &out, &err, status)
 }
 
@@ -194,6 +196,7 @@ fn change<R: Files + AllocGlobal>(rt: &R, command: &str, rest: &str) -> Result<(
     match command {
         "write" => write_file(rt, rest),
         "mkdir" => Ok(fs::create_dir_all(rt, rest)?),
+        "link" => link(rt, rest),
         "rm" => Ok(fs::remove_file(rt, rest)?),
         _ => Err(Fail::from("no command has this name")),
     }
@@ -207,4 +210,10 @@ fn write_file<R: Files + AllocGlobal>(rt: &R, line: &str) -> Result<(), Fail> {
     }
     fs::write(rt, path, text)?;
     Ok(())
+}
+
+/// Makes a symbolic link.
+fn link<R: Files>(rt: &R, line: &str) -> Result<(), Fail> {
+    let (path, target) = halves(line);
+    Ok(rt.symlink(target, path)?)
 }

@@ -71,7 +71,8 @@ kept
     assert_session(&rt, &folder, IMAGE, session)
 }
 
-/// A destination whose blobs cannot be put, and one whose index cannot: neither names what was not copied.
+/// A destination whose blobs cannot be put names nothing that was not copied. A folder that has the name of a file beside the index
+/// is passed over.
 #[test]
 fn files_in_the_place_of_blobs(rt: HostRuntime) -> Result<(), Fail> {
     let folder = folder(&rt, "files_as_blobs")?;
@@ -86,13 +87,51 @@ $ cat @/N/blobs
 kept
 $ write @/K/oci-layout {"imageLayoutVersion":"1.0.0"}
 $ write @/K/index.json {}
-$ mkdir @/K/index.json.new
+$ mkdir @/K/index.json.0.new
 $ ocicp copy @/L v1 @/K
+copied <M0>
+planned 2 pushed 2 skipped 0
+$ ocicp tags @/K
+v1 <M0>
+"#;
+    assert_session(&rt, &folder, IMAGE, session)
+}
+
+/// A link to a file is that file. A device in the place of a file is told, and not read.
+#[test]
+fn links_in_the_place_of_files(rt: HostRuntime) -> Result<(), Fail> {
+    let folder = folder(&rt, "links_as_files")?;
+    let session = r"
+$ ocicp copy @/L v1 @/K
+copied <M0>
+planned 2 pushed 2 skipped 0
+$ rm @/K/<E file>
+$ link @/K/<E file> @/L/<E file>
+$ ocicp verify @/K
+held 2
+$ rm @/K/<E file>
+$ link @/K/<E file> /dev/zero
+$ ocicp copy @/K v1 @/N
+! ocicp: 88 Fetch <E> 22 Device
+? 1
+$ ocicp copy @/L v1 @/K v2
+copied <M0>
+planned 0 pushed 0 skipped 1
+$ rm @/K/<M0 file>
+$ link @/K/<M0 file> /dev/zero
+$ ocicp tags @/K
 ! ocicp: 74 Device
 ? 1
+$ rm @/K/index.json
+$ link @/K/index.json /dev/zero
 $ ocicp tags @/K
-$ cat @/K/index.json
-{}
-"#;
+! ocicp: 74 Device
+? 1
+$ rm @/K/oci-layout
+$ link @/K/oci-layout /dev/zero
+$ ocicp tags @/K
+! ocicp: 74 Device
+? 1
+";
     assert_session(&rt, &folder, IMAGE, session)
 }

@@ -1,11 +1,13 @@
 use crate::tests::sessions::transcript;
+use oci_commands::Lockable;
 use std::process::Abort;
 use std::rt::Files;
 use std::sync::Wait;
 use std::test::Fail;
 use std::thread::Threads;
+use std::time::Clock;
 
-/// Words that are no use of the program.
+/// Invalid command lines.
 #[test]
 fn usage_faults(rt: HostRuntime) -> Result<(), Fail> {
     let lines = "\
@@ -20,7 +22,15 @@ copy --workers three L v1 N
 copy --referrers --depth 4294967296 L v1 N
 copy L v1
 copy L v1 N w x
+copy --all
+copy --all L
+copy --all L v1 N
+copy --all L v1 N w
 tags
+tree L
+tree L v1 w
+explain
+explain 80 81
 resolve L
 predecessors L
 verify
@@ -32,12 +42,12 @@ verify L N";
 }
 
 /// Status 2, and the usage on the error output alone.
-fn assert_usage<R: Files + AllocGlobal + Threads + Wait + Sync + Abort>(
+fn assert_usage<R: Files + AllocGlobal + Clock + Threads + Wait + Sync + Abort>(
     rt: &R,
     line: &str,
 ) -> Result<(), Fail>
 where
-    R::File: Send,
+    R::File: Lockable + Send,
     R::Dir: Send,
 {
     let told = transcript(rt, line)?;
@@ -45,6 +55,13 @@ where
         told.starts_with("! ") && told.ends_with("\n? 2\n"),
         "{line}: {told}"
     );
+    Ok(())
+}
+
+#[test]
+fn version(rt: HostRuntime) -> Result<(), Fail> {
+    let told = transcript(&rt, "--version")?;
+    assert_eq!(&rt; told.as_str(), "ocicp 0.1.0\n");
     Ok(())
 }
 
@@ -57,18 +74,30 @@ fn help(rt: HostRuntime) -> Result<(), Fail> {
 --help:  tags
 --help:  resolve
 --help:  predecessors
+--help:  tree
 --help:  verify
+--help:  explain
+--help:-V, --version
 mem --help:TYPE=PATH
 mem --help:--workers <N>
 mem --help:--sha512
 copy --help:<SRC> <SRCREF> <DST> [DSTREF]
 copy --help:--workers <N>
 copy --help:--progress
+copy --help:copy --all [OPTIONS] <SRC> <DST>
+copy --help:--all
+copy --help:--referrers
+copy --help:--depth <D>
+copy --help:--descend
 copy --help:--dry-run
+copy --help:Examples:
 tags --help:<FOLDER>
 resolve --help:<FOLDER> <REF>
 predecessors --help:<FOLDER> <REF>
-verify --help:<FOLDER>";
+tree --help:[OPTIONS] <FOLDER> <REF>
+tree --help:--referrers
+verify --help:<FOLDER>
+explain --help:<NUMBER>";
     for line in lines.lines() {
         assert_help(&rt, line)?;
     }
@@ -76,12 +105,12 @@ verify --help:<FOLDER>";
 }
 
 /// Status 0, and this part in the output alone.
-fn assert_help<R: Files + AllocGlobal + Threads + Wait + Sync + Abort>(
+fn assert_help<R: Files + AllocGlobal + Clock + Threads + Wait + Sync + Abort>(
     rt: &R,
     line: &str,
 ) -> Result<(), Fail>
 where
-    R::File: Send,
+    R::File: Lockable + Send,
     R::Dir: Send,
 {
     let (words, part) = line.split_once(':').unwrap_or((line, ""));

@@ -2,7 +2,6 @@ use Rattle.std.proofs.Common.{List, [], inl, refl}
 use Rattle.oci_manifest.specs.Descriptor.{Descriptor}
 use Rattle.oci_copy.specs.Copy.{IsCopy}
 use Rattle.oci_copy.specs.Extended.{OfUp, RefusedExtended}
-use Rattle.oci_copy.specs.Options.{limit_of}
 use Rattle.oci_copy.specs.Report.{IsReport}
 use Rattle.oci_copy.specs.Work.{CanFail, IsRefusalToWorkers, RefusedForPlanOrWorkers}
 use Rattle.oci_copy.specs.declared.report.Report.{Report}
@@ -20,7 +19,7 @@ returns-in-Ok-copied-clause-copied g c =
     let done = rw c.in-Ok-copied.is at c.extended_copy_graph-destination.ensures.copied in
     ok_tagged c.tag_copied.result.1 c.in-Ok.root c.in-Ok-copied.report
     (λ (k : Descriptor) (r : Report). OfUp (g.A.Store.state c.args.source.now) k c.args.depth
-    (λ (roots : List Descriptor). IsCopy g.D.Dest.shares (limit_of c.args.options.now) (g.A.Store.state c.args.source.now) (g.D.Store.state c.args.destination) roots (g.D.Store.state c.tag_copied.result.0)))
+    (λ (roots : List Descriptor). IsCopy g.D.Dest.shares c.args.options.now (g.A.Store.state c.args.source.now) (g.D.Store.state c.args.destination) roots (g.D.Store.state c.tag_copied.result.0)))
     c.tag_copied.ensures.root c.tag_copied.ensures.report (done.0, done.1, copy_tagged c.tag_copied.ensures.stays done.2)
 
 pub returns-in-Ok-copied-clause-report : goal.returns-in-Ok-copied-clause-report
@@ -28,7 +27,7 @@ returns-in-Ok-copied-clause-report g c =
     let done = rw c.in-Ok-copied.is at c.extended_copy_graph-destination.ensures.report in
     ok_tagged c.tag_copied.result.1 c.in-Ok.root c.in-Ok-copied.report
     (λ (k : Descriptor) (r : Report). OfUp (g.A.Store.state c.args.source.now) k c.args.depth
-    (λ (roots : List Descriptor). IsReport (g.A.Store.state c.args.source.now) (g.D.Store.state c.args.destination) roots (g.D.Store.state c.tag_copied.result.0) r))
+    (λ (roots : List Descriptor). IsReport c.args.options.now.existing (g.A.Store.state c.args.source.now) (g.D.Store.state c.args.destination) roots (g.D.Store.state c.tag_copied.result.0) r))
     c.tag_copied.ensures.root c.tag_copied.ensures.report (done.0, done.1, report_tagged c.tag_copied.ensures.stays c.in-Ok-copied.report done.2)
 
 pub returns-in-Ok-copied-clause-grows : goal.returns-in-Ok-copied-clause-grows
@@ -40,7 +39,7 @@ pub returns-in-Err-copied-clause-refused : goal.returns-in-Err-copied-clause-ref
 returns-in-Err-copied-clause-refused g c =
     refused_by_root (g.A.Store.state c.args.source.now) c.args.source_reference.now c.args.options.now.workers
     (λ (root : Descriptor). RefusedExtended (g.A.Store.state c.args.source.now) root c.args.depth
-    (λ (roots : List Descriptor). IsRefusalToWorkers (CanFail g.D.Store.state (g.D.Store.state c.args.destination)) (limit_of c.args.options.now)
+    (λ (roots : List Descriptor). IsRefusalToWorkers (CanFail g.D.Store.state (g.D.Store.state c.args.destination)) c.args.options.now
     (g.A.Store.state c.args.source.now) (g.D.Store.state c.args.destination) roots c.args.options.now.workers))
     c.in-Ok.root c.extended_copy_graph-destination.result.1 c.in-Err-copied.fault c.in-Ok.ensures.found c.extended_copy_graph-destination.ensures.workers (λ f x. x.2) c.in-Err-copied.is
     (rw c.in-Err-copied.is at c.extended_copy_graph-destination.ensures.refused)
@@ -54,6 +53,6 @@ pub returns-in-Err-copied-clause-plain : goal.returns-in-Err-copied-clause-plain
 returns-in-Err-copied-clause-plain g c unfailing =
     refused_by_root (g.A.Store.state c.args.source.now) c.args.source_reference.now c.args.options.now.workers
     (λ (root : Descriptor). RefusedExtended (g.A.Store.state c.args.source.now) root c.args.depth
-    (λ (roots : List Descriptor). RefusedForPlanOrWorkers (g.A.Store.state c.args.source.now).entries (limit_of c.args.options.now) (g.D.Store.state c.args.destination).nodes roots c.args.options.now.workers))
+    (λ (roots : List Descriptor). RefusedForPlanOrWorkers (g.A.Store.state c.args.source.now).entries c.args.options.now (g.D.Store.state c.args.destination).nodes roots c.args.options.now.workers))
     c.in-Ok.root c.extended_copy_graph-destination.result.1 c.in-Err-copied.fault c.in-Ok.ensures.found c.extended_copy_graph-destination.ensures.workers (λ f x. x.2) c.in-Err-copied.is
     ((rw c.in-Err-copied.is at c.extended_copy_graph-destination.ensures.plain) unfailing)

@@ -1,4 +1,3 @@
-use Rattle.oci_copy.specs.Options.{limit_of}
 use Rattle.oci_copy.specs.Work.{CanFail}
 use Rattle.oci_copy.proofs.Workers.{refused_when_open, refused_for_plan_or_workers, never_fails}
 use Rattle.oci_copy.proofs.graph.copy_graph.Goals as goal
@@ -8,5 +7,5 @@ returns-in-Err-clause-plain g c unfailing =
     let opening = g.D.Store.state c.args.destination in
     let own = unfailing c.args.destination in
     refused_for_plan_or_workers (CanFail g.D.Store.state opening) (g.A.Store.state c.args.source.now) opening
-    (never_fails g.D.Store.state opening own.no_failures (λ store. (unfailing store).no_failures)) own (limit_of c.args.options.now) c.args.roots.now c.args.options.now.workers c.in-Err.fault
-    (refused_when_open (CanFail g.D.Store.state opening) (limit_of c.args.options.now) (g.A.Store.state c.args.source.now) opening c.args.roots.now c.args.options.now.workers c.in-Err.fault c.in-Err.ensures.open)
+    (never_fails g.D.Store.state opening own.no_failures (λ store. (unfailing store).no_failures)) c.args.options.now own c.args.roots.now c.args.options.now.workers c.in-Err.fault
+    (refused_when_open (CanFail g.D.Store.state opening) c.args.options.now (g.A.Store.state c.args.source.now) opening c.args.roots.now c.args.options.now.workers c.in-Err.fault c.in-Err.ensures.open)

@@ -1,4 +1,3 @@
-use Rattle.oci_copy.specs.Options.{limit_of}
 use Rattle.oci_copy.proofs.Headline.{is_copy, only_grows}
 use Rattle.oci_copy.proofs.Causes.{refused_in_run, refused_at_start}
 use Rattle.oci_copy.proofs.Unfailing.{refused_for_plan}
@@ -6,8 +5,8 @@ use Rattle.oci_copy.proofs.single.copy_one.Goals as goal
 
 pub returns-in-Err-clause-plain : goal.returns-in-Err-clause-plain
 returns-in-Err-clause-plain g c unfailing =
-    refused_for_plan unfailing (limit_of c.args.options.now) c.args.roots.now c.in-Err.fault
-    (refused_at_start (limit_of c.args.options.now) (g.A.Store.state c.args.source.now) (g.D.Store.state c.args.destination) c.args.roots.now (g.D.Store.state c.args.destination) c.in-Err.fault c.in-Err.ensures.cause)
+    refused_for_plan c.args.options.now unfailing c.args.roots.now c.in-Err.fault
+    (refused_at_start c.args.options.now (g.A.Store.state c.args.source.now) (g.D.Store.state c.args.destination) c.args.roots.now (g.D.Store.state c.args.destination) c.in-Err.fault c.in-Err.ensures.cause)
 
 pub returns-in-Ok-push_all-clause-copied : goal.returns-in-Ok-push_all-clause-copied
 returns-in-Ok-push_all-clause-copied g c =

@@ -4,47 +4,51 @@ use Rattle.std.specs.List.{All}
 use Rattle.std.specs.Vec.{vec_len}
 use Rattle.oci_store.specs.Keyed.{has_key}
 use Rattle.oci_store.specs.Graph.{nodes_of}
-use Rattle.oci_plan.specs.Outside.{IsOutside}
+use Rattle.oci_plan.specs.Outside.{IsToBring}
 use Rattle.oci_plan.specs.Plan.{Planned, HasEdges, FollowsListed}
-use Rattle.oci_plan.proofs.Plans.{lists_length, tellable, told_first, outside_exactly, numbered, has_edges, follows_listed}
+use Rattle.oci_plan.proofs.Plans.{lists_length, tellable, told_spared, told_first, numbered, has_edges, follows_listed}
 use Rattle.oci_plan.proofs.gathering.gather.Goals as goal
 
 pub order-requires : goal.order-requires
 order-requires g c =
-    let len = lists_length _ _ _ _ _ c.in_ok-keys.field-0.keys.items c.in_ok-keys.field-0.lists.items c.in_ok-keys.ensures.walked c.in_ok-keys.ensures.distinct in
-    let few = c.in_ok-keys.ensures.walked.few in
+    let len = lists_length _ _ _ _ _ _ c.in_ok-keys.field-0.keys.items c.in_ok-keys.field-0.lists.items c.in_ok-keys.ensures.gathered c.in_ok-keys.ensures.distinct in
+    let few = c.in_ok-keys.ensures.gathered.few in
     let same : vec_len c.in_ok-keys.field-0.lists ≡ length c.in_ok-keys.field-0.lists.items = search rules in
     omega (arith, len, few, same)
 
 pub new-requires : goal.new-requires
 new-requires g c = record {
   distinct = c.in_ok-keys.ensures.distinct;
-  numbered = numbered _ _ _ _ _ c.in_ok-keys.field-0.keys.items c.in_ok-keys.field-0.lists.items c.in_ok-keys.ensures.walked c.in_ok-keys.ensures.distinct c.in-Ok.order c.in-Ok.ensures.lists;
+  numbered = numbered _ _ _ _ _ _ c.in_ok-keys.field-0.keys.items c.in_ok-keys.field-0.lists.items c.in_ok-keys.ensures.gathered c.in_ok-keys.ensures.distinct c.in-Ok.order c.in-Ok.ensures.lists;
 }
 
 pub told-requires : goal.told-requires
 told-requires g c =
-    rw c.deref.ensures.value (tellable _ _ _ _ _ c.in_ok-keys.field-0.keys.items c.in_ok-keys.field-0.lists.items c.in_ok-keys.ensures.walked c.in_ok-keys.ensures.distinct c.in-Err.fault c.in-Err.ensures.refused)
+    rw c.deref.ensures.value (tellable _ _ _ _ _ _ c.in_ok-keys.field-0.keys.items c.in_ok-keys.field-0.lists.items c.in_ok-keys.ensures.gathered c.in_ok-keys.ensures.distinct c.in-Err.fault c.in-Err.ensures.refused)
 
 pub returns-in-Ok-clause-roots : goal.returns-in-Ok-clause-roots
 returns-in-Ok-clause-roots g c =
-    subst (λ (p : Planned). All (λ k. (has_key (g.D.Store.state c.args.destination.now).nodes k ≡ true) ⊎ Contains p.keys k) c.args.roots.now) (sym c.new.ensures) c.in_ok-keys.ensures.walked.has_roots
+    subst (λ (p : Planned). All (λ k. (has_key (g.D.Store.state c.args.destination.now).nodes k ≡ true) ⊎ Contains p.keys k) c.args.roots.now) (sym c.new.ensures) c.in_ok-keys.ensures.gathered.has_roots
 
 pub returns-in-Ok-clause-outside : goal.returns-in-Ok-clause-outside
 returns-in-Ok-clause-outside g c = λ h k.
-    subst (λ (p : Planned). (Contains p.keys k → IsOutside (nodes_of (g.A.Store.state c.args.source.now).entries) (g.D.Store.state c.args.destination.now).nodes c.args.roots.now k) × (IsOutside (nodes_of (g.A.Store.state c.args.source.now).entries) (g.D.Store.state c.args.destination.now).nodes c.args.roots.now k → Contains p.keys k)) (sym c.new.ensures)
-    (outside_exactly _ _ _ _ _ c.in_ok-keys.field-0.keys.items c.in_ok-keys.field-0.lists.items c.in_ok-keys.ensures.walked c.in_ok-keys.ensures.distinct h k)
+    let bring = IsToBring c.args.existing (nodes_of (g.A.Store.state c.args.source.now).entries) (g.D.Store.state c.args.destination.now).nodes c.args.roots.now k in
+    subst (λ (p : Planned). (Contains p.keys k → bring) × (bring → Contains p.keys k)) (sym c.new.ensures) (c.in_ok-keys.ensures.gathered.exactly h k)
 
 pub returns-in-Ok-clause-edges : goal.returns-in-Ok-clause-edges
 returns-in-Ok-clause-edges g c = λ h.
     subst (λ (p : Planned). HasEdges (nodes_of (g.A.Store.state c.args.source.now).entries) (g.D.Store.state c.args.destination.now).nodes p) (sym c.new.ensures)
-    (has_edges _ _ _ _ _ c.in_ok-keys.field-0.keys.items c.in_ok-keys.field-0.lists.items c.in_ok-keys.ensures.walked c.in_ok-keys.ensures.distinct c.in-Ok.order c.in-Ok.ensures.lists h c.in_ok-skipped.skipped.items)
+    (has_edges _ _ _ _ _ _ c.in_ok-keys.field-0.keys.items c.in_ok-keys.field-0.lists.items c.in_ok-keys.ensures.gathered c.in_ok-keys.ensures.distinct c.in-Ok.order c.in-Ok.ensures.lists h c.in_ok-skipped.skipped.items)
 
 pub returns-in-Ok-clause-follows : goal.returns-in-Ok-clause-follows
 returns-in-Ok-clause-follows g c = λ h.
     subst (λ (p : Planned). FollowsListed (nodes_of (g.A.Store.state c.args.source.now).entries) (g.D.Store.state c.args.destination.now).nodes p) (sym c.new.ensures)
-    (follows_listed _ _ _ _ _ c.in_ok-keys.field-0.keys.items c.in_ok-keys.field-0.lists.items c.in_ok-keys.ensures.walked c.in_ok-keys.ensures.distinct c.in-Ok.order c.in-Ok.ensures.lists h c.in-Ok.ensures.order c.in_ok-skipped.skipped.items)
+    (follows_listed _ _ _ _ _ _ c.in_ok-keys.field-0.keys.items c.in_ok-keys.field-0.lists.items c.in_ok-keys.ensures.gathered c.in_ok-keys.ensures.distinct c.in-Ok.order c.in-Ok.ensures.lists h c.in-Ok.ensures.order c.in_ok-skipped.skipped.items)
+
+pub returns-in-Err-clause-spared : goal.returns-in-Err-clause-spared
+returns-in-Err-clause-spared g c =
+    told_spared _ _ _ _ _ _ c.in_ok-keys.field-0.keys.items c.in_ok-keys.field-0.lists.items c.in_ok-keys.ensures.gathered c.in_ok-keys.ensures.distinct c.in-Err.fault c.told.result (rw c.deref.ensures.value at c.told.ensures)
 
 pub returns-in-Err-clause-first : goal.returns-in-Err-clause-first
 returns-in-Err-clause-first g c =
-    told_first _ _ _ _ _ c.in_ok-keys.field-0.keys.items c.in_ok-keys.field-0.lists.items c.in_ok-keys.ensures.walked c.in_ok-keys.ensures.distinct c.in-Err.fault c.told.result c.in-Err.ensures.refused (rw c.deref.ensures.value at c.told.ensures)
+    told_first _ _ _ _ _ _ c.in_ok-keys.field-0.keys.items c.in_ok-keys.field-0.lists.items c.in_ok-keys.ensures.gathered c.in_ok-keys.ensures.distinct c.in-Err.fault c.told.result c.in-Err.ensures.refused (rw c.deref.ensures.value at c.told.ensures)

@@ -1,0 +1,111 @@
+//! Pushes small contents into a store: `bench/live` times it, and refuses it memory.
+//!
+//! The first word is the store, the second how many contents are pushed: `closed`, `live`, `looked` for a live store that two
+//! looks ask for a content all the while, or `asked` for one that a look asks so a million times afterwards. With `copied` all
+//! contents are copied into a live store by workers, twice, and the two copies stand in the place of the pushes.
+//!
+//! What is printed: how many pushes succeeded, the numbers of the first and the last refusal (0 for none), how many entries the
+//! store holds, or a copy of it, and how often looks had an answer. If anything else runs out of memory, nothing is printed:
+//! status 3.
+#![tactic(auto)]
+
+mod copying;
+mod looking;
+mod pushing;
+
+use copying::copy_twice;
+use looking::{ask, push_all_looked_at};
+use oci_live::LiveStore;
+use oci_manifest::Key;
+use oci_store::{ClosedStore, Dest};
+use pushing::{Content, Tally, contents, push_all};
+use std::alloc::Global;
+use std::process::ExitCode;
+use std::sync::Wait;
+use std::sync::atomic::AtomicBool;
+use std::thread::Threads;
+use std::{env, io};
+
+fn main(rt: HostRuntime) -> io::Result<ExitCode> {
+    let words: Vec<String> = env::args(&rt)?.skip(1).collect(rt.alloc())?;
+    let Some(told) = run(rt, rt.alloc(), &words) else {
+        return Ok(ExitCode::from(3));
+    };
+    println!(rt; "{told}")?;
+    Ok(ExitCode::from(0))
+}
+
+/// Does what the words ask for. None where they cannot be read, or where there was no memory for what is pushed into.
+fn run<R: Threads + Wait + Send + Sync + Copy + Drop>(
+    rt: R,
+    alloc: Global,
+    words: &[String],
+) -> Option<Tally> {
+    let store = words.first()?;
+    let count = words.get(1)?.as_str().parse().ok()?;
+    let contents = contents(alloc, count).ok()?;
+    match store.as_str() {
+        "closed" => Some(closed(alloc, contents)),
+        "live" => live(rt, alloc, contents),
+        "looked" => looked(rt, alloc, contents),
+        "asked" => asked(rt, alloc, contents),
+        "copied" => copied(rt, alloc, contents),
+        _ => None,
+    }
+}
+
+fn closed(alloc: Global, contents: Vec<Content>) -> Tally {
+    let mut store = ClosedStore::new(alloc);
+    let tally = push_all(&mut store, contents);
+    tally.held(store.count())
+}
+
+fn opened<R: Wait + Drop>(rt: R, alloc: Global) -> Option<LiveStore<R>> {
+    match LiveStore::open(rt, alloc, ClosedStore::new(alloc)) {
+        Ok(live) => Some(live),
+        Err(_) => None,
+    }
+}
+
+fn live<R: Wait + Drop>(rt: R, alloc: Global, contents: Vec<Content>) -> Option<Tally> {
+    let mut live = opened(rt, alloc)?;
+    let tally = push_all(&mut live, contents);
+    let out = live.copy_out().ok()?;
+    Some(tally.held(out.memory().len()))
+}
+
+/// The key that looks ask for.
+fn asked_for(contents: &[Content]) -> Option<Key> {
+    contents.last()?.key.try_clone().ok()
+}
+
+fn looked<R: Threads + Wait + Send + Sync + Copy + Drop>(
+    rt: R,
+    alloc: Global,
+    contents: Vec<Content>,
+) -> Option<Tally> {
+    let key = asked_for(&contents)?;
+    let mut live = opened(rt, alloc)?;
+    let looks = (live.look().ok()?, live.look().ok()?);
+    let tally = push_all_looked_at(&rt, &mut live, looks, &key, contents);
+    Some(tally.held(live.count()))
+}
+
+fn asked<R: Wait + Drop>(rt: R, alloc: Global, contents: Vec<Content>) -> Option<Tally> {
+    let key = asked_for(&contents)?;
+    let mut live = opened(rt, alloc)?;
+    let mut look = live.look().ok()?;
+    let tally = push_all(&mut live, contents);
+    let answers = ask(&mut look, &key, 1_000_000, &AtomicBool::new(false));
+    Some(tally.held(live.count()).answered(answers))
+}
+
+fn copied<R: Threads + Wait + Send + Sync + Copy + Drop>(
+    rt: R,
+    alloc: Global,
+    contents: Vec<Content>,
+) -> Option<Tally> {
+    let (live, tally) = copy_twice(&rt, alloc, opened(rt, alloc)?, contents)?;
+    let out = live.copy_out().ok()?;
+    Some(tally.held(out.memory().len()))
+}

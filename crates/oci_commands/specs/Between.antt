@@ -1,0 +1,27 @@
+-- What a copy between two layouts leaves.
+use Rattle.std.specs.Prelude.{◌≡◌, ◌≤◌, List, Result, Ok, Err}
+use Rattle.oci_manifest.specs.Descriptor.{Descriptor}
+use Rattle.oci_store.specs.Copied.{IsCopied}
+use Rattle.oci_store.specs.Push.{IsCalm}
+use Rattle.oci_store.specs.State.{State}
+use Rattle.oci_copy.specs.Grown.{graph_of, SameByDigest}
+
+-- The bytes of a copy between two layouts can be told: nobody else writes into either folder, each file that the destination had
+-- matches its key, a digest that is in both has the same bytes in both, and no put failed from the one state of the destination
+-- to the other.
+pub record IsTrusted (source old new : State) : Type 0 where
+  pub is_honest : source.is_honest
+  pub is_sound : old.is_sound
+  pub same : SameByDigest source.entries old.entries
+  pub is_calm : IsCalm old.failures new.failures
+
+-- the destination has exactly what it had, and what the source reaches from the roots, each with the bytes that its file has
+abbrev pub IsCopiedBetween : State → State → List Descriptor → State → Type 0
+IsCopiedBetween source old roots new = IsTrusted source old new → IsCopied (graph_of source) source.entries roots old.entries new.entries
+
+-- a save changes nothing that the layout holds
+pub record IsSaved (old new : State) : Type 0 where
+  pub tags : new.tags ≡ old.tags
+  pub entries : old.is_sound → new.entries ≡ old.entries
+  pub sound : old.is_sound → new.is_sound
+  pub failures : old.failures ≤ new.failures

@@ -1,0 +1,130 @@
+ghost use Rattle.std.specs.Prelude.{◌≡◌, [], ◌∷◌, Ok, IfOk, OnOk};
+ghost use Rattle.oci_store.specs.Tags.{set_tag};
+ghost use Rattle.oci_copy.specs.Extended.{OfUp};
+ghost use Rattle.oci_copy.specs.Tagged.{name_of, ResolvesIn};
+ghost use Rattle.oci_layout.specs.Files.{HasFiles};
+ghost use Rattle.oci_commands.specs.Between.{IsCopiedBetween, IsSaved, IsTrusted};
+
+use oci_copy::{CopyFault, Options, Report, copy, extended_copy};
+use oci_exit::ProgramFault;
+use oci_layout::{Dir, Layout};
+use oci_manifest::Key;
+use oci_pool::Hooks;
+use oci_store::Store;
+use std::sync::Wait;
+use std::thread::Threads;
+
+/// Copies what a reference of a layout resolves to into another layout, tags it there, and saves that.
+///
+/// The tag is `to`, or `from` where that is empty. The destination always comes back. Refused as `copy` is, and then it is not
+/// saved; and where `index.json` could not be written.
+pub fn copy_between<
+    R: AllocGlobal + Threads + Wait + Sync,
+    S: Dir + Sync,
+    D: Dir + Drop + Send,
+    H: Hooks + Sync,
+>(
+    rt: &R,
+    source: &Layout<S>,
+    from: &str,
+    destination: Layout<D>,
+    to: &str,
+    options: &Options,
+    hooks: &H,
+) -> (Layout<D>, Result<(Key, Report), ProgramFault>)
+where
+    S::Draft: Send,
+    D::Draft: Send,
+    ensures root { IfOk result.1 (λ it. ResolvesIn (⟦<Layout<S> as Store>⟧.state source.now)
+        from.now it.0) }
+    ensures copied { IfOk result.1 (λ it. IsCopiedBetween (⟦<Layout<S> as Store>⟧.state source.now)
+        (⟦<Layout<D> as Store>⟧.state destination) (it.0 ∷ [])
+        (⟦<Layout<D> as Store>⟧.state result.0)) }
+    ensures tagged { IfOk result.1 (λ it. result.0.2 ≡ set_tag destination.2
+        (name_of from.now to.now) it.0) }
+    ensures sound { IsTrusted (⟦<Layout<S> as Store>⟧.state source.now)
+        (⟦<Layout<D> as Store>⟧.state destination)
+        (⟦<Layout<D> as Store>⟧.state result.0) → (⟦<Layout<D> as Store>⟧.state result.0).is_sound }
+    ensures files { OnOk result.1 (IsTrusted (⟦<Layout<S> as Store>⟧.state source.now)
+        (⟦<Layout<D> as Store>⟧.state destination)
+        (⟦<Layout<D> as Store>⟧.state result.0)
+        → HasFiles (D.file result.0.0) (⟦<Layout<D> as Store>⟧.state result.0).entries result.0.1
+        result.0.2) }
+{
+    let alloc = rt.alloc();
+    let (destination, copied) = copy(rt, alloc, source, from, destination, to, options, hooks);
+    save_copied(destination, copied)
+}
+
+/// The same with what leads to the key, up to a depth: `extended_copy` in the place of `copy`.
+pub fn extended_copy_between<
+    R: AllocGlobal + Threads + Wait + Sync,
+    S: Dir + Sync,
+    D: Dir + Drop + Send,
+    H: Hooks + Sync,
+>(
+    rt: &R,
+    source: &Layout<S>,
+    from: &str,
+    depth: u32,
+    destination: Layout<D>,
+    to: &str,
+    options: &Options,
+    hooks: &H,
+) -> (Layout<D>, Result<(Key, Report), ProgramFault>)
+where
+    S::Draft: Send,
+    D::Draft: Send,
+    ensures root { IfOk result.1 (λ it. ResolvesIn (⟦<Layout<S> as Store>⟧.state source.now)
+        from.now it.0) }
+    ensures copied { IfOk result.1 (λ it. OfUp (⟦<Layout<S> as Store>⟧.state source.now) it.0 depth
+        (λ roots. IsCopiedBetween (⟦<Layout<S> as Store>⟧.state source.now)
+        (⟦<Layout<D> as Store>⟧.state destination)
+        roots (⟦<Layout<D> as Store>⟧.state result.0))) }
+    ensures tagged { IfOk result.1 (λ it. result.0.2 ≡ set_tag destination.2
+        (name_of from.now to.now) it.0) }
+    ensures sound { IsTrusted (⟦<Layout<S> as Store>⟧.state source.now)
+        (⟦<Layout<D> as Store>⟧.state destination)
+        (⟦<Layout<D> as Store>⟧.state result.0) → (⟦<Layout<D> as Store>⟧.state result.0).is_sound }
+    ensures files { OnOk result.1 (IsTrusted (⟦<Layout<S> as Store>⟧.state source.now)
+        (⟦<Layout<D> as Store>⟧.state destination)
+        (⟦<Layout<D> as Store>⟧.state result.0)
+        → HasFiles (D.file result.0.0) (⟦<Layout<D> as Store>⟧.state result.0).entries result.0.1
+        result.0.2) }
+{
+    let alloc = rt.alloc();
+    let (destination, copied) = extended_copy(
+        rt,
+        alloc,
+        source,
+        from,
+        depth,
+        destination,
+        to,
+        options,
+        hooks,
+    );
+    save_copied(destination, copied)
+}
+
+/// Saves a layout that was copied into, unless the copy was refused.
+fn save_copied<D: Dir>(
+    destination: Layout<D>,
+    copied: Result<(Key, Report), CopyFault>,
+) -> (Layout<D>, Result<(Key, Report), ProgramFault>)
+    ensures answer { IfOk result.1 (λ it. copied ≡ Ok it) }
+    ensures saved { IsSaved (⟦<Layout<D> as Store>⟧.state destination)
+        (⟦<Layout<D> as Store>⟧.state result.0) }
+    ensures files { OnOk result.1 ((⟦<Layout<D> as Store>⟧.state destination).is_sound
+        → HasFiles (D.file result.0.0) (⟦<Layout<D> as Store>⟧.state destination).entries result.0.1
+        result.0.2) }
+{
+    let mut destination = destination;
+    match copied {
+        Ok(copied) => match destination.save() {
+            Ok(()) => (destination, Ok(copied)),
+            Err(fault) => (destination, Err(ProgramFault::from(fault))),
+        },
+        Err(fault) => (destination, Err(ProgramFault::from(fault))),
+    }
+}

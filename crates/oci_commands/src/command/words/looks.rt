@@ -1,0 +1,98 @@
+use crate::command::words::{flag, needed};
+use clap::{Arg, Command};
+use std::alloc::{AllocError, Global};
+
+/// `FOLDER`
+fn folder<'w>(alloc: Global) -> Arg<'w> {
+    needed(alloc, "folder", "FOLDER", "The folder of an image layout")
+}
+
+/// `REF`
+fn reference<'w>(alloc: Global) -> Arg<'w> {
+    let help = "A tag of the layout, or the digest of a blob that it has";
+    needed(alloc, "reference", "REF", help)
+}
+
+/// `tags FOLDER`
+pub(crate) fn tags_command<'w>(alloc: Global) -> Result<Command<'w>, AllocError> {
+    Command::new(alloc, "tags")
+        .about(
+            "Lists the tags of a layout, each with the digest, size and media type it resolves to",
+        )
+        .long_about(
+            "Lists the tags of a layout in byte order, each with the digest, the size and the media type of \
+             the blob that it resolves to. A tag of a blob that the layout does not have is left out.",
+        )
+        .after_help("Example:\n  ocicp tags mirror")
+        .arg(folder(alloc))
+}
+
+/// `resolve FOLDER REF`
+pub(crate) fn resolve_command<'w>(alloc: Global) -> Result<Command<'w>, AllocError> {
+    Command::new(alloc, "resolve")
+        .about("Prints the digest, size and media type that a reference resolves to")
+        .after_help("Example:\n  ocicp resolve mirror v1")
+        .arg(folder(alloc))?
+        .arg(reference(alloc))
+}
+
+/// `predecessors FOLDER REF`
+pub(crate) fn predecessors_command<'w>(alloc: Global) -> Result<Command<'w>, AllocError> {
+    Command::new(alloc, "predecessors")
+        .about("Lists the manifests that list a blob: indexes, and referrers such as signatures")
+        .long_about(
+            "Lists the manifests of a layout that list the blob that a reference resolves to: indexes, and \
+             referrers such as signatures. Each line is a digest, a size and a media type. Only direct \
+             predecessors are listed; `tree --referrers` shows theirs too.",
+        )
+        .after_help("Example:\n  ocicp predecessors mirror v1")
+        .arg(folder(alloc))?
+        .arg(reference(alloc))
+}
+
+/// `tree [--referrers] FOLDER REF`
+pub(crate) fn tree_command<'w>(alloc: Global) -> Result<Command<'w>, AllocError> {
+    let referrers = flag(
+        alloc,
+        "referrers",
+        "Then shows what refers to it, and what refers to that",
+    );
+    Command::new(alloc, "tree")
+        .about("Shows what a reference reaches, indented, for people to read")
+        .long_about(
+            "Shows what a reference reaches, for people to read. Each line is the beginning of a digest, a \
+             size, a media type, and the tags of that blob in brackets. The blobs that a manifest lists stand below it, \
+             indented by two spaces. A blob that was shown before is marked `(shown above)`, and what it lists is not \
+             shown again; one that the layout does not have is marked `(absent)`.\n\n\
+             Scripts should use `resolve` and `predecessors`, which print whole digests.",
+        )
+        .after_help("Examples:\n  ocicp tree mirror v1\n  ocicp tree --referrers mirror v1")
+        .arg(referrers)?
+        .arg(folder(alloc))?
+        .arg(reference(alloc))
+}
+
+/// `verify FOLDER`
+pub(crate) fn verify_command<'w>(alloc: Global) -> Result<Command<'w>, AllocError> {
+    Command::new(alloc, "verify")
+        .about(
+            "Checks every file of a layout against its digest, and that no listed blob is missing",
+        )
+        .long_about(
+            "Checks every file of a layout against its digest, and that no listed blob is missing.\n\n\
+             Prints `corrupt` with the digest, the size and the media type of each blob whose file does not \
+             match, `open` with the first manifest that lists a missing blob and with that blob, and then \
+             `held` and how many blobs the layout has. The status is 1 where something is wrong.",
+        )
+        .after_help("Example:\n  ocicp verify mirror")
+        .arg(folder(alloc))
+}
+
+/// `explain NUMBER`
+pub(crate) fn explain_command<'w>(alloc: Global) -> Result<Command<'w>, AllocError> {
+    let help = "The number that an error line begins with, as 80 in `ocicp: 80 DestinationOpen ..`";
+    Command::new(alloc, "explain")
+        .about("Explains the number of an error: what it means, and what to do")
+        .after_help("Example:\n  ocicp explain 80")
+        .arg(needed(alloc, "number", "NUMBER", help))
+}

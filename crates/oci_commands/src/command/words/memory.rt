@@ -1,0 +1,43 @@
+use crate::command::words::flag;
+use clap::builder::ValueParser;
+use clap::{Arg, Command};
+use oci_pool::MAX_WORKERS;
+use std::alloc::{AllocError, Global};
+
+const EXAMPLES: &str = "\
+Example:
+  ocicp mem application/vnd.oci.empty.v1+json=config.json \\
+            application/vnd.oci.image.manifest.v1+json=manifest.json";
+
+/// `mem [--workers N] [--sha512] TYPE=PATH..`
+pub(crate) fn mem_command<'w>(alloc: Global) -> Result<Command<'w>, AllocError> {
+    let item = Arg::new(alloc, "item")
+        .value_name("TYPE=PATH")
+        .help("A media type and a file; the last one is copied, with everything that it reaches")
+        .num_args(1..)
+        .required(true);
+    let workers = Arg::new(alloc, "workers")
+        .long("workers")
+        .value_name("N")
+        .help("How many workers copy at once, at most 64; 0 means 3. Without it one thread copies")
+        .value_parser(ValueParser::Unsigned(0, u64::from(MAX_WORKERS)));
+    let sha512 = flag(
+        alloc,
+        "sha512",
+        "Digests are SHA-512; without it they are SHA-256",
+    );
+    Command::new(alloc, "mem")
+        .about("Copies between two stores in memory, and lists what arrived")
+        .long_about(
+            "Copies between two stores in memory, and lists what arrived.\n\n\
+             Each file is put into the first store under its media type, its digest and its size. Then the \
+             blob of the last item is copied into the second store, with everything that it reaches: the \
+             config and the layers of an image, the images of an index, the subject of a referrer. Prints \
+             the digest, the size and the media type of each blob that arrived, ordered by media type and \
+             then by digest, and how many were planned, pushed and skipped.",
+        )
+        .after_help(EXAMPLES)
+        .arg(workers)?
+        .arg(sha512)?
+        .arg(item)
+}

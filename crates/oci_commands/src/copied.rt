@@ -1,0 +1,109 @@
+use crate::between::{copy_between, extended_copy_between};
+use crate::copy::CopyWords;
+use crate::roots::roots_of_tags;
+use oci_copy::{CopyFault, Report, copy_graph};
+use oci_exit::ProgramFault;
+use oci_layout::{Dir, Layout};
+use oci_manifest::Key;
+use oci_pool::Hooks;
+use oci_store::{RefFault, Tagger};
+use std::alloc::Global;
+use std::sync::Wait;
+use std::thread::Threads;
+
+/// Copies what a reference of the source resolves to, tags it in the destination, and saves that. Gives its key.
+pub(crate) fn copied_reference<
+    R: AllocGlobal + Threads + Wait + Sync,
+    S: Dir + Sync,
+    D: Dir + Drop + Send,
+    H: Hooks + Sync,
+>(
+    rt: &R,
+    source: &Layout<S>,
+    from: &str,
+    destination: Layout<D>,
+    to: &str,
+    words: &CopyWords<'_>,
+    hooks: &H,
+) -> Result<(Vec<Key>, Report), ProgramFault>
+where
+    S::Draft: Send,
+    D::Draft: Send,
+{
+    let options = words.options();
+    let (_saved, answer) = match words.referrers {
+        Some(depth) => extended_copy_between(
+            rt,
+            source,
+            from,
+            depth,
+            destination,
+            to,
+            &options,
+            hooks,
+        ),
+        None => copy_between(rt, source, from, destination, to, &options, hooks),
+    };
+    let (key, report) = answer?;
+    let mut keys = Vec::new(rt.alloc());
+    keys.push(key)?;
+    Ok((keys, report))
+}
+
+/// Copies what each tag of the source resolves to in one copy, tags each in the destination, and saves that once. The keys are
+/// in byte order of the tags.
+pub(crate) fn copied_tags<
+    R: AllocGlobal + Threads + Wait + Sync,
+    S: Dir + Sync,
+    D: Dir + Drop + Send,
+    H: Hooks + Sync,
+>(
+    rt: &R,
+    source: &Layout<S>,
+    destination: Layout<D>,
+    words: &CopyWords<'_>,
+    hooks: &H,
+) -> Result<(Vec<Key>, Report), ProgramFault>
+where
+    S::Draft: Send,
+    D::Draft: Send,
+{
+    let (alloc, options) = (rt.alloc(), words.options());
+    let tags = source.tags()?;
+    let roots = roots_of_tags(alloc, source, &tags, words.referrers)?;
+    let (mut destination, answer) = copy_graph(
+        rt,
+        alloc,
+        source,
+        destination,
+        &roots,
+        &options,
+        hooks,
+    );
+    let report = answer?;
+    let keys = tag_all(alloc, &mut destination, tags)?;
+    destination.save()?;
+    Ok((keys, report))
+}
+
+/// Sets these tags, and gives their keys.
+fn tag_all<T: Tagger>(
+    alloc: Global,
+    destination: &mut T,
+    tags: Vec<(String, Key)>,
+) -> Result<Vec<Key>, ProgramFault> {
+    let mut keys = Vec::new(alloc);
+    for (name, key) in tags {
+        destination.tag(&key, &name).map_err(tag_fault)?;
+        keys.push(key)?;
+    }
+    Ok(keys)
+}
+
+/// The fault of a copy whose tag was refused.
+fn tag_fault(fault: RefFault) -> CopyFault {
+    match fault {
+        RefFault::Memory => CopyFault::Memory,
+        _ => CopyFault::Reference(fault),
+    }
+}

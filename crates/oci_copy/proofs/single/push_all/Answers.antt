@@ -1,0 +1,84 @@
+use Rattle.std.proofs.Common.{◌≡◌, ◌++◌, ◌∷◌, [], List, true, false, sym, subst, ap, ◌∙◌, arith, append-nil, append_assoc}
+use Rattle.std.specs.Map.{keys_of}
+use Rattle.std.proofs.lemmas.List.Elements.{All-contains}
+use Rattle.std.proofs.lemmas.Result.{err_from_is_err_and}
+use Rattle.oci_manifest.specs.Descriptor.{Descriptor}
+use Rattle.oci_store.specs.Graph.{Node}
+use Rattle.oci_store.specs.Keyed.{has_key}
+use Rattle.oci_plan.specs.Plan.{keys_before}
+use Rattle.oci_copy.specs.Grown.{graph_of}
+use Rattle.oci_copy.specs.Planned.{CanBeRead}
+use Rattle.oci_copy.proofs.Growth.{keeps_start}
+use Rattle.oci_copy.proofs.Places.{Contains-from_slice_get, keys_before-more, fresh_at, all_held, ready_at, length-more}
+use Rattle.oci_copy.proofs.Causes.{step_earlier}
+use Rattle.oci_copy.proofs.single.push_all.Goals as goal
+
+pub loop-place-init : goal.loop-place-init
+loop-place-init g c = record {
+  keys = sym (append-nil _);
+  count = omega arith;
+  keeps = keeps_start g.D.Dest.shares (g.A.Store.state c.args.source.now) c.args.plan.now.keys (g.D.Store.state c.args.destination.now);
+  running = λ halted. halted;
+}
+
+pub push_planned-requires-clause-there : goal.push_planned-requires-clause-there
+push_planned-requires-clause-there g c =
+    let at = c.key_at.ensures in
+    All-contains (λ (k : Descriptor). has_key (g.A.Store.state c.args.source.now).entries k ≡ true) c.args.plan.now.keys c.key_at.result.now c.requires.there
+    (Contains-from_slice_get c.args.plan.now.keys at.0 c.key_at.result.now at.2)
+
+pub push_planned-requires-clause-reads : goal.push_planned-requires-clause-reads
+push_planned-requires-clause-reads g c honest =
+    let at = c.key_at.ensures in
+    All-contains (CanBeRead (g.A.Store.state c.args.source.now).entries) c.args.plan.now.keys c.key_at.result.now (c.requires.reads honest)
+    (Contains-from_slice_get c.args.plan.now.keys at.0 c.key_at.result.now at.2)
+
+pub push_planned-requires-clause-fresh : goal.push_planned-requires-clause-fresh
+push_planned-requires-clause-fresh g c =
+    let at = c.key_at.ensures in
+    fresh_at c.args.plan.now c.requires.plan c.requires.order (g.D.Store.state c.args.destination.now).nodes (g.D.Store.state c.loop-place.destination).nodes c.loop-place.place at.0 c.key_at.result.now
+    c.requires.fresh c.loop-place.invariant.keys at.1 at.2
+
+pub push_planned-requires-clause-ready : goal.push_planned-requires-clause-ready
+push_planned-requires-clause-ready g c honest =
+    let at = c.key_at.ensures in
+    ready_at c.args.plan.now c.requires.plan c.requires.order (graph_of (g.A.Store.state c.args.source.now)) (g.D.Store.state c.args.destination.now).nodes (g.D.Store.state c.loop-place.destination).nodes
+    c.loop-place.place at.0 c.key_at.result.now (c.requires.follows honest) c.loop-place.invariant.keys at.1 at.2
+
+pub returns-in_err-push_planned-clause-keeps : goal.returns-in_err-push_planned-clause-keeps
+returns-in_err-push_planned-clause-keeps g c =
+    let at = c.key_at.ensures in
+    c.push_planned.ensures.keeps c.args.plan.now.keys c.args.destination.now (Contains-from_slice_get c.args.plan.now.keys at.0 c.key_at.result.now at.2) c.loop-place.invariant.keeps
+
+pub returns-in_err-push_planned-clause-cause : goal.returns-in_err-push_planned-clause-cause
+returns-in_err-push_planned-clause-cause g c =
+    let at = c.key_at.ensures in
+    let p = err_from_is_err_and c.from_residual.result c.from_residual.ensures.1 in
+    let fresh = fresh_at c.args.plan.now c.requires.plan c.requires.order (g.D.Store.state c.args.destination.now).nodes (g.D.Store.state c.loop-place.destination).nodes c.loop-place.place at.0 c.key_at.result.now
+    c.requires.fresh c.loop-place.invariant.keys at.1 at.2 in
+    rw (p.1, p.2) (
+      c.key_at.result.now,
+      Contains-from_slice_get c.args.plan.now.keys at.0 c.key_at.result.now at.2,
+      subst (λ (graph : List Node). has_key graph c.key_at.result.now ≡ false) (sym c.in_err-push_planned.ensures.refused) fresh,
+      step_earlier (g.A.Store.state c.args.source.now) (g.D.Store.state c.args.destination.now) (g.D.Store.state c.loop-place.destination) (g.D.Store.state c.push_planned.new.destination) c.key_at.result.now _
+          c.loop-place.invariant.running c.loop-place.invariant.keeps.rising c.in_err-push_planned.ensures.cause,
+    )
+
+pub loop-place-preserved : goal.loop-place-preserved
+loop-place-preserved g c =
+    let at = c.key_at.ensures in
+    let pushed = c.in_ok-push_planned.ensures.pushed in
+    let more = length-more (g.D.Store.state c.loop-place.destination).nodes (g.D.Store.state c.push_planned.new.destination).nodes c.key_at.result.now pushed in
+    record {
+      keys = pushed ∙ (ap (λ (ks : List Descriptor). ks ++ c.key_at.result.now ∷ []) c.loop-place.invariant.keys
+          ∙ (append_assoc (keys_of (g.D.Store.state c.args.destination.now).nodes) (keys_before c.loop-place.place c.args.plan.now) (c.key_at.result.now ∷ []) ∙ ap (λ (ks : List Descriptor). keys_of (g.D.Store.state c.args.destination.now).nodes ++ ks)
+          (sym (keys_before-more c.args.plan.now c.requires.plan c.requires.order c.loop-place.place at.0 c.key_at.result.now at.1 at.2))));
+      count = omega (arith, more, c.loop-place.invariant.count);
+      keeps = c.push_planned.ensures.keeps c.args.plan.now.keys c.args.destination.now (Contains-from_slice_get c.args.plan.now.keys at.0 c.key_at.result.now at.2) c.loop-place.invariant.keeps;
+      running = λ halted. c.loop-place.invariant.running (c.in_ok-push_planned.ensures.running halted);
+    }
+
+pub returns-clause-held : goal.returns-clause-held
+returns-clause-held g c =
+    all_held c.args.plan.now c.requires.plan c.requires.order (g.D.Store.state c.args.destination.now).nodes (g.D.Store.state c.loop-place.destination).nodes c.loop-place.place
+    (omega (arith, c.len-place-end.ensures.len)) c.loop-place.invariant.keys

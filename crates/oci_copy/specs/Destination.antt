@@ -1,0 +1,17 @@
+-- What the destination of a copy has to be.
+use Rattle.std.specs.Prelude.{◌≡◌, List, Some}
+use Rattle.oci_manifest.specs.Descriptor.{Descriptor}
+use Rattle.oci_store.specs.Closed.{IsClosed, first_open}
+use Rattle.oci_store.specs.Graph.{Node}
+use Rattle.oci_plan.specs.declared.existing.Existing.{Existing}
+use Rattle.oci_plan.specs.declared.existing.Existing.TheVariants.{Skip, Descend}
+
+-- where a copy skips the keys that the destination has, the destination is closed; a copy that descends asks nothing
+abbrev pub IsClosedWhenSkipping : Existing → List Node → Type 0
+IsClosedWhenSkipping Skip graph = IsClosed graph
+IsClosedWhenSkipping Descend graph = Unit {0}
+
+-- why it is not: the first key that lists one which is not held, with the first such key; a copy that descends never says so
+abbrev pub IsOpenWhenSkipping : Existing → List Node → Descriptor → Descriptor → Type 0
+IsOpenWhenSkipping Skip graph holder missing = first_open graph ≡ Some (holder, missing)
+IsOpenWhenSkipping Descend graph holder missing = ⊥

@@ -1,0 +1,156 @@
+ghost use Rattle.std.specs.Prelude.{◌≡◌, ◌⊎◌, ◌++◌, List, ℕ, true, false, Some, Contains, All, IsErrOf};
+ghost use Rattle.oci_manifest.specs.Descriptor.{Descriptor};
+ghost use Rattle.oci_store.specs.Closed.{IsClosed};
+ghost use Rattle.oci_store.specs.Content.{IsChecked, Matches};
+ghost use Rattle.oci_store.specs.Graph.{Node};
+ghost use Rattle.oci_store.specs.Keyed.{has_key, value_at, HasAll};
+ghost use Rattle.oci_store.specs.Parts.{IsLeaf, IsDraftOf};
+ghost use Rattle.oci_store.specs.Push.{PushesKey};
+ghost use Rattle.oci_copy.specs.Grown.{graph_of, IsTold};
+ghost use Rattle.oci_copy.specs.Kept.{Keeps, IsOpeningAnd};
+ghost use Rattle.oci_copy.specs.Work.{IsToldHalt, CanFail};
+
+use super::copy_start::CopyStart;
+use oci_manifest::Key;
+use oci_store::{CheckedContent, Dest, PushFault};
+use std::marker::{Model, PhantomData};
+
+/// A destination while workers copy into it, as it stands in the lock that they share. To a contract it is its graph.
+///
+/// Its type keeps what every state of the lock shows; [`destination`](LockedDestination::destination) says it.
+#[derive(Drop)]
+pub struct LockedDestination<D: Dest, T: CopyStart> {
+    destination: D,
+    /// Whether a push was refused because memory ran out.
+    wanting: bool,
+    opening: PhantomData<T>,
+}
+
+impl<D: Dest, T: CopyStart> Model for LockedDestination<D, T> {
+    ghost use Rattle.std.specs.Prelude.{◌≡◌, ◌⊎◌, List, true};
+    ghost use Rattle.oci_store.specs.Graph.{Node};
+    ghost use Rattle.oci_copy.specs.Kept.{Keeps};
+
+    ghost Value = { List Node };
+
+    ghost view = { λ g. (D.state g.destination).nodes };
+
+    ghost invariant = { λ g. Keeps D.shares T.source T.planned T.opening (D.state g.destination)
+        × ((D.state g.destination).is_halted → T.opening.is_halted ⊎ (g.wanting ≡ true)) };
+}
+
+impl<D: Dest, T: CopyStart> LockedDestination<D, T> {
+    /// The destination as a run begins.
+    pub(crate) fn new(destination: D) -> Self
+        requires keeps { Keeps D.shares T.source T.planned T.opening (D.state destination) }
+        requires halted { (D.state destination).is_halted → T.opening.is_halted }
+        ensures { result ≡ (D.state destination).nodes }
+    {
+        LockedDestination {
+            destination,
+            wanting: false,
+            opening: PhantomData,
+        }
+    }
+
+    /// What each worker finds that takes the lock, and whoever takes the destination out at the end.
+    ///
+    /// The destination has all that the new keys list, and is closed, where it was when the run began. It begins with the entries that it had, and each later one is
+    /// the source's pair of a planned key. Its tags and its name are those that it had.
+    pub fn destination(&self) -> &D
+        ensures nodes { (D.state result.now).nodes ≡ self.now }
+        ensures closed { IsClosed T.opening.nodes → IsClosed (D.state result.now).nodes }
+        ensures planned { (added : List Node)
+            × ((D.state result.now).nodes ≡ T.opening.nodes ++ added)
+            × All (λ n. Contains T.planned n.0) added }
+        ensures whole { (added : List Node)
+            × ((D.state result.now).nodes ≡ T.opening.nodes ++ added)
+            × All (λ n. HasAll (D.state result.now).nodes n.1) added }
+        ensures later { T.source.is_honest
+            → IsOpeningAnd (graph_of T.source) T.planned T.opening.nodes
+            (D.state result.now).nodes }
+        ensures later_content { IsTold D.shares T.source T.opening (D.state result.now)
+            → IsOpeningAnd T.source.entries T.planned T.opening.entries
+            (D.state result.now).entries }
+        ensures tags { (D.state result.now).tags ≡ T.opening.tags }
+        ensures name { (D.state result.now).name ≡ T.opening.name }
+    {
+        &self.destination
+    }
+
+    /// Pushes content of a planned key that is not held.
+    ///
+    /// A halt that comes after another push ran out of memory is reported as out of memory, which it followed from.
+    pub(crate) fn push(&mut self, content: CheckedContent) -> Result<usize, PushFault>
+        requires planned { Contains T.planned content.0 }
+        requires fresh { has_key self.old content.0 ≡ false }
+        requires checked { (listed : List Descriptor) × IsChecked content.0 content.1 listed }
+        requires own { T.source.is_honest → value_at T.source.entries content.0 ≡ Some content.1 }
+        ensures keys { PushesKey self.old self.new content result }
+        ensures device { IsErrOf result PushFault.Device → CanFail D.state T.opening }
+        ensures halted { IsErrOf result PushFault.Halted → T.opening.is_halted }
+    {
+        let pushed = self.destination.push_checked(content);
+        let reported = reported_halt(pushed, self.wanting);
+        self.wanting = still_wanting(self.wanting, &reported);
+        reported
+    }
+
+    /// The same of what was drafted of a planned key that lists nothing.
+    pub(crate) fn push_draft(&mut self, key: &Key, draft: D::Draft) -> Result<usize, PushFault>
+        requires planned { Contains T.planned key.now }
+        requires fresh { has_key self.old key.now ≡ false }
+        requires leaf { IsLeaf key.now }
+        requires own { (bytes : List ℕ)
+            × IsDraftOf (D.Draft.drafted draft) key.now T.source.is_honest
+            (value_at T.source.entries key.now) bytes }
+        ensures keys { (bytes : List ℕ) → D.Draft.drafted draft bytes → Matches key.now bytes
+            → PushesKey self.old self.new (key.now, bytes) result }
+        ensures device { IsErrOf result PushFault.Device → CanFail D.state T.opening }
+        ensures halted { IsErrOf result PushFault.Halted → T.opening.is_halted }
+    {
+        let pushed = self.destination.push_draft(key, draft);
+        let reported = reported_halt(pushed, self.wanting);
+        self.wanting = still_wanting(self.wanting, &reported);
+        reported
+    }
+
+    /// The destination, once the run has ended.
+    pub(crate) fn into_destination(self) -> D
+        ensures nodes { (D.state result).nodes ≡ self }
+        ensures keeps { Keeps D.shares T.source T.planned T.opening (D.state result) }
+    {
+        let LockedDestination {
+            destination,
+            wanting: _,
+            opening: _,
+        } = self;
+        destination
+    }
+}
+
+/// Whether a push was refused because memory ran out, this one or one before.
+fn still_wanting(wanting: bool, pushed: &Result<usize, PushFault>) -> bool
+    ensures before { wanting ≡ true → result ≡ true }
+    ensures now { IsErrOf pushed.now PushFault.Memory → result ≡ true }
+    ensures only { result ≡ true → (wanting ≡ true) ⊎ IsErrOf pushed.now PushFault.Memory }
+{
+    match pushed {
+        Err(PushFault::Memory) => true,
+        _ => wanting,
+    }
+}
+
+/// A halt that followed from a push which ran out of memory, reported as out of memory.
+fn reported_halt(pushed: Result<usize, PushFault>, wanting: bool) -> Result<usize, PushFault>
+    ensures { IsToldHalt pushed wanting result }
+{
+    match pushed {
+        Err(PushFault::Halted) => Err(if wanting {
+            PushFault::Memory
+        } else {
+            PushFault::Halted
+        }),
+        _ => pushed,
+    }
+}

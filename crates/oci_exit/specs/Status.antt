@@ -1,0 +1,86 @@
+-- The status that a run ends with, and the number of its refusal.
+use Rattle.std.specs.Prelude.{ℕ, Bool, true, false, if◌then◌else◌, Option, Some, None}
+use Rattle.oci_copy.specs.Fault.{number_of}
+use Rattle.oci_manifest.specs.Fault.{key_number_of}
+use Rattle.oci_store.specs.Numbers.{fetch_number, push_number, reference_number}
+use Rattle.oci_layout.specs.Numbers.{layout_number}
+use Rattle.oci_copy.specs.declared.fault.CopyFault.{CopyFault}
+use Rattle.oci_copy.specs.declared.fault.CopyFault.TheVariants as copy
+use Rattle.oci_layout.specs.declared.fault.LayoutFault.{LayoutFault}
+use Rattle.oci_layout.specs.declared.fault.LayoutFault.TheVariants as layout
+use Rattle.oci_store.specs.declared.fault.FetchFault.{FetchFault}
+use Rattle.oci_store.specs.declared.fault.FetchFault.TheVariants as fetch
+use Rattle.oci_store.specs.declared.fault.PushFault.{PushFault}
+use Rattle.oci_store.specs.declared.fault.PushFault.TheVariants as push
+use Rattle.oci_store.specs.declared.fault.RefFault.{RefFault}
+use Rattle.oci_store.specs.declared.fault.RefFault.TheVariants as reference
+use Rattle.oci_exit.specs.declared.outcome.Outcome.{Outcome}
+use Rattle.oci_exit.specs.declared.outcome.Outcome.TheVariants as outcome
+use Rattle.oci_exit.specs.declared.fault.Ending.{Ending}
+use Rattle.oci_exit.specs.declared.fault.Ending.TheVariants as ending
+use Rattle.oci_exit.specs.declared.fault.ProgramFault.{ProgramFault}
+use Rattle.oci_exit.specs.declared.fault.ProgramFault.TheVariants as fault
+
+-- whether a refused push is want of memory
+abbrev pub is_push_memory : PushFault → Bool
+is_push_memory push.Memory = true
+is_push_memory e = false
+
+-- whether a refused copy is want of memory
+abbrev pub is_copy_memory : CopyFault → Bool
+is_copy_memory copy.Memory = true
+is_copy_memory e = false
+
+-- whether a refused layout is want of memory
+abbrev pub is_layout_memory : LayoutFault → Bool
+is_layout_memory layout.Memory = true
+is_layout_memory e = false
+
+-- whether a refused reference is want of memory
+abbrev pub is_reference_memory : RefFault → Bool
+is_reference_memory reference.Memory = true
+is_reference_memory e = false
+
+-- whether a refused fetch is want of memory
+abbrev pub is_fetch_memory : FetchFault → Bool
+is_fetch_memory fetch.Memory = true
+is_fetch_memory e = false
+
+-- whether want of memory is behind a fault
+abbrev pub is_memory : ProgramFault → Bool
+is_memory (fault.Push e) = is_push_memory e
+is_memory (fault.Copy e) = is_copy_memory e
+is_memory (fault.Layout e) = is_layout_memory e
+is_memory (fault.Reference e) = is_reference_memory e
+is_memory (fault.Fetch e) = is_fetch_memory e
+is_memory fault.Memory = true
+is_memory e = false
+
+-- the status: 2 where the words are no use of the program, 3 for want of memory, and 1 for every other fault
+abbrev pub status_of : Ending → ℕ
+status_of (ending.Usage error) = 2
+status_of ending.NotUtf8 = 2
+status_of (ending.Fault e) = if is_memory e then 3 else 1
+
+-- the status of a run that did what was asked for: 1 where it found something wrong
+abbrev pub status_of_done : Outcome → ℕ
+status_of_done outcome.Good = 0
+status_of_done outcome.Faulty = 1
+
+-- good where both are
+abbrev pub both : Outcome → Outcome → Outcome
+both outcome.Good b = b
+both outcome.Faulty b = outcome.Faulty
+
+-- the number that a fault's printed text begins with: of a fault from below its own, and of want of memory in the program none
+abbrev pub program_number : ProgramFault → Option ℕ
+program_number (fault.BadItem item) = Some 92
+program_number (fault.File path) = Some 93
+program_number fault.Output = Some 94
+program_number (fault.Key e) = Some (key_number_of e)
+program_number (fault.Push e) = Some (push_number e)
+program_number (fault.Copy e) = Some (number_of e)
+program_number (fault.Layout e) = Some (layout_number e)
+program_number (fault.Reference e) = Some (reference_number e)
+program_number (fault.Fetch e) = Some (fetch_number e)
+program_number fault.Memory = None

@@ -1,0 +1,168 @@
+ghost use Rattle.std.specs.Prelude.{◌≡◌, ◌↔◌, IsTrue};
+ghost use Rattle.std.specs.IoError.{error_kind};
+ghost use Rattle.std.specs.declared.io.ErrorKind.TheVariants.{OutOfMemory};
+ghost use Rattle.oci_exit.specs.Status.{is_memory, program_number, status_of};
+
+use oci_copy::CopyFault;
+use oci_digest::NoMemory;
+use oci_layout::LayoutFault;
+use oci_manifest::KeyFault;
+use oci_store::{FetchFault, PushFault, RefFault};
+use std::alloc::{AllocError, AllocFailed};
+use std::io::Write;
+use std::{fmt, io};
+use thiserror::Error;
+
+/// Why the program is refused.
+#[derive(Debug, Drop, Error)]
+pub enum ProgramFault {
+    /// An item has no `=`.
+    #[error("92 BadItem {0}")]
+    BadItem(String),
+    /// The file could not be read.
+    #[error("93 File {0}")]
+    File(String),
+    /// The output could not be written.
+    #[error("94 Output")]
+    Output,
+    /// The file is too long for a key.
+    #[error("{0}")]
+    Key(#[from] KeyFault),
+    /// The store refused the file.
+    #[error("{0}")]
+    Push(#[from] PushFault),
+    /// The copy was refused.
+    #[error("{0}")]
+    Copy(#[from] CopyFault),
+    /// A folder is no layout, or could not be read or written.
+    #[error("{0}")]
+    Layout(#[from] LayoutFault),
+    /// The layout has no such reference.
+    #[error("{0}")]
+    Reference(#[from] RefFault),
+    /// A file of the layout could not be read.
+    #[error("{0}")]
+    Fetch(#[from] FetchFault),
+    /// Out of memory.
+    #[error("memory")]
+    Memory,
+}
+
+impl ProgramFault {
+    /// What a writer's error means for the run: out of memory where its kind says so, and otherwise `Output`.
+    pub fn of_output(error: io::Error) -> ProgramFault
+        ensures { IsTrue (is_memory result) ↔ (error_kind error ≡ OutOfMemory) }
+    {
+        match error.kind() {
+            io::ErrorKind::OutOfMemory => ProgramFault::Memory,
+            _ => ProgramFault::Output,
+        }
+    }
+
+    /// Whether memory ran out.
+    pub fn is_memory(&self) -> bool
+        ensures { result ≡ is_memory self.now }
+    {
+        match self {
+            ProgramFault::Push(fault) => matches!(fault, PushFault::Memory),
+            ProgramFault::Copy(fault) => matches!(fault, CopyFault::Memory),
+            ProgramFault::Layout(fault) => matches!(fault, LayoutFault::Memory),
+            ProgramFault::Reference(fault) => matches!(fault, RefFault::Memory),
+            ProgramFault::Fetch(fault) => matches!(fault, FetchFault::Memory),
+            ProgramFault::Memory => true,
+            _ => false,
+        }
+    }
+
+    /// The number that the fault's printed text begins with: that of a fault from below; out of memory in the
+    /// program itself has none.
+    pub fn number(&self) -> Option<u8>
+        ensures { result ≡ program_number self.now }
+    {
+        match self {
+            ProgramFault::BadItem(_) => Some(92),
+            ProgramFault::File(_) => Some(93),
+            ProgramFault::Output => Some(94),
+            ProgramFault::Key(fault) => Some(fault.number()),
+            ProgramFault::Push(fault) => Some(fault.number()),
+            ProgramFault::Copy(fault) => Some(fault.number()),
+            ProgramFault::Layout(fault) => Some(fault.number()),
+            ProgramFault::Reference(fault) => Some(fault.number()),
+            ProgramFault::Fetch(fault) => Some(fault.number()),
+            ProgramFault::Memory => None,
+        }
+    }
+}
+
+impl From<AllocError> for ProgramFault {
+    fn from(_refused: AllocError) -> ProgramFault {
+        ProgramFault::Memory
+    }
+}
+
+impl From<NoMemory> for ProgramFault {
+    fn from(_refused: NoMemory) -> ProgramFault {
+        ProgramFault::Memory
+    }
+}
+
+impl<T: Drop> From<AllocFailed<T>> for ProgramFault {
+    fn from(_refused: AllocFailed<T>) -> ProgramFault {
+        ProgramFault::Memory
+    }
+}
+
+/// Why a run ends before it is done. It prints what the error output shows.
+#[derive(Drop)]
+pub enum Ending {
+    /// The command line is invalid: the text says how the program is used.
+    Usage(clap::Error),
+    /// A word is not UTF-8, which makes the command line invalid too.
+    NotUtf8,
+    /// What was asked for is refused.
+    Fault(ProgramFault),
+}
+
+impl Ending {
+    /// The status of the run: 2 for `Usage` and `NotUtf8`, 3 for out of memory, and otherwise 1.
+    pub fn status(&self) -> u8
+        ensures { result ≡ status_of self.now }
+    {
+        match self {
+            Ending::Usage(_) => 2,
+            Ending::NotUtf8 => 2,
+            Ending::Fault(fault) => { if fault.is_memory() { 3 } else { 1 } }
+        }
+    }
+
+    /// Writes the ending on `err`, and answers its status, also where `err` cannot be written.
+    pub fn tell<X: Write>(&self, err: &mut X) -> u8
+        ensures { result ≡ status_of self.now }
+    {
+        let _ = write!(err, "{self}");
+        self.status()
+    }
+}
+
+impl fmt::Display for Ending {
+    fn fmt<W: fmt::Write>(&self, f: &mut fmt::Formatter<W>) -> fmt::Result {
+        match self {
+            Ending::Usage(usage) => write!(f, "{usage}"),
+            Ending::NotUtf8 => writeln!(f, "error: a word is not UTF-8"),
+            Ending::Fault(fault) if fault.is_memory() => writeln!(f, "ocicp: memory"),
+            Ending::Fault(fault) => writeln!(f, "ocicp: {fault}"),
+        }
+    }
+}
+
+impl From<ProgramFault> for Ending {
+    fn from(fault: ProgramFault) -> Ending {
+        Ending::Fault(fault)
+    }
+}
+
+impl From<AllocError> for Ending {
+    fn from(_refused: AllocError) -> Ending {
+        Ending::Fault(ProgramFault::Memory)
+    }
+}

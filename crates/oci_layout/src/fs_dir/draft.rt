@@ -1,0 +1,141 @@
+use crate::fault::DirFault;
+use crate::fs_dir::beside::Beside;
+use crate::fs_dir::files::{failed, length_of, part_of_file};
+use oci_digest::NoMemory;
+use oci_store::Drafting;
+use std::io::ErrorKind;
+use std::rt::Files;
+
+/// How far a draft of a file of a folder is.
+#[derive(Drop)]
+enum Stage<'r, R: Files + AllocGlobal> {
+    /// The file at the place begins with what was appended, which has so many bytes: nothing is written as yet.
+    Found(u64),
+    /// What was appended is in a file beside the place.
+    Written(Beside<'r, R>),
+    /// The system failed.
+    Failed,
+}
+
+/// A draft of a file of a folder.
+///
+/// As long as what is appended is what the file at the place has already, nothing is written. From the first difference on it
+/// is in a file beside the place, which is open only while bytes are written, and is removed where the draft is dropped.
+#[derive(Drop)]
+pub struct FsDraft<'r, R: Files + AllocGlobal> {
+    rt: &'r R,
+    place: String,
+    stage: Stage<'r, R>,
+}
+
+impl<'r, R: Files + AllocGlobal> FsDraft<'r, R> {
+    /// A draft of the file at a place. The folder is not touched.
+    pub(crate) fn at(rt: &'r R, place: String) -> FsDraft<'r, R> {
+        FsDraft {
+            rt,
+            place,
+            stage: Stage::Found(0),
+        }
+    }
+
+    /// A draft for a place that the folder cannot have.
+    pub(crate) fn nowhere(rt: &'r R) -> FsDraft<'r, R> {
+        FsDraft {
+            rt,
+            place: String::new(rt.alloc()),
+            stage: Stage::Failed,
+        }
+    }
+
+    /// Adds bytes at the end.
+    fn add(&mut self, part: &[u8]) -> Result<(), DirFault> {
+        match &self.stage {
+            Stage::Found(length) => {
+                self.stage = added(self.rt, &self.place, *length, part)?;
+                Ok(())
+            }
+            Stage::Written(beside) => beside.append(part),
+            Stage::Failed => Ok(()),
+        }
+    }
+}
+
+/// Nothing vouches for a folder: of a draft in one any bytes may be said.
+impl<'r, R: Files + AllocGlobal> Drafting for FsDraft<'r, R> {
+    ghost use Rattle.std.specs.Prelude.{⊤};
+
+    ghost drafted = { λ d bytes. ⊤ };
+
+    fn append(&mut self, part: &[u8]) -> Result<(), NoMemory> {
+        let Err(fault) = self.add(part) else {
+            return Ok(());
+        };
+        self.stage = Stage::Failed;
+        match fault {
+            DirFault::Memory => Err(NoMemory),
+            DirFault::Failed => Ok(()),
+        }
+    }
+}
+
+/// Where a draft is with one more part, after so many bytes that the file at the place has.
+fn added<'r, R: Files + AllocGlobal>(
+    rt: &'r R,
+    place: &str,
+    length: u64,
+    part: &[u8],
+) -> Result<Stage<'r, R>, DirFault> {
+    if has_part(rt, place, length, part)? {
+        return Ok(Stage::Found(length.saturating_add(part.len() as u64)));
+    }
+    if length == 0 {
+        return Ok(Stage::Written(Beside::with(rt, place, part)?));
+    }
+    let beside = Beside::copied(rt, place, length)?;
+    beside.append(part)?;
+    Ok(Stage::Written(beside))
+}
+
+/// Whether the file at a place has these bytes from there on. One that cannot be read does not.
+fn has_part<R: Files + AllocGlobal>(
+    rt: &R,
+    place: &str,
+    from: u64,
+    part: &[u8],
+) -> Result<bool, DirFault> {
+    match part_of_file(rt, place, from, part.len()) {
+        Ok(bytes) => Ok(bytes.as_slice() == part),
+        Err(error) if error.kind() == ErrorKind::OutOfMemory => Err(DirFault::Memory),
+        Err(_) => Ok(false),
+    }
+}
+
+/// Puts what was drafted at a place.
+pub(crate) fn finish<R: Files + AllocGlobal>(
+    draft: FsDraft<'_, R>,
+    place: &str,
+) -> Result<(), DirFault> {
+    let FsDraft {
+        rt,
+        place: drafted,
+        stage,
+    } = draft;
+    match stage {
+        Stage::Found(length) => {
+            if drafted.as_str() == place && is_whole(rt, place, length) {
+                return Ok(());
+            }
+            Beside::copied(rt, &drafted, length)?.rename(place)
+        }
+        Stage::Written(beside) => beside.rename(place),
+        Stage::Failed => Err(DirFault::Failed),
+    }
+}
+
+/// Whether the file at a place has so many bytes.
+fn is_whole<R: Files>(rt: &R, place: &str, length: u64) -> bool {
+    match length_of(rt, place) {
+        Ok(found) => found == length,
+        Err(_) => false,
+    }
+}

@@ -1,0 +1,15 @@
+use Rattle.std.proofs.Common.{◌≡◌, false, List, sym, subst, ◌∙◌, rules}
+use Rattle.std.specs.List.{IsDistinct}
+use Rattle.oci_manifest.specs.Descriptor.{Descriptor, same_key}
+use Rattle.oci_store.specs.Keyed.{has_key}
+use Rattle.oci_plan.proofs.Items.{absent_lists}
+use Rattle.oci_plan.proofs.gathering.item.visited_successors.Goals as goal
+
+pub returns-then-not-exists-clause-listed : goal.returns-then-not-exists-clause-listed
+returns-then-not-exists-clause-listed g c = λ _.
+    let none : has_key (g.A.Store.state c.args.source.now).entries c.args.key.now ≡ false = search rules in
+    c.new.ensures.items ∙ absent_lists (g.A.Store.state c.args.source.now).entries c.args.key.now none
+
+pub returns-then-not-exists-clause-distinct : goal.returns-then-not-exists-clause-distinct
+unfolding IsDistinct
+returns-then-not-exists-clause-distinct g c = subst (λ (ks : List Descriptor). IsDistinct same_key ks) (sym c.new.ensures.items) tt

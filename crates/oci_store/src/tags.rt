@@ -1,0 +1,147 @@
+ghost use Rattle.std.specs.Prelude.{◌≡◌, ◌≢◌, ◌↔◌, [], true, false, IfOk, OnOk, OnErr, IsErrOf, IfSome, MatchOption};
+ghost use Rattle.std.specs.Cmp.Lexicographic.{slice_cmp};
+ghost use Rattle.std.specs.List.Sorted.{IsStrictlySortedBy};
+ghost use Rattle.std.specs.Map.{keys_of};
+ghost use Rattle.std.specs.Option.{option_copied};
+ghost use Rattle.std.specs.Ordering.{nat_cmp};
+ghost use Rattle.oci_digest.specs.Digest.{is_digest};
+ghost use Rattle.oci_manifest.specs.Descriptor.{Descriptor};
+ghost use Rattle.oci_store.specs.Keyed.{has_key};
+ghost use Rattle.oci_store.specs.Tags.{by_bytes, set_tag, tag_at, AreNames, IsResolved, Resolves};
+
+use crate::fault::RefFault;
+use crate::graph::Graph;
+use oci_digest::{Digest, NoMemory};
+use oci_manifest::Key;
+use std::alloc::Global;
+use std::collections::BTreeMap;
+use std::marker::Model;
+
+/// Tags of keys.
+#[derive(Drop)]
+pub struct Tags {
+    alloc: Global,
+    keys: BTreeMap<String, Key>,
+}
+
+impl Model for Tags {
+    ghost use Rattle.oci_store.specs.Tags.{Tags, by_bytes};
+
+    ghost Value = { Tags };
+
+    ghost view = { λ n. by_bytes n.keys.entries };
+}
+
+impl Tags {
+    /// No names.
+    pub fn new(alloc: Global) -> Tags
+        ensures { result ≡ [] }
+    {
+        Tags {
+            alloc,
+            keys: BTreeMap::new(alloc),
+        }
+    }
+
+    /// The key that has a name.
+    pub fn get(&self, name: &str) -> Option<&Key>
+        ensures { option_copied result ≡ tag_at self.now name.now }
+    {
+        self.keys.get(name)
+    }
+
+    /// Tags a key. A name that is there is moved.
+    pub fn set(&mut self, name: &str, key: &Key) -> Result<(), NoMemory>
+        ensures set { OnOk result (self.new ≡ set_tag self.old name.now key.now) }
+        ensures refused { OnErr result (self.new ≡ self.old) }
+    {
+        let name = String::from_str(self.alloc, name)?;
+        let key = key.try_clone()?;
+        self.keys.insert(name, key)?;
+        Ok(())
+    }
+
+    /// The names and their keys, in byte order of the names.
+    pub fn to_vec(&self) -> Result<Vec<(String, Key)>, NoMemory>
+        ensures exact { IfOk result (λ tags. by_bytes tags.items ≡ self.now) }
+        ensures order { IfOk result (λ tags. IsStrictlySortedBy (slice_cmp nat_cmp)
+            (keys_of (by_bytes tags.items))) }
+    {
+        let mut tags = Vec::new(self.alloc);
+        for (name, key) in self.keys.iter() {
+            tags.push((name.clone()?, key.try_clone()?))?;
+        }
+        Ok(tags)
+    }
+
+    /// Tags a key of a graph.
+    ///
+    /// Refused with `EmptyReference`, looked at first, `NotHeld`, or `Memory`. A refusal changes
+    /// nothing.
+    pub fn tag(&mut self, graph: &Graph, key: &Key, name: &str) -> Result<(), RefFault>
+        requires names { AreNames graph.now self.old }
+        ensures tagged { OnOk result (self.new ≡ set_tag self.old name.now key.now) }
+        ensures refused { OnErr result (self.new ≡ self.old) }
+        ensures names { AreNames graph.now self.new }
+        ensures empty { IsErrOf result RefFault.EmptyReference ↔ (name.now ≡ []) }
+        ensures not_held { IsErrOf result RefFault.NotHeld
+            ↔ ((name.now ≢ []) × (has_key graph.now key.now ≡ false)) }
+        ensures known { IsErrOf result RefFault.UnknownReference → ⊥ }
+    {
+        if name.is_empty() {
+            return Err(RefFault::EmptyReference);
+        }
+        if !graph.holds(key) {
+            return Err(RefFault::NotHeld);
+        }
+        Ok(self.set(name, key)?)
+    }
+
+    /// The key that a reference resolves to: a tag of that name first; otherwise, where the
+    /// reference is the text of a digest, the least key of the graph with that digest.
+    ///
+    /// Refused with `EmptyReference`, looked at first, `UnknownReference`, or `Memory`.
+    pub fn resolve(&self, graph: &Graph, reference: &str) -> Result<Key, RefFault>
+        requires names { AreNames graph.now self.now }
+        ensures found { IfOk result (Resolves (keys_of graph.now) self.now reference.now) }
+        ensures there { IfOk result (λ key. has_key graph.now key ≡ true) }
+        ensures empty { IsErrOf result RefFault.EmptyReference ↔ (reference.now ≡ []) }
+        ensures unknown { IsErrOf result RefFault.UnknownReference
+            ↔ ((reference.now ≢ [])
+            × ((k : Descriptor) → Resolves (keys_of graph.now) self.now reference.now k → ⊥)) }
+        ensures held { IsErrOf result RefFault.NotHeld → ⊥ }
+    {
+        if reference.is_empty() {
+            return Err(RefFault::EmptyReference);
+        }
+        match named(graph, self, reference) {
+            Some(key) => Ok(key.try_clone()?),
+            None => Err(RefFault::UnknownReference),
+        }
+    }
+}
+
+/// The key that a reference resolves to.
+fn named<'s>(graph: &'s Graph, tags: &'s Tags, reference: &str) -> Option<&'s Key>
+    requires names { AreNames graph.now tags.now }
+    ensures resolved { IsResolved (keys_of graph.now) tags.now reference.now
+        (option_copied result) }
+    ensures there { IfSome (option_copied result) (λ key. has_key graph.now key ≡ true) }
+{
+    if let Some(key) = tags.get(reference) {
+        return Some(key);
+    }
+    // Its length tells the proof what every graph keeps.
+    let _ = graph.len();
+    let Some(digest) = parsed(reference) else {
+        return None;
+    };
+    graph.least_with(&digest)
+}
+
+/// The digest with this text.
+fn parsed(text: &str) -> Option<Digest>
+    ensures { MatchOption result (is_digest text.now ≡ false) (λ digest. digest ≡ text.now) }
+{
+    Digest::parse(text).ok()
+}

@@ -1,0 +1,149 @@
+//! Copies of every tag of a layout.
+
+use crate::tests::layouts::{BOTH_ALGORITHMS, IMAGE, REFERRERS};
+use crate::tests::sessions::{assert_session, folder};
+use std::test::Fail;
+
+/// Each tag is copied and printed, in byte order of the tags; the report is that of one copy.
+#[test]
+fn copy_all(rt: HostRuntime) -> Result<(), Fail> {
+    let folder = folder(&rt, "copy_all")?;
+    let session = r"
+$ ocicp copy --all @/B @/N
+copied <M2>
+copied <M5>
+planned 5 pushed 5 skipped 0
+$ ocicp tags @/N
+v2 <M2>
+v5 <M5>
+$ ocicp verify @/N
+held 5
+$ ocicp copy --progress --all @/B @/N
+copied <M2>
+copied <M5>
+planned 0 pushed 0 skipped 2
+! skipped <M2>
+! skipped <M5>
+";
+    assert_session(&rt, &folder, BOTH_ALGORITHMS, session)
+}
+
+/// Two tags of one image are copied once, and both are set. What refers to it comes only with `--referrers`.
+#[test]
+fn copy_all_with_referrers(rt: HostRuntime) -> Result<(), Fail> {
+    let folder = folder(&rt, "copy_all_referrers")?;
+    let session = r"
+$ ocicp copy --all --depth 1 @/R @/M
+copied <M2>
+copied <M2>
+planned 3 pushed 3 skipped 0
+$ ocicp copy --all --referrers --depth 1 @/R @/N
+copied <M2>
+copied <M2>
+planned 5 pushed 5 skipped 0
+$ ocicp copy --all --dry-run --referrers --depth 1 @/R @/N
+planned 0 bytes 0 skipped 3
+$ ocicp copy --all --dry-run --referrers @/R @/N
+<I4>
+planned 1 bytes 183 skipped 3
+$ ocicp copy --all --referrers --workers 4 @/R @/N
+copied <M2>
+copied <M2>
+planned 1 pushed 1 skipped 3
+$ ocicp tags @/N
+a b <M2>
+t <M2>
+$ ocicp verify @/N
+held 6
+";
+    assert_session(&rt, &folder, REFERRERS, session)
+}
+
+/// A tag that the destination has is moved, and its other tags stay.
+#[test]
+fn copy_all_moves_tags(rt: HostRuntime) -> Result<(), Fail> {
+    let folder = folder(&rt, "copy_all_moves")?;
+    let session = r"
+$ ocicp copy @/L <E digest> @/N v1
+copied <E>
+planned 1 pushed 1 skipped 0
+$ ocicp copy @/L <E digest> @/N w
+copied <E>
+planned 0 pushed 0 skipped 1
+$ ocicp copy --all @/L @/N
+copied <M0>
+planned 1 pushed 1 skipped 0
+$ ocicp tags @/N
+v1 <M0>
+w <E>
+";
+    assert_session(&rt, &folder, IMAGE, session)
+}
+
+/// A layout without tags copies nothing, and the destination is made all the same.
+#[test]
+fn copy_all_of_no_tags(rt: HostRuntime) -> Result<(), Fail> {
+    let folder = folder(&rt, "copy_all_none")?;
+    let files = r#"
+$ write @/L/oci-layout {"imageLayoutVersion":"1.0.0"}
+"#;
+    let session = r#"
+$ ocicp copy --all @/L @/N
+planned 0 pushed 0 skipped 0
+$ cat @/N/index.json
+{"manifests":[],"mediaType":"application/vnd.oci.image.index.v1+json","schemaVersion":2}
+$ ocicp copy --all @/M @/N
+! ocicp: 70 NoLayoutFile
+? 1
+"#;
+    assert_session(&rt, &folder, files, session)
+}
+
+/// Where one tag cannot be copied, none is set.
+#[test]
+fn refused_copy_of_all(rt: HostRuntime) -> Result<(), Fail> {
+    let folder = folder(&rt, "copy_all_refused")?;
+    let session = r"
+$ write @/B/<FOO512 file> fox
+$ ocicp copy --all @/B @/N
+! ocicp: 88 Fetch <FOO512> 21 Corrupt
+? 1
+$ ocicp tags @/N
+$ rm @/B/<FOO512 file>
+$ ocicp copy --all @/B @/N
+! ocicp: 81 Plan 53 NotFound <FOO512>
+? 1
+$ ocicp copy --all --dry-run @/B @/N
+! ocicp: 81 Plan 53 NotFound <FOO512>
+? 1
+$ ocicp tags @/N
+";
+    assert_session(&rt, &folder, BOTH_ALGORITHMS, session)
+}
+
+/// `--dry-run` changes nothing. A destination that has lost a blob is refused, and gets it back by `--descend`.
+#[test]
+fn copy_all_below_what_is_held(rt: HostRuntime) -> Result<(), Fail> {
+    let folder = folder(&rt, "copy_all_below")?;
+    let session = r"
+$ ocicp copy --all --dry-run @/L @/N
+<E>
+<M0>
+planned 2 bytes 243 skipped 0
+$ exists @/N
+no
+$ ocicp copy --all @/L @/N
+copied <M0>
+planned 2 pushed 2 skipped 0
+$ rm @/N/<E file>
+$ ocicp copy --all @/L @/N
+! ocicp: 80 DestinationOpen <M0> <E>
+? 1
+$ ocicp copy --all --descend @/L @/N
+copied <M0>
+planned 1 pushed 1 skipped 1
+$ ocicp verify @/N
+held 2
+";
+    assert_session(&rt, &folder, IMAGE, session)
+}

@@ -1,0 +1,60 @@
+//! The command `explain`.
+
+use crate::tests::sessions::transcript;
+use std::test::Fail;
+
+/// The numbers of all refusals, and their names.
+const NUMBERS: &str = "\
+1 BadForm, 2 UnknownAlgorithm, 3 BadEncoding, 4 BadSize, 10 NotJson, 11 NotObject, 12 NoConfig, 13 BadList, \
+14 BadDescriptor, 15 Memory, 20 NotFound, 21 Corrupt, 22 Device, 23 Memory, 30 AlreadyExists, 31 SizeMismatch, \
+32 DigestMismatch, 33 BadManifest, 34 Memory, 35 EmptyReference, 36 UnknownReference, 37 NotHeld, 38 Memory, 40 Open, \
+41 Memory, 42 MissingSuccessor, 43 Device, 44 Halted, 45 NotFound, 46 Unavailable, 47 Memory, 48 Memory, 50 Cycle, \
+51 BadNumber, 52 Memory, 53 NotFound, 54 TooLarge, 55 Cycle, 56 Manifest, 57 Fetch, 58 Memory, 59 TooMany, 60 Job, \
+61 Incomplete, 62 BadWorkers, 63 Memory, 70 NoLayoutFile, 71 BadLayoutFile, 72 BadVersion, 73 BadIndex, 74 Device, \
+75 Corrupt, 76 Memory, 77 BadManifest, 78 AlreadyLayout, 80 DestinationOpen, 81 Plan, 82 Push, 83 Stuck, 84 Incomplete, \
+85 BadWorkers, 86 Memory, 87 Reference, 88 Fetch, 90 Failed, 91 Memory, 92 BadItem, 93 File, 94 Output";
+
+/// Each number has its name, what it means, and what to do, each on a line.
+#[test]
+fn each_number_is_explained(rt: HostRuntime) -> Result<(), Fail> {
+    for refusal in NUMBERS.split(", ") {
+        let (number, _name) = refusal.split_once(' ').unwrap_or((refusal, ""));
+        let words = format!(in rt.alloc(); "explain {number}")?;
+        let told = transcript(&rt, &words)?;
+        let lines: Vec<&str> = told.lines().collect(rt.alloc())?;
+        assert_eq!(&rt; lines.len(), 3, "{told}");
+        assert_eq!(&rt; lines[0], refusal, "{told}");
+        assert!(&rt;
+            lines[1].ends_with('.') && lines[2].ends_with('.'),
+            "{told}"
+        );
+    }
+    Ok(())
+}
+
+/// A number that no refusal has makes the command line invalid.
+#[test]
+fn unknown_numbers(rt: HostRuntime) -> Result<(), Fail> {
+    for number in "0 5 9 16 19 24 29 39 49 64 69 79 89 95 100 -1 080 eighty 80x".split(' ') {
+        let words = format!(in rt.alloc(); "explain {number}")?;
+        let told = transcript(&rt, &words)?;
+        assert!(&rt;
+            told.starts_with("! error: ") && told.ends_with("\n? 2\n"),
+            "{told}"
+        );
+    }
+    Ok(())
+}
+
+/// One of them, whole.
+#[test]
+fn explanation_of_an_open_destination(rt: HostRuntime) -> Result<(), Fail> {
+    let told = transcript(&rt, "explain 80")?;
+    let wanted = "\
+80 DestinationOpen
+The destination is damaged: its first key lists the second one, which is missing there. Nothing was copied.
+Copy the image that needs the missing blob with `ocicp copy --descend`, from a layout that has that blob.
+";
+    assert_eq!(&rt; told.as_str(), wanted);
+    Ok(())
+}

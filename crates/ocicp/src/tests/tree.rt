@@ -1,0 +1,119 @@
+//! The command `tree`, which is for people to read.
+
+use crate::tests::layouts::{IMAGE, REFERRERS};
+use crate::tests::sessions::{assert_session, folder};
+use std::test::Fail;
+
+/// What an image and an index reach; the tags stand behind a blob, in byte order.
+#[test]
+fn trees(rt: HostRuntime) -> Result<(), Fail> {
+    let folder = folder(&rt, "trees")?;
+    let session = r"
+$ ocicp tree @/R t
+<M2 short> 385 B application/vnd.oci.image.manifest.v1+json [a b] [t]
+  <E short> 2 B application/vnd.oci.empty.v1+json
+  <FOO short> 3 B application/vnd.oci.image.layer.v1.tar
+$ ocicp tree @/R <I4 digest>
+<I4 short> 183 B application/vnd.oci.image.index.v1+json
+  <I3 short> 186 B application/vnd.oci.image.index.v1+json
+    <M2 short> 385 B application/vnd.oci.image.manifest.v1+json [a b] [t]
+      <E short> 2 B application/vnd.oci.empty.v1+json
+      <FOO short> 3 B application/vnd.oci.image.layer.v1.tar
+$ ocicp tree @/R <FOO digest>
+<FOO short> 3 B application/vnd.oci.image.layer.v1.tar
+$ ocicp tree @/R nope
+! ocicp: 36 UnknownReference
+? 1
+";
+    assert_session(&rt, &folder, REFERRERS, session)
+}
+
+/// With `--referrers` the index that lists the image, the index of that, and the signature follow. A blob that has a line is
+/// marked where it comes again.
+#[test]
+fn tree_of_referrers(rt: HostRuntime) -> Result<(), Fail> {
+    let folder = folder(&rt, "tree_referrers")?;
+    let session = r"
+$ ocicp tree --referrers @/R t
+<M2 short> 385 B application/vnd.oci.image.manifest.v1+json [a b] [t]
+  <E short> 2 B application/vnd.oci.empty.v1+json
+  <FOO short> 3 B application/vnd.oci.image.layer.v1.tar
+referrers:
+  <I3 short> 186 B application/vnd.oci.image.index.v1+json
+    <I4 short> 183 B application/vnd.oci.image.index.v1+json
+  <S short> 402 B application/vnd.oci.image.manifest.v1+json
+$ ocicp tree --referrers @/R <S digest>
+<S short> 402 B application/vnd.oci.image.manifest.v1+json
+  <M2 short> 385 B application/vnd.oci.image.manifest.v1+json [a b] [t]
+    <E short> 2 B application/vnd.oci.empty.v1+json
+    <FOO short> 3 B application/vnd.oci.image.layer.v1.tar
+  <E short> 2 B application/vnd.oci.empty.v1+json (shown above)
+referrers: none
+";
+    assert_session(&rt, &folder, REFERRERS, session)
+}
+
+/// A blob that the layout does not have is marked.
+#[test]
+fn tree_with_an_absent_blob(rt: HostRuntime) -> Result<(), Fail> {
+    let folder = folder(&rt, "tree_absent")?;
+    let session = r"
+$ rm @/L/<E file>
+$ ocicp tree @/L v1
+<M0 short> 241 B application/vnd.oci.image.manifest.v1+json [v1]
+  <E short> 2 B application/vnd.oci.empty.v1+json (absent)
+";
+    assert_session(&rt, &folder, IMAGE, session)
+}
+
+/// Digests that begin alike are shown with as many digits as tell them apart; of other layouts they are not looked at.
+#[test]
+fn tree_of_digests_that_begin_alike(rt: HostRuntime) -> Result<(), Fail> {
+    let folder = folder(&rt, "tree_digits")?;
+    let files = r#"
+$ write @/V/oci-layout {"imageLayoutVersion":"1.0.0"}
+$ write @/V/index.json {"manifests":[<E descriptor>,{"mediaType":"text/plain","digest":"sha256:44136fa355b36700000000000000000000000000000000000000000000000000","size":1}]}
+$ write @/V/<E file> <E bytes>
+$ write @/V/blobs/sha256/44136fa355b36700000000000000000000000000000000000000000000000000 x
+"#;
+    let session = r"
+$ ocicp tree @/V <E digest>
+sha256:44136fa355b3678 2 B application/vnd.oci.empty.v1+json
+$ rm @/V/blobs/sha256/44136fa355b36700000000000000000000000000000000000000000000000000
+$ ocicp tree @/V <E digest>
+sha256:44136fa355b3 2 B application/vnd.oci.empty.v1+json
+";
+    assert_session(&rt, &folder, files, session)
+}
+
+/// Sizes are rounded to one decimal, in units that go up by 1000.
+#[test]
+fn tree_of_large_blobs(rt: HostRuntime) -> Result<(), Fail> {
+    let folder = folder(&rt, "tree_sizes")?;
+    let sizes = [
+        ("999", "999 B"),
+        ("1000", "1.0 KB"),
+        ("1049", "1.0 KB"),
+        ("1050", "1.1 KB"),
+        ("999949", "999.9 KB"),
+        ("999950", "1.0 MB"),
+        ("34000000", "34.0 MB"),
+        ("999949999", "999.9 MB"),
+        ("999950000", "1.0 GB"),
+        ("9223372036854775807", "9223372036.9 GB"),
+    ];
+    for (size, shown) in sizes {
+        let files = format!(in rt.alloc();
+            r#"
+$ write @/V/oci-layout {{"imageLayoutVersion":"1.0.0"}}
+$ write @/V/index.json {{"manifests":[{{"mediaType":"a/b","digest":"<E digest>","size":{size}}}]}}
+$ write @/V/<E file> <E bytes>
+"#
+        )?;
+        let session = format!(in rt.alloc();
+            "$ ocicp tree @/V <E digest>\n<E short> {shown} a/b\n"
+        )?;
+        assert_session(&rt, &folder, &files, &session)?;
+    }
+    Ok(())
+}

@@ -1,0 +1,14 @@
+//! Tests of copies, on one thread and by workers, run through their public calls.
+//!
+//! This crate has tests alone. A proof covers what a contract says, for every input and every order in which workers come; what
+//! stands here is what no contract says: that a call succeeds where memory is there and returns, that two workers are at work at
+//! once, when hooks are called, and what a store that fails once leaves.
+//!
+//! `tests` has `graphs` (small graphs, on one thread and with each number of workers), `references` (copies by a reference),
+//! `referrers` (extended copies, of a key and of a reference), `refusals` (limits and open destinations), `faults` (how each refusal
+//! prints), `hooks` (when they are called), `meetings` (two workers at work at once), `failing` (stores that fail once) and `large`
+//! (many layers and long chains); `copies` has the copies that they share.
+#![tactic(auto)]
+
+#[cfg(test)]
+mod tests;

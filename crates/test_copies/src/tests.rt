@@ -1,0 +1,12 @@
+mod copies;
+mod descending;
+mod descending_graphs;
+mod failing;
+mod faults;
+mod graphs;
+mod hooks;
+mod large;
+mod meetings;
+mod references;
+mod referrers;
+mod refusals;

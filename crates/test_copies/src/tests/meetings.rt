@@ -1,0 +1,126 @@
+use crate::tests::copies::copied_samples_with;
+use bytes::Bytes;
+use oci_manifest::Key;
+use oci_pool::{Hooks, NoHooks};
+use oci_store::{FetchFault, Source, Store};
+use std::sync::Wait;
+use std::sync::atomic::{AtomicU64, Ordering};
+use std::test::Fail;
+use std::thread::Threads;
+use test_support::Sample::{Bar, Foo};
+use test_support::{closed, memory};
+
+/// A place that two workers are to be at together: whoever comes waits for the other, for some seconds at most.
+#[derive(Drop)]
+struct MeetingPlace {
+    came: AtomicU64,
+    met: AtomicU64,
+}
+
+impl MeetingPlace {
+    fn new() -> MeetingPlace {
+        MeetingPlace {
+            came: AtomicU64::new(0),
+            met: AtomicU64::new(0),
+        }
+    }
+
+    fn come(&self) {
+        self.came.fetch_add(1, Ordering::SeqCst);
+        for _ in 0..1_000_000_000u64 {
+            if self.came.load(Ordering::SeqCst) >= 2 {
+                self.met.fetch_add(1, Ordering::SeqCst);
+                break;
+            }
+        }
+    }
+
+    /// How many met the other.
+    fn met(&self) -> u64 {
+        self.met.load(Ordering::SeqCst)
+    }
+}
+
+/// Hooks of which each call before a fetch comes to a meeting.
+#[derive(Drop)]
+struct MeetingHooks {
+    meeting: MeetingPlace,
+}
+
+impl Hooks for MeetingHooks {
+    fn pre_copy(&self, _key: &Key) {
+        self.meeting.come();
+    }
+
+    fn post_copy(&self, _key: &Key) {}
+
+    fn skipped(&self, _key: &Key) {}
+}
+
+/// A store of which each fetch comes to a meeting.
+#[derive(Drop)]
+struct MeetingStore<S> {
+    store: S,
+    meeting: MeetingPlace,
+}
+
+impl<S: Source> Store for MeetingStore<S> {
+    ghost state = { λ s. S.state s.store };
+
+    ghost same_keys = { λ s. S.same_keys s.store };
+
+    ghost trusted = { λ s. S.trusted s.store };
+
+    ghost listed = { λ s. S.listed s.store };
+}
+
+impl<S: Source> Source for MeetingStore<S> {
+    fn exists(&self, key: &Key) -> bool {
+        self.store.exists(key)
+    }
+
+    fn may_fail(&self, key: &Key) -> bool {
+        self.store.may_fail(key)
+    }
+
+    fn fetch(&self, key: &Key) -> Result<Bytes, FetchFault> {
+        self.meeting.come();
+        self.store.fetch(key)
+    }
+}
+
+/// Copies two layers by two workers.
+fn copied_two<R: AllocGlobal + Threads + Wait + Sync, A: Source + Sync, H: Hooks + Sync>(
+    rt: &R,
+    source: &A,
+    hooks: &H,
+) -> Result<String, Fail> {
+    let destination = closed(rt.alloc(), &[])?;
+    let (_, told) = copied_samples_with(rt, source, destination, &[Foo, Bar], 2, hooks)?;
+    Ok(told)
+}
+
+/// Two workers are at work at once: each of two keys waits for the other to have begun.
+#[test]
+fn meeting(rt: HostRuntime) -> Result<(), Fail> {
+    let hooks = MeetingHooks {
+        meeting: MeetingPlace::new(),
+    };
+    let told = copied_two(&rt, &memory(rt.alloc(), &[Foo, Bar])?, &hooks)?;
+    assert_eq!(rt; told.as_str(), "planned 2 pushed 2 skipped 0");
+    assert_eq!(rt; hooks.meeting.met(), 2);
+    Ok(())
+}
+
+/// Two workers fetch at once, so none of them has the destination's lock meanwhile.
+#[test]
+fn fetches_meet(rt: HostRuntime) -> Result<(), Fail> {
+    let source = MeetingStore {
+        store: memory(rt.alloc(), &[Foo, Bar])?,
+        meeting: MeetingPlace::new(),
+    };
+    let told = copied_two(&rt, &source, &NoHooks)?;
+    assert_eq!(rt; told.as_str(), "planned 2 pushed 2 skipped 0");
+    assert!(rt; source.meeting.met() >= 2);
+    Ok(())
+}

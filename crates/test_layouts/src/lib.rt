@@ -1,0 +1,14 @@
+//! Tests of image layouts, run through their public calls.
+//!
+//! This crate has tests alone. A proof covers what a contract says, for every directory; what stands here is what no contract
+//! says: that a call succeeds where memory is there, that the files have the bytes that the standard and other tools have,
+//! and what a real folder then holds.
+//!
+//! `tests` has `round_trips` (a layout is made, filled, saved and opened again, in memory and in a folder), `referrers` (the index of
+//! an image that came with what lists it), `algorithms` (digests by SHA-512), `fuses` (puts that fail), `openings` (what is refused,
+//! and indexes as other tools write them), `pushes` (old files, and files that changed), `unreadable` (files that cannot be read) and
+//! `changing` (a source whose files change while it is read); `layouts` and `copies` have what these share.
+#![tactic(auto)]
+
+#[cfg(test)]
+mod tests;

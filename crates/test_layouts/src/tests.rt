@@ -1,0 +1,11 @@
+mod algorithms;
+mod changing;
+mod copies;
+mod fuses;
+mod layouts;
+mod openings;
+mod parts;
+mod pushes;
+mod referrers;
+mod round_trips;
+mod unreadable;

@@ -1,0 +1,21 @@
+//! What the crates of tests share: small contents with their keys, stores in memory that have them, and two small stores that are
+//! neither in memory nor on a disk, proved to meet the traits of `oci_store`.
+//!
+//! A [`Sample`] is one of the contents. [`DeviceStore`] stands over a [`Device`] that has one file per digest, counts what it is
+//! asked for, and fails a put and a get: the tests of copies use it. [`PublishedStore`] only publishes, and may be halted.
+#![tactic(auto)]
+
+mod contents;
+mod device;
+mod published;
+mod samples;
+
+pub use contents::{
+    Content, DOCKER_IMAGE, EMPTY, FOREIGN, IMAGE, INDEX, LAYER, Sample, bar, descriptor,
+    docker_image, empty, foo, image, image_0, image_1, index, index_1, referrer,
+};
+pub use device::{Device, DeviceStore};
+pub use published::PublishedStore;
+pub use samples::{
+    closed, gives, gives_sample, holds, is_closed, keys, memory, on_device, put_chain, put_content,
+};

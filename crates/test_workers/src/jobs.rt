@@ -1,0 +1,259 @@
+ghost use Rattle.std.specs.Prelude.{◌≡◌, ◌*◌};
+
+use oci_pool::{Job, Pass};
+use std::alloc::{AllocError, Global};
+use std::sync::atomic::{AtomicU64, Ordering};
+
+/// Answers ten times its number, and counts its runs.
+#[derive(Drop)]
+pub(crate) struct TenTimes {
+    pub runs: AtomicU64,
+}
+
+impl TenTimes {
+    pub fn new() -> TenTimes {
+        TenTimes {
+            runs: AtomicU64::new(0),
+        }
+    }
+}
+
+impl Job for TenTimes {
+    ghost use Rattle.std.specs.Prelude.{◌≡◌, ◌*◌};
+
+    type Out = u64;
+
+    type Fault = u32;
+
+    ghost answers = { λ job k x. x ≡ 10 * k };
+
+    ghost fails = { λ job k f. ⊥ };
+
+    fn run(&self, _number: u32, pass: Pass) -> Result<u64, u32> {
+        self.runs.fetch_add(1, Ordering::SeqCst);
+        Ok(10 * pass.number() as u64)
+    }
+}
+
+/// Answers its number, and fails at some numbers with a hundred more.
+#[derive(Drop)]
+pub(crate) struct FailsAt {
+    pub first: u32,
+    pub second: u32,
+    /// How many jobs wait for each other before they end; 0 where none does.
+    pub meets: u64,
+    came: AtomicU64,
+    /// How many jobs answered a result.
+    pub answered: AtomicU64,
+}
+
+impl FailsAt {
+    pub fn new(first: u32, second: u32, meets: u64) -> FailsAt {
+        FailsAt {
+            first,
+            second,
+            meets,
+            came: AtomicU64::new(0),
+            answered: AtomicU64::new(0),
+        }
+    }
+}
+
+impl Job for FailsAt {
+    type Out = u32;
+
+    type Fault = u64;
+
+    ghost answers = { λ job k x. Unit {0} };
+
+    ghost fails = { λ job k f. Unit {0} };
+
+    fn run(&self, number: u32, _pass: Pass) -> Result<u32, u64> {
+        self.came.fetch_add(1, Ordering::SeqCst);
+        let _ = saw(&self.came, self.meets, MANY_LOOKS);
+        if number == self.first || number == self.second {
+            return Err(100 + number as u64);
+        }
+        self.answered.fetch_add(1, Ordering::SeqCst);
+        Ok(number)
+    }
+}
+
+/// How often a job looks that is to meet another.
+const MANY_LOOKS: u64 = 1_000_000_000;
+
+/// Looks at a count until it is high enough, at most so many times. Whether it was.
+fn saw(count: &AtomicU64, wanted: u64, looks: u64) -> bool {
+    for _ in 0..looks {
+        if count.load(Ordering::SeqCst) >= wanted {
+            return true;
+        }
+    }
+    false
+}
+
+/// Jobs from a number on each raise a count, and look until it is high enough. They answer whether they saw it; the jobs
+/// before that number look for a while at what nobody sets, and answer true.
+#[derive(Drop)]
+pub(crate) struct Meets {
+    from: u32,
+    /// How many jobs are to meet.
+    wanted: u64,
+    /// How often a job looks that is to meet others, at most.
+    looks: u64,
+    /// How often a job looks that comes before them.
+    looks_before: u64,
+    came: AtomicU64,
+}
+
+impl Meets {
+    /// So many jobs meet, from a number on.
+    pub fn new(from: u32, wanted: u64) -> Meets {
+        Meets {
+            from,
+            wanted,
+            looks: MANY_LOOKS,
+            looks_before: 0,
+            came: AtomicU64::new(0),
+        }
+    }
+
+    /// The same, where each job looks at most so often.
+    pub fn looking(from: u32, wanted: u64, looks: u64) -> Meets {
+        Meets {
+            from,
+            wanted,
+            looks,
+            looks_before: 0,
+            came: AtomicU64::new(0),
+        }
+    }
+
+    /// The same, where the jobs before that number look so often.
+    pub fn after(from: u32, wanted: u64, looks_before: u64) -> Meets {
+        Meets {
+            from,
+            wanted,
+            looks: MANY_LOOKS,
+            looks_before,
+            came: AtomicU64::new(0),
+        }
+    }
+}
+
+impl Job for Meets {
+    type Out = bool;
+
+    type Fault = u32;
+
+    ghost answers = { λ job k x. Unit {0} };
+
+    ghost fails = { λ job k f. Unit {0} };
+
+    fn run(&self, number: u32, _pass: Pass) -> Result<bool, u32> {
+        if number < self.from {
+            return Ok(!saw(&self.came, u64::MAX, self.looks_before));
+        }
+        self.came.fetch_add(1, Ordering::SeqCst);
+        Ok(saw(&self.came, self.wanted, self.looks))
+    }
+}
+
+/// Each job counts its run, notes whether the flags of its successors are set as it starts, looks at a flag that nobody sets,
+/// and sets its own flag as its last act.
+#[derive(Drop)]
+pub(crate) struct Flags {
+    lists: Vec<Vec<u32>>,
+    runs: Vec<AtomicU64>,
+    flags: Vec<AtomicU64>,
+    looks: u64,
+    never: AtomicU64,
+}
+
+/// So many counts of nothing.
+fn zeros(alloc: Global, count: usize) -> Result<Vec<AtomicU64>, AllocError> {
+    let mut counts = Vec::with_capacity(alloc, count)?;
+    for _ in 0..count {
+        counts.push(AtomicU64::new(0))?;
+    }
+    Ok(counts)
+}
+
+impl Flags {
+    pub fn new(alloc: Global, lists: Vec<Vec<u32>>, looks: u64) -> Result<Flags, AllocError> {
+        let runs = zeros(alloc, lists.len())?;
+        let flags = zeros(alloc, lists.len())?;
+        Ok(Flags {
+            lists,
+            runs,
+            flags,
+            looks,
+            never: AtomicU64::new(0),
+        })
+    }
+
+    /// Whether the flag of a number is set.
+    fn is_set(&self, number: u32) -> bool {
+        match self.flags.get(number as usize) {
+            Some(flag) => flag.load(Ordering::SeqCst) == 1,
+            None => false,
+        }
+    }
+
+    /// Whether the flags of all successors of a number are set.
+    fn found(&self, number: u32) -> bool {
+        let Some(list) = self.lists.get(number as usize) else {
+            return false;
+        };
+        for successor in list {
+            if !self.is_set(*successor) {
+                return false;
+            }
+        }
+        true
+    }
+
+    /// Whether the flag that nobody sets is seen set.
+    fn saw_never(&self) -> bool {
+        for _ in 0..self.looks {
+            if self.never.load(Ordering::SeqCst) == 1 {
+                return true;
+            }
+        }
+        false
+    }
+
+    /// Whether each job was run once.
+    pub fn ran_once(&self) -> bool {
+        for runs in &self.runs {
+            if runs.load(Ordering::SeqCst) != 1 {
+                return false;
+            }
+        }
+        true
+    }
+}
+
+impl Job for Flags {
+    type Out = bool;
+
+    type Fault = u32;
+
+    ghost answers = { λ job k x. Unit {0} };
+
+    ghost fails = { λ job k f. Unit {0} };
+
+    fn run(&self, number: u32, _pass: Pass) -> Result<bool, u32> {
+        if let Some(runs) = self.runs.get(number as usize) {
+            runs.fetch_add(1, Ordering::SeqCst);
+        }
+        let found = self.found(number);
+        if self.saw_never() {
+            return Err(number);
+        }
+        if let Some(flag) = self.flags.get(number as usize) {
+            flag.store(1, Ordering::SeqCst);
+        }
+        Ok(found)
+    }
+}

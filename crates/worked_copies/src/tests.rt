@@ -1,9 +1,0 @@
-mod copies;
-mod failing;
-mod faults;
-mod graphs;
-mod hooks;
-mod large;
-mod references;
-mod referrers;
-mod refusals;
