@@ -1,6 +1,8 @@
-"""Runs a program with one allocation refused: the nth call of malloc, calloc or realloc. Wants `cc`."""
+"""Runs the program with one request for memory refused: the nth call of malloc, calloc or realloc. Wants `cc`."""
 import os
 import subprocess
+
+from program import run
 
 SHIM = r"""
 #define _GNU_SOURCE
@@ -8,10 +10,11 @@ SHIM = r"""
 #include <errno.h>
 #include <stdlib.h>
 #include <unistd.h>
-static long left = -1;
+static long nth = -1, calls = 0;
 static int refuses(void) {
-  if (left < 0) { const char *text = getenv("REFUSED_ALLOCATION"); left = text ? atol(text) : 0; }
-  if (left == 0 || --left > 0) return 0;
+  /* The first call comes before there is a second thread. */
+  if (nth < 0) { const char *text = getenv("REFUSED_REQUEST"); nth = text ? atol(text) : 0; }
+  if (__atomic_add_fetch(&calls, 1, __ATOMIC_RELAXED) != nth) return 0;
   if (write(atoi(getenv("REFUSAL_MARK")), "x", 1) != 1) abort();
   errno = ENOMEM;
   return 1;
@@ -35,17 +38,17 @@ void *realloc(void *old, size_t size) {
 
 
 def build(folder):
-    """Builds what refuses, and gives its path."""
+    """Builds the library that refuses, and gives its path."""
     shim = os.path.join(folder, "refuse.so")
     subprocess.run(["cc", "-shared", "-fPIC", "-O1", "-x", "c", "-", "-o", shim, "-ldl"], input=SHIM.encode(), check=True)
     return shim
 
 
-def run(shim, nth, command, folder):
-    """Runs a command in a folder with the nth allocation refused: whether it was, the status, and both outputs."""
-    told, refused = os.pipe()
-    environment = dict(os.environ, LD_PRELOAD=shim, REFUSED_ALLOCATION=str(nth), REFUSAL_MARK=str(refused))
-    done = subprocess.run(command, cwd=folder, env=environment, capture_output=True, pass_fds=[refused])
+def run_refused(shim, nth, words, folder, **how):
+    """Runs a command with the nth request refused: whether it made so many, and how it ended. `how` goes to `run`."""
+    marks, refused = os.pipe()
+    environment = dict(os.environ, LD_PRELOAD=shim, REFUSED_REQUEST=str(nth), REFUSAL_MARK=str(refused))
+    ended = run(words, folder, env=environment, pass_fds=[refused], **how)
     os.close(refused)
-    with os.fdopen(told) as marks:
-        return marks.read() != "", done.returncode, done.stdout, done.stderr
+    with os.fdopen(marks) as file:
+        return file.read() != "", ended

@@ -1,0 +1,69 @@
+"""Contents of images and indexes, and image layouts that hold them."""
+import hashlib
+import json
+import os
+from collections import namedtuple
+
+EMPTY = "application/vnd.oci.empty.v1+json"
+LAYER = "application/vnd.oci.image.layer.v1.tar"
+IMAGE = "application/vnd.oci.image.manifest.v1+json"
+INDEX = "application/vnd.oci.image.index.v1+json"
+NAME = "org.opencontainers.image.ref.name"
+
+Content = namedtuple("Content", "media_type bytes")
+
+
+def digits(content):
+    return hashlib.sha256(content.bytes).hexdigest()
+
+
+def key(content):
+    """A content as the program prints it."""
+    return "sha256:%s %d %s" % (digits(content), len(content.bytes), content.media_type)
+
+
+def descriptor(content):
+    return '{"mediaType":"%s","digest":"sha256:%s","size":%d}' % (content.media_type, digits(content), len(content.bytes))
+
+
+def listing(contents):
+    return "[%s]" % ",".join(map(descriptor, contents))
+
+
+def image(layers, subject=None):
+    """An image with an empty config."""
+    text = '{"schemaVersion":2,"mediaType":"%s","config":%s,"layers":%s' % (IMAGE, descriptor(E), listing(layers))
+    return Content(IMAGE, (text + (',"subject":' + descriptor(subject) if subject else "") + "}").encode())
+
+
+def index(contents):
+    return Content(INDEX, ('{"schemaVersion":2,"manifests":%s}' % listing(contents)).encode())
+
+
+E = Content(EMPTY, b"{}")
+FOO = Content(LAYER, b"foo")
+BAR = Content(LAYER, b"bar")
+M2 = image([FOO])
+M3 = image([FOO, BAR])
+S = image([], subject=M2)
+I1 = index([M2, M3])
+I3 = index([M2])
+I4 = index([I3])
+
+
+def blob(content):
+    """Where the file of a content lies in a layout."""
+    return "blobs/sha256/" + digits(content)
+
+
+def write_layout(folder, contents, names):
+    """Makes a layout that holds these contents; `names` has the content of each tag."""
+    os.makedirs(folder + "/blobs/sha256")
+    for content in contents:
+        with open("%s/%s" % (folder, blob(content)), "wb") as file:
+            file.write(content.bytes)
+    entries = [dict(json.loads(descriptor(content)), annotations={NAME: name}) for name, content in names.items()]
+    with open(folder + "/index.json", "w") as file:
+        json.dump({"schemaVersion": 2, "manifests": entries}, file)
+    with open(folder + "/oci-layout", "w") as file:
+        json.dump({"imageLayoutVersion": "1.0.0"}, file)

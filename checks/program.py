@@ -1,0 +1,69 @@
+"""Runs the built program within limits, and looks at the layouts that it leaves."""
+import os
+import signal
+import subprocess
+import threading
+import time
+from collections import namedtuple
+
+from layouts import blob, key
+
+TOP = os.path.dirname(os.path.dirname(os.path.abspath(__file__)))
+PROGRAM = os.environ.get("OCICP", TOP + "/crates/ocicp/out/ocicp")
+# A run that takes longer is killed, and its status is then -9.
+SECONDS = 10
+
+# `kilobytes` is the most memory that the run had at one time.
+Ended = namedtuple("Ended", "status out err seconds kilobytes")
+
+
+def run(words, folder, seconds=SECONDS, program=PROGRAM, **how):
+    """Runs a program in a folder. `how` goes to `subprocess.Popen`. What it prints has to fit into a pipe."""
+    began = time.monotonic()
+    pipes = {"stdin": subprocess.DEVNULL, "stdout": subprocess.PIPE, "stderr": subprocess.PIPE}
+    with subprocess.Popen([program, *words], cwd=folder, **pipes, **how) as process:
+        # (not `process.kill`, which would reap a run that has ended)
+        timer = threading.Timer(seconds, os.kill, [process.pid, signal.SIGKILL])
+        timer.start()
+        _, status, usage = os.wait4(process.pid, 0)
+        timer.cancel()
+        process.returncode = os.WEXITSTATUS(status) if os.WIFEXITED(status) else -os.WTERMSIG(status)
+        out, err = process.stdout.read().decode(), process.stderr.read().decode()
+    return Ended(process.returncode, out, err, time.monotonic() - began, usage.ru_maxrss)
+
+
+def told(ended):
+    """What a run answered, in one line."""
+    lines = (ended.out + ended.err).strip().split("\n")
+    return "status %d, %s" % (ended.status, " / ".join(lines[:3]) or "no output")
+
+
+def first(complaints):
+    """The first thing that is wrong, or none."""
+    return next((it for it in complaints if it), None)
+
+
+def wrong_answer(words, folder, out):
+    """What is wrong with a command that is to succeed and to print this."""
+    ended = run(words, folder)
+    if (ended.status, ended.out, ended.err) != (0, out, ""):
+        return "%s: %s" % (" ".join(words), told(ended))
+
+
+def wrong_layout(folder, layout, contents, names):
+    """What is wrong with a layout that is to hold these contents, and to have these tags."""
+    lines = ["%s %s\n" % (name, key(names[name])) for name in sorted(names)]
+    return first([
+        wrong_answer(["verify", layout], folder, "held %d\n" % len(contents)),
+        wrong_answer(["tags", layout], folder, "".join(lines)),
+    ])
+
+
+def leftovers(folder, contents):
+    """What is wrong with the files of a layout, which may be its own two and the blobs of these contents."""
+    own = {"oci-layout", "index.json", *map(blob, contents)}
+    for at, _, files in os.walk(folder):
+        for file in files:
+            path = os.path.relpath(os.path.join(at, file), folder)
+            if path not in own:
+                return "%s is left over" % path

@@ -1,0 +1,61 @@
+"""Runs the commands of the README's sessions in a copy of the folder, and compares what they print."""
+import os
+import re
+import shutil
+import subprocess
+
+from program import PROGRAM, TOP
+
+SECONDS = 60
+# Comes after the output of each command. No README has it.
+END = "== that was it =="
+# What a stranger's clone has and a session does not need.
+LARGE = shutil.ignore_patterns("crates", ".git", "out", "ocicp")
+
+
+def sessions():
+    """The sessions of the README: each a list of commands and the lines that each is to print."""
+    with open(TOP + "/README.md") as file:
+        blocks = re.findall(r"^```console\n(.*?)^```$", file.read(), re.M | re.S)
+    for block in blocks:
+        session = []
+        for line in block.splitlines():
+            if line.startswith("$ "):
+                session.append((line[2:], []))
+            elif session and session[-1][0].endswith("\\"):
+                session[-1] = (session[-1][0] + "\n" + line, [])
+            elif session:
+                session[-1][1].append(line)
+        yield session
+
+
+def printed(commands, folder):
+    """The lines that each command prints, on both outputs, in one shell."""
+    script = "".join('%s\n(status=$?; echo "%s"; exit $status)\n' % (command, END) for command in commands)
+    ran = subprocess.run(["bash", "-c", "exec 2>&1\n" + script], cwd=folder, stdin=subprocess.DEVNULL,
+                         stdout=subprocess.PIPE, text=True, timeout=SECONDS)
+    return [part.splitlines() for part in ran.stdout.split(END + "\n")]
+
+
+def checks(room):
+    folder = room + "/clone"
+    shutil.copytree(TOP, folder, ignore=LARGE)
+    shutil.copyfile(PROGRAM, folder + "/ocicp")
+    os.chmod(folder + "/ocicp", 0o755)
+    found = list(sessions())
+    if not found:
+        yield "sessions", "README.md has none"
+    commands = [command for session in found for command, _ in session]
+    outputs = iter(printed(commands, folder))
+    for number, session in enumerate(found, 1):
+        for command, wanted in session:
+            lines = next(outputs)
+            yield "session %d: $ %s" % (number, command), None if lines == wanted else difference(lines, wanted)
+
+
+def difference(lines, wanted):
+    """The first line that differs."""
+    for line, other in zip([*lines, "no more"], [*wanted, "no more"]):
+        if line != other:
+            return "it prints %r where README.md has %r" % (line, other)
+    return "it prints %d lines where README.md has %d" % (len(lines), len(wanted))

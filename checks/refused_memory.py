@@ -1,0 +1,93 @@
+"""Commands of which each request for memory is refused in turn.
+
+Such a run ends with status 3 and `ocicp: memory`, or answers as if nothing had been refused. Its destination is then whole, with its
+old names, and the same command, made again with all memory, finishes.
+"""
+import functools
+import multiprocessing
+import os
+import shutil
+from collections import namedtuple
+
+import refusals
+from layouts import BAR, E, FOO, I1, I3, I4, LAYER, M2, M3, S, Content, blob, write_layout
+from program import first, leftovers, run, told, wrong_layout
+
+OLD = Content(LAYER, b"old")
+TWO_IMAGES = [E, FOO, BAR, M2, M3, I1]
+REFERRERS = [E, FOO, M2, S, I3, I4]
+# A batch ends where one of its runs made fewer requests.
+BATCH = 64
+
+# A command, what its source holds and names, and what its destination names before; none where there is no destination.
+Case = namedtuple("Case", "words contents names old", defaults=[{}])
+COPY = ["source", "new", "copied"]
+CASES = {
+    "copy by 1 worker": Case(["copy", "--workers", "1", *COPY], TWO_IMAGES, {"new": I1}, {"old": OLD}),
+    "copy by 3 workers": Case(["copy", "--workers", "3", *COPY], TWO_IMAGES, {"new": I1}, {"old": OLD}),
+    "copy into a folder that is not there": Case(["copy", *COPY], TWO_IMAGES, {"new": I1}),
+    "copy with referrers": Case(["copy", "--referrers", *COPY], REFERRERS, {"new": M2, "signature": S, "index": I4}, {"old": OLD}),
+    "verify": Case(["verify", "source"], TWO_IMAGES, {"new": I1}),
+    "mem": Case(["mem", *["%s=source/%s" % (it.media_type, blob(it)) for it in TWO_IMAGES]], TWO_IMAGES, {"new": I1}),
+}
+
+
+def fresh(folder, case):
+    """Puts the destination into the state that it has before the command."""
+    shutil.rmtree(folder + "/copied", ignore_errors=True)
+    if not os.path.exists(folder):
+        os.mkdir(folder)
+        write_layout(folder + "/source", case.contents, case.names)
+    if case.old:
+        write_layout(folder + "/copied", case.old.values(), case.old)
+
+
+def wrong_destination(folder, case, is_done):
+    """What is wrong with the destination, which has what it had before or, where the command is done, all."""
+    whole = [*case.old.values(), *case.contents]
+    done = first([
+        wrong_layout(folder, "copied", whole, {**case.old, "new": case.names["new"]}),
+        leftovers(folder + "/copied", whole),
+    ])
+    if is_done or not done:
+        return done
+    if not case.old and not os.path.exists(folder + "/copied/oci-layout"):
+        return None
+    return wrong_layout(folder, "copied", case.old.values(), case.old)
+
+
+def wrong_run(case, shim, room, nth):
+    """Refuses the nth request of a command: whether it made so many, and what is wrong with it and with what it left."""
+    folder = "%s/%d" % (room, os.getpid())
+    fresh(folder, case)
+    unhurt = run(case.words, folder)
+    fresh(folder, case)
+    refused, ended = refusals.run_refused(shim, nth, case.words, folder)
+    is_done = ended[:3] == unhurt[:3] and ended.status == 0
+    complaint = None if is_done or refused and ended[:3] == (3, "", "ocicp: memory\n") else told(ended)
+    if case.words[0] == "copy":
+        complaint = complaint or wrong_destination(folder, case, is_done)
+        again = run(case.words, folder)
+        if again.status != 0 or again.err:
+            complaint = complaint or "the same command again: " + told(again)
+        complaint = complaint or wrong_destination(folder, case, True)
+    return refused, complaint and "request %d: %s" % (nth, complaint)
+
+
+def refused_in_turn(case, shim, room):
+    """Refuses each request of a command in turn: how many it makes, and the first thing that is wrong."""
+    os.mkdir(room)
+    with multiprocessing.Pool() as pool:
+        for start in range(1, 1 << 20, BATCH):
+            runs = pool.map(functools.partial(wrong_run, case, shim, room), range(start, start + BATCH), 4)
+            complaint = first(it for _, it in runs)
+            if complaint or not all(refused for refused, _ in runs):
+                count = start - 1 + sum(refused for refused, _ in runs)
+                return count, complaint or (None if count else "nothing was refused")
+
+
+def checks(room):
+    shim = refusals.build(room)
+    for number, (name, case) in enumerate(CASES.items()):
+        count, complaint = refused_in_turn(case, shim, "%s/%d" % (room, number))
+        yield "%s, %d requests refused in turn" % (name, count), complaint
