@@ -1,4 +1,4 @@
-//! Pushes small contents into a store: `bench/live` times it, and refuses it memory.
+//! Pushes small contents into a store: `bench/live` times it.
 //!
 //! The first word is the store, the second how many contents are pushed: `closed`, `live`, `looked` for a live store that two
 //! looks ask for a content all the while, or `asked` for one that a look asks so a million times afterwards. With `copied` all

@@ -1,9 +1,9 @@
 -- Why what a copy between layouts promises still stands after the save.
-use Rattle.std.proofs.Common.{◌≡◌, ℕ, List, [], ◌∷◌, Result, Ok, Err, refl, sym, ap, ◌∙◌, arith}
-use Rattle.std.specs.Prelude.{⊤, ◌<◌, ◌^◌, ◌-◌, IfOk}
+use Rattle.std.proofs.Common.{◌≡◌, ℕ, List, [], ◌∷◌, Result, Ok, Err, refl, sym, ap, ◌∙◌, arith, inl, inr}
+use Rattle.std.specs.Prelude.{⊤, ◌<◌, ◌≤◌, ◌^◌, ◌-◌, IfOk, IfErr}
 use Rattle.std.specs.List.{All}
 use Rattle.std.proofs.lemmas.List.Elements.{All-nil, All-cons}
-use Rattle.std.proofs.lemmas.Result.{IfOk-at_ok}
+use Rattle.std.proofs.lemmas.Result.{IfOk-at_ok, IfErr-at_err}
 use Rattle.oci_manifest.specs.Descriptor.{Descriptor}
 use Rattle.oci_store.specs.Content.{Entry}
 use Rattle.oci_store.specs.Graph.{Node}
@@ -11,10 +11,17 @@ use Rattle.oci_store.specs.State.{State}
 use Rattle.oci_store.proofs.Lookups.{All-value_at}
 use Rattle.oci_layout.specs.Device.{File}
 use Rattle.oci_layout.specs.Blobs.{blob_at, stored}
+use Rattle.oci_layout.specs.Refusal.{IsPutFault}
 use Rattle.oci_copy.specs.Copy.{IsCopy, OnlyGrows}
 use Rattle.oci_copy.specs.Grown.{IsTold, SameByDigest}
 use Rattle.oci_copy.specs.declared.options.Options.{Options}
-use Rattle.oci_commands.specs.Between.{IsTrusted, IsSaved, IsCopiedBetween}
+use Rattle.oci_copy.specs.declared.fault.CopyFault.{CopyFault}
+use Rattle.oci_exit.specs.declared.fault.ProgramFault.{ProgramFault}
+use Rattle.oci_exit.specs.declared.fault.ProgramFault.TheVariants as fault
+use Rattle.oci_layout.specs.declared.fault.LayoutFault.{LayoutFault}
+use Rattle.oci_layout.specs.declared.fault.LayoutFault.TheVariants as layout
+use Rattle.oci_commands.specs.Between.{IsTrusted, IsSaved, IsCopiedBetween, HasReached}
+use Rattle.oci_commands.specs.Refusal.{IsRefusedBetween, IsSaveFault}
 
 -- each entry of a layout has the bytes of its digest's file
 file_bytes : (file : File) (graph : List Node) → All (λ (e : Entry). e.1 ≡ blob_at file e.0.digest) (stored file graph)
@@ -33,9 +40,41 @@ pub after_save : {X E F : Type 0} (copied : Result X E) (saved : Result X F) (P 
 after_save copied (Ok x) P same holds = IfOk-at_ok P same holds
 after_save copied (Err e) P same holds = same
 
+-- what a copy holds is held after the save
+pub reached_after : {source old copied new : State} {options : Options} {roots : List Descriptor} → IsSaved copied new → IsCopy ⊤ options source old roots copied → HasReached source old roots new
+reached_after saved copy honest agree k reached = rw saved.nodes (copy.reached honest agree k reached)
+
+-- a save that failed for the device failed after the copy was opened
+saved_since : (opening between now : State) → opening.failures ≤ between.failures → (e : LayoutFault) → IsPutFault between.failures now.failures e → IsSaveFault opening now e
+saved_since opening between now before layout.Device (inl raised) = inl (omega arith)
+saved_since opening between now before layout.Device (inr most) = inr most.1
+saved_since opening between now before layout.Memory failed = failed
+saved_since opening between now before layout.NoLayoutFile failed = failed
+saved_since opening between now before layout.BadLayoutFile failed = failed
+saved_since opening between now before layout.BadVersion failed = failed
+saved_since opening between now before (layout.BadIndex e) failed = failed
+saved_since opening between now before (layout.Corrupt k) failed = failed
+saved_since opening between now before (layout.BadManifest k e) failed = failed
+saved_since opening between now before layout.AlreadyLayout failed = failed
+
+-- what a copy was refused for, the copy with its save is
+pub refused_after : {X Y : Type 0} (copied : Result X CopyFault) (saved : Result Y ProgramFault) (cause : CopyFault → Type 0) (opening between now : State) → opening.failures ≤ between.failures
+    → IfErr saved (IsRefusedBetween (λ e. copied ≡ Err e) (IsPutFault between.failures now.failures)) → IfErr copied cause → IfErr saved (IsRefusedBetween cause (IsSaveFault opening now))
+refused_after copied (Ok x) cause opening between now before refused causes = refused
+refused_after copied (Err (fault.Copy e)) cause opening between now before same causes = IfErr-at_err cause same causes
+refused_after copied (Err (fault.Layout e)) cause opening between now before failed causes = saved_since opening between now before e failed
+refused_after copied (Err (fault.BadItem item)) cause opening between now before refused causes = refused
+refused_after copied (Err (fault.File path)) cause opening between now before refused causes = refused
+refused_after copied (Err fault.Output) cause opening between now before refused causes = refused
+refused_after copied (Err (fault.Key e)) cause opening between now before refused causes = refused
+refused_after copied (Err (fault.Push e)) cause opening between now before refused causes = refused
+refused_after copied (Err (fault.Reference e)) cause opening between now before refused causes = refused
+refused_after copied (Err (fault.Fetch e)) cause opening between now before refused causes = refused
+refused_after copied (Err fault.Memory) cause opening between now before refused causes = refused
+
 -- a destination that only grew, and then was saved
 module _ {source old copied new : State} {grown : List Descriptor} (alike : SameByDigest source.entries source.entries) (grows : OnlyGrows ⊤ source old grown copied) (saved : IsSaved copied new) where
-  -- its bytes could be told before the save where they can be told after it
+  -- what is known of its bytes after the save was known before it
   told_before : IsTrusted source old new → IsTold ⊤ source old copied
   told_before trusted =
       let calm = trusted.is_calm in

@@ -5,12 +5,12 @@ use std::io::{ErrorKind, Write};
 use std::rt::Files;
 use std::{fs, io};
 
-/// An open file or folder that one process at a time can have alone, until it is closed.
+/// An open file or folder that one process at a time can lock, until it is closed.
 pub trait Lockable {
-    /// Takes it. Where another has it, nothing is done, and the answer is false.
+    /// Locks it. If another process has locked it, does nothing and answers false.
     fn try_take(&self) -> io::Result<bool>;
 
-    /// Takes it, and waits for this while another has it.
+    /// Locks it, and waits while another process has locked it.
     fn take(&self) -> io::Result<()>;
 }
 
@@ -28,9 +28,9 @@ impl Lockable for fs::File {
     }
 }
 
-/// Has a folder alone among the processes that write into it, until what it answers is dropped; a process that ends drops it.
-/// The folder is made where it is none. Where another process has it, this is told on `err`, and then waited for. What a process
-/// left there that was ended while it wrote is removed.
+/// Locks a folder, until the answer is dropped; a process that ends drops it. One process at a time has the lock. Creates the
+/// folder if it is missing. If another process has the lock, says so on `err` and waits. Then removes what a process left in the
+/// folder that was ended while it wrote.
 ///
 /// The lock is on the folder itself: it has no file of its own that would be left over, and the files of a layout are replaced.
 pub(crate) fn alone_in<R: Files + AllocGlobal, X: Write>(
@@ -53,7 +53,7 @@ where
     }
 }
 
-/// Makes a folder, opens it and takes it.
+/// Creates a folder if it is missing, opens it and locks it.
 fn taken<R: Files + AllocGlobal, X: Write>(rt: &R, folder: &str, err: &mut X) -> io::Result<R::File>
 where
     R::File: Lockable,

@@ -1,9 +1,13 @@
-ghost use Rattle.std.specs.Prelude.{◌≡◌, [], ◌∷◌, Ok, IfOk, OnOk};
+ghost use Rattle.std.specs.Prelude.{◌≡◌, [], ◌∷◌, Ok, Err, IfOk, OnOk, IfErr};
 ghost use Rattle.oci_store.specs.Tags.{set_tag};
+ghost use Rattle.oci_copy.specs.Destination.{IsClosedWhenSkipping};
 ghost use Rattle.oci_copy.specs.Extended.{OfUp};
 ghost use Rattle.oci_copy.specs.Tagged.{name_of, ResolvesIn};
+ghost use Rattle.oci_copy.specs.Work.{CanFail};
 ghost use Rattle.oci_layout.specs.Files.{HasFiles};
-ghost use Rattle.oci_commands.specs.Between.{IsCopiedBetween, IsSaved, IsTrusted};
+ghost use Rattle.oci_layout.specs.Refusal.{IsPutFault};
+ghost use Rattle.oci_commands.specs.Between.{HasReached, IsCopiedBetween, IsSaved, IsTrusted};
+ghost use Rattle.oci_commands.specs.Refusal.{IsRefusedBetween, IsRefusedCopy, IsRefusedExtendedCopy, IsSaveFault};
 
 use oci_copy::{CopyFault, Options, Report, copy, extended_copy};
 use oci_exit::ProgramFault;
@@ -17,7 +21,7 @@ use std::thread::Threads;
 /// Copies what a reference of a layout resolves to into another layout, tags it there, and saves that.
 ///
 /// The tag is `to`, or `from` where that is empty. The destination always comes back. Refused as `copy` is, and then it is not
-/// saved; and where `index.json` could not be written.
+/// saved; and where `index.json` could not be written. A copy that descends is not refused for an open destination.
 pub fn copy_between<
     R: AllocGlobal + Threads + Wait + Sync,
     S: Dir + Sync,
@@ -40,6 +44,11 @@ where
     ensures copied { IfOk result.1 (λ it. IsCopiedBetween (⟦<Layout<S> as Store>⟧.state source.now)
         (⟦<Layout<D> as Store>⟧.state destination) (it.0 ∷ [])
         (⟦<Layout<D> as Store>⟧.state result.0)) }
+    ensures reached { IfOk result.1 (λ it. HasReached (⟦<Layout<S> as Store>⟧.state source.now)
+        (⟦<Layout<D> as Store>⟧.state destination) (it.0 ∷ [])
+        (⟦<Layout<D> as Store>⟧.state result.0)) }
+    ensures was_closed { IfOk result.1 (λ it. IsClosedWhenSkipping options.now.existing
+        destination.1) }
     ensures tagged { IfOk result.1 (λ it. result.0.2 ≡ set_tag destination.2
         (name_of from.now to.now) it.0) }
     ensures sound { IsTrusted (⟦<Layout<S> as Store>⟧.state source.now)
@@ -50,6 +59,13 @@ where
         (⟦<Layout<D> as Store>⟧.state result.0)
         → HasFiles (D.file result.0.0) (⟦<Layout<D> as Store>⟧.state result.0).entries result.0.1
         result.0.2) }
+    ensures refused { IfErr result.1 (IsRefusedBetween
+        (IsRefusedCopy (CanFail ⟦<Layout<D> as Store>⟧.state
+        (⟦<Layout<D> as Store>⟧.state destination)) options.now
+        (⟦<Layout<S> as Store>⟧.state source.now)
+        (⟦<Layout<D> as Store>⟧.state destination) from.now)
+        (IsSaveFault (⟦<Layout<D> as Store>⟧.state destination)
+        (⟦<Layout<D> as Store>⟧.state result.0))) }
 {
     let alloc = rt.alloc();
     let (destination, copied) = copy(rt, alloc, source, from, destination, to, options, hooks);
@@ -81,6 +97,12 @@ where
         (λ roots. IsCopiedBetween (⟦<Layout<S> as Store>⟧.state source.now)
         (⟦<Layout<D> as Store>⟧.state destination)
         roots (⟦<Layout<D> as Store>⟧.state result.0))) }
+    ensures reached { IfOk result.1 (λ it. OfUp (⟦<Layout<S> as Store>⟧.state source.now) it.0 depth
+        (λ roots. HasReached (⟦<Layout<S> as Store>⟧.state source.now)
+        (⟦<Layout<D> as Store>⟧.state destination)
+        roots (⟦<Layout<D> as Store>⟧.state result.0))) }
+    ensures was_closed { IfOk result.1 (λ it. IsClosedWhenSkipping options.now.existing
+        destination.1) }
     ensures tagged { IfOk result.1 (λ it. result.0.2 ≡ set_tag destination.2
         (name_of from.now to.now) it.0) }
     ensures sound { IsTrusted (⟦<Layout<S> as Store>⟧.state source.now)
@@ -91,6 +113,13 @@ where
         (⟦<Layout<D> as Store>⟧.state result.0)
         → HasFiles (D.file result.0.0) (⟦<Layout<D> as Store>⟧.state result.0).entries result.0.1
         result.0.2) }
+    ensures refused { IfErr result.1 (IsRefusedBetween
+        (IsRefusedExtendedCopy (CanFail ⟦<Layout<D> as Store>⟧.state
+        (⟦<Layout<D> as Store>⟧.state destination)) options.now
+        (⟦<Layout<S> as Store>⟧.state source.now)
+        (⟦<Layout<D> as Store>⟧.state destination) from.now depth)
+        (IsSaveFault (⟦<Layout<D> as Store>⟧.state destination)
+        (⟦<Layout<D> as Store>⟧.state result.0))) }
 {
     let alloc = rt.alloc();
     let (destination, copied) = extended_copy(
@@ -113,6 +142,8 @@ fn save_copied<D: Dir>(
     copied: Result<(Key, Report), CopyFault>,
 ) -> (Layout<D>, Result<(Key, Report), ProgramFault>)
     ensures answer { IfOk result.1 (λ it. copied ≡ Ok it) }
+    ensures refused { IfErr result.1 (IsRefusedBetween (λ fault. copied ≡ Err fault)
+        (IsPutFault (D.failure_count destination.0) (D.failure_count result.0.0))) }
     ensures saved { IsSaved (⟦<Layout<D> as Store>⟧.state destination)
         (⟦<Layout<D> as Store>⟧.state result.0) }
     ensures files { OnOk result.1 ((⟦<Layout<D> as Store>⟧.state destination).is_sound
@@ -123,8 +154,8 @@ fn save_copied<D: Dir>(
     match copied {
         Ok(copied) => match destination.save() {
             Ok(()) => (destination, Ok(copied)),
-            Err(fault) => (destination, Err(ProgramFault::from(fault))),
+            Err(fault) => (destination, Err(ProgramFault::Layout(fault))),
         },
-        Err(fault) => (destination, Err(ProgramFault::from(fault))),
+        Err(fault) => (destination, Err(ProgramFault::Copy(fault))),
     }
 }

@@ -13,7 +13,7 @@ mod words;
 
 use crate::command::words::command;
 
-/// What the words ask for.
+/// What the command line asks for.
 #[derive(Drop)]
 pub(crate) enum Request<'w> {
     /// The text that `--help` or `--version` prints.
@@ -79,12 +79,12 @@ fn word<'w>(matches: &ArgMatches<'w>, id: &str) -> &'w str {
     matches.get_str(id).unwrap_or("")
 }
 
-/// A look into the folder that the words name.
+/// A look into the folder that the command line names.
 fn of_folder<'w>(matches: &ArgMatches<'w>, look: Look<'w>) -> Request<'w> {
     Request::Look(word(matches, "folder"), look)
 }
 
-/// The tree of the reference that the words name.
+/// The tree of the reference that the command line names.
 fn tree_of<'w>(matches: &ArgMatches<'w>) -> Look<'w> {
     Look::Tree {
         reference: word(matches, "reference"),

@@ -1,18 +1,18 @@
 use crate::between::{copy_between, extended_copy_between};
-use crate::copy::CopyWords;
+use crate::copy::{CopyWords, Selection};
 use crate::roots::roots_of_tags;
 use oci_copy::{CopyFault, Report, copy_graph};
 use oci_exit::ProgramFault;
 use oci_layout::{Dir, Layout};
 use oci_manifest::Key;
 use oci_pool::Hooks;
-use oci_store::{RefFault, Tagger};
+use oci_store::Tagger;
 use std::alloc::Global;
 use std::sync::Wait;
 use std::thread::Threads;
 
-/// Copies what a reference of the source resolves to, tags it in the destination, and saves that. Gives its key.
-pub(crate) fn copied_reference<
+/// Copies from an open layout what is selected, tags it in the destination, and saves that. Gives the key of each tag.
+pub(crate) fn copied<
     R: AllocGlobal + Threads + Wait + Sync,
     S: Dir + Sync,
     D: Dir + Drop + Send,
@@ -20,9 +20,7 @@ pub(crate) fn copied_reference<
 >(
     rt: &R,
     source: &Layout<S>,
-    from: &str,
     destination: Layout<D>,
-    to: &str,
     words: &CopyWords<'_>,
     hooks: &H,
 ) -> Result<(Vec<Key>, Report), ProgramFault>
@@ -30,6 +28,13 @@ where
     S::Draft: Send,
     D::Draft: Send,
 {
+    let Selection::Reference {
+        source: from,
+        destination: to,
+    } = words.selection
+    else {
+        return copied_tags(rt, source, destination, words, hooks);
+    };
     let options = words.options();
     let (_saved, answer) = match words.referrers {
         Some(depth) => extended_copy_between(
@@ -52,7 +57,7 @@ where
 
 /// Copies what each tag of the source resolves to in one copy, tags each in the destination, and saves that once. The keys are
 /// in byte order of the tags.
-pub(crate) fn copied_tags<
+fn copied_tags<
     R: AllocGlobal + Threads + Wait + Sync,
     S: Dir + Sync,
     D: Dir + Drop + Send,
@@ -94,16 +99,10 @@ fn tag_all<T: Tagger>(
 ) -> Result<Vec<Key>, ProgramFault> {
     let mut keys = Vec::new(alloc);
     for (name, key) in tags {
-        destination.tag(&key, &name).map_err(tag_fault)?;
+        if let Err(fault) = destination.tag(&key, &name) {
+            return Err(ProgramFault::Copy(CopyFault::from(fault)));
+        }
         keys.push(key)?;
     }
     Ok(keys)
-}
-
-/// The fault of a copy whose tag was refused.
-fn tag_fault(fault: RefFault) -> CopyFault {
-    match fault {
-        RefFault::Memory => CopyFault::Memory,
-        _ => CopyFault::Reference(fault),
-    }
 }

@@ -1,5 +1,5 @@
 use crate::alone::{Lockable, alone_in};
-use crate::copied::{copied_reference, copied_tags};
+use crate::copied::copied;
 use crate::dry_run::plan_of;
 use crate::opened::{opened, opened_or_made};
 use crate::output::output_fault;
@@ -10,7 +10,7 @@ use oci_exit::{Outcome, ProgramFault};
 use oci_layout::{Dir, Layout};
 use oci_manifest::Key;
 use oci_plan::Existing;
-use oci_pool::{Hooks, NoHooks};
+use oci_pool::NoHooks;
 use oci_store::Tagger;
 use std::io::Write;
 use std::rt::Files;
@@ -109,7 +109,10 @@ where
 }
 
 /// Whether the source has what is to be copied.
-fn check_selection<T: Tagger>(source: &T, selection: Selection<'_>) -> Result<(), ProgramFault> {
+pub(crate) fn check_selection<T: Tagger>(
+    source: &T,
+    selection: Selection<'_>,
+) -> Result<(), ProgramFault> {
     if let Selection::Reference {
         source: reference,
         ..
@@ -120,7 +123,8 @@ fn check_selection<T: Tagger>(source: &T, selection: Selection<'_>) -> Result<()
     Ok(())
 }
 
-/// Copies with a line on a terminal that says how far that is. It says of how much, so the copy is planned before it is made.
+/// Copies with a line on a terminal that says how far that is, and of how much: so the copy is planned once more before it is made,
+/// and each of its manifests is read twice. A line without the whole would say little.
 fn copied_with_line<
     R: AllocGlobal + Clock + Threads + Wait + Sync,
     S: Dir + Sync,
@@ -142,32 +146,6 @@ where
     let answer = copied(rt, source, destination, words, &line);
     line.erase();
     answer
-}
-
-/// Copies from an open layout, and saves the destination. Gives the key of each tag.
-fn copied<
-    R: AllocGlobal + Threads + Wait + Sync,
-    S: Dir + Sync,
-    D: Dir + Drop + Send,
-    H: Hooks + Sync,
->(
-    rt: &R,
-    source: &Layout<S>,
-    destination: Layout<D>,
-    words: &CopyWords<'_>,
-    hooks: &H,
-) -> Result<(Vec<Key>, Report), ProgramFault>
-where
-    S::Draft: Send,
-    D::Draft: Send,
-{
-    match words.selection {
-        Selection::Reference {
-            source: from,
-            destination: to,
-        } => copied_reference(rt, source, from, destination, to, words, hooks),
-        Selection::AllTags => copied_tags(rt, source, destination, words, hooks),
-    }
 }
 
 fn print_copied<W: Write>(

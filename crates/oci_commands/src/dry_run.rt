@@ -1,11 +1,10 @@
-use crate::copy::{CopyWords, Selection};
+use crate::copy::{CopyWords, Selection, check_selection};
 use crate::opened::{opened, opened_if_there};
 use crate::output::output_fault;
-use crate::roots::{roots_of_reference, roots_of_tags};
-use oci_copy::plan_copy;
+use crate::roots::roots_of_tags;
+use oci_copy::{CopyFault, plan_copy, plan_extended, plan_reference};
 use oci_exit::{Outcome, ProgramFault};
 use oci_layout::{Dir, Layout};
-use oci_manifest::Key;
 use oci_plan::Plan;
 use oci_store::{ClosedStore, Dest};
 use std::alloc::Global;
@@ -13,7 +12,7 @@ use std::io::Write;
 
 /// `copy --dry-run`: prints the key of each blob that the copy would push, each after what it lists, and then how many, how many
 /// bytes they have, and how many roots are there. Nothing is changed: a destination that is no layout is taken to
-/// hold nothing, and is not made.
+/// hold nothing, and is not made. It is refused as the copy is: first where the source's reference does not resolve.
 pub(crate) fn dry_run<S: Dir + Drop, D: Dir + Drop, W: Write>(
     alloc: Global,
     source: S,
@@ -22,6 +21,7 @@ pub(crate) fn dry_run<S: Dir + Drop, D: Dir + Drop, W: Write>(
     out: &mut W,
 ) -> Result<Outcome, ProgramFault> {
     let source = opened(alloc, source)?;
+    check_selection(&source, words.selection)?;
     let plan = plan_from(alloc, &source, destination, words)?;
     print_plan(&plan, out)
 }
@@ -46,24 +46,30 @@ pub(crate) fn plan_of<S: Dir, D: Dest>(
     destination: &D,
     words: &CopyWords<'_>,
 ) -> Result<Plan, ProgramFault> {
-    let roots = roots(alloc, source, words)?;
-    Ok(plan_copy(alloc, source, destination, &roots, &words.options())?)
-}
-
-/// The keys that a copy starts from.
-fn roots<S: Dir>(
-    alloc: Global,
-    source: &Layout<S>,
-    words: &CopyWords<'_>,
-) -> Result<Vec<Key>, ProgramFault> {
     match words.selection {
         Selection::Reference {
             source: reference,
             ..
-        } => { Ok(roots_of_reference(alloc, source, reference, words.referrers)?) }
+        } => { Ok(plan_of_reference(alloc, source, reference, destination, words)?) }
         Selection::AllTags => {
-            Ok(roots_of_tags(alloc, source, &source.tags()?, words.referrers)?)
+            let roots = roots_of_tags(alloc, source, &source.tags()?, words.referrers)?;
+            Ok(plan_copy(alloc, source, destination, &roots, &words.options())?)
         }
+    }
+}
+
+/// The plan of a copy of a reference, and with `--referrers` of what refers to it.
+fn plan_of_reference<S: Dir, D: Dest>(
+    alloc: Global,
+    source: &Layout<S>,
+    reference: &str,
+    destination: &D,
+    words: &CopyWords<'_>,
+) -> Result<Plan, CopyFault> {
+    let options = words.options();
+    match words.referrers {
+        Some(depth) => plan_extended(alloc, source, reference, depth, destination, &options),
+        None => plan_reference(alloc, source, reference, destination, &options),
     }
 }
 

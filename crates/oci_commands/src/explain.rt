@@ -46,7 +46,7 @@ Ask for a blob that the store has, or copy it there first.
 
 21 Corrupt
 The file of the blob is gone, or its content does not have the size and the digest that it should have.
-Run `ocicp verify` on that layout. Delete the damaged file and bring it back by `ocicp copy --descend` from a layout that has it.
+Run `ocicp verify` on that layout. Delete the file `blobs/sha256/DIGITS` of the digest that it prints as corrupt (or `blobs/sha512/DIGITS`), and bring it back by `ocicp copy --descend` from a layout that has it.
 
 22 Device
 The file of the blob could not be read, or is not a regular file.
@@ -93,7 +93,7 @@ Memory ran out while a reference was looked up or a tag was set. The tags are as
 Give the process more memory. `ocicp` itself prints `ocicp: memory` and ends with status 3.
 
 40 Open
-The store is not closed: its first key lists the second one, which the store does not have.
+The store is not closed: the manifest of the first KEY lists the blob of the second, which is missing.
 Push the missing blob, and close the store again.
 
 41 Memory
@@ -133,7 +133,7 @@ The graph has a cycle, so it has no order: each of these numbers is a successor 
 Take out one of these edges.
 
 51 BadNumber
-The list of the first number holds the second one, which is no number of the graph.
+The list of the first number contains the second one, a number that the graph does not have.
 Give the graph a list for each number that is used.
 
 52 Memory
@@ -186,7 +186,7 @@ Give the process more memory, or ask for fewer workers.
 
 70 NoLayoutFile
 The folder is not an image layout: it does not exist, or has no file `oci-layout`.
-Check the path. Only the destination of `ocicp copy` is made a layout where it is none.
+Check the path. Only `ocicp copy` creates a layout, and only as its destination.
 
 71 BadLayoutFile
 The file `oci-layout` is not a JSON object with a text `imageLayoutVersion`.
@@ -206,7 +206,7 @@ Check the permissions and the free space of the disk, and that files of the layo
 
 75 Corrupt
 The file of the named manifest does not have the size and the digest that it should have, so the layout cannot be opened.
-Delete that file, and bring the manifest back by `ocicp copy --descend` from a layout that has it.
+Delete the file `blobs/sha256/DIGITS` of its digest (or `blobs/sha512/DIGITS`), and bring the manifest back by `ocicp copy --descend` from a layout that has it.
 
 76 Memory
 Memory ran out while a layout was opened, made or saved.
@@ -214,14 +214,14 @@ Give the process more memory. `ocicp` itself prints `ocicp: memory` and ends wit
 
 77 BadManifest
 The file of the named manifest has the right digest, and is not a manifest of its media type. The error that follows says why.
-Look up the number that follows. The manifest has to be built again.
+Look up the number that follows. The image has to be built again, since a copy brings the same bytes.
 
 78 AlreadyLayout
 A layout was to be made in a folder that already is one. Nothing was changed.
 Open the layout, or choose another folder.
 
 80 DestinationOpen
-The destination is damaged: its first key lists the second one, which is missing there. Nothing was copied.
+The destination is damaged: the manifest of the first KEY lists the blob of the second, which is missing there. Nothing was copied.
 Copy the image that needs the missing blob with `ocicp copy --descend`, from a layout that has that blob.
 
 81 Plan

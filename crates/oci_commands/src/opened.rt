@@ -10,7 +10,7 @@ pub(crate) fn opened<D: Dir + Drop>(alloc: Global, dir: D) -> Result<Layout<D>, 
     }
 }
 
-/// The layout that a directory is; none where it has no `oci-layout`, which is so where there is no folder.
+/// The layout that a directory is; `None` if it has no `oci-layout`, or if there is no such folder.
 pub(crate) fn opened_if_there<D: Dir + Drop>(
     alloc: Global,
     dir: D,
@@ -22,7 +22,7 @@ pub(crate) fn opened_if_there<D: Dir + Drop>(
     }
 }
 
-/// The layout that a directory is, which is made one where it has no `oci-layout`.
+/// The layout that a directory is; it is created if there is no `oci-layout`.
 pub(crate) fn opened_or_made<D: Dir + Drop>(
     alloc: Global,
     dir: D,

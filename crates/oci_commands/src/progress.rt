@@ -3,7 +3,7 @@ use oci_pool::Hooks;
 use std::io::Write;
 use std::sync::{Mutex, Wait};
 
-/// Hooks that tell how far a copy is: `pushed` and the key for each content that arrived, `skipped` and the key for each root
+/// Hooks that print how far a copy is: `pushed` and the key for each content that arrived, `skipped` and the key for each root
 /// that was there already. One line is written at a time, whole; one that cannot be written is left out, and the copy goes on.
 #[derive(Drop)]
 pub(crate) struct Progress<'p, R, X> {

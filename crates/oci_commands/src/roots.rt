@@ -1,26 +1,8 @@
 use oci_digest::NoMemory;
 use oci_manifest::Key;
 use oci_plan::climb;
-use oci_store::{GraphSource, KeyList, RefFault, Tagger};
+use oci_store::{GraphSource, KeyList};
 use std::alloc::Global;
-
-/// The keys that a copy of a reference starts from: what it resolves to, and with `--referrers` what refers to that.
-pub(crate) fn roots_of_reference<A: GraphSource + Tagger>(
-    alloc: Global,
-    source: &A,
-    reference: &str,
-    referrers: Option<u32>,
-) -> Result<Vec<Key>, RefFault> {
-    let mut roots = KeyList::new(alloc);
-    place_roots(
-        alloc,
-        source,
-        &source.resolve(reference)?,
-        referrers,
-        &mut roots,
-    )?;
-    Ok(roots.into_keys())
-}
 
 /// The keys that a copy of these tags starts from, each once: for each tag in turn what it resolves to, and with `--referrers`
 /// what refers to that.

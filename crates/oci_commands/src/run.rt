@@ -36,29 +36,12 @@ where
     ensures { result ≤ 3 }
 {
     match Request::parse(rt.alloc(), words, on_terminal) {
-        Ok(request) => run_request(rt, &request, out, err),
+        Ok(Request::Text(text)) => end(print_text(&text, out), out, err),
+        Ok(Request::Explain(text)) => end(print_explanation(text, out), out, err),
+        Ok(Request::Mem(words)) => end(mem(rt, &words, out), out, err),
+        Ok(Request::Copy(words)) => run_copy(rt, &words, out, err),
+        Ok(Request::Look(folder, look)) => run_look(rt, folder, look, out, err),
         Err(ending) => ending.tell(err),
-    }
-}
-
-/// Does what is asked for, and answers the status.
-fn run_request<R: Files + AllocGlobal + Clock + Threads + Wait + Sync, W: Write, X: Write + Send>(
-    rt: &R,
-    request: &Request<'_>,
-    out: &mut W,
-    err: &mut X,
-) -> u8
-where
-    R::File: Lockable + Send,
-    R::Dir: Send,
-    ensures { result ≤ 3 }
-{
-    match request {
-        Request::Text(text) => end(print_text(text, out), out, err),
-        Request::Explain(text) => end(print_explanation(text, out), out, err),
-        Request::Mem(words) => end(mem(rt, words, out), out, err),
-        Request::Copy(words) => run_copy(rt, words, out, err),
-        Request::Look(folder, look) => run_look(rt, folder, *look, out, err),
     }
 }
 
@@ -124,7 +107,7 @@ where
     }
 }
 
-/// Copies from directory to directory, or only tells what would be copied, and answers the status.
+/// Copies from directory to directory, or only prints what would be copied, and answers the status.
 fn end_copy<
     R: Files + AllocGlobal + Clock + Threads + Wait + Sync,
     S: Dir + Drop + Sync,

@@ -19,7 +19,7 @@ use Rattle.oci_copy.specs.declared.options.Options.{Options}
 use Rattle.oci_copy.specs.declared.fault.CopyFault.{CopyFault}
 use Rattle.oci_copy.specs.declared.fault.CopyFault.TheVariants as fault
 use Rattle.oci_copy.specs.Cause.{HasFailed, IsPushCause, IsTooEarly, IsStepCause, IsRunCause, IsStartCause, IsStillWanted, IsRefusal, IsFetchCause}
-use Rattle.oci_copy.specs.Fault.{IsStuck, IsOtherPush, TellsPush}
+use Rattle.oci_copy.specs.Fault.{IsStuck, IsOtherPush, ReportsPush}
 use Rattle.oci_copy.specs.Destination.{IsClosedWhenSkipping}
 use Rattle.oci_copy.specs.Grown.{graph_of}
 use Rattle.oci_copy.specs.Planned.{IsPlanOf}
@@ -88,9 +88,9 @@ module _ (source before now : State) (k : Descriptor) (bytes : List ℕ) (listed
   stuck_cause (push.MissingSuccessor m) refused stuck = let it = only (missing_successor m) refused in too_early it.0 it.1
   stuck_cause other refused stuck = absurd stuck
 
-  -- what a refused push is told as has its cause
+  -- what a refused push is reported as has its cause
   pub step_cause : (e : PushFault) (told : CopyFault) → Refused e (closed_check before.nodes k bytes) → (e ≡ push.Device → HasFailed before now) → (e ≡ push.Halted → before.is_halted)
-      → TellsPush k e told → IsStepCause source before now k told
+      → ReportsPush k e told → IsStepCause source before now k told
   step_cause e (fault.Push named t) refused device halt tells = (tells.0, subst (IsPushCause source before now k) (sym tells.1) (push_cause e refused device halt tells.2))
   step_cause e (fault.Stuck named) refused device halt tells = (tells.0, stuck_cause e refused tells.1)
   step_cause e fault.Memory refused device halt tells = tt

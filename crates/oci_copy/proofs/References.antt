@@ -9,9 +9,10 @@ use Rattle.oci_store.specs.declared.fault.RefFault.{RefFault}
 use Rattle.oci_store.specs.declared.fault.RefFault.TheVariants as reference
 use Rattle.oci_copy.specs.declared.fault.CopyFault.{CopyFault}
 use Rattle.oci_copy.specs.declared.fault.CopyFault.TheVariants as fault
-use Rattle.oci_copy.specs.Tagged.{name_of, ResolvesIn, RefusedByReference, TellsReference}
+use Rattle.oci_copy.specs.Tagged.{name_of, ResolvesIn, RefusedByReference}
+use Rattle.oci_copy.specs.Fault.{ReportsReference}
 
--- there are not too many workers where something else is told
+-- there are not too many workers where something else is reported
 few : {X : Type 0} (workers : ℕ) (r : Result X CopyFault) (e : CopyFault) → (IsErrOf r fault.BadWorkers ↔ (64 < workers)) → r ≡ Err e → (e ≡ fault.BadWorkers → ⊥) → workers ≤ 64
 few workers r e many is other =
     elim (cases_lt 64 workers) [
@@ -19,7 +20,7 @@ few workers r e many is other =
       | inr under ↦ under
     ]
 
--- a refused copy from the root is told as it is
+-- a refused copy from the root is reported as it is
 pub refused_by_root : {X : Type 0} (store : State) (name : List ℕ) (workers : ℕ) (cause : Descriptor → CopyFault → Type 0) (k : Descriptor) (r : Result X CopyFault) (e : CopyFault)
     → ResolvesIn store name k → (IsErrOf r fault.BadWorkers ↔ (64 < workers)) → ((f : RefFault) → cause k (fault.Reference f) → ⊥) → r ≡ Err e → cause k e
     → RefusedByReference store name workers cause e
@@ -44,9 +45,9 @@ named source (b ∷ destination) not_empty same =
       | inr some ↦ (let both : b ∷ destination ≡ [] = rw some at same in cc both)
     ]
 
--- a tag of a held key under a name is refused for want of memory alone
+-- a tag of a held key under a name is refused for a memory error alone
 pub tag_wants_memory : (source destination name : List ℕ) (held : Bool) (e : RefFault) (told : CopyFault) → name ≡ name_of source destination → (source ≡ [] → ⊥)
-    → (e ≡ reference.EmptyReference → name ≡ []) → (e ≡ reference.NotHeld → held ≡ false) → held ≡ true → (e ≡ reference.UnknownReference → ⊥) → TellsReference e told → told ≡ fault.Memory
+    → (e ≡ reference.EmptyReference → name ≡ []) → (e ≡ reference.NotHeld → held ≡ false) → held ≡ true → (e ≡ reference.UnknownReference → ⊥) → ReportsReference e told → told ≡ fault.Memory
 tag_wants_memory source destination name held e fault.Memory is not_empty empty absent there unknown tells = refl
 tag_wants_memory source destination name held e (fault.Reference r) is not_empty empty absent there unknown tells = go e tells.1 empty absent unknown
   where

@@ -8,8 +8,8 @@ use Rattle.oci_store.specs.Keyed.{has_key, HasAll}
 use Rattle.oci_store.specs.State.{State}
 use Rattle.oci_plan.specs.Up.{IsUp}
 use Rattle.oci_plan.specs.declared.existing.Existing.{Existing}
-use Rattle.oci_copy.specs.Cause.{IsOpenCause}
-use Rattle.oci_copy.specs.Destination.{IsOpenWhenSkipping}
+use Rattle.oci_copy.specs.Cause.{IsNotClosedCause}
+use Rattle.oci_copy.specs.Destination.{IsNotClosedWhenSkipping}
 use Rattle.oci_copy.specs.Extended.{AreRootsOf, AreRootsOfReference, RefusedExtended}
 use Rattle.oci_copy.specs.Tagged.{ResolvesIn}
 use Rattle.oci_copy.specs.declared.fault.CopyFault.{CopyFault}
@@ -22,7 +22,7 @@ key_is_up {k = k} up = (up.each k).1 (zero, λ limited. omega arith, refl)
 pub key_held : {graph : List Node} {k : Descriptor} {depth : ℕ} {roots : List Descriptor} (now : List Node) → IsUp graph k depth roots → HasAll now roots → has_key now k ≡ true
 key_held {k = k} {roots = roots} now up all = All-contains (λ d. has_key now d ≡ true) roots k all (key_is_up up)
 
--- the roots of a key that a reference stands for
+-- the roots of a key that a reference resolves to
 pub roots_of_reference : (source : State) (name : List ℕ) (k : Descriptor) (depth : ℕ) (roots : List Descriptor) → AreRootsOf source k depth roots → ResolvesIn source name k → AreRootsOfReference source name depth roots
 roots_of_reference source name k depth roots (inl none) found = inl none
 roots_of_reference source name k depth roots (inr up) found = inr (k, found, up)
@@ -42,8 +42,8 @@ module _ (source : State) (k : Descriptor) (depth : ℕ) (cause : List Descripto
   refused_from_roots roots (fault.Fetch at f) up workers opened h = (roots, up, h)
 
   -- a destination that is refused before the climb
-  pub refused_before_roots : (existing : Existing) (opening : State) (e : CopyFault) → ((holder missing : Descriptor) → IsOpenWhenSkipping existing opening.nodes holder missing → cause [] (fault.DestinationOpen holder missing))
-      → IsOpenCause existing opening e → RefusedExtended source k depth cause e
+  pub refused_before_roots : (existing : Existing) (opening : State) (e : CopyFault) → ((holder missing : Descriptor) → IsNotClosedWhenSkipping existing opening.nodes holder missing → cause [] (fault.DestinationOpen holder missing))
+      → IsNotClosedCause existing opening e → RefusedExtended source k depth cause e
   refused_before_roots existing opening (fault.DestinationOpen holder missing) opened h = opened holder missing h
   refused_before_roots existing opening fault.Memory opened h = tt
   refused_before_roots existing opening other opened h = absurd h

@@ -19,7 +19,7 @@ pub ok_tagged : (r : Result (Descriptor × Report) CopyFault) (root : Descriptor
 ok_tagged (Ok it) root report P same_root same_report holds = rw (same_root, same_report) holds
 ok_tagged (Err e) root report P same_root same_report holds = same_root
 
--- a tag that only wants memory is refused for what want of memory is
+-- a tag that only runs out of memory is refused for what a memory error is
 pub refused_tag : {X A B : Type 0} (r : Result X CopyFault) (P : CopyFault → Type 0) → A → B → P fault.Memory → IfErr r (λ e. A → B → e ≡ fault.Memory) → IfErr r P
 refused_tag (Ok x) P a b memory wants = wants
 refused_tag (Err e) P a b memory wants = rw (wants a b) memory

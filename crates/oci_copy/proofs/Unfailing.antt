@@ -21,7 +21,7 @@ use Rattle.oci_copy.specs.Cause.{IsPlanCause, IsPushCause, IsRefusal}
 use Rattle.oci_copy.specs.Destination.{IsClosedWhenSkipping}
 use Rattle.oci_copy.specs.Grown.{IsTold}
 use Rattle.oci_copy.proofs.Causes.{not_err}
-use Rattle.oci_copy.proofs.Destinations.{closed_not_open}
+use Rattle.oci_copy.proofs.Destinations.{closed_not_refused}
 use Rattle.oci_copy.specs.Plain.{IsUnfailing, NotPlanned, RefusedForPlan}
 
 module _ (options : Options) {source opening now : State} (unfailing : IsUnfailing options.existing source opening now) where
@@ -34,7 +34,7 @@ module _ (options : Options) {source opening now : State} (unfailing : IsUnfaili
       let reads = All-value_at (λ (e : Entry). IsOk (succ_of e.0 e.1)) source.entries k unread.bytes unfailing.content.readable (unread.own unfailing.is_honest) in
       absurd (not_err (succ_of k unread.bytes) unread.cause unread.breaks reads)
   not_planned roots (plan.Fetch k e) cause = absurd (false≢true (sym (unfailing.gives k) ∙ cause.named.2))
-  not_planned roots plan.Memory cause = absurd cause.told
+  not_planned roots plan.Memory cause = absurd cause.refusal
   not_planned roots plan.TooMany cause = cause.first unfailing.is_honest
 
   not_refused : (k : Descriptor) (e : PushFault) → IsPushCause source opening now k e → ⊥
@@ -44,7 +44,7 @@ module _ (options : Options) {source opening now : State} (unfailing : IsUnfaili
   not_refused k other cause = cause
 
   pub refused_for_plan : (roots : List Descriptor) (told : CopyFault) → IsRefusal options source opening roots now told → RefusedForPlan source.entries options opening.nodes roots told
-  refused_for_plan roots (fault.DestinationOpen holder missing) cause = absurd (closed_not_open options.existing opening.nodes holder missing unfailing.closed cause)
+  refused_for_plan roots (fault.DestinationOpen holder missing) cause = absurd (closed_not_refused options.existing opening.nodes holder missing unfailing.closed cause)
   refused_for_plan roots (fault.Plan e) cause = not_planned roots e cause.1
   refused_for_plan roots (fault.Fetch k e) cause = absurd (false≢true (sym (unfailing.gives k) ∙ cause.2.0))
   refused_for_plan roots (fault.Push k e) cause = absurd (not_refused k e cause.2)

@@ -24,15 +24,15 @@ use Rattle.oci_plan.specs.Plan.{Planned}
 use Rattle.oci_copy.specs.declared.options.Options.{Options}
 use Rattle.oci_copy.specs.declared.fault.CopyFault.{CopyFault}
 use Rattle.oci_copy.specs.declared.fault.CopyFault.TheVariants as fault
-use Rattle.oci_copy.specs.Cause.{IsFetchCause, IsContentCause, IsReadCause, IsPushCauseIf, IsOpenCause, IsStartCause}
-use Rattle.oci_copy.specs.Fault.{TellsPush, IsStuck, IsOtherPush}
+use Rattle.oci_copy.specs.Cause.{IsFetchCause, IsContentCause, IsReadCause, IsPushCauseIf, IsNotClosedCause, IsStartCause}
+use Rattle.oci_copy.specs.Fault.{ReportsPush, IsStuck, IsOtherPush}
 use Rattle.oci_copy.specs.Destination.{IsClosedWhenSkipping}
 use Rattle.oci_copy.specs.Kept.{Keeps}
 use Rattle.oci_copy.specs.Plain.{IsUnfailing}
 use Rattle.oci_copy.specs.Planned.{IsPlanOf}
-use Rattle.oci_copy.specs.Work.{IsNoted, CanFail, IsWorkCause, IsJobCause, IsStopCause, IsToldHalt, IsRefusalToWorkers, RefusedForPlanOrWorkers}
+use Rattle.oci_copy.specs.Work.{IsNoted, CanFail, IsWorkCause, IsJobCause, IsStopCause, IsReportedHalt, IsRefusalToWorkers, RefusedForPlanOrWorkers}
 use Rattle.oci_copy.proofs.Checks.{closed_check-read}
-use Rattle.oci_copy.proofs.Destinations.{closed_not_open}
+use Rattle.oci_copy.proofs.Destinations.{closed_not_refused}
 use Rattle.oci_copy.proofs.Places.{Contains-from_slice_get}
 use Rattle.oci_copy.proofs.Unfailing.{not_planned}
 
@@ -85,9 +85,9 @@ as_many_pushed {planned = planned} {opening = opening} {now = now} keeps distinc
           | inr new ↦ Contains-from_has_key keeps.added k (has_key-from_value keeps.added k it.0 new)
         ]
 
--- a want of memory is told as it is
-pub told_memory : (pushed told : Result ℕ PushFault) (wanting : Bool) → IsToldHalt pushed wanting told → IsErrOf pushed push.Memory → IsErrOf told push.Memory
-told_memory pushed told wanting tells memory = let it : IsToldHalt (Err push.Memory) wanting told = subst (λ (r : Result ℕ PushFault). IsToldHalt r wanting told) memory tells in it
+-- a memory error is reported as it is
+pub reported_memory : (pushed told : Result ℕ PushFault) (ran_out : Bool) → IsReportedHalt pushed ran_out told → IsErrOf pushed push.Memory → IsErrOf told push.Memory
+reported_memory pushed told ran_out tells memory = let it : IsReportedHalt (Err push.Memory) ran_out told = subst (λ (r : Result ℕ PushFault). IsReportedHalt r ran_out told) memory tells in it
 
 module _ (failed : Type 0) (source opening : State) (graph : List Node) (k : Descriptor) (bytes : List ℕ) (listed : List Descriptor)
     (fresh : has_key graph k ≡ false) (checked : IsChecked k bytes listed) (held : HasAll graph (successors_in k bytes)) where
@@ -116,7 +116,7 @@ module _ (failed : Type 0) (source opening : State) (graph : List Node) (k : Des
   lock_cause push.Halted refused device halt other = halt refl
 
   -- why a push under the lock is refused, once all that the content lists is held
-  pub work_from_push : (e : PushFault) (told : CopyFault) → Refused e (closed_check graph k bytes) → (e ≡ push.Device → failed) → (e ≡ push.Halted → opening.is_halted) → TellsPush k e told
+  pub work_from_push : (e : PushFault) (told : CopyFault) → Refused e (closed_check graph k bytes) → (e ≡ push.Device → failed) → (e ≡ push.Halted → opening.is_halted) → ReportsPush k e told
       → IsWorkCause failed source opening k told
   work_from_push e (fault.Push named t) refused device halt tells = (tells.0, subst (IsPushCauseIf failed source opening k) (sym tells.1) (lock_cause e refused device halt tells.2))
   work_from_push e (fault.Stuck named) refused device halt tells = absurd (stuck e refused tells.1)
@@ -177,12 +177,12 @@ refused_without_plan failed options source opening roots workers (fault.Plan e) 
 refused_without_plan failed options source opening roots workers fault.Memory cause = tt
 refused_without_plan failed options source opening roots workers other cause = absurd cause
 
--- why a copy by workers is refused whose destination is open
-pub refused_when_open : (failed : Type 0) (options : Options) (source opening : State) (roots : List Descriptor) (workers : ℕ) (told : CopyFault)
-    → IsOpenCause options.existing opening told → IsRefusalToWorkers failed options source opening roots workers told
-refused_when_open failed options source opening roots workers (fault.DestinationOpen holder missing) cause = cause
-refused_when_open failed options source opening roots workers fault.Memory cause = tt
-refused_when_open failed options source opening roots workers other cause = absurd cause
+-- why a copy by workers is refused whose destination is not closed
+pub refused_when_not_closed : (failed : Type 0) (options : Options) (source opening : State) (roots : List Descriptor) (workers : ℕ) (told : CopyFault)
+    → IsNotClosedCause options.existing opening told → IsRefusalToWorkers failed options source opening roots workers told
+refused_when_not_closed failed options source opening roots workers (fault.DestinationOpen holder missing) cause = cause
+refused_when_not_closed failed options source opening roots workers fault.Memory cause = tt
+refused_when_not_closed failed options source opening roots workers other cause = absurd cause
 
 -- why a copy by workers is refused where neither store fails
 module _ (failed : Type 0) (source opening : State) (not_failed : failed → ⊥) (options : Options) (unfailing : IsUnfailing options.existing source opening opening) where
@@ -195,7 +195,7 @@ module _ (failed : Type 0) (source opening : State) (not_failed : failed → ⊥
   pub refused_for_plan_or_workers : (roots : List Descriptor) (workers : ℕ) (told : CopyFault) → IsRefusalToWorkers failed options source opening roots workers told
       → RefusedForPlanOrWorkers source.entries options opening.nodes roots workers told
   refused_for_plan_or_workers roots workers fault.BadWorkers cause = cause
-  refused_for_plan_or_workers roots workers (fault.DestinationOpen holder missing) cause = absurd (closed_not_open options.existing opening.nodes holder missing unfailing.closed cause)
+  refused_for_plan_or_workers roots workers (fault.DestinationOpen holder missing) cause = absurd (closed_not_refused options.existing opening.nodes holder missing unfailing.closed cause)
   refused_for_plan_or_workers roots workers (fault.Plan e) cause = not_planned options unfailing roots e cause.1
   refused_for_plan_or_workers roots workers (fault.Fetch k e) cause = absurd (false≢true (sym (unfailing.gives k) ∙ cause.2.0))
   refused_for_plan_or_workers roots workers (fault.Push k e) cause = absurd (not_locked k e cause.2)

@@ -16,14 +16,14 @@ use Rattle.oci_copy.specs.Fault.{IsPlanRefusal}
 use Rattle.oci_copy.specs.Grown.{graph_of}
 use Rattle.oci_copy.specs.declared.options.Options.{Options}
 use Rattle.oci_copy.specs.Options.{limit_of}
-use Rattle.oci_copy.specs.Destination.{IsClosedWhenSkipping, IsOpenWhenSkipping}
+use Rattle.oci_copy.specs.Destination.{IsClosedWhenSkipping, IsNotClosedWhenSkipping}
 use Rattle.oci_copy.specs.declared.fault.CopyFault.{CopyFault}
 use Rattle.oci_copy.specs.declared.fault.CopyFault.TheVariants as fault
 
 -- why there is no plan: what the fault names is at fault, and it is no key that only the destination has; and of an honest
 -- source it is the first that is at fault
 pub record IsPlanCause (source : State) (options : Options) (opening : State) (roots : List Descriptor) (e : PlanFault) : Type 0 where
-  pub told : IsPlanRefusal e
+  pub refusal : IsPlanRefusal e
   pub named : IsKeyFault source.is_honest source.fails_at source.entries (limit_of options) e
   pub spared : NamesNoneOnlyInDestination source.entries opening.nodes e
   pub first : source.is_honest → IsFirstFault options.existing source.entries opening.nodes roots (limit_of options) e
@@ -44,7 +44,7 @@ IsFetchCause source k e = (source.fails_at k ≡ true) × IsDeviceFault e
 abbrev pub HasFailed : State → State → Type 0
 HasFailed opening now = (opening.failures < now.failures) ⊎ (now.failures ≡ 2 ^ 64 - 1)
 
--- the bytes that were fetched match the key and do not read, for the reason that is told, which no honest source's do
+-- the bytes that were fetched match the key and do not read, for the reason that the fault gives, which no honest source's do
 abbrev pub IsReadCause : State → Descriptor → ManifestFault → Type 0
 IsReadCause source k e = IsUnread source.is_honest source.entries k e × (source.is_honest → ⊥)
 
@@ -88,28 +88,36 @@ IsStepCause source opening now k e = ⊥
 
 -- why a run that pushes planned keys in their order stops: one of them is not pushed, and the destination does not hold it
 abbrev pub IsRunCause : State → State → State → List Descriptor → CopyFault → Type 0
-IsRunCause source opening now planned e = (k : Descriptor) × Contains planned k × (has_key now.nodes k ≡ false) × IsStepCause source opening now k e
+IsRunCause source opening now planned e = (k : Descriptor) × Contains planned k × (has_key now.nodes k ≡ false)
+    × IsStepCause source opening now k e
 
--- why the destination is refused: the first key that is open, or want of memory
-abbrev pub IsOpenCause : Existing → State → CopyFault → Type 0
-IsOpenCause existing opening (fault.DestinationOpen holder missing) = IsOpenWhenSkipping existing opening.nodes holder missing
-IsOpenCause existing opening fault.Memory = Unit {0}
-IsOpenCause existing opening e = ⊥
+-- why the destination is refused: it is not closed, which the first key shows that lists one that is not held; or a memory error
+abbrev pub IsNotClosedCause : Existing → State → CopyFault → Type 0
+IsNotClosedCause existing opening (fault.DestinationOpen holder missing) = IsNotClosedWhenSkipping existing opening.nodes holder missing
+IsNotClosedCause existing opening fault.Memory = Unit {0}
+IsNotClosedCause existing opening e = ⊥
 
--- why a copy does not begin: the destination is open, or there is no plan
+-- why a copy does not begin: the destination is not closed, or there is no plan
 abbrev pub IsStartCause : Options → State → State → List Descriptor → CopyFault → Type 0
-IsStartCause options source opening roots (fault.DestinationOpen holder missing) = IsOpenWhenSkipping options.existing opening.nodes holder missing
-IsStartCause options source opening roots (fault.Plan e) = IsClosedWhenSkipping options.existing opening.nodes × IsPlanCause source options opening roots e
+IsStartCause options source opening roots (fault.DestinationOpen holder missing) =
+    IsNotClosedWhenSkipping options.existing opening.nodes holder missing
+IsStartCause options source opening roots (fault.Plan e) = IsClosedWhenSkipping options.existing opening.nodes
+    × IsPlanCause source options opening roots e
 IsStartCause options source opening roots fault.Memory = Unit {0}
 IsStartCause options source opening roots e = ⊥
 
--- Why a copy on one thread is refused. The causes are looked at in this order: the destination is open; there is no plan; a
--- key that the copy still has to bring is not pushed at its turn. Want of memory may come at any point.
+-- Why a copy on one thread is refused. The causes are looked at in this order: the destination is not closed; there is
+-- no plan; a key that the copy still has to bring is not pushed at its turn. A memory error may come at any point.
 abbrev pub IsRefusal : Options → State → State → List Descriptor → State → CopyFault → Type 0
-IsRefusal options source opening roots now (fault.DestinationOpen holder missing) = IsOpenWhenSkipping options.existing opening.nodes holder missing
-IsRefusal options source opening roots now (fault.Plan e) = IsClosedWhenSkipping options.existing opening.nodes × IsPlanCause source options opening roots e
-IsRefusal options source opening roots now (fault.Fetch k e) = IsClosedWhenSkipping options.existing opening.nodes × IsStillWanted options.existing source opening roots now k × IsFetchCause source k e
-IsRefusal options source opening roots now (fault.Push k e) = IsClosedWhenSkipping options.existing opening.nodes × IsStillWanted options.existing source opening roots now k × IsPushCause source opening now k e
-IsRefusal options source opening roots now (fault.Stuck k) = IsClosedWhenSkipping options.existing opening.nodes × IsStillWanted options.existing source opening roots now k × IsTooEarly source now k
+IsRefusal options source opening roots now (fault.DestinationOpen holder missing) =
+    IsNotClosedWhenSkipping options.existing opening.nodes holder missing
+IsRefusal options source opening roots now (fault.Plan e) = IsClosedWhenSkipping options.existing opening.nodes
+    × IsPlanCause source options opening roots e
+IsRefusal options source opening roots now (fault.Fetch k e) = IsClosedWhenSkipping options.existing opening.nodes
+    × IsStillWanted options.existing source opening roots now k × IsFetchCause source k e
+IsRefusal options source opening roots now (fault.Push k e) = IsClosedWhenSkipping options.existing opening.nodes
+    × IsStillWanted options.existing source opening roots now k × IsPushCause source opening now k e
+IsRefusal options source opening roots now (fault.Stuck k) = IsClosedWhenSkipping options.existing opening.nodes
+    × IsStillWanted options.existing source opening roots now k × IsTooEarly source now k
 IsRefusal options source opening roots now fault.Memory = Unit {0}
 IsRefusal options source opening roots now e = ⊥

@@ -17,18 +17,22 @@ use Rattle.oci_copy.specs.Grown.{graph_of, BeginsWith, IsGrown, IsTold}
 -- the destination is a copy: it has what it had, and what the source reaches from the roots, and nothing else
 pub record IsCopy (shares : Type 0) (options : Options) (source opening : State) (roots : List Descriptor) (now : State) : Type 0 where
   -- so of keys and of what each lists, where the source is honest and the two graphs agree
-  pub graph : source.is_honest → Agree (graph_of source) opening.nodes → IsCopied (graph_of source) (graph_of source) roots opening.nodes now.nodes
+  pub graph : source.is_honest → Agree (graph_of source) opening.nodes
+      → IsCopied (graph_of source) (graph_of source) roots opening.nodes now.nodes
   -- there too, every key that the source reaches is held
-  pub reached : source.is_honest → Agree (graph_of source) opening.nodes → (k : Descriptor) → Reaches (graph_of source) roots k → has_key now.nodes k ≡ true
+  pub reached : source.is_honest → Agree (graph_of source) opening.nodes
+      → (k : Descriptor) → Reaches (graph_of source) roots k → has_key now.nodes k ≡ true
   -- so of bytes, where they can be told and the two contents agree
-  pub content : IsTold shares source opening now → Agree source.entries opening.entries → IsCopied (graph_of source) source.entries roots opening.entries now.entries
+  pub content : IsTold shares source opening now → Agree source.entries opening.entries
+      → IsCopied (graph_of source) source.entries roots opening.entries now.entries
   -- the roots are held
   pub roots_held : HasAll now.nodes roots
   -- the destination was closed, where what it has is skipped
   pub was_closed : IsClosedWhenSkipping options.existing opening.nodes
   -- an honest source had every key that was visited, and each manifest among them is within the limit and reads; where held
   -- keys are visited, but for those that it does not have
-  pub was_sound : source.is_honest → (k : Descriptor) → IsVisited options.existing (graph_of source) opening.nodes roots k → IsSoundVisit options.existing source.entries opening.nodes (limit_of options) k
+  pub was_sound : source.is_honest → (k : Descriptor) → IsVisited options.existing (graph_of source) opening.nodes roots k
+      → IsSoundVisit options.existing source.entries opening.nodes (limit_of options) k
 
 -- the destination lost nothing, and gained nothing but what the source reaches from the roots: so after a refusal too
 pub record OnlyGrows (shares : Type 0) (source opening : State) (roots : List Descriptor) (now : State) : Type 0 where

@@ -1,7 +1,7 @@
 -- What the destination of a copy has to be.
 use Rattle.std.specs.Prelude.{◌≡◌, List, Some}
 use Rattle.oci_manifest.specs.Descriptor.{Descriptor}
-use Rattle.oci_store.specs.Closed.{IsClosed, first_open}
+use Rattle.oci_store.specs.Closed.{IsClosed, first_missing_successor}
 use Rattle.oci_store.specs.Graph.{Node}
 use Rattle.oci_plan.specs.declared.existing.Existing.{Existing}
 use Rattle.oci_plan.specs.declared.existing.Existing.TheVariants.{Skip, Descend}
@@ -11,7 +11,8 @@ abbrev pub IsClosedWhenSkipping : Existing → List Node → Type 0
 IsClosedWhenSkipping Skip graph = IsClosed graph
 IsClosedWhenSkipping Descend graph = Unit {0}
 
--- why it is not: the first key that lists one which is not held, with the first such key; a copy that descends never says so
-abbrev pub IsOpenWhenSkipping : Existing → List Node → Descriptor → Descriptor → Type 0
-IsOpenWhenSkipping Skip graph holder missing = first_open graph ≡ Some (holder, missing)
-IsOpenWhenSkipping Descend graph holder missing = ⊥
+-- why the destination is refused: the first key that lists one which is not held, with the first such key; a copy that descends
+-- never refuses it
+abbrev pub IsNotClosedWhenSkipping : Existing → List Node → Descriptor → Descriptor → Type 0
+IsNotClosedWhenSkipping Skip graph holder missing = first_missing_successor graph ≡ Some (holder, missing)
+IsNotClosedWhenSkipping Descend graph holder missing = ⊥

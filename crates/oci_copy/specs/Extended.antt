@@ -15,12 +15,13 @@ OfUp source k depth holds = (roots : List Descriptor) × IsUp source.nodes k dep
 abbrev pub AreRootsOf : State → Descriptor → ℕ → List Descriptor → Type 0
 AreRootsOf source k depth roots = (roots ≡ []) ⊎ IsUp source.nodes k depth roots
 
--- the same, where a reference stands for the key
+-- the same, where a reference resolves to the key
 abbrev pub AreRootsOfReference : State → List ℕ → ℕ → List Descriptor → Type 0
 AreRootsOfReference source name depth roots = (roots ≡ []) ⊎ ((k : Descriptor) × ResolvesIn source name k × IsUp source.nodes k depth roots)
 
 -- Why an extended copy is refused. The causes are looked at in the order of a copy. Of those that come before the climb, too
--- many workers and an open destination, none asks for roots. Want of memory may come at any point, in the climb too.
+-- many workers and a destination that is not closed, none asks for roots. A memory error may come at any point, in the climb
+-- too.
 abbrev pub RefusedExtended : State → Descriptor → ℕ → (List Descriptor → CopyFault → Type 0) → CopyFault → Type 0
 RefusedExtended source k depth cause fault.BadWorkers = cause [] fault.BadWorkers
 RefusedExtended source k depth cause (fault.DestinationOpen holder missing) = cause [] (fault.DestinationOpen holder missing)

@@ -1,10 +1,12 @@
--- The faults of a copy: their numbers, and what a refusal from below is told as.
+-- The faults of a copy: their numbers, and how a refusal from below is reported.
 use Rattle.std.specs.Prelude.{◌≡◌, ◌≢◌, ℕ}
 use Rattle.oci_manifest.specs.Descriptor.{Descriptor}
 use Rattle.oci_store.specs.declared.fault.FetchFault.{FetchFault}
 use Rattle.oci_store.specs.declared.fault.FetchFault.TheVariants as fetch
 use Rattle.oci_store.specs.declared.fault.PushFault.{PushFault}
 use Rattle.oci_store.specs.declared.fault.PushFault.TheVariants as push
+use Rattle.oci_store.specs.declared.fault.RefFault.{RefFault}
+use Rattle.oci_store.specs.declared.fault.RefFault.TheVariants as reference
 use Rattle.oci_plan.specs.declared.fault.PlanFault.{PlanFault}
 use Rattle.oci_plan.specs.declared.fault.PlanFault.TheVariants as plan
 use Rattle.oci_copy.specs.declared.fault.CopyFault.{CopyFault}
@@ -30,22 +32,22 @@ IsEarly fault.BadWorkers = Unit {0}
 IsEarly (fault.Reference e) = Unit {0}
 IsEarly e = ⊥
 
--- a refused plan that is no want of memory
+-- a refused plan that is no memory error
 abbrev pub IsPlanRefusal : PlanFault → Type 0
 IsPlanRefusal plan.Memory = ⊥
 IsPlanRefusal e = Unit {0}
 
--- what a refused plan is told as: itself, or want of memory where it was that
-abbrev pub TellsPlan : PlanFault → CopyFault → Type 0
-TellsPlan e (fault.Plan told) = (told ≡ e) × IsPlanRefusal e
-TellsPlan e fault.Memory = e ≡ plan.Memory
-TellsPlan e other = ⊥
+-- how a refused plan is reported: as itself, or as a memory error where it was one
+abbrev pub ReportsPlan : PlanFault → CopyFault → Type 0
+ReportsPlan e (fault.Plan reported) = (reported ≡ e) × IsPlanRefusal e
+ReportsPlan e fault.Memory = e ≡ plan.Memory
+ReportsPlan e other = ⊥
 
--- what a refused fetch is told as: itself under the key, or want of memory, which it may itself have been
-abbrev pub TellsFetch : Descriptor → FetchFault → CopyFault → Type 0
-TellsFetch k e (fault.Fetch named told) = (named ≡ k) × (told ≡ e) × (e ≢ fetch.Memory)
-TellsFetch k e fault.Memory = Unit {0}
-TellsFetch k e other = ⊥
+-- how a refused fetch is reported: as itself under the key, or as a memory error, which it may itself have been
+abbrev pub ReportsFetch : Descriptor → FetchFault → CopyFault → Type 0
+ReportsFetch k e (fault.Fetch named reported) = (named ≡ k) × (reported ≡ e) × (e ≢ fetch.Memory)
+ReportsFetch k e fault.Memory = Unit {0}
+ReportsFetch k e other = ⊥
 
 -- the key is held, or one that its content lists is not
 abbrev pub IsStuck : PushFault → Type 0
@@ -53,16 +55,22 @@ IsStuck push.AlreadyExists = Unit {0}
 IsStuck (push.MissingSuccessor k) = Unit {0}
 IsStuck e = ⊥
 
--- a refused push that is neither of these, and no want of memory
+-- a refused push that is neither of these, and no memory error
 abbrev pub IsOtherPush : PushFault → Type 0
 IsOtherPush push.AlreadyExists = ⊥
 IsOtherPush (push.MissingSuccessor k) = ⊥
 IsOtherPush push.Memory = ⊥
 IsOtherPush e = Unit {0}
 
--- what a refused push is told as
-abbrev pub TellsPush : Descriptor → PushFault → CopyFault → Type 0
-TellsPush k e (fault.Push named told) = (named ≡ k) × (told ≡ e) × IsOtherPush e
-TellsPush k e (fault.Stuck named) = (named ≡ k) × IsStuck e
-TellsPush k e fault.Memory = Unit {0}
-TellsPush k e other = ⊥
+-- how a refused push is reported
+abbrev pub ReportsPush : Descriptor → PushFault → CopyFault → Type 0
+ReportsPush k e (fault.Push named reported) = (named ≡ k) × (reported ≡ e) × IsOtherPush e
+ReportsPush k e (fault.Stuck named) = (named ≡ k) × IsStuck e
+ReportsPush k e fault.Memory = Unit {0}
+ReportsPush k e other = ⊥
+
+-- how a refused reference is reported: as itself, or as a memory error where it was one
+abbrev pub ReportsReference : RefFault → CopyFault → Type 0
+ReportsReference e (fault.Reference reported) = (reported ≡ e) × (e ≢ reference.Memory)
+ReportsReference e fault.Memory = e ≡ reference.Memory
+ReportsReference e other = ⊥

@@ -18,11 +18,13 @@ BeginsWith {X} old new = (added : List X) × (new ≡ old ++ added)
 
 -- the new pairs are the old ones, and then the source's pairs of keys that are reached from the roots
 abbrev pub IsGrown : {X : Type 0} → List Node → List (Descriptor × X) → List Descriptor → List (Descriptor × X) → List (Descriptor × X) → Type 0
-IsGrown {X} graph source roots old new = (added : List (Descriptor × X)) × (new ≡ old ++ added) × AreReached graph source roots added
+IsGrown {X} graph source roots old new = (added : List (Descriptor × X)) × (new ≡ old ++ added)
+    × AreReached graph source roots added
 
 -- a key of the one and a key of the other that have the same digest have the same bytes
 abbrev pub SameByDigest : List Entry → List Entry → Type 0
-SameByDigest a b = (k other : Descriptor) (x y : List ℕ) → value_at a k ≡ Some x → value_at b other ≡ Some y → other.digest ≡ k.digest → y ≡ x
+SameByDigest a b = (k other : Descriptor) (x y : List ℕ) → value_at a k ≡ Some x → value_at b other ≡ Some y
+    → other.digest ≡ k.digest → y ≡ x
 
 -- The bytes of a copy can be told: the source is honest, the destination was sound, none of its puts failed from its opening
 -- until now and none could fail uncounted, and where the destination keeps one file per digest, keys of one digest have the

@@ -9,7 +9,8 @@ use Rattle.oci_copy.specs.Grown.{graph_of, IsTold}
 
 -- these are the source's pairs of planned keys
 abbrev pub ArePlanned : {X : Type 0} → List (Descriptor × X) → List Descriptor → List (Descriptor × X) → Type 0
-ArePlanned {X} source planned added = All (λ (e : Descriptor × X). Contains planned e.0 × (value_at source e.0 ≡ Some e.1)) added
+ArePlanned {X} source planned added =
+    All (λ (e : Descriptor × X). Contains planned e.0 × (value_at source e.0 ≡ Some e.1)) added
 
 -- the pairs are the opening ones, and then the source's pairs of planned keys
 pub record IsOpeningAnd {X : Type 0} (source : List (Descriptor × X)) (planned : List Descriptor) (opening now : List (Descriptor × X)) : Type 0 where

@@ -16,7 +16,8 @@ use Rattle.oci_copy.specs.declared.report.Report.{Report}
 -- a copy that succeeded, from the source to a destination that had the opening contents and has those of now
 pub record IsMemoryCopy (existing : Existing) (source : Contents) (roots : List Descriptor) (opening now : Contents) (report : Report) : Type 0 where
   -- where the two agree, the destination has exactly what it had and what the source reaches from the roots
-  pub copied : Agree source.entries opening.entries → IsCopied (nodes_of source.entries) source.entries roots opening.entries now.entries
+  pub copied : Agree source.entries opening.entries
+      → IsCopied (nodes_of source.entries) source.entries roots opening.entries now.entries
   -- there too, every key that the source reaches is held
   pub reached : Agree source.entries opening.entries → (k : Descriptor) → Reaches (nodes_of source.entries) roots k → has_key now.entries k ≡ true
   -- as many keys were planned as were to be brought, all of them were pushed, and so many came
@@ -34,7 +35,8 @@ pub record OnlyGrowsInMemory (source : Contents) (roots : List Descriptor) (open
   -- each matches its key and reads, and there is one for each key
   pub content : IsContent now.entries
   -- it has all that the new ones list
-  pub whole : (added : List Node) × (nodes_of now.entries ≡ nodes_of opening.entries ++ added) × All (λ (n : Node). HasAll (nodes_of now.entries) n.1) added
+  pub whole : (added : List Node) × (nodes_of now.entries ≡ nodes_of opening.entries ++ added)
+      × All (λ (n : Node). HasAll (nodes_of now.entries) n.1) added
   -- where it was closed it is closed
   pub closed : IsClosed (nodes_of opening.entries) → IsClosed (nodes_of now.entries)
   -- its tags stay

@@ -34,13 +34,17 @@ NeitherFails {X} existing state source opening = (store : X) → IsUnfailing exi
 -- destination; or a cycle is to be brought, and every visited key is sound; or too many keys are to be brought, and those
 -- visited so far are sound
 abbrev pub NotPlanned : List Entry → Options → List Node → List Descriptor → PlanFault → Type 0
-NotPlanned source options opening roots (plan.NotFound k) = IsNextVisited options.existing (nodes_of source) source opening roots (limit_of options) k × (has_key source k ≡ false) × (has_key opening k ≡ false)
-NotPlanned source options opening roots (plan.TooLarge k l) = IsNextVisited options.existing (nodes_of source) source opening roots (limit_of options) k × (l ≡ limit_of options) × IsTooLarge (limit_of options) k × (IsOnlyInDestination source opening k → ⊥)
+NotPlanned source options opening roots (plan.NotFound k) =
+    IsNextVisited options.existing (nodes_of source) source opening roots (limit_of options) k
+    × (has_key source k ≡ false) × (has_key opening k ≡ false)
+NotPlanned source options opening roots (plan.TooLarge k l) =
+    IsNextVisited options.existing (nodes_of source) source opening roots (limit_of options) k
+    × (l ≡ limit_of options) × IsTooLarge (limit_of options) k × (IsOnlyInDestination source opening k → ⊥)
 NotPlanned source options opening roots (plan.Cycle keys) = IsCycleToBring options.existing source opening roots (limit_of options) keys.items
 NotPlanned source options opening roots plan.TooMany = HasTooMany options.existing source opening roots (limit_of options)
 NotPlanned source options opening roots e = ⊥
 
--- where neither store fails a copy is refused for its plan, or for want of memory
+-- where neither store fails a copy is refused for its plan, or for a memory error
 abbrev pub RefusedForPlan : List Entry → Options → List Node → List Descriptor → CopyFault → Type 0
 RefusedForPlan source options opening roots (fault.Plan e) = NotPlanned source options opening roots e
 RefusedForPlan source options opening roots fault.Memory = Unit {0}

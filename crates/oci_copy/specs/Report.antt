@@ -21,7 +21,7 @@ IsToBringCount existing source held roots n = (keys : List Descriptor) × IsDist
 abbrev pub held_count : List Node → List Descriptor → ℕ
 held_count held roots = length (first_places (filter (has_key held) roots))
 
--- what a copy that succeeded tells
+-- what a copy that succeeded reports
 pub record IsReport (existing : Existing) (source opening : State) (roots : List Descriptor) (now : State) (report : Report) : Type 0 where
   -- of an honest source as many keys were planned as were to be brought
   pub planned : source.is_honest → IsToBringCount existing (graph_of source) opening.nodes roots report.planned

@@ -1,4 +1,4 @@
--- Copies by reference: the root that a reference stands for, and the tag that is set.
+-- Copies by reference: the root that a reference resolves to, and the tag that is set.
 use Rattle.std.specs.Prelude.{◌≡◌, ◌≢◌, ℕ, ◌<◌, ◌≤◌, ◌==◌, length, ◌⊎◌, List, [], ◌∷◌, if◌then◌else◌}
 use Rattle.std.specs.Map.{keys_of}
 use Rattle.oci_manifest.specs.Descriptor.{Descriptor}
@@ -13,11 +13,11 @@ use Rattle.oci_copy.specs.declared.fault.CopyFault.TheVariants as fault
 abbrev pub name_of : List ℕ → List ℕ → List ℕ
 name_of source_reference destination_reference = if length destination_reference == 0 then source_reference else destination_reference
 
--- the reference stands for the key in the store
+-- the reference resolves to the key in the store
 abbrev pub ResolvesIn : State → List ℕ → Descriptor → Type 0
 ResolvesIn store name k = Resolves (keys_of store.nodes) store.tags name k
 
--- there is no root as yet, or it is the key that the reference stands for
+-- there is no root as yet, or it is the key that the reference resolves to
 abbrev pub IsRootOf : State → List ℕ → List Descriptor → Type 0
 IsRootOf store name roots = (roots ≡ []) ⊎ ((k : Descriptor) × (roots ≡ k ∷ []) × ResolvesIn store name k)
 
@@ -34,23 +34,17 @@ IsResolveCause store name (fault.Reference e) = IsReferenceCause store name e
 IsResolveCause store name fault.Memory = Unit {0}
 IsResolveCause store name e = ⊥
 
--- the reference stands for a key, there are at most 64 workers, and the copy from that key is refused for its cause
+-- the reference resolves to a key, there are at most 64 workers, and the copy from that key is refused for its cause
 abbrev pub IsRefusedRoot : State → List ℕ → ℕ → (Descriptor → CopyFault → Type 0) → CopyFault → Type 0
 IsRefusedRoot store name workers cause e = (k : Descriptor) × ResolvesIn store name k × (workers ≤ 64) × cause k e
 
 -- Why a copy by reference is refused. The causes are looked at in this order: the source's reference does not resolve; there
--- are too many workers; the copy from the root is refused. Setting the tag can only want memory.
+-- are too many workers; the copy from the root is refused. Setting the tag can only run out of memory.
 abbrev pub RefusedByReference : State → List ℕ → ℕ → (Descriptor → CopyFault → Type 0) → CopyFault → Type 0
 RefusedByReference store name workers cause (fault.Reference e) = IsReferenceCause store name e
 RefusedByReference store name workers cause fault.BadWorkers = (k : Descriptor) × ResolvesIn store name k × (64 < workers)
 RefusedByReference store name workers cause fault.Memory = Unit {0}
 RefusedByReference store name workers cause e = IsRefusedRoot store name workers cause e
-
--- what a refused reference is told as: itself, or want of memory where it was that
-abbrev pub TellsReference : RefFault → CopyFault → Type 0
-TellsReference e (fault.Reference told) = (told ≡ e) × (e ≢ reference.Memory)
-TellsReference e fault.Memory = e ≡ reference.Memory
-TellsReference e other = ⊥
 
 -- nothing but the tags may differ
 pub record IsRetagged (old new : State) : Type 0 where

@@ -6,7 +6,7 @@ ghost use Rattle.oci_copy.specs.Copy.{IsCopy, OnlyGrows};
 ghost use Rattle.oci_copy.specs.Fault.{IsEarly};
 ghost use Rattle.oci_copy.specs.Plain.{NeitherFails};
 ghost use Rattle.oci_copy.specs.Report.{IsReport};
-ghost use Rattle.oci_copy.specs.Tagged.{name_of, ResolvesIn, IsRootOf, RefusedByReference, IsResolveCause, IsRetagged, TellsReference};
+ghost use Rattle.oci_copy.specs.Tagged.{name_of, ResolvesIn, IsRootOf, RefusedByReference, IsResolveCause, IsRetagged};
 ghost use Rattle.oci_copy.specs.Work.{CanFail, IsRefusalToWorkers, RefusedForPlanOrWorkers};
 
 use crate::fault::CopyFault;
@@ -15,19 +15,21 @@ use crate::options::Options;
 use crate::report::Report;
 use oci_manifest::Key;
 use oci_pool::Hooks;
-use oci_store::{Dest, RefFault, Source, Tagger};
+use oci_store::{Dest, Source, Tagger};
 use std::alloc::Global;
 use std::slice;
 use std::sync::Wait;
 use std::thread::Threads;
 
-/// Copies what a reference of the source resolves to, and tags it in the destination (oras-go v2, "Copy").
+/// Copies what a reference of the source resolves to, and tags it in the destination (oras-go v2,
+/// "Copy").
 ///
-/// The tag is the destination's reference, or the source's where that is empty; it is set last. Beside the report comes the
-/// key that was copied.
+/// The tag is the destination's reference, or the source's where that is empty; it is set last.
+/// Beside the report comes the key that was copied.
 ///
-/// Refused, in this order, with `Reference`, where the source's reference does not resolve; with `BadWorkers`, over 64; and as
-/// `copy_graph` of that root. A refusal leaves the tags as they were. With `Memory` the copy may be complete.
+/// Refused, in this order, with `Reference`, where the source's reference does not resolve; with
+/// `BadWorkers`, over 64; and as `copy_graph` of that root. A refusal leaves the tags as they were.
+/// With `Memory` the copy may be complete.
 pub fn copy<
     A: Source + Tagger + Sync,
     D: Dest + Tagger + Drop + Send,
@@ -95,7 +97,7 @@ pub(crate) fn resolve_root<A: Tagger>(source: &A, reference: &str) -> Result<Key
 {
     match source.resolve(reference) {
         Ok(root) => Ok(root),
-        Err(fault) => Err(reference_fault(fault)),
+        Err(fault) => Err(CopyFault::from(fault)),
     }
 }
 
@@ -119,7 +121,7 @@ pub(crate) fn tag_copied<D: Tagger>(
     let mut destination = destination;
     match destination.tag(&root, tag_name(source_reference, destination_reference)) {
         Ok(()) => (destination, Ok((root, report))),
-        Err(fault) => (destination, Err(reference_fault(fault))),
+        Err(fault) => (destination, Err(CopyFault::from(fault))),
     }
 }
 
@@ -131,15 +133,5 @@ fn tag_name<'a>(source_reference: &'a str, destination_reference: &'a str) -> &'
         source_reference
     } else {
         destination_reference
-    }
-}
-
-/// The fault of a copy whose reference was refused.
-fn reference_fault(fault: RefFault) -> CopyFault
-    ensures { TellsReference fault result }
-{
-    match fault {
-        RefFault::Memory => CopyFault::Memory,
-        _ => CopyFault::Reference(fault),
     }
 }

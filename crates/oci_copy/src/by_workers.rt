@@ -20,11 +20,12 @@ use std::thread::Threads;
 
 /// `copy_graph` from a store in memory to a closed one: the copy by workers in the plainest words.
 ///
-/// After a copy that succeeds, with any number of workers, where the two stores agree, the destination has exactly what it had
-/// and what the source reaches from the roots, each content matching its key. It is closed after a refusal too.
+/// After a copy that succeeds, with any number of workers, where the two stores agree, the
+/// destination has exactly what it had and what the source reaches from the roots, each content
+/// matching its key. It is closed after a refusal too.
 ///
-/// Refused with `BadWorkers`, over 64, and for `Plan` with `NotFound`, `TooLarge`, `Cycle` or `TooMany`, with which nothing is
-/// changed, and for `Memory`; for nothing else.
+/// Refused with `BadWorkers`, over 64, and for `Plan` with `NotFound`, `TooLarge`, `Cycle` or
+/// `TooMany`, with which nothing is changed, and for `Memory`; for nothing else.
 pub fn copy_memory_by_workers<R: Threads + Wait + Sync, H: Hooks + Sync>(
     rt: &R,
     alloc: Global,
@@ -43,7 +44,8 @@ pub fn copy_memory_by_workers<R: Threads + Wait + Sync, H: Hooks + Sync>(
         (nodes_of destination.entries) roots.now options.now.workers) }
     ensures unchanged { IfErr result.1 (λ fault. IsEarly fault → result.0 ≡ destination) }
 {
-    // These calls do nothing here. Their contracts tell the proof what each store keeps: before the copy, and below after it.
+    // These calls do nothing here. Their contracts say what each store keeps before the copy, and
+    // the call below after it.
     let _readable = source.len();
     let _closed = destination.memory();
     let (destination, copied) = copy_graph(rt, alloc, source, destination, roots, options, hooks);
@@ -51,15 +53,18 @@ pub fn copy_memory_by_workers<R: Threads + Wait + Sync, H: Hooks + Sync>(
     (destination, copied)
 }
 
-/// Brings what a store in memory lacks under some roots, below what it holds too, from another: `copy_graph` with
-/// [`Existing::Descend`] in the plainest words. The destination need not be closed.
+/// Brings what a store in memory lacks under some roots, below what it holds too, from another:
+/// `copy_graph` with [`Existing::Descend`] in the plainest words. The destination need not be
+/// closed.
 ///
-/// After a repair that succeeds, with any number of workers, where the two stores agree, the destination has exactly what it had
-/// and what the source reaches from the roots, each content matching its key. What it lacked elsewhere it still lacks. The options
-/// say how many workers there are and how large a manifest may be, and no more.
+/// After a repair that succeeds, with any number of workers, where the two stores agree, the
+/// destination has exactly what it had and what the source reaches from the roots, each content
+/// matching its key. What it lacked elsewhere it still lacks. The options say how many workers
+/// there are and how large a manifest may be, and no more.
 ///
-/// Refused with `BadWorkers`, over 64, and for `Plan` with `NotFound`, `TooLarge`, `Cycle` or `TooMany`, with which nothing is
-/// changed, and for `Memory`; for nothing else. No key that the destination has and the source lacks is at fault.
+/// Refused with `BadWorkers`, over 64, and for `Plan` with `NotFound`, `TooLarge`, `Cycle` or
+/// `TooMany`, with which nothing is changed, and for `Memory`; for nothing else. No key that the
+/// destination has and the source lacks is at fault.
 pub fn repair_memory_by_workers<R: Threads + Wait + Sync, H: Hooks + Sync>(
     rt: &R,
     alloc: Global,
@@ -78,7 +83,8 @@ pub fn repair_memory_by_workers<R: Threads + Wait + Sync, H: Hooks + Sync>(
         (nodes_of destination.entries) roots.now options.now.workers) }
     ensures unchanged { IfErr result.1 (λ fault. IsEarly fault → result.0 ≡ destination) }
 {
-    // This call does nothing here. Its contract tells the proof what the store keeps; so does the one below, after the copy.
+    // This call does nothing here. Its contract says what the store keeps; so does the one below,
+    // after the copy.
     let _readable = source.len();
     let descend = descending(options);
     let (destination, copied) = copy_graph(rt, alloc, source, destination, roots, &descend, hooks);

@@ -24,14 +24,16 @@ use std::alloc::Global;
 use std::sync::Wait;
 use std::thread::Threads;
 
-/// Copies a key of the source with what leads to it, and all that those reach, by workers (oras-go v2, "ExtendedCopyGraph").
+/// Copies a key of the source with what leads to it, and all that those reach, by workers (oras-go
+/// v2, "ExtendedCopyGraph").
 ///
-/// It is `copy_graph` whose roots are the answer of `climb`: the key, and every key of the source from which a path of at most
-/// `depth` edges leads to it; depth 0 sets no limit. So an image comes with its signatures and with the indexes that list it,
-/// and each of these with all that it lists.
+/// It is `copy_graph` whose roots are the answer of `climb`: the key, and every key of the source
+/// from which a path of at most `depth` edges leads to it; depth 0 sets no limit. So an image comes
+/// with its signatures and with the indexes that list it, and each of these with all that it lists.
 ///
-/// Refused, in this order, with `BadWorkers`; with `DestinationOpen`; and then, once the roots are known, with `Plan`, `Fetch` or
-/// `Push`: each as by `copy_graph`, and with what it leaves. `Memory` may come at any point, in the climb too.
+/// Refused, in this order, with `BadWorkers`; with `DestinationOpen`; and then, once the roots are
+/// known, with `Plan`, `Fetch` or `Push`: each as by `copy_graph`, and with what it leaves.
+/// `Memory` may come at any point, in the climb too.
 ///
 /// It takes a lock and joins its workers; no clause says that it returns.
 pub fn extended_copy_graph<
@@ -84,14 +86,16 @@ where
     copy_to_checked(rt, alloc, source, destination, &roots, options, hooks)
 }
 
-/// Copies what a reference of the source resolves to with what leads to it, and tags it in the destination (oras-go v2,
-/// "ExtendedCopy").
+/// Copies what a reference of the source resolves to with what leads to it, and tags it in the
+/// destination (oras-go v2, "ExtendedCopy").
 ///
-/// It is `copy` by `extended_copy_graph`: the tag is the destination's reference, or the source's where that is empty, it names
-/// the key that the source's reference resolves to, and it is set last. Beside the report comes that key.
+/// It is `copy` by `extended_copy_graph`: the tag is the destination's reference, or the source's
+/// where that is empty, it names the key that the source's reference resolves to, and it is set
+/// last. Beside the report comes that key.
 ///
-/// Refused, in this order, with `Reference`, where the source's reference does not resolve; and as `extended_copy_graph` of that
-/// key. A refusal leaves the tags as they were. With `Memory` the copy may be complete.
+/// Refused, in this order, with `Reference`, where the source's reference does not resolve; and as
+/// `extended_copy_graph` of that key. A refusal leaves the tags as they were. With `Memory` the
+/// copy may be complete.
 pub fn extended_copy<
     A: GraphSource + Tagger + Sync,
     D: Dest + Tagger + Drop + Send,

@@ -11,7 +11,8 @@ use thiserror::Error;
 /// Out of memory, at any depth, is `Memory`, and no other variant contains it.
 #[derive(Debug, Drop, Error)]
 pub enum CopyFault {
-    /// The destination is not closed: the first key lists the second, which is not held. Nothing was changed.
+    /// The destination is not closed: the first key lists the second, which is not held. Nothing
+    /// was changed.
     #[error("80 DestinationOpen {0} {1}")]
     DestinationOpen(Key, Key),
     /// There is no plan. Nothing was changed.
@@ -32,8 +33,8 @@ pub enum CopyFault {
     /// Memory was refused. What was pushed before stays.
     #[error("86 Memory")]
     Memory,
-    /// The source's reference does not resolve. Nothing was changed. (A destination refuses the tag of a key that it holds for
-    /// lack of memory alone; the copy is then complete.)
+    /// The source's reference does not resolve. Nothing was changed. (A destination refuses the tag
+    /// of a key that it holds for lack of memory alone; the copy is then complete.)
     #[error("87 Reference {0}")]
     Reference(RefFault),
     /// The source refused the key's content. What was pushed before stays.
@@ -56,6 +57,20 @@ impl CopyFault {
             CopyFault::Memory => 86,
             CopyFault::Reference(_) => 87,
             CopyFault::Fetch(_, _) => 88,
+        }
+    }
+}
+
+/// A refused reference is reported as itself, or as out of memory where it was that.
+impl From<RefFault> for CopyFault {
+    ghost use Rattle.oci_copy.specs.Fault.{ReportsReference};
+
+    ghost from_gives = { λ refused fault. ReportsReference refused fault };
+
+    fn from(fault: RefFault) -> CopyFault {
+        match fault {
+            RefFault::Memory => CopyFault::Memory,
+            _ => CopyFault::Reference(fault),
         }
     }
 }

@@ -4,7 +4,7 @@ ghost use Rattle.oci_store.specs.Content.{IsChecked};
 ghost use Rattle.oci_store.specs.Keyed.{value_at, has_key};
 ghost use Rattle.oci_store.specs.Parts.{IsLeaf, IsDraftOf};
 ghost use Rattle.oci_copy.specs.Cause.{IsContentCause};
-ghost use Rattle.oci_copy.specs.Fault.{TellsFetch, TellsPush};
+ghost use Rattle.oci_copy.specs.Fault.{ReportsFetch, ReportsPush};
 ghost use Rattle.oci_copy.specs.Planned.{CanBeRead};
 
 use crate::fault::CopyFault;
@@ -33,7 +33,8 @@ pub(crate) fn fetch_planned<A: Source>(source: &A, key: &Key) -> Result<CheckedC
     }
 }
 
-/// Whether a key's content is read part by part: it lists nothing, and its source does not hold it in memory.
+/// Whether a key's content is read part by part: it lists nothing, and its source does not hold it
+/// in memory.
 pub(crate) fn goes_by_parts<A: Source>(source: &A, key: &Key) -> bool
     ensures leaf { IsTrue result → IsLeaf key.now }
     ensures fails { IsTrue result → (A.state source.now).fails_at key.now ≡ true }
@@ -63,7 +64,7 @@ pub(crate) fn draft_planned<A: Source, W: Drafting>(
 
 /// The fault of a copy whose source refused the key.
 fn fetch_fault(key: &Key, fault: FetchFault) -> CopyFault
-    ensures { TellsFetch key.now fault result }
+    ensures { ReportsFetch key.now fault result }
 {
     match fault {
         FetchFault::Memory => CopyFault::Memory,
@@ -76,7 +77,7 @@ fn fetch_fault(key: &Key, fault: FetchFault) -> CopyFault
 
 /// The fault of a copy whose push of the key was refused.
 pub(crate) fn push_fault(key: &Key, fault: PushFault) -> CopyFault
-    ensures { TellsPush key.now fault result }
+    ensures { ReportsPush key.now fault result }
 {
     let Ok(key) = key.try_clone() else {
         return CopyFault::Memory;

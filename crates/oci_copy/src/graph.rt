@@ -21,21 +21,24 @@ use std::thread::Threads;
 
 /// Copies what the source has under some roots, by workers (oras-go v2, "CopyGraph").
 ///
-/// The destination always comes back. It gains each key that the source reaches from a root along keys that the destination
-/// lacks; nothing that it had is lost, and its tags stay. A key that it has is taken to have all that it lists, so the
-/// destination has to be closed. With `Existing::Descend` it need not be: it gains each key that the source reaches from a root and
-/// that it lacks. What comes of it is the same for every number of workers; the order of the new entries is open.
+/// The destination always comes back. It gains each key that the source reaches from a root along
+/// keys that the destination lacks; nothing that it had is lost, and its tags stay. A key that it
+/// has is taken to have all that it lists, so the destination has to be closed. With
+/// `Existing::Descend` it need not be: it gains each key that the source reaches from a root and
+/// that it lacks. What comes of it is the same for every number of workers; the order of the new
+/// entries is open.
 ///
-/// The hooks are told of each distinct root that is held, on the calling thread, before anything else. Then a worker takes a
-/// key whose successors are pushed: it calls `pre_copy`, fetches the key and reads it, pushes it under the lock of the
-/// destination, and calls `post_copy` without that lock.
+/// The hooks get each distinct root that is held, on the calling thread, before anything else. Then
+/// a worker takes a key whose successors are pushed: it calls `pre_copy`, fetches the key and reads
+/// it, pushes it under the lock of the destination, and calls `post_copy` without that lock.
 ///
-/// Refused, in this order, with `BadWorkers`, over 64; with `DestinationOpen`; with `Plan`, where the source cannot give what is
-/// to be brought; and then with `Fetch` or `Push` of a key: of several that fail, the one with the least number of the plan. With
-/// the first three nothing is changed, and with the others the keys pushed before stay, each with all that it lists, so that a closed destination is
-/// closed. `Memory`
-/// may come at any point, and leaves what the others leave. `Stuck` and `Incomplete` never come: where the source gives other
-/// bytes for a push than for the plan, of one size and one digest, and they list a key that nobody brings, the copy waits for it
+/// Refused, in this order, with `BadWorkers`, over 64; with `DestinationOpen`; with `Plan`, where
+/// the source cannot give what is to be brought; and then with `Fetch` or `Push` of a key: of
+/// several that fail, the one with the least number of the plan. With the first three nothing is
+/// changed, and with the others the keys pushed before stay, each with all that it lists, so that a
+/// closed destination is closed. `Memory` may come at any point, and leaves what the others leave.
+/// `Stuck` and `Incomplete` never come: where the source gives other bytes for a push than for the
+/// plan, of one size and one digest, and they list a key that nobody brings, the copy waits for it
 /// and does not return.
 ///
 /// It takes a lock and joins its workers; no clause says that it returns.
@@ -121,7 +124,7 @@ where
         Ok(plan) => plan,
         Err(fault) => return (destination, Err(fault)),
     };
-    tell_skipped(hooks, &plan);
+    report_skipped(hooks, &plan);
     let workers = options.workers;
     let (destination, copied) = copy_planned(rt, alloc, source, destination, &plan, workers, hooks);
     match copied {
@@ -130,8 +133,8 @@ where
     }
 }
 
-/// Tells the hooks of each root that the destination has.
-fn tell_skipped<H: Hooks>(hooks: &H, plan: &Plan) {
+/// Reports each root that the destination has to the hooks.
+fn report_skipped<H: Hooks>(hooks: &H, plan: &Plan) {
     for key in plan.skipped() {
         hooks.skipped(key);
     }

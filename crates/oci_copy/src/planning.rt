@@ -1,7 +1,7 @@
 ghost use Rattle.std.specs.Prelude.{OnOk, IfOk, IfErr};
 ghost use Rattle.oci_store.specs.Closed.{IsClosed};
-ghost use Rattle.oci_copy.specs.Cause.{IsOpenCause, IsStartCause};
-ghost use Rattle.oci_copy.specs.Fault.{TellsPlan};
+ghost use Rattle.oci_copy.specs.Cause.{IsNotClosedCause, IsStartCause};
+ghost use Rattle.oci_copy.specs.Fault.{ReportsPlan};
 ghost use Rattle.oci_copy.specs.Destination.{IsClosedWhenSkipping};
 ghost use Rattle.oci_copy.specs.Planned.{IsPlanOf};
 
@@ -14,8 +14,8 @@ use std::alloc::Global;
 
 /// What a copy of these roots would bring, and in which order: each key after what it lists.
 ///
-/// Refused as the copy is refused before it brings anything: with `DestinationOpen`, with `Plan`, and with `Memory`. Nothing is
-/// changed.
+/// Refused as the copy is refused before it brings anything: with `DestinationOpen`, with `Plan`,
+/// and with `Memory`. Nothing is changed.
 pub fn plan_copy<A: Source, D: Dest>(
     alloc: Global,
     source: &A,
@@ -62,7 +62,8 @@ pub(crate) fn check_destination<D: Dest>(
 ) -> Result<(), CopyFault>
     ensures closed { OnOk result (IsClosedWhenSkipping options.now.existing
         (D.state destination.now).nodes) }
-    ensures open { IfErr result (IsOpenCause options.now.existing (D.state destination.now)) }
+    ensures not_closed { IfErr result (IsNotClosedCause options.now.existing
+        (D.state destination.now)) }
 {
     match options.existing {
         Existing::Skip => check_closed(destination),
@@ -73,7 +74,7 @@ pub(crate) fn check_destination<D: Dest>(
 /// A destination is closed.
 fn check_closed<D: Dest>(destination: &D) -> Result<(), CopyFault>
     ensures closed { OnOk result (IsClosed (D.state destination.now).nodes) }
-    ensures open { IfErr result (IsOpenCause Existing.Skip (D.state destination.now)) }
+    ensures not_closed { IfErr result (IsNotClosedCause Existing.Skip (D.state destination.now)) }
 {
     match destination.missing() {
         Ok(None) => Ok(()),
@@ -84,7 +85,7 @@ fn check_closed<D: Dest>(destination: &D) -> Result<(), CopyFault>
 
 /// The fault of a copy that has no plan.
 fn plan_fault(fault: PlanFault) -> CopyFault
-    ensures { TellsPlan fault result }
+    ensures { ReportsPlan fault result }
 {
     match fault {
         PlanFault::Memory => CopyFault::Memory,

@@ -27,16 +27,20 @@ use std::alloc::Global;
 
 /// Copies what the source has under some roots, on the calling thread (oras-go v2, "CopyGraph").
 ///
-/// The destination always comes back. It gains each key that the source reaches from a root along keys that the destination
-/// lacks; nothing that it had is lost, and its tags stay. A key that it has is taken to have all that it lists, so the destination
-/// has to be closed. With `Existing::Descend` it need not be: it gains each key that the source reaches from a root and that it
-/// lacks.
+/// The destination always comes back. It gains each key that the source reaches from a root along
+/// keys that the destination lacks; nothing that it had is lost, and its tags stay. A key that it
+/// has is taken to have all that it lists, so the destination has to be closed. With
+/// `Existing::Descend` it need not be: it gains each key that the source reaches from a root and
+/// that it lacks.
 ///
-/// Refused, in this order, with `DestinationOpen`; with `Plan`, where the source cannot give what is to be brought; and then, for
-/// each key in turn, with `Fetch`, `Push` or `Stuck`. With the first two nothing is changed, and with the others the keys pushed
-/// before stay, each with all that it lists, so that a closed destination is closed. `Memory` may come at any point, and leaves what the others leave.
+/// Refused, in this order, with `DestinationOpen`; with `Plan`, where the source cannot give what
+/// is to be brought; and then, for each key in turn, with `Fetch`, `Push` or `Stuck`. With the
+/// first two nothing is changed, and with the others the keys pushed before stay, each with all
+/// that it lists, so that a closed destination is closed. `Memory` may come at any point, and
+/// leaves what the others leave.
 ///
-/// Each manifest is fetched once for the plan, and each key once for its push; contents are shared and not copied.
+/// Each manifest is fetched once for the plan, and each key once for its push; contents are shared
+/// and not copied.
 pub fn copy_one<A: Source, D: Dest>(
     alloc: Global,
     source: &A,

@@ -21,32 +21,32 @@ use Rattle.oci_exit.specs.declared.fault.Ending.TheVariants as ending
 use Rattle.oci_exit.specs.declared.fault.ProgramFault.{ProgramFault}
 use Rattle.oci_exit.specs.declared.fault.ProgramFault.TheVariants as fault
 
--- whether a refused push is want of memory
+-- whether the fault of a push is a memory error
 abbrev pub is_push_memory : PushFault → Bool
 is_push_memory push.Memory = true
 is_push_memory e = false
 
--- whether a refused copy is want of memory
+-- whether the fault of a copy is a memory error
 abbrev pub is_copy_memory : CopyFault → Bool
 is_copy_memory copy.Memory = true
 is_copy_memory e = false
 
--- whether a refused layout is want of memory
+-- whether the fault of a layout is a memory error
 abbrev pub is_layout_memory : LayoutFault → Bool
 is_layout_memory layout.Memory = true
 is_layout_memory e = false
 
--- whether a refused reference is want of memory
+-- whether the fault of a reference is a memory error
 abbrev pub is_reference_memory : RefFault → Bool
 is_reference_memory reference.Memory = true
 is_reference_memory e = false
 
--- whether a refused fetch is want of memory
+-- whether the fault of a fetch is a memory error
 abbrev pub is_fetch_memory : FetchFault → Bool
 is_fetch_memory fetch.Memory = true
 is_fetch_memory e = false
 
--- whether want of memory is behind a fault
+-- whether a fault is a memory error, at any depth
 abbrev pub is_memory : ProgramFault → Bool
 is_memory (fault.Push e) = is_push_memory e
 is_memory (fault.Copy e) = is_copy_memory e
@@ -56,7 +56,7 @@ is_memory (fault.Fetch e) = is_fetch_memory e
 is_memory fault.Memory = true
 is_memory e = false
 
--- the status: 2 where the words are no use of the program, 3 for want of memory, and 1 for every other fault
+-- the status: 2 for an invalid command line, 3 if out of memory, else 1
 abbrev pub status_of : Ending → ℕ
 status_of (ending.Usage error) = 2
 status_of ending.NotUtf8 = 2
@@ -72,7 +72,7 @@ abbrev pub both : Outcome → Outcome → Outcome
 both outcome.Good b = b
 both outcome.Faulty b = outcome.Faulty
 
--- the number that a fault's printed text begins with: of a fault from below its own, and of want of memory in the program none
+-- the number that a fault's printed text begins with: that of a fault from below; a memory error of the program itself has none
 abbrev pub program_number : ProgramFault → Option ℕ
 program_number (fault.BadItem item) = Some 92
 program_number (fault.File path) = Some 93

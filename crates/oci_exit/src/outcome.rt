@@ -21,7 +21,7 @@ impl Outcome {
         }
     }
 
-    /// The status of the run: 0 for `Good`, and otherwise 1.
+    /// The status of the run: 0 for `Good`, and otherwise 1. (The tests of `ocicp verify` compare it too.)
     pub fn status(self) -> u8
         ensures { result ≡ status_of_done self }
     {

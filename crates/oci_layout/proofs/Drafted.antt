@@ -1,6 +1,6 @@
 -- Drafts that are kept, and parts that are read.
-use Rattle.std.proofs.Common.{◌≡◌, ℕ, List, true, Some, Result, Ok, Err, refl}
-use Rattle.std.specs.Prelude.{IfOk, IfErr}
+use Rattle.std.proofs.Common.{◌≡◌, Bool, ℕ, List, true, false, Option, Some, None, Result, Ok, Err, refl}
+use Rattle.std.specs.Prelude.{◌↔◌, IfOk, IfErr}
 use Rattle.oci_manifest.specs.Descriptor.{Descriptor}
 use Rattle.oci_store.specs.Graph.{Node}
 use Rattle.oci_store.specs.Keyed.{has_key, value_at}
@@ -10,9 +10,21 @@ use Rattle.oci_store.specs.declared.fault.FetchFault.{FetchFault}
 use Rattle.oci_store.specs.declared.fault.PushFault.{PushFault}
 use Rattle.oci_store.specs.declared.fault.PushFault.TheVariants as push
 use Rattle.oci_layout.specs.Blobs.{stored, blob_path}
-use Rattle.oci_layout.specs.Device.{File}
+use Rattle.oci_layout.specs.Device.{File, part_in}
 use Rattle.oci_layout.specs.Faults.{IsOfDevice}
 use Rattle.oci_layout.proofs.Stored.{value_at-read}
+
+-- a refusal that never comes, and one that comes where a key is not held
+pub never : (N : Type 0) (b : Bool) → b ≡ true → (N → ⊥) → N ↔ (b ≡ false)
+never N b held none = (λ n. absurd (none n), λ f. cc (held, f))
+
+pub always : (b : Bool) (N : Type 0) → b ≡ false → N → N ↔ (b ≡ false)
+always b N f n = (λ _. f, λ _. n)
+
+-- there is no part only where there is no file
+pub no_part : (found : Option (List ℕ)) (from most : ℕ) → None ≡ part_in found from most → found ≡ None
+no_part None from most h = refl
+no_part (Some bytes) from most h = cc h
 
 -- what a device answers has passed the check
 pub answers_of_device : (r : Result ℕ PushFault) (check : Result (List Descriptor) Refusal) (listed : List Descriptor) → check ≡ Ok listed → IfErr r IsOfDevice → Answers r check

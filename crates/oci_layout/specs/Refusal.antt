@@ -31,7 +31,7 @@ HasOtherVersion file = (bytes : List ℕ) × (version : List ℕ) × (file layou
 abbrev pub index_in : List ℕ → Result (List Descriptor) Fault
 index_in bytes = or_fault not_json (reading bytes) >>= index_keys
 
--- the index is there, and breaks the rule that the fault tells
+-- the index is there, and breaks the rule that the fault names
 abbrev pub HasBadIndex : File → ManifestFault → Type 0
 HasBadIndex file e = (bytes : List ℕ) × (cause : Fault) × (file index_file ≡ Some bytes) × (index_in bytes ≡ Err cause) × IsFault e cause
 
@@ -41,7 +41,7 @@ HasBadIndex file e = (bytes : List ℕ) × (cause : Fault) × (file index_file �
 abbrev pub IsCorrupt : File → Descriptor → Type 0
 IsCorrupt file k = (kind_of k.media_type ≢ Leaf) × (bytes : List ℕ) × (file (blob_path k.digest) ≡ Some bytes) × (Matches k bytes → ⊥)
 
--- the file of a manifest is there and matches its key, and breaks the rule that the fault tells
+-- the file of a manifest is there and matches its key, and breaks the rule that the fault names
 abbrev pub IsUnread : File → Descriptor → ManifestFault → Type 0
 IsUnread file k e = (kind_of k.media_type ≢ Leaf) × (bytes : List ℕ) × (cause : Fault) × (file (blob_path k.digest) ≡ Some bytes) × Matches k bytes × (succ_of k bytes ≡ Err cause) × IsFault e cause
 
@@ -75,7 +75,7 @@ IsOpenFault honest file fails fault.AlreadyLayout = ⊥
 
 -- why a directory is not made a layout; before and after are its counts of failures
 abbrev pub IsCreateFault : Type 0 → File → Bool → ℕ → ℕ → LayoutFault → Type 0
-IsCreateFault honest file fails before after fault.Device = (fails ≡ true) ⊎ IsRaised before after
+IsCreateFault honest file fails before after fault.Device = ((fails ≡ true) × (after ≡ before)) ⊎ IsRaised before after
 IsCreateFault honest file fails before after fault.Memory = Unit {0}
 IsCreateFault honest file fails before after fault.AlreadyLayout = honest → is_some (file layout_file) ≡ true
 IsCreateFault honest file fails before after other = ⊥
@@ -86,36 +86,36 @@ IsPutFault before after fault.Device = IsRaised before after
 IsPutFault before after fault.Memory = Unit {0}
 IsPutFault before after other = ⊥
 
--- ---- what the parts of the code tell
+-- ---- what the parts of the code refuse
 
--- bytes state no version, or another than 1.0.0, or memory was wanting
+-- bytes state no version, or another than 1.0.0, or memory ran out
 abbrev pub IsVersionFault : Option (List ℕ) → LayoutFault → Type 0
 IsVersionFault found fault.BadLayoutFile = found ≡ None
 IsVersionFault found fault.BadVersion = (version : List ℕ) × (found ≡ Some version) × (version ≢ layout_version)
 IsVersionFault found fault.Memory = Unit {0}
 IsVersionFault found other = ⊥
 
--- an index breaks the rule that the fault tells, or memory was wanting
+-- an index breaks the rule that the fault names, or memory ran out
 abbrev pub IsIndexFault : Result (List Descriptor) Fault → LayoutFault → Type 0
 IsIndexFault found (fault.BadIndex e) = (cause : Fault) × (found ≡ Err cause) × IsFault e cause
 IsIndexFault found fault.Memory = Unit {0}
 IsIndexFault found other = ⊥
 
--- the index is there and breaks the rule that the fault tells, or a read failed, or memory was wanting
+-- the index is there and breaks the rule that the fault names, or a read failed, or memory ran out
 abbrev pub IsIndexFileFault : Type 0 → File → Bool → LayoutFault → Type 0
 IsIndexFileFault honest file fails (fault.BadIndex e) = honest → HasBadIndex file e
 IsIndexFileFault honest file fails fault.Device = fails ≡ true
 IsIndexFileFault honest file fails fault.Memory = Unit {0}
 IsIndexFileFault honest file fails other = ⊥
 
--- the bytes of a manifest do not match its key, or break the rule that the fault tells, or memory was wanting
+-- the bytes of a manifest do not match its key, or break the rule that the fault names, or memory ran out
 abbrev pub IsBytesFault : Descriptor → List ℕ → LayoutFault → Type 0
 IsBytesFault k bytes (fault.Corrupt named) = (named ≡ k) × (Matches k bytes → ⊥)
 IsBytesFault k bytes fault.Memory = Unit {0}
 IsBytesFault k bytes (fault.BadManifest named e) = (named ≡ k) × Matches k bytes × (cause : Fault) × (succ_of k bytes ≡ Err cause) × IsFault e cause
 IsBytesFault k bytes other = ⊥
 
--- the file of a key is no good manifest, or a read failed, or memory was wanting
+-- the file of a key is no good manifest, or a read failed, or memory ran out
 abbrev pub IsFileFault : Type 0 → File → Bool → Descriptor → LayoutFault → Type 0
 IsFileFault honest file fails k fault.Device = fails ≡ true
 IsFileFault honest file fails k (fault.Corrupt named) = (named ≡ k) × (honest → IsCorrupt file k)
@@ -123,7 +123,7 @@ IsFileFault honest file fails k fault.Memory = Unit {0}
 IsFileFault honest file fails k (fault.BadManifest named e) = (named ≡ k) × (honest → IsUnread file k e)
 IsFileFault honest file fails k other = ⊥
 
--- the next key that is visited has no good manifest, or a read failed, or memory was wanting
+-- the next key that is visited has no good manifest, or a read failed, or memory ran out
 abbrev pub IsWalkFault : Type 0 → File → Bool → List Descriptor → LayoutFault → Type 0
 IsWalkFault honest file fails starts fault.Device = fails ≡ true
 IsWalkFault honest file fails starts (fault.Corrupt k) = honest → IsNextVisited file starts k × IsCorrupt file k

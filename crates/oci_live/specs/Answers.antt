@@ -6,14 +6,14 @@ use Rattle.oci_store.specs.Keyed.{value_at, has_key}
 use Rattle.oci_live.specs.declared.fault.LookFault.{LookFault}
 use Rattle.oci_live.specs.declared.fault.LookFault.TheVariants as fault
 
--- the bytes under the key, which match it; not found exactly where it is not held; memory is wanting for a held key alone
+-- the bytes under the key, which match it; not found exactly where it is not held; a memory error only for a held key
 abbrev pub IsContentAt : List Entry → Descriptor → Result (List ℕ) LookFault → Type 0
 IsContentAt entries k (Ok bytes) = (value_at entries k ≡ Some bytes) × Matches k bytes
 IsContentAt entries k (Err fault.NotFound) = has_key entries k ≡ false
 IsContentAt entries k (Err fault.Unavailable) = ⊥
 IsContentAt entries k (Err fault.Memory) = has_key entries k ≡ true
 
--- the entry at the place, if there is one; memory is wanting for an entry alone
+-- the entry at the place, if there is one; a memory error only where there is one
 abbrev pub IsEntryAt : List Entry → ℕ → Result (Option Entry) LookFault → Type 0
 IsEntryAt entries place (Ok found) = found ≡ slice_get entries place
 IsEntryAt entries place (Err fault.NotFound) = ⊥

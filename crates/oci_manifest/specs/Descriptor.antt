@@ -1,12 +1,12 @@
 -- Descriptors, which name contents (OCI image-spec 1.1, descriptor.md, "Properties").
-use Rattle.std.specs.Prelude.{ℕ, ◌<◌, ◌^◌, Bool, ◌&&◌, ◌==◌, List, ◌++◌, codes}
+use Rattle.std.specs.Prelude.{◌≡◌, ℕ, ◌<◌, ◌^◌, Bool, ◌&&◌, ◌==◌, List, ◌++◌, length, codes}
 use Rattle.std.specs.declared.cmp.Ordering.{Ordering}
 use Rattle.std.specs.List.{list_any}
 use Rattle.std.specs.Str.{bytes_eq}
 use Rattle.std.specs.Fmt.{decimal}
 use Rattle.std.specs.Ordering.{nat_cmp, on, then_cmp}
 use Rattle.std.specs.Cmp.Lexicographic.{slice_cmp}
-use Rattle.oci_digest.specs.Digest.{IsDigest}
+use Rattle.oci_digest.specs.Digest.{IsDigest, Verifies}
 
 -- a content's media type and digest text, as bytes, and its size (descriptor.md, `mediaType`, `digest` and `size`)
 pub record Descriptor : Type 0 where
@@ -18,6 +18,10 @@ pub record Descriptor : Type 0 where
 pub record IsKey (k : Descriptor) : Type 0 where
   pub is_digest : IsDigest k.digest
   pub fits : k.size < 2 ^ 63
+
+-- bytes match a descriptor: they have its size and its digest (descriptor.md, "Verification")
+abbrev pub Matches : Descriptor → List ℕ → Type 0
+Matches k bytes = (length bytes ≡ k.size) × Verifies k.digest bytes
 
 -- whether two descriptors have one media type, one digest and one size
 abbrev pub same_key : Descriptor → Descriptor → Bool

@@ -5,8 +5,8 @@ use Rattle.oci_manifest.specs.declared.fault.KeyFault.TheVariants as key
 use Rattle.oci_manifest.specs.declared.fault.ManifestFault.{ManifestFault}
 use Rattle.oci_manifest.specs.declared.fault.ManifestFault.TheVariants as code
 
--- the rule that a manifest breaks, with the bytes of the member's name and the position where it has them; want of
--- memory is no such rule
+-- the rule that a manifest breaks, with the bytes of the member's name and the position where it has them; a memory
+-- error is no such rule
 pub data Fault : Type 0 where
   not_json : Fault
   not_object : Fault
@@ -14,7 +14,7 @@ pub data Fault : Type 0 where
   bad_list : List ℕ → Fault
   bad_descriptor : List ℕ → ℕ → Fault
 
--- a fact of the rule that the code's fault tells, which asks nothing at want of memory
+-- a fact of the rule that the code's fault names, which asks nothing of a memory error
 abbrev pub Refuses : ManifestFault → (Fault → Type 0) → Type 0
 Refuses code.NotJson P = P not_json
 Refuses code.NotObject P = P not_object
@@ -23,7 +23,7 @@ Refuses (code.BadList member) P = P (bad_list member.now)
 Refuses (code.BadDescriptor member position) P = P (bad_descriptor member.now position)
 Refuses code.Memory P = Unit {0}
 
--- the code's fault tells the rule that the definition says is broken, or memory was wanting
+-- the code's fault names the broken rule, or is a memory error
 abbrev pub Fails : {Y : Type 0} → ManifestFault → Result Y Fault → Type 0
 Fails code.NotJson r = r ≡ Err not_json
 Fails code.NotObject r = r ≡ Err not_object
@@ -32,12 +32,12 @@ Fails (code.BadList member) r = r ≡ Err (bad_list member.now)
 Fails (code.BadDescriptor member position) r = r ≡ Err (bad_descriptor member.now position)
 Fails code.Memory r = Unit {0}
 
--- the code answers what the definition gives, seen through a view, or memory was wanting
+-- the code answers what the definition gives, seen through a view, or a memory error
 abbrev pub Gives : {X Y : Type 0} → (X → Y) → Result X ManifestFault → Result Y Fault → Type 0
 Gives view (Ok x) r = r ≡ Ok (view x)
 Gives view (Err e) r = Fails e r
 
--- the code's fault tells this rule, and is no want of memory
+-- the code's fault names this rule, and is no memory error
 abbrev pub IsFault : ManifestFault → Fault → Type 0
 IsFault code.NotJson f = f ≡ not_json
 IsFault code.NotObject f = f ≡ not_object

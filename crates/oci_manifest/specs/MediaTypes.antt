@@ -57,7 +57,7 @@ common_text common.DockerList = codes "application/vnd.docker.distribution.manif
 common_text common.DockerConfig = codes "application/vnd.docker.container.image.v1+json"
 common_text common.DockerLayer = codes "application/vnd.docker.image.rootfs.diff.tar.gzip"
 
--- the text that a kept media type stands for
+-- the text of a kept media type
 abbrev pub text_in : MediaType → List ℕ
 text_in (kept.Common common) = common_text common
 text_in (kept.Other text) = string_bytes text

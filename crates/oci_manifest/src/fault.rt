@@ -24,10 +24,10 @@ impl KeyFault {
     }
 }
 
-/// Why the successors of a content cannot be told.
+/// Why a content's successors cannot be determined.
 ///
-/// It tells the first broken rule, in the order that [`successors`](crate::successors) tells. It prints as its number, its
-/// name and what it carries, as in `14 BadDescriptor layers 0`.
+/// It names the first broken rule, in the order that [`successors`](crate::successors) gives. It
+/// prints as its number, its name and what it carries, as in `14 BadDescriptor layers 0`.
 #[derive(Clone, Copy, Debug, PartialEq, Eq, Error)]
 pub enum ManifestFault {
     /// The bytes are no JSON text (RFC 8259) that `serde_json` reads. Of the texts of RFC 8259 it does not read those that

@@ -1,5 +1,5 @@
-ghost use Rattle.std.specs.Prelude.{◌≡◌, ◌<◌, ◌^◌, ◌↔◌, Some, IsOk, IfOk, IfErr, string_bytes};
-ghost use Rattle.oci_manifest.specs.Descriptor.{IsKey};
+ghost use Rattle.std.specs.Prelude.{◌≡◌, ◌<◌, ◌^◌, ◌↔◌, Some, IsTrue, IsOk, IfOk, IfErr, string_bytes};
+ghost use Rattle.oci_manifest.specs.Descriptor.{IsKey, Matches};
 ghost use Rattle.oci_manifest.specs.MediaTypes.{text_in};
 ghost use Rattle.oci_manifest.specs.declared.fault.KeyFault.TheVariants.{BadSize};
 
@@ -102,9 +102,17 @@ impl Key {
         ensures fits { result < 2 ^ 63 }
         ensures key { IsKey self.now }
     {
-        // Its algorithm tells the proof what every digest keeps, which `key` hands on.
+        // The contract of `algorithm` says that the text is a digest, which `key` needs.
         let _ = self.digest.algorithm();
         self.size
+    }
+
+    /// Whether these bytes are the key's content: they have its size and its digest (OCI image-spec
+    /// 1.1, descriptor.md, "Verification"). Bytes of another size are not hashed. Takes no memory.
+    pub fn matches(&self, bytes: &[u8]) -> bool
+        ensures { IsTrue result ↔ Matches self.now bytes.now }
+    {
+        bytes.len() as u64 == self.size && self.digest.matches(bytes)
     }
 
     /// Where its memory comes from.

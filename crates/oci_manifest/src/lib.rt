@@ -18,11 +18,11 @@
 //! reading of `serde_json` decides. Layers of the four types that are not distributed are no successors.
 //!
 //! Bytes come from strangers: any bytes get an answer, and what is wrong gets one numbered refusal, [`ManifestFault`],
-//! which tells the first broken rule. Reading takes time by the length of the bytes and n log n by the number of
+//! which names the first broken rule. Reading takes time by the length of the bytes and n log n by the number of
 //! descriptors, and nothing recurses deeper than the JSON text nests, which is at most 127.
 //!
 //! The contract of [`successors`] says which keys and which refusal the bytes have, that no key is answered twice, and
-//! that a leaf is never refused; it says nothing of time and depth. Keys and refusals are told twice: by relations that
+//! that a leaf is never refused; it says nothing of time and depth. Keys and refusals are stated twice: by relations that
 //! can be read (`specs/Manifest.antt`), and by a function that crates above compute with (`specs/Reading.antt`). Each is
 //! proved to be the other.
 #![tactic(auto)]

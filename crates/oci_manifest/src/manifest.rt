@@ -81,7 +81,7 @@ fn answer(alloc: Global, kind: Kind, bytes: &[u8]) -> Result<Vec<Key>, ManifestF
 /// are not looked at. A member of the manifest that is null is read as absent. Keys of the four layer types that are
 /// not distributed are left out, in whatever member they stand, once their descriptors were found to be well formed.
 ///
-/// The rules are looked at in this order, and the first that is broken is told:
+/// The rules are looked at in this order, and the first that is broken is reported:
 /// 1. [10] NotJson: the bytes are no JSON text (RFC 8259), or they nest deeper than 127 or have a number that is too
 ///    large for a float, as `1e400`, which `serde_json` does not read.
 /// 2. [11] NotObject: the value is no object.
@@ -96,7 +96,7 @@ pub fn successors(alloc: Global, kind: Kind, bytes: &[u8]) -> Result<Vec<Key>, M
     // What reads is answered, unless memory runs out.
     ensures reads { (L : List Descriptor) → Reads kind bytes.now L
         → Gives (λ keys. keys.items) result (Ok L) }
-    // A refusal tells the first rule that is broken.
+    // A refusal names the first rule that is broken.
     ensures refused { IfErr result (λ e. Refuses e (Breaks kind bytes.now)) }
     // The first broken rule is refused, unless memory runs out.
     ensures breaks { (f : Fault) → Breaks kind bytes.now f

@@ -21,7 +21,7 @@ use Rattle.oci_plan.specs.Visiting.{successors_at, is_fresh, IsOnlyInDestination
 use Rattle.oci_plan.specs.declared.existing.Existing.{Existing}
 use Rattle.oci_plan.specs.Plan.{Number, HasEdges, FollowsListed}
 use Rattle.oci_plan.specs.Refusal.{NamesNoneOnlyInDestination, IsFirstFault}
-use Rattle.oci_plan.specs.Walk.{IsListOf, IsPassed, IsGathered, IsTellable, TellsKeys, IsNamedCycle}
+use Rattle.oci_plan.specs.Walk.{IsListOf, IsPassed, IsGathered, HasKeyOfEach, NamesByKeys, IsNamedCycle}
 use Rattle.oci_plan.specs.declared.fault.OrderFault.{OrderFault}
 use Rattle.oci_plan.specs.declared.fault.OrderFault.TheVariants as ordering
 use Rattle.oci_plan.specs.declared.fault.PlanFault.{PlanFault}
@@ -220,7 +220,7 @@ module _ (honest : Type 0) (existing : Existing) (entries : List Entry) (held : 
           none ms (All-tail (λ m. m < length (lists_of lists)) m ms all) (rw small at found)
 
   -- an order's fault can be told of the keys
-  pub tellable : (f : OrderFault) → IsCauseOf (lists_of lists) f → IsTellable keys f
+  pub tellable : (f : OrderFault) → IsCauseOf (lists_of lists) f → HasKeyOfEach keys f
   tellable (ordering.Cycle numbers) cause = cycle_numbers numbers.items cause.1
   tellable (ordering.BadNumber list number) cause = no_bad_number list number cause
   tellable ordering.Memory cause = tt
@@ -260,8 +260,8 @@ module _ (honest : Type 0) (existing : Existing) (entries : List Entry) (held : 
           ]
 
   -- what is told of an order's fault names no key that only the destination has: a cycle is one of planned keys
-  pub told_spared : (f : OrderFault) (e : PlanFault) → TellsKeys keys f e → NamesNoneOnlyInDestination entries held e
-  told_spared (ordering.Cycle numbers) e told = go e told
+  pub named_spared : (f : OrderFault) (e : PlanFault) → NamesByKeys keys f e → NamesNoneOnlyInDestination entries held e
+  named_spared (ordering.Cycle numbers) e told = go e told
     where
       planned : (named : Keys) → Number keys numbers.items named → All (λ k. IsOnlyInDestination entries held k → ⊥) named
       planned named names = All-from_among (λ k. IsOnlyInDestination entries held k → ⊥) named (λ k there only.
@@ -276,12 +276,12 @@ module _ (honest : Type 0) (existing : Existing) (entries : List Entry) (held : 
       go (fault.Cycle named) told' = planned named.items told'
       go fault.Memory told' = tt
       go fault.TooMany told' = absurd told'
-  told_spared (ordering.BadNumber list number) e told = absurd told
-  told_spared ordering.Memory e told = subst (λ (x : PlanFault). NamesNoneOnlyInDestination entries held x) (sym told) tt
+  named_spared (ordering.BadNumber list number) e told = absurd told
+  named_spared ordering.Memory e told = subst (λ (x : PlanFault). NamesNoneOnlyInDestination entries held x) (sym told) tt
 
   -- what is told of an order's fault is a cause against the plan
-  pub told_first : (f : OrderFault) (e : PlanFault) → IsCauseOf (lists_of lists) f → TellsKeys keys f e → honest → IsFirstFault existing entries held roots limit e
-  told_first (ordering.Cycle numbers) e cause told h = go e told
+  pub named_first : (f : OrderFault) (e : PlanFault) → IsCauseOf (lists_of lists) f → NamesByKeys keys f e → honest → IsFirstFault existing entries held roots limit e
+  named_first (ordering.Cycle numbers) e cause told h = go e told
     where
       bring : (named : Keys) → Number keys numbers.items named → All (IsToBring existing source held roots) named
       bring named names = All-from_among (IsToBring existing source held roots) named (λ k there.
@@ -296,8 +296,8 @@ module _ (honest : Type 0) (existing : Existing) (entries : List Entry) (held : 
       go (fault.Cycle named) told' = (named_cycle numbers.items named.items cause.1 told' h, bring named.items told', walk.sound h)
       go fault.Memory told' = tt
       go fault.TooMany told' = absurd told'
-  told_first (ordering.BadNumber list number) e cause told h = absurd told
-  told_first ordering.Memory e cause told h = subst (λ (x : PlanFault). IsFirstFault existing entries held roots limit x) (sym told) tt
+  named_first (ordering.BadNumber list number) e cause told h = absurd told
+  named_first ordering.Memory e cause told h = subst (λ (x : PlanFault). IsFirstFault existing entries held roots limit x) (sym told) tt
 
   -- what passed its checks is sound
   pub planned_sound : honest → All (IsSoundItem entries limit) keys

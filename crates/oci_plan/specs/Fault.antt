@@ -16,7 +16,7 @@ IsCauseOf lists (Cycle numbers) = IsGraph lists × IsCycle lists numbers.items
 IsCauseOf lists (BadNumber list number) = IsFirstBad lists list number
 IsCauseOf lists Memory = Unit {0}
 
--- a search along edges refuses for a cycle, or for want of memory
+-- a search along edges refuses for a cycle, or if memory ran out
 abbrev pub IsCycleFault : List (List ℕ) → OrderFault → Type 0
 IsCycleFault lists (Cycle numbers) = IsCycle lists numbers.items
 IsCycleFault lists (BadNumber list number) = ⊥

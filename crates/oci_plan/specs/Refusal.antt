@@ -40,7 +40,7 @@ IsDeviceFault fetch.Corrupt = Unit {0}
 IsDeviceFault fetch.Device = Unit {0}
 IsDeviceFault fetch.Memory = ⊥
 
--- bytes that match the key do not read, for this reason, which is no want of memory; of an honest source they are the key's
+-- bytes that match the key do not read, for this reason, which is no memory error; of an honest source they are the key's
 pub record IsUnread (honest : Type 0) (entries : List Entry) (k : Descriptor) (e : ManifestFault) : Type 0 where
   pub bytes : List ℕ
   pub cause : Fault
@@ -59,7 +59,7 @@ IsKeyFault honest fails entries limit (fault.Cycle keys) = Unit {0}
 IsKeyFault honest fails entries limit fault.Memory = Unit {0}
 IsKeyFault honest fails entries limit fault.TooMany = Unit {0}
 
--- the fault names this key, or is want of memory
+-- the fault names this key, or is a memory error
 abbrev pub IsOfKey : Descriptor → PlanFault → Type 0
 IsOfKey k (fault.TooLarge named l) = named ≡ k
 IsOfKey k (fault.NotFound named) = named ≡ k

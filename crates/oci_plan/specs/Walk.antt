@@ -83,7 +83,7 @@ pub record IsGathered (honest : Type 0) (existing : Existing) (entries : List En
   pub exactly : honest → (k : Descriptor) → Contains keys k ↔ IsToBring existing (nodes_of entries) held roots k
   pub sound : honest → (k : Descriptor) → IsVisited existing (nodes_of entries) held roots k → IsSoundVisit existing entries held limit k
 
--- numbers are refused for want of memory, or where there are more keys than numbers
+-- numbers are refused if memory ran out, or if there are more keys than numbers
 abbrev pub IsNumberFault : List Descriptor → PlanFault → Type 0
 IsNumberFault keys fault.TooMany = 4294967295 < length keys
 IsNumberFault keys fault.Memory = Unit {0}
@@ -93,7 +93,7 @@ IsNumberFault keys (fault.Fetch k e) = ⊥
 IsNumberFault keys (fault.Manifest k e) = ⊥
 IsNumberFault keys (fault.Cycle ks) = ⊥
 
--- bytes do not read, for the reason that the fault tells of this key; or memory was wanting
+-- bytes do not read, for the reason that the fault gives with this key; or memory ran out
 abbrev pub IsReadFault : Descriptor → List ℕ → PlanFault → Type 0
 IsReadFault k bytes (fault.TooLarge named limit) = ⊥
 IsReadFault k bytes (fault.NotFound named) = ⊥
@@ -103,14 +103,14 @@ IsReadFault k bytes (fault.Cycle keys) = ⊥
 IsReadFault k bytes fault.Memory = Unit {0}
 IsReadFault k bytes fault.TooMany = ⊥
 
--- a fetch is refused for what the store says, which a want of memory is not
+-- a fetch is refused for what the store answers, which is no memory error
 abbrev pub fetch_refusal : Descriptor → FetchFault → PlanFault
 fetch_refusal k fetch.NotFound = fault.NotFound k
 fetch_refusal k fetch.Corrupt = fault.Fetch k fetch.Corrupt
 fetch_refusal k fetch.Device = fault.Fetch k fetch.Device
 fetch_refusal k fetch.Memory = fault.Memory
 
--- a manifest is refused for what its reading says, which a want of memory is not
+-- a manifest is refused for what its reading answers, which is no memory error
 abbrev pub read_refusal : Descriptor → ManifestFault → PlanFault
 read_refusal k reading.NotJson = fault.Manifest k reading.NotJson
 read_refusal k reading.NotObject = fault.Manifest k reading.NotObject
@@ -119,7 +119,7 @@ read_refusal k (reading.BadList member) = fault.Manifest k (reading.BadList memb
 read_refusal k (reading.BadDescriptor member position) = fault.Manifest k (reading.BadDescriptor member position)
 read_refusal k reading.Memory = fault.Memory
 
--- a cycle of numbers is told by the keys of these numbers, unless memory was wanting
+-- a cycle of numbers is reported by the keys of these numbers, unless memory ran out
 abbrev pub IsNamedCycle : List Descriptor → List ℕ → PlanFault → Type 0
 IsNamedCycle keys numbers (fault.TooLarge named limit) = ⊥
 IsNamedCycle keys numbers (fault.NotFound named) = ⊥
@@ -129,14 +129,14 @@ IsNamedCycle keys numbers (fault.Cycle named) = Number keys numbers named.items
 IsNamedCycle keys numbers fault.Memory = Unit {0}
 IsNamedCycle keys numbers fault.TooMany = ⊥
 
--- an order's fault can be told of keys: its cycle is one of numbers of keys, and no number is bad
-abbrev pub IsTellable : List Descriptor → OrderFault → Type 0
-IsTellable keys (ordering.Cycle numbers) = All (λ n. n < length keys) numbers.items
-IsTellable keys (ordering.BadNumber list number) = ⊥
-IsTellable keys ordering.Memory = Unit {0}
+-- there is a key for each number that an order's fault names: its cycle is one of numbers of keys, and no number is bad
+abbrev pub HasKeyOfEach : List Descriptor → OrderFault → Type 0
+HasKeyOfEach keys (ordering.Cycle numbers) = All (λ n. n < length keys) numbers.items
+HasKeyOfEach keys (ordering.BadNumber list number) = ⊥
+HasKeyOfEach keys ordering.Memory = Unit {0}
 
--- an order's fault is told of keys as this fault of a plan
-abbrev pub TellsKeys : List Descriptor → OrderFault → PlanFault → Type 0
-TellsKeys keys (ordering.Cycle numbers) e = IsNamedCycle keys numbers.items e
-TellsKeys keys (ordering.BadNumber list number) e = ⊥
-TellsKeys keys ordering.Memory e = e ≡ fault.Memory
+-- this fault of a plan names keys where the order's fault names numbers
+abbrev pub NamesByKeys : List Descriptor → OrderFault → PlanFault → Type 0
+NamesByKeys keys (ordering.Cycle numbers) e = IsNamedCycle keys numbers.items e
+NamesByKeys keys (ordering.BadNumber list number) e = ⊥
+NamesByKeys keys ordering.Memory e = e ≡ fault.Memory

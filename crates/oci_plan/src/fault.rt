@@ -13,7 +13,7 @@ use thiserror::Error;
 #[derive(Debug, Drop, Error)]
 pub enum OrderFault {
     /// A cycle of the graph: distinct numbers, each a successor of the one before, and the first a successor of the last.
-    /// Where there are several cycles, which one is told is open.
+    /// Which of several cycles is reported is unspecified.
     #[error("50 Cycle{}", SpaceSeparated(.0))]
     Cycle(Vec<u32>),
     /// A list, and a number in it that is none of the graph's: of the first such list the first such number.
@@ -67,7 +67,7 @@ pub enum PlanFault {
     #[error("54 TooLarge {0} {1}")]
     TooLarge(Key, u64),
     /// A cycle of the source: distinct keys, each listed by the one before, and the first by the last. Where there are
-    /// several cycles, which one is told is open.
+    /// several cycles, which one is reported is unspecified.
     #[error("55 Cycle{}", SpaceSeparated(.0))]
     Cycle(Vec<Key>),
     /// The content of the key is no manifest of its media type.

@@ -9,7 +9,7 @@ ghost use Rattle.oci_plan.specs.Outside.{IsVisited, IsToBring};
 ghost use Rattle.oci_plan.specs.Visiting.{IsWithin, IsSoundItem, IsSoundVisit};
 ghost use Rattle.oci_plan.specs.Plan.{IsPlan, HasEdges, FollowsListed};
 ghost use Rattle.oci_plan.specs.Refusal.{IsKeyFault, IsFirstFault, NamesNoneOnlyInDestination};
-ghost use Rattle.oci_plan.specs.Walk.{IsTellable, TellsKeys};
+ghost use Rattle.oci_plan.specs.Walk.{HasKeyOfEach, NamesByKeys};
 
 mod cycle;
 mod item;
@@ -28,10 +28,10 @@ use skipped::held_roots;
 use std::alloc::Global;
 use walk::{Visited, visit};
 
-/// An order's fault, told of the keys.
-fn told(alloc: Global, keys: &[Key], fault: OrderFault) -> PlanFault
-    requires { IsTellable keys.now fault }
-    ensures { TellsKeys keys.now fault result }
+/// An order's fault, as a fault of the plan, which names keys in the place of numbers.
+fn plan_fault(alloc: Global, keys: &[Key], fault: OrderFault) -> PlanFault
+    requires { HasKeyOfEach keys.now fault }
+    ensures { NamesByKeys keys.now fault result }
 {
     match fault {
         OrderFault::Cycle(numbers) => match keys_of(alloc, keys, &numbers) {
@@ -75,7 +75,7 @@ pub fn gather<A: Source, D: Dest>(
     ensures skipped { IfOk result (λ p. p.skipped ≡ first_places
         (filter (has_key (D.state destination.now).nodes) roots.now)) }
 
-    // What is planned, where the source's bytes can be told.
+    // What is planned, where the source's bytes are known.
     ensures outside { IfOk result (λ p. (A.state source.now).is_honest
         → (k : Descriptor) → Contains p.keys k
         ↔ IsToBring existing (nodes_of (A.state source.now).entries) (D.state destination.now).nodes
@@ -106,6 +106,6 @@ pub fn gather<A: Source, D: Dest>(
     let Visited { keys, lists } = visit(alloc, source, destination, roots, limit, existing)?;
     match order(lists) {
         Ok(order) => Ok(Plan::new(keys, order, skipped)),
-        Err(fault) => Err(told(alloc, &keys, fault)),
+        Err(fault) => Err(plan_fault(alloc, &keys, fault)),
     }
 }

@@ -3,7 +3,7 @@ use Rattle.std.specs.Prelude.{ℕ, ◌<◌, ◌≤◌, List, length, slice_index
 use Rattle.oci_pool.specs.declared.fault.PoolFault.{PoolFault}
 use Rattle.oci_pool.specs.declared.fault.PoolFault.TheVariants.{Job, Incomplete, BadWorkers, Memory}
 
--- a worker tells that a job of a number failed, or want of memory
+-- a worker reports that the job of a number failed, or a memory error
 abbrev pub MayCome : {F : Type 0} → ℕ → (ℕ → F → Type 0) → Option (PoolFault F) → Type 0
 MayCome count fails None = Unit {0}
 MayCome count fails (Some (Job k f)) = (k < count) × fails k f
@@ -11,7 +11,7 @@ MayCome count fails (Some (Incomplete k)) = ⊥
 MayCome count fails (Some BadWorkers) = ⊥
 MayCome count fails (Some Memory) = Unit {0}
 
--- the fault of a job with at most this number is told
+-- the fault of a job with at most this number is reported
 abbrev pub IsJobUpTo : {F : Type 0} → ℕ → Option (PoolFault F) → Type 0
 IsJobUpTo k None = ⊥
 IsJobUpTo k (Some (Job m g)) = m ≤ k
@@ -19,13 +19,13 @@ IsJobUpTo k (Some (Incomplete m)) = ⊥
 IsJobUpTo k (Some BadWorkers) = ⊥
 IsJobUpTo k (Some Memory) = ⊥
 
--- a fault that came gives way to what is told: one of a job to that of a job with at most its number, another to any
+-- a fault that came gives way to what is reported: one of a job to that of a job with at most its number, another to any
 abbrev pub GivesWay : {F : Type 0} → Option (PoolFault F) → Option (PoolFault F) → Type 0
-GivesWay None told = Unit {0}
-GivesWay (Some (Job k f)) told = IsJobUpTo k told
-GivesWay (Some (Incomplete k)) told = IsSome told
-GivesWay (Some BadWorkers) told = IsSome told
-GivesWay (Some Memory) told = IsSome told
+GivesWay None reported = Unit {0}
+GivesWay (Some (Job k f)) reported = IsJobUpTo k reported
+GivesWay (Some (Incomplete k)) reported = IsSome reported
+GivesWay (Some BadWorkers) reported = IsSome reported
+GivesWay (Some Memory) reported = IsSome reported
 
 -- each result stands at its number
 abbrev pub InPlace : {O : Type 0} → (ℕ → O → Type 0) → List (Option O) → Type 0

@@ -5,8 +5,8 @@ use Rattle.oci_store.specs.Content.{Entry}
 use Rattle.oci_store.specs.Graph.{Node, nodes_of}
 use Rattle.oci_store.specs.Tags.{Tags}
 
--- What a store means, whichever way it keeps what it holds. Its keys, and what each lists, are told exactly and always. What is
--- told of bytes rests on its device: a file may have been changed, and a put that failed may have left anything in it.
+-- What a store means, whichever way it keeps what it holds. Keys and what they list are always exact. What is
+-- said of bytes rests on its device: a file may have been changed, and a put that failed may have left anything in it.
 pub record State : Type 1 where
   -- the held keys in the order in which they came, each with the keys that its content listed when it came
   pub nodes : List Node

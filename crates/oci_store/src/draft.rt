@@ -10,10 +10,10 @@ use std::alloc::Global;
 
 /// Bytes of one content on their way into a store. They are under no name there.
 pub trait Drafting {
-    // These bytes were appended, and no others. A draft that nothing vouches for may say it of any.
+    // These bytes were appended, and no others. If the device is not trusted, this may hold of any.
     ghost drafted: { Self → List ℕ → Type 0 };
 
-    /// Adds bytes at the end. A device that fails is told by the push.
+    /// Adds bytes at the end. A device failure is reported by the push.
     fn append(&mut self, part: &[u8]) -> Result<(), NoMemory>
         ensures { OnOk result ((bytes : List ℕ) → drafted self.old bytes
             → drafted self.new (bytes ++ part.now)) };

@@ -26,7 +26,7 @@ fn part_size(left: u64) -> usize
 
 /// Reads the content of a key part by part into a draft, and verifies it. At most one byte more than the key's size is read.
 ///
-/// Refused as a fetch is. What the draft has then is open: it is of no use, and may be dropped.
+/// Refused as a fetch is. What the draft has then is unspecified: drop it.
 pub fn fetch_into<A: Source, W: Drafting>(
     source: &A,
     key: &Key,
@@ -34,11 +34,12 @@ pub fn fetch_into<A: Source, W: Drafting>(
 ) -> Result<(), FetchFault>
     requires empty { W.drafted draft.old [] }
     requires fails { (A.state source.now).fails_at key.now ≡ true }
+    ensures held { OnOk result (has_key (A.state source.now).entries key.now ≡ true) }
     ensures drafted { OnOk result ((bytes : List ℕ)
         × IsDraftOf (W.drafted draft.new) key.now (A.state source.now).is_honest
         (value_at (A.state source.now).entries key.now) bytes) }
     ensures not_found { IsErrOf result FetchFault.NotFound
-        → has_key (A.state source.now).entries key.now ≡ false }
+        ↔ (has_key (A.state source.now).entries key.now ≡ false) }
 {
     let mut hasher = Hasher::new(key.digest());
     let mut left = key.size();

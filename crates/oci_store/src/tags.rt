@@ -131,7 +131,7 @@ fn named<'s>(graph: &'s Graph, tags: &'s Tags, reference: &str) -> Option<&'s Ke
     if let Some(key) = tags.get(reference) {
         return Some(key);
     }
-    // Its length tells the proof what every graph keeps.
+    // The contract of `len` says that the graph's keys are keys, and distinct.
     let _ = graph.len();
     let Some(digest) = parsed(reference) else {
         return None;

@@ -6,8 +6,9 @@
 //!
 //! `tests` has `graphs` (small graphs, on one thread and with each number of workers), `references` (copies by a reference),
 //! `referrers` (extended copies, of a key and of a reference), `refusals` (limits and open destinations), `faults` (how each refusal
-//! prints), `hooks` (when they are called), `meetings` (two workers at work at once), `failing` (stores that fail once) and `large`
-//! (many layers and long chains); `copies` has the copies that they share.
+//! prints), `hooks` (when they are called), `meetings` (two workers at work at once), `failing` (stores that fail once), `large`
+//! (many layers and long chains), and `descending` and `descending_graphs` (copies that look below what is held); `copies` has the
+//! copies that they share.
 #![tactic(auto)]
 
 #[cfg(test)]

@@ -6,8 +6,10 @@
 //!
 //! `tests` has `round_trips` (a layout is made, filled, saved and opened again, in memory and in a folder), `referrers` (the index of
 //! an image that came with what lists it), `algorithms` (digests by SHA-512), `fuses` (puts that fail), `openings` (what is refused,
-//! and indexes as other tools write them), `pushes` (old files, and files that changed), `unreadable` (files that cannot be read) and
-//! `changing` (a source whose files change while it is read); `layouts` and `copies` have what these share.
+//! and indexes as other tools write them), `pushes` (old files, and files that changed), `unreadable` (files that cannot be read),
+//! `changing` (a source whose files change while it is read), `failing` (a read or a put that fails once, and the copy again),
+//! `parts` (contents read in parts), `drafts` (files that are written part by part) and `large` (contents over one part, by
+//! workers); `layouts` and `copies` have what these share.
 #![tactic(auto)]
 
 #[cfg(test)]

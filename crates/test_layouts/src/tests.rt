@@ -1,7 +1,10 @@
 mod algorithms;
 mod changing;
 mod copies;
+mod drafts;
+mod failing;
 mod fuses;
+mod large;
 mod layouts;
 mod openings;
 mod parts;

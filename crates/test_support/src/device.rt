@@ -140,7 +140,7 @@ impl<'d> Source for DeviceStore<'d> {
         let Some(content) = self.file_of(key) else {
             return Err(FetchFault::Corrupt);
         };
-        if content.len() as u64 != key.size() || !key.digest().matches(content.as_slice()) {
+        if !key.matches(content.as_slice()) {
             return Err(FetchFault::Corrupt);
         }
         content.clone().map_err(|_| FetchFault::Memory)
@@ -161,7 +161,7 @@ impl<'d> Dest for DeviceStore<'d> {
     }
 
     fn missing(&self) -> Result<Option<(Key, Key)>, NoMemory> {
-        self.held.graph().first_open()
+        self.held.graph().first_missing_successor()
     }
 
     fn push_checked(&mut self, content: CheckedContent) -> Result<usize, PushFault> {

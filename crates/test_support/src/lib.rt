@@ -1,12 +1,14 @@
-//! What the crates of tests share: small contents with their keys, stores in memory that have them, and two small stores that are
-//! neither in memory nor on a disk, proved to meet the traits of `oci_store`.
+//! What the crates of tests share: small contents with their keys, stores in memory that have them, and three small stores of
+//! other kinds, proved to meet the traits of `oci_store`.
 //!
 //! A [`Sample`] is one of the contents. [`DeviceStore`] stands over a [`Device`] that has one file per digest, counts what it is
-//! asked for, and fails a put and a get: the tests of copies use it. [`PublishedStore`] only publishes, and may be halted.
+//! asked for, and fails a put and a get: the tests of copies use it. [`FailingClosedStore`] passes all pushes but one on to a
+//! closed store. [`PublishedStore`] only publishes, and may be halted.
 #![tactic(auto)]
 
 mod contents;
 mod device;
+mod failing_closed;
 mod published;
 mod samples;
 
@@ -15,6 +17,7 @@ pub use contents::{
     docker_image, empty, foo, image, image_0, image_1, index, index_1, referrer,
 };
 pub use device::{Device, DeviceStore};
+pub use failing_closed::FailingClosedStore;
 pub use published::PublishedStore;
 pub use samples::{
     closed, gives, gives_sample, holds, is_closed, keys, memory, on_device, put_chain, put_content,

@@ -71,7 +71,7 @@ impl Dest for PublishedStore {
     }
 
     fn missing(&self) -> Result<Option<(Key, Key)>, NoMemory> {
-        self.published.graph().first_open()
+        self.published.graph().first_missing_successor()
     }
 
     fn push_checked(&mut self, content: CheckedContent) -> Result<usize, PushFault> {

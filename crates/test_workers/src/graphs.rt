@@ -45,6 +45,15 @@ pub(crate) fn chain(alloc: Global, count: u32) -> Result<Vec<Vec<u32>>, AllocErr
     Ok(lists)
 }
 
+/// So many numbers that need nothing.
+pub(crate) fn leaves(alloc: Global, count: u32) -> Result<Vec<Vec<u32>>, AllocError> {
+    let mut lists = Vec::new(alloc);
+    for _ in 0..count {
+        lists.push(Vec::new(alloc))?;
+    }
+    Ok(lists)
+}
+
 /// The next of a fixed row of numbers, below a bound.
 fn below(state: &mut u64, bound: u32) -> u32 {
     *state = state

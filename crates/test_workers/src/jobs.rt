@@ -79,6 +79,35 @@ impl Job for FailsAt {
     }
 }
 
+/// Fails at each number, and counts its runs.
+#[derive(Drop)]
+pub(crate) struct Fails {
+    pub runs: AtomicU64,
+}
+
+impl Fails {
+    pub fn new() -> Fails {
+        Fails {
+            runs: AtomicU64::new(0),
+        }
+    }
+}
+
+impl Job for Fails {
+    type Out = u64;
+
+    type Fault = u32;
+
+    ghost answers = { λ job k x. Unit {0} };
+
+    ghost fails = { λ job k f. Unit {0} };
+
+    fn run(&self, number: u32, _pass: Pass) -> Result<u64, u32> {
+        self.runs.fetch_add(1, Ordering::SeqCst);
+        Err(number)
+    }
+}
+
 /// How often a job looks that is to meet another.
 const MANY_LOOKS: u64 = 1_000_000_000;
 

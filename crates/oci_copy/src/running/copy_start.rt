@@ -4,7 +4,8 @@ ghost use Rattle.oci_store.specs.State.{State};
 
 use std::marker::Brand;
 
-/// What a run of workers knows from its start on. It has no value: what a run knows is noted once, when it begins.
+/// What a run of workers knows from its start on. It has no value: what a run knows is noted once,
+/// when it begins.
 pub trait CopyStart {
     /// What the source means.
     ghost source: { State };

@@ -9,8 +9,8 @@ use std::marker::Model;
 
 /// That the destination of a run came to hold a key. To a contract it is that key.
 ///
-/// One is made from a locked destination that holds the key. A job reaches no other than that of its run, under the lock: so
-/// one that answers has pushed its key, or has found it held.
+/// One is made from a locked destination that holds the key. A job reaches no other than that of
+/// its run, under the lock: so one that answers has pushed its key, or has found it held.
 #[derive(Drop)]
 pub(crate) struct Held<'k> {
     key: &'k Key,

@@ -23,7 +23,7 @@ pub(crate) struct CopyJob<'a, A: Source, D: Dest, T: CopyStart, R: Wait, H: Hook
     pub(crate) rt: &'a R,
     pub(crate) source: &'a A,
     pub(crate) lock: &'a Mutex<Option<LockedDestination<D, T>>>,
-    /// Told after each push.
+    /// Notified after each push.
     pub(crate) pushed: &'a Condvar,
     pub(crate) plan: &'a Plan,
     pub(crate) hooks: &'a H,
@@ -40,7 +40,8 @@ impl<'a, A: Source, D: Dest, T: CopyStart, R: Wait, H: Hooks> Model for CopyJob<
 
     ghost view = { λ j. tt };
 
-    ghost invariant = { λ j. IsNoted T.source (A.state j.source.now) × (j.plan.now.keys ≡ T.planned) × HasAll T.source.entries T.planned
+    ghost invariant = { λ j. IsNoted T.source (A.state j.source.now)
+        × (j.plan.now.keys ≡ T.planned) × HasAll T.source.entries T.planned
         × (T.source.is_honest → All (CanBeRead T.source.entries) T.planned) };
 }
 
@@ -67,7 +68,8 @@ fn copy_key<'k, A: Source, D: Dest + Drop, T: CopyStart, R: Wait>(
     push_later(rt, lock, pushed, key, content)
 }
 
-/// The same of a key that lists nothing, whose content is read part by part, and written as it comes, outside the lock.
+/// The same of a key that lists nothing, whose content is read part by part, and written as it
+/// comes, outside the lock.
 fn copy_parts<'k, A: Source, D: Dest + Drop, T: CopyStart, R: Wait>(
     rt: &R,
     source: &A,

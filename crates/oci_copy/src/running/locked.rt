@@ -8,21 +8,23 @@ ghost use Rattle.oci_store.specs.Parts.{IsLeaf, IsDraftOf};
 ghost use Rattle.oci_store.specs.Push.{PushesKey};
 ghost use Rattle.oci_copy.specs.Grown.{graph_of, IsTold};
 ghost use Rattle.oci_copy.specs.Kept.{Keeps, IsOpeningAnd};
-ghost use Rattle.oci_copy.specs.Work.{IsToldHalt, CanFail};
+ghost use Rattle.oci_copy.specs.Work.{IsReportedHalt, CanFail};
 
 use super::copy_start::CopyStart;
 use oci_manifest::Key;
 use oci_store::{CheckedContent, Dest, PushFault};
 use std::marker::{Model, PhantomData};
 
-/// A destination while workers copy into it, as it stands in the lock that they share. To a contract it is its graph.
+/// A destination while workers copy into it, as it stands in the lock that they share. To a
+/// contract it is its graph.
 ///
-/// Its type keeps what every state of the lock shows; [`destination`](LockedDestination::destination) says it.
+/// Its type keeps what every state of the lock shows;
+/// [`destination`](LockedDestination::destination) says it.
 #[derive(Drop)]
 pub struct LockedDestination<D: Dest, T: CopyStart> {
     destination: D,
     /// Whether a push was refused because memory ran out.
-    wanting: bool,
+    ran_out: bool,
     opening: PhantomData<T>,
 }
 
@@ -36,7 +38,7 @@ impl<D: Dest, T: CopyStart> Model for LockedDestination<D, T> {
     ghost view = { λ g. (D.state g.destination).nodes };
 
     ghost invariant = { λ g. Keeps D.shares T.source T.planned T.opening (D.state g.destination)
-        × ((D.state g.destination).is_halted → T.opening.is_halted ⊎ (g.wanting ≡ true)) };
+        × ((D.state g.destination).is_halted → T.opening.is_halted ⊎ (g.ran_out ≡ true)) };
 }
 
 impl<D: Dest, T: CopyStart> LockedDestination<D, T> {
@@ -48,15 +50,17 @@ impl<D: Dest, T: CopyStart> LockedDestination<D, T> {
     {
         LockedDestination {
             destination,
-            wanting: false,
+            ran_out: false,
             opening: PhantomData,
         }
     }
 
-    /// What each worker finds that takes the lock, and whoever takes the destination out at the end.
+    /// What each worker finds that takes the lock, and whoever takes the destination out at the
+    /// end.
     ///
-    /// The destination has all that the new keys list, and is closed, where it was when the run began. It begins with the entries that it had, and each later one is
-    /// the source's pair of a planned key. Its tags and its name are those that it had.
+    /// The destination has all that the new keys list, and is closed, where it was when the run
+    /// began. It begins with the entries that it had, and each later one is the source's pair of a
+    /// planned key. Its tags and its name are those that it had.
     pub fn destination(&self) -> &D
         ensures nodes { (D.state result.now).nodes ≡ self.now }
         ensures closed { IsClosed T.opening.nodes → IsClosed (D.state result.now).nodes }
@@ -80,7 +84,8 @@ impl<D: Dest, T: CopyStart> LockedDestination<D, T> {
 
     /// Pushes content of a planned key that is not held.
     ///
-    /// A halt that comes after another push ran out of memory is reported as out of memory, which it followed from.
+    /// A halt that comes after another push ran out of memory is reported as out of memory, which
+    /// it followed from.
     pub(crate) fn push(&mut self, content: CheckedContent) -> Result<usize, PushFault>
         requires planned { Contains T.planned content.0 }
         requires fresh { has_key self.old content.0 ≡ false }
@@ -91,8 +96,8 @@ impl<D: Dest, T: CopyStart> LockedDestination<D, T> {
         ensures halted { IsErrOf result PushFault.Halted → T.opening.is_halted }
     {
         let pushed = self.destination.push_checked(content);
-        let reported = reported_halt(pushed, self.wanting);
-        self.wanting = still_wanting(self.wanting, &reported);
+        let reported = reported_halt(pushed, self.ran_out);
+        self.ran_out = has_run_out(self.ran_out, &reported);
         reported
     }
 
@@ -110,8 +115,8 @@ impl<D: Dest, T: CopyStart> LockedDestination<D, T> {
         ensures halted { IsErrOf result PushFault.Halted → T.opening.is_halted }
     {
         let pushed = self.destination.push_draft(key, draft);
-        let reported = reported_halt(pushed, self.wanting);
-        self.wanting = still_wanting(self.wanting, &reported);
+        let reported = reported_halt(pushed, self.ran_out);
+        self.ran_out = has_run_out(self.ran_out, &reported);
         reported
     }
 
@@ -122,7 +127,7 @@ impl<D: Dest, T: CopyStart> LockedDestination<D, T> {
     {
         let LockedDestination {
             destination,
-            wanting: _,
+            ran_out: _,
             opening: _,
         } = self;
         destination
@@ -130,23 +135,23 @@ impl<D: Dest, T: CopyStart> LockedDestination<D, T> {
 }
 
 /// Whether a push was refused because memory ran out, this one or one before.
-fn still_wanting(wanting: bool, pushed: &Result<usize, PushFault>) -> bool
-    ensures before { wanting ≡ true → result ≡ true }
+fn has_run_out(ran_out: bool, pushed: &Result<usize, PushFault>) -> bool
+    ensures before { ran_out ≡ true → result ≡ true }
     ensures now { IsErrOf pushed.now PushFault.Memory → result ≡ true }
-    ensures only { result ≡ true → (wanting ≡ true) ⊎ IsErrOf pushed.now PushFault.Memory }
+    ensures only { result ≡ true → (ran_out ≡ true) ⊎ IsErrOf pushed.now PushFault.Memory }
 {
     match pushed {
         Err(PushFault::Memory) => true,
-        _ => wanting,
+        _ => ran_out,
     }
 }
 
 /// A halt that followed from a push which ran out of memory, reported as out of memory.
-fn reported_halt(pushed: Result<usize, PushFault>, wanting: bool) -> Result<usize, PushFault>
-    ensures { IsToldHalt pushed wanting result }
+fn reported_halt(pushed: Result<usize, PushFault>, ran_out: bool) -> Result<usize, PushFault>
+    ensures { IsReportedHalt pushed ran_out result }
 {
     match pushed {
-        Err(PushFault::Halted) => Err(if wanting {
+        Err(PushFault::Halted) => Err(if ran_out {
             PushFault::Memory
         } else {
             PushFault::Halted

@@ -52,8 +52,11 @@ fn wait_for<'b, D: Dest + Drop, T: CopyStart, R: Wait>(
     unreachable!()
 }
 
-/// Pushes a key's content, once all that it lists is held, and answers that it is held. Nothing is hashed or read while the
-/// lock is held.
+/// Pushes a key's content, once all that it lists is held, and answers that it is held. It was
+/// fetched and hashed before.
+///
+/// The push is under the lock. So a layout reads the old file of that digest there, and writes the
+/// content unless the file has it.
 pub(crate) fn push_later<'k, D: Dest + Drop, T: CopyStart, R: Wait>(
     rt: &R,
     lock: &Mutex<Option<LockedDestination<D, T>>>,
@@ -108,8 +111,11 @@ pub(crate) fn begin_draft<D: Dest + Drop, T: CopyStart, R: Wait>(
     draft_there(&*guard, key)
 }
 
-/// Pushes what was drafted of a key that lists nothing, and answers that it is held. Nothing is hashed, read or written while
-/// the lock is held but a name.
+/// Pushes what was drafted of a key that lists nothing, and answers that it is held. It was read,
+/// hashed and written before.
+///
+/// The push is under the lock. A layout only renames a file there, unless the old file of that
+/// digest begins with the content and is longer: then it copies the content there.
 pub(crate) fn push_draft_now<'k, D: Dest + Drop, T: CopyStart, R: Wait>(
     rt: &R,
     lock: &Mutex<Option<LockedDestination<D, T>>>,
@@ -172,7 +178,8 @@ fn is_held<D: Dest, T: CopyStart>(locked: &LockedDestination<D, T>, key: &Key) -
     locked.destination().has(key)
 }
 
-/// Pushes a key's content where all that it lists is held. A key that is held has the source's content, and nothing is pushed.
+/// Pushes a key's content where all that it lists is held. A key that is held has the source's
+/// content, and nothing is pushed.
 fn push_ready<D: Dest, T: CopyStart>(
     locked: &mut LockedDestination<D, T>,
     key: &Key,
@@ -221,7 +228,8 @@ pub(crate) fn push_there<'k, D: Dest, T: CopyStart>(
     }
 }
 
-/// Pushes what was drafted of a key that lists nothing. A key that is held has the source's content, and nothing is pushed.
+/// Pushes what was drafted of a key that lists nothing. A key that is held has the source's
+/// content, and nothing is pushed.
 fn push_draft_ready<D: Dest, T: CopyStart>(
     locked: &mut LockedDestination<D, T>,
     key: &Key,

@@ -3,7 +3,7 @@ ghost use Rattle.oci_store.specs.Keyed.{HasAll, HasDistinctKeys};
 ghost use Rattle.oci_pool.specs.Run.{IsCause};
 ghost use Rattle.oci_copy.specs.Kept.{Keeps};
 ghost use Rattle.oci_copy.specs.Planned.{CanPush};
-ghost use Rattle.oci_copy.specs.Work.{IsNoted, IsJobCause, IsStopCause, CanFail, told_of};
+ghost use Rattle.oci_copy.specs.Work.{IsNoted, IsJobCause, IsStopCause, CanFail, reported_fault};
 
 use super::copy_start::CopyStart;
 use super::job::CopyJob;
@@ -25,7 +25,7 @@ fn finish<D: Dest, T: CopyStart>(locked: LockedDestination<D, T>) -> D
     ensures keeps { Keeps D.shares T.source T.planned T.opening (D.state result) }
 {
     let destination = locked.into_destination();
-    // The count tells the proof that no key is held twice.
+    // The contract of `count` gives the proof that no key is held twice.
     let _distinct = destination.count();
     destination
 }
@@ -37,7 +37,7 @@ fn reported<D: Dest, T: CopyStart>(workers: u32, fault: PoolFault<CopyFault>) ->
         T.planned) fault }
     ensures cause { IfSome result (IsStopCause (CanFail D.state T.opening) T.source T.opening
         T.planned) }
-    ensures reported { result ≡ told_of fault }
+    ensures reported { result ≡ reported_fault fault }
 {
     match fault {
         PoolFault::Job(_, fault) => Some(fault),

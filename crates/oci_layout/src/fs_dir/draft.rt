@@ -9,7 +9,7 @@ use std::rt::Files;
 /// How far a draft of a file of a folder is.
 #[derive(Drop)]
 enum Stage<'r, R: Files + AllocGlobal> {
-    /// The file at the place begins with what was appended, which has so many bytes: nothing is written as yet.
+    /// The file at the place begins with what was appended, which has so many bytes. Nothing is written as yet.
     Found(u64),
     /// What was appended is in a file beside the place.
     Written(Beside<'r, R>),
@@ -21,6 +21,7 @@ enum Stage<'r, R: Files + AllocGlobal> {
 ///
 /// As long as what is appended is what the file at the place has already, nothing is written. From the first difference on it
 /// is in a file beside the place, which is open only while bytes are written, and is removed where the draft is dropped.
+/// If the file at the place turns out to be longer than the draft, its beginning is copied when the draft is kept.
 #[derive(Drop)]
 pub struct FsDraft<'r, R: Files + AllocGlobal> {
     rt: &'r R,
@@ -60,7 +61,7 @@ impl<'r, R: Files + AllocGlobal> FsDraft<'r, R> {
     }
 }
 
-/// Nothing vouches for a folder: of a draft in one any bytes may be said.
+/// No code can show what a file has, so a draft in a folder may be said to have any bytes.
 impl<'r, R: Files + AllocGlobal> Drafting for FsDraft<'r, R> {
     ghost use Rattle.std.specs.Prelude.{⊤};
 
@@ -110,7 +111,8 @@ fn has_part<R: Files + AllocGlobal>(
     }
 }
 
-/// Puts what was drafted at a place.
+/// Puts what was drafted at a place. As a rule that is one renaming, or nothing where the file there has these bytes. Where it
+/// goes on after them, they are copied here, since no draft knows how many are to come.
 pub(crate) fn finish<R: Files + AllocGlobal>(
     draft: FsDraft<'_, R>,
     place: &str,

@@ -14,6 +14,14 @@ pub(crate) fn length_of<R: Files>(rt: &R, place: &str) -> io::Result<u64> {
     }
 }
 
+/// Refuses a link, as what is no regular file is refused.
+pub(crate) fn refuse_link<R: Files>(rt: &R, place: &str) -> io::Result<()> {
+    if fs::symlink_metadata(rt, place)?.is_symlink() {
+        return Err(io::Error::from(ErrorKind::InvalidInput));
+    }
+    Ok(())
+}
+
 /// The bytes of a regular file. Room for them is asked for first, so that of one that is too long nothing is read.
 pub(crate) fn whole_file<R: Files + AllocGlobal>(rt: &R, place: &str) -> io::Result<Vec<u8>> {
     let length = length_of(rt, place)?;

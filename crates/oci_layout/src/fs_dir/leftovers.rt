@@ -28,7 +28,7 @@ fn leftovers<R: Files + AllocGlobal>(rt: &R, folder: &str) -> io::Result<Vec<Str
     Ok(paths)
 }
 
-/// Removes files. One that is gone already is none to remove.
+/// Removes files; a missing one is skipped.
 fn remove<R: Files>(rt: &R, paths: &[String]) -> Result<(), DirFault> {
     for path in paths {
         match fs::remove_file(rt, path) {

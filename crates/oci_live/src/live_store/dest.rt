@@ -36,14 +36,14 @@ impl<R: Wait + Drop> Dest for LiveStore<R> {
 
     /// None: it is closed.
     fn missing(&self) -> Result<Option<(Key, Key)>, NoMemory> {
-        // The shelf tells the proof that what it has is closed.
+        // The shelf shows the proof that what it has is closed.
         let _closed = self.shelf();
         Ok(None)
     }
 
     /// One publication. It may wait for calls of looks that have begun.
     ///
-    /// Where the publication finds no memory the store is halted afterwards, and a halted store publishes nothing any more.
+    /// If the publication runs out of memory the store is halted, and a halted store publishes nothing any more.
     fn push_checked(&mut self, content: CheckedContent) -> Result<usize, PushFault>
         ensures pushed { IsPush ⊥ (state_of self.old) (state_of self.new) content result }
         ensures untouched { IsErr (closed_check (state_of self.old).nodes content.0 content.1)

@@ -28,7 +28,7 @@ fn order_of_graph(alloc: Global, lists: &[Vec<u32>]) -> Result<Order, OrderFault
 }
 
 /// The numbers of a graph, each after its successors. List `i` has the successors of number `i`; a number that stands
-/// twice in a list is kept once, at its first place. Which of the possible orders comes is open.
+/// twice in a list is kept once, at its first place. Which of the possible orders comes is unspecified.
 ///
 /// The numbers are looked at before anything else: [`OrderFault::BadNumber`] comes exactly where a list holds what is no
 /// number of the graph. Otherwise the answer is an order exactly where the graph has no cycle, and
@@ -42,7 +42,7 @@ pub fn order(lists: Vec<Vec<u32>>) -> Result<Order, OrderFault>
     ensures no_cycle { OnOk result ((numbers : List ℕ) → IsCycle (lists_of lists.items) numbers
         → ⊥) }
 
-    // Each refusal has its cause in the graph, and a bad number is always told.
+    // Each refusal has its cause in the graph, and a bad number is always reported.
     ensures refused { IfErr result (IsCauseOf (lists_of lists.items)) }
     ensures bad_number { (i n : ℕ) → IsFirstBad (lists_of lists.items) i n
         → result ≡ Err (OrderFault.BadNumber i n) }

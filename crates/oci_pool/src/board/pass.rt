@@ -2,8 +2,8 @@ ghost use Rattle.std.specs.Prelude.{◌≡◌};
 
 use std::marker::Model;
 
-/// The leave to run the job of one number. [`Board::pass`](crate::Board::pass) alone makes one, once a number: no other
-/// module of the crate can name what makes it, and it cannot be copied.
+/// The permission to run the job of one number. [`Board::pass`](crate::Board::pass) alone makes one, once a number: no module
+/// outside `board` can name what makes it, and it cannot be copied.
 #[derive(Debug, Drop)]
 pub struct Pass {
     number: u32,

@@ -1,13 +1,13 @@
 ghost use Rattle.std.specs.Prelude.{◌≡◌, ◌<◌, ◌≤◌, [], ℕ, IfOk, IfErr, vec_len, vec_capacity, slice_index_or};
 ghost use Rattle.oci_pool.specs.Workers.{MayCome, InPlace};
-ghost use Rattle.oci_pool.specs.Run.{AreDone, IsCause, Tells};
+ghost use Rattle.oci_pool.specs.Run.{AreDone, IsCause, Reports};
 
 use crate::fault::PoolFault;
 use crate::job::Job;
 use crate::stopped::Stopped;
 use crate::table::{Table, first_missing, list_all, list_done};
 
-/// The answer of a run whose workers have ended: what they told, or the least number without a result, or all results.
+/// The answer of a run whose workers have ended: what they reported, or the least number without a result, or all results.
 pub(super) fn answer<J: Job>(
     job: &J,
     _workers: u32,
@@ -26,7 +26,7 @@ pub(super) fn answer<J: Job>(
     ensures len { IfOk result (λ v. vec_len v ≡ vec_len table) }
     ensures done { IfErr result (λ s. AreDone (vec_len table) (J.answers job.now) s.done.items) }
     ensures cause { IfErr result (λ s. IsCause _workers (J.fails job.now) s.fault) }
-    ensures told { IfErr result (λ s. Tells _workers (vec_len table) s.done.items s.fault) }
+    ensures reported { IfErr result (λ s. Reports _workers (vec_len table) s.done.items s.fault) }
 {
     if let Some(fault) = fault {
         let done = list_done(job, table, done);

@@ -6,7 +6,7 @@ use crate::job::Job;
 use crate::table::{Table, put_all};
 use crate::worker::Worker;
 
-/// Which of two faults is told: a job's before another, and of two jobs' the one with the lesser number.
+/// Which of two faults is reported: a job's before another, and of two jobs' the one with the lesser number.
 fn first_of<J: Job>(
     _job: &J,
     _count: usize,
@@ -35,24 +35,24 @@ fn first_of<J: Job>(
     }
 }
 
-/// Puts what a worker did into the table, and answers the fault to be told.
+/// Puts what a worker did into the table, and answers the fault to be reported.
 fn take_worker<J: Job>(
     job: &J,
     count: usize,
     table: &mut Table<J::Out>,
     worker: Worker<J::Out, J::Fault>,
-    told: Option<PoolFault<J::Fault>>,
+    reported: Option<PoolFault<J::Fault>>,
 ) -> Option<PoolFault<J::Fault>>
     requires place { InPlace (J.answers job.now) table.old.items }
     requires worker { Worked count (J.answers job.now) (J.fails job.now) worker.done.items
         worker.fault }
-    requires told { MayCome count (J.fails job.now) told }
+    requires reported { MayCome count (J.fails job.now) reported }
     ensures len { vec_len table.new ≡ vec_len table.old }
     ensures place { InPlace (J.answers job.now) table.new.items }
     ensures fault { MayCome count (J.fails job.now) result }
-    ensures over_told { GivesWay told result }
+    ensures over_reported { GivesWay reported result }
     ensures over_worker { GivesWay worker.fault result }
-    ensures came { (result ≡ told) ⊎ (result ≡ worker.fault) }
+    ensures came { (result ≡ reported) ⊎ (result ≡ worker.fault) }
 {
     let Worker {
         own: _,
@@ -61,10 +61,10 @@ fn take_worker<J: Job>(
         fault,
     } = worker;
     put_all(job, table, &mut done);
-    first_of(job, count, told, fault)
+    first_of(job, count, reported, fault)
 }
 
-/// Puts what the workers did into the table, and answers the fault to be told: of those of all workers a job's before
+/// Puts what the workers did into the table, and answers the fault to be reported: of those of all workers a job's before
 /// another, and of several jobs' the one with the least number.
 pub(super) fn gather<J: Job>(
     job: &J,
@@ -81,9 +81,9 @@ pub(super) fn gather<J: Job>(
     ensures over { All (λ w. GivesWay w.fault result) workers.items }
 {
     let mut workers = workers;
-    let mut told = None;
+    let mut reported = None;
     while let Some(worker) = workers.pop() {
-        told = take_worker(job, count, table, worker, told);
+        reported = take_worker(job, count, table, worker, reported);
     }
-    told
+    reported
 }

@@ -123,7 +123,7 @@ fn named(name: &str) -> Result<Sample, Fail> {
     }
 }
 
-/// The text with what it stands for in the place of each name, and the folder in the place of each `@`.
+/// The text with the content's part in the place of each name, and the folder in the place of each `@`.
 pub(crate) fn filled(alloc: Global, folder: &str, text: &str) -> Result<String, Fail> {
     let mut told = String::new(alloc);
     for part in text.split('<') {

@@ -1,5 +1,5 @@
 use crate::tests::layouts::{IMAGE, REFERRERS};
-use crate::tests::sessions::{assert_session, folder};
+use crate::tests::sessions::{assert_runs, assert_session, folder};
 use std::test::Fail;
 
 /// A layout, and one that is made beside it.
@@ -79,6 +79,62 @@ $ cat @/N/index.json
 {"manifests":[{"annotations":{"org.opencontainers.image.ref.name":"w"},"digest":"<M0 digest>","mediaType":"application/vnd.oci.image.manifest.v1+json","size":241}],"mediaType":"application/vnd.oci.image.index.v1+json","schemaVersion":2}
 "#;
     assert_session(&rt, &folder, IMAGE, session)
+}
+
+/// The destination has lost a blob of the image that it has.
+#[test]
+fn copy_descend(rt: HostRuntime) -> Result<(), Fail> {
+    let folder = folder(&rt, "copy_descend")?;
+    let files = r"
+$ ocicp copy @/L v1 @/N w
+copied <M0>
+planned 2 pushed 2 skipped 0
+$ rm @/N/<E file>
+";
+    let session = r"
+$ ocicp copy @/L v1 @/N w
+! ocicp: 80 DestinationOpen <M0> <E>
+? 1
+$ ocicp copy --descend @/L v1 @/N w
+copied <M0>
+planned 1 pushed 1 skipped 1
+$ ocicp verify @/N
+held 2
+";
+    assert_runs(&rt, &folder, IMAGE)?;
+    assert_session(&rt, &folder, files, session)
+}
+
+/// A damaged manifest closes the whole layout. Once its file is deleted, a copy that descends brings it back, with what it
+/// lists: that is reached from nothing else, so it was not held either.
+#[test]
+fn copy_descend_to_a_manifest(rt: HostRuntime) -> Result<(), Fail> {
+    let folder = folder(&rt, "copy_descend_manifest")?;
+    let session = r"
+$ ocicp copy @/R <I4 digest> @/N i
+copied <I4>
+planned 5 pushed 5 skipped 0
+$ write @/N/<M2 file> {}
+$ ocicp copy --descend @/R <I4 digest> @/N i
+! ocicp: 75 Corrupt <M2>
+? 1
+$ rm @/N/<M2 file>
+$ ocicp verify @/N
+open <I3> <M2>
+held 2
+? 1
+$ ocicp copy @/R <I4 digest> @/N i
+! ocicp: 80 DestinationOpen <I3> <M2>
+? 1
+$ ocicp copy --descend @/R <I4 digest> @/N i
+copied <I4>
+planned 3 pushed 3 skipped 1
+$ ocicp tags @/N
+i <I4>
+$ ocicp verify @/N
+held 5
+";
+    assert_session(&rt, &folder, REFERRERS, session)
 }
 
 /// A copy that descends brings what a destination lacks below what it holds. A damaged file is held, until somebody deletes it.
@@ -171,6 +227,15 @@ planned 0 pushed 0 skipped 4
 $ ocicp tags @/N
 t <M2>
 w <M2>
+$ ocicp verify @/N
+held 6
+$ rm @/N/<FOO file>
+$ ocicp copy --dry-run --descend --referrers @/R t @/N
+<FOO>
+planned 1 bytes 3 skipped 4
+$ ocicp copy --descend --referrers @/R t @/N
+copied <M2>
+planned 1 pushed 1 skipped 4
 $ ocicp verify @/N
 held 6
 ";

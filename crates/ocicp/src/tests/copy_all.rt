@@ -139,6 +139,9 @@ $ rm @/N/<E file>
 $ ocicp copy --all @/L @/N
 ! ocicp: 80 DestinationOpen <M0> <E>
 ? 1
+$ ocicp copy --all --dry-run --descend @/L @/N
+<E>
+planned 1 bytes 2 skipped 1
 $ ocicp copy --all --descend @/L @/N
 copied <M0>
 planned 1 pushed 1 skipped 1

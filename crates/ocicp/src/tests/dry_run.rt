@@ -2,7 +2,7 @@ use crate::tests::layouts::{IMAGE, REFERRERS};
 use crate::tests::sessions::{assert_session, folder};
 use std::test::Fail;
 
-/// What is planned is told, and nothing is made; where all is there, nothing is planned.
+/// What is planned is printed, and nothing is made; where all is there, nothing is planned.
 #[test]
 fn dry_run(rt: HostRuntime) -> Result<(), Fail> {
     let folder = folder(&rt, "dry_run")?;
@@ -22,6 +22,28 @@ $ ocicp tags @/N
 w <M0>
 $ ocicp copy --dry-run @/L nope @/N
 ! ocicp: 36 UnknownReference
+? 1
+";
+    assert_session(&rt, &folder, IMAGE, session)
+}
+
+/// The reference is looked up before the destination is opened, as by the copy itself.
+#[test]
+fn dry_run_of_a_bad_reference_to_a_broken_layout(rt: HostRuntime) -> Result<(), Fail> {
+    let folder = folder(&rt, "dry_run_order")?;
+    let session = r"
+$ write @/K/oci-layout {}
+$ ocicp copy @/L nope @/K
+! ocicp: 36 UnknownReference
+? 1
+$ ocicp copy --dry-run @/L nope @/K
+! ocicp: 36 UnknownReference
+? 1
+$ ocicp copy @/L v1 @/K
+! ocicp: 71 BadLayoutFile
+? 1
+$ ocicp copy --dry-run @/L v1 @/K
+! ocicp: 71 BadLayoutFile
 ? 1
 ";
     assert_session(&rt, &folder, IMAGE, session)

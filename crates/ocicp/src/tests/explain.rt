@@ -52,7 +52,7 @@ fn explanation_of_an_open_destination(rt: HostRuntime) -> Result<(), Fail> {
     let told = transcript(&rt, "explain 80")?;
     let wanted = "\
 80 DestinationOpen
-The destination is damaged: its first key lists the second one, which is missing there. Nothing was copied.
+The destination is damaged: the manifest of the first KEY lists the blob of the second, which is missing there. Nothing was copied.
 Copy the image that needs the missing blob with `ocicp copy --descend`, from a layout that has that blob.
 ";
     assert_eq!(&rt; told.as_str(), wanted);

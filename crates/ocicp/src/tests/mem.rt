@@ -1,4 +1,9 @@
-use crate::tests::sessions::{assert_session, folder};
+use crate::tests::broken::Step;
+use crate::tests::contents::filled;
+use crate::tests::outputs::assert_broken;
+use crate::tests::sessions::{assert_runs, assert_session, folder};
+use std::fs;
+use std::io::ErrorKind;
 use std::test::Fail;
 
 /// The file of the runs.
@@ -32,6 +37,17 @@ $ ocicp mem text/plain=@/abc.txt text/plain=@/abc.txt
 ? 1
 ";
     assert_session(&rt, &folder, ABC, session)
+}
+
+/// The first run of the row, where the first write to the output fails.
+#[test]
+fn mem_command_without_an_output(rt: HostRuntime) -> Result<(), Fail> {
+    let folder = folder(&rt, "mem_command_without_an_output")?;
+    assert_runs(&rt, &folder, ABC)?;
+    let line = filled(rt.alloc(), &folder, "mem text/plain=@/abc.txt")?;
+    let wanted = "! ocicp: 94 Output\n? 1\n";
+    assert_broken(&rt, &line, Step::Write, ErrorKind::Other, wanted)?;
+    Ok(fs::remove_dir_all(&rt, folder.as_str())?)
 }
 
 /// An item is cut at its first `=`; what follows is the path.

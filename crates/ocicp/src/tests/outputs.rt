@@ -61,7 +61,7 @@ where
 }
 
 /// Runs the program with an output that fails in this way, and compares its status and the error output.
-fn assert_broken<R: Files + AllocGlobal + Clock + Threads + Wait + Sync + Abort>(
+pub(crate) fn assert_broken<R: Files + AllocGlobal + Clock + Threads + Wait + Sync + Abort>(
     rt: &R,
     line: &str,
     at: Step,

@@ -11,7 +11,7 @@ use std::test::Fail;
 use std::thread::Threads;
 use std::time::Clock;
 
-/// A content is told once it is there, after what it lists; of what is there already only what was asked for is told.
+/// A content is printed once it is there, after what it lists; of what is there already only what was asked for is printed.
 #[test]
 fn copy_with_progress(rt: HostRuntime) -> Result<(), Fail> {
     let folder = folder(&rt, "copy_with_progress")?;
@@ -31,6 +31,24 @@ $ rm @/N/<E file>
 $ ocicp copy --progress @/L v1 @/N w
 ! ocicp: 80 DestinationOpen <M0> <E>
 ? 1
+";
+    assert_session(&rt, &folder, IMAGE, session)
+}
+
+/// A copy that descends prints the image that is there, and then the blob that comes below it.
+#[test]
+fn progress_below_what_is_held(rt: HostRuntime) -> Result<(), Fail> {
+    let folder = folder(&rt, "progress_below")?;
+    let session = r"
+$ ocicp copy @/L v1 @/N w
+copied <M0>
+planned 2 pushed 2 skipped 0
+$ rm @/N/<E file>
+$ ocicp copy --progress --descend @/L v1 @/N w
+copied <M0>
+planned 1 pushed 1 skipped 1
+! skipped <M0>
+! pushed <E>
 ";
     assert_session(&rt, &folder, IMAGE, session)
 }

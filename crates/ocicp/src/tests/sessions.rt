@@ -1,4 +1,4 @@
-//! Sessions: what is typed, and what is then told, whole.
+//! Sessions: what is typed, and what is then printed, whole.
 //!
 //! A session is a text. A line `$ ocicp WORDS` runs the program on the words, which have spaces between them; `''` is the
 //! empty word. The lines below it are its output, then, each after `! `, those of its error output, and then, where it is not
@@ -72,7 +72,7 @@ where
     Ok(())
 }
 
-/// What a line tells is what stands below it.
+/// What a line prints is what stands below it.
 fn assert_run<R: Files + AllocGlobal + Clock + Threads + Wait + Sync + Abort>(
     rt: &R,
     run: &str,
@@ -87,7 +87,7 @@ where
     Ok(())
 }
 
-/// What a line tells.
+/// What a line prints.
 fn telling<R: Files + AllocGlobal + Clock + Threads + Wait + Sync>(
     rt: &R,
     line: &str,
@@ -124,7 +124,7 @@ where
     transcript(&Unreadable { rt, part, kind }, words)
 }
 
-/// All that a run of the program tells.
+/// All that a run of the program prints, and its status.
 pub(crate) fn transcript<R: Files + AllocGlobal + Clock + Threads + Wait + Sync>(
     rt: &R,
     words: &str,
@@ -166,7 +166,7 @@ pub(crate) fn told(alloc: Global, out: &[u8], err: &[u8], status: u8) -> Result<
     Ok(told)
 }
 
-/// What a command on files tells.
+/// What a command on files prints.
 fn of_files<R: Files + AllocGlobal>(rt: &R, command: &str, rest: &str) -> Result<String, Fail> {
     match command {
         "cat" => text_of(rt, rest),

@@ -35,7 +35,7 @@ fn locked(rt: &HostRuntime, folder: &str) -> Result<File, Fail> {
     Ok(lock)
 }
 
-/// A copy into a folder that another process has tells this, and goes on once it may.
+/// A copy into a folder that another process has locked says so, and goes on once it may.
 #[test]
 fn a_copy_waits(rt: HostRuntime) -> Result<(), Fail> {
     let folder = folder(&rt, "a_copy_waits")?;

@@ -1,4 +1,4 @@
-//! Folders that are named twice, are not there, are files, or may not be read: each is told, and nothing is lost.
+//! Folders that are named twice, are not there, are files, or may not be read: each is reported, and nothing is lost.
 
 use crate::tests::layouts::IMAGE;
 use crate::tests::sessions::{assert_session, folder};
@@ -97,7 +97,7 @@ v1 <M0>
     assert_session(&rt, &folder, IMAGE, session)
 }
 
-/// A link to a file is that file. A device in the place of a file is told, and not read.
+/// A link to a file is that file. A device in the place of a file is reported, and not read.
 #[test]
 fn links_in_the_place_of_files(rt: HostRuntime) -> Result<(), Fail> {
     let folder = folder(&rt, "links_as_files")?;

@@ -1,5 +1,6 @@
 use crate::tests::layouts::{IMAGE, REFERRERS};
-use crate::tests::sessions::{assert_session, folder};
+use crate::tests::sessions::{assert_runs, assert_session, folder};
+use std::fs;
 use std::test::Fail;
 
 #[test]
@@ -40,7 +41,7 @@ held 1
     assert_session(&rt, &folder, files, session)
 }
 
-/// Several files that do not match are told in key order, and a file that cannot be read is a fault, since nothing is known of it.
+/// Several files that do not match are reported in key order, and a file that cannot be read is a fault, since nothing is known of it.
 #[test]
 fn verify_of_several_files(rt: HostRuntime) -> Result<(), Fail> {
     let folder = folder(&rt, "verify_several")?;
@@ -61,7 +62,37 @@ $ ocicp verify @/R
     assert_session(&rt, &folder, REFERRERS, session)
 }
 
-/// A manifest whose file does not match is told by each command, since nothing is known of what it lists.
+/// A layer of 1 MiB and one byte, each the letter `a`. Its digest was computed with `sha256sum`. That the last byte is another
+/// one is found, though it stands in the second of the parts in which a large blob is read.
+#[test]
+fn verify_of_a_large_layer(rt: HostRuntime) -> Result<(), Fail> {
+    let folder = folder(&rt, "verify_large")?;
+    let files = r#"
+$ write @/V/oci-layout {"imageLayoutVersion":"1.0.0"}
+$ write @/V/index.json {"manifests":[{"mediaType":"application/vnd.oci.image.layer.v1.tar","digest":"sha256:4a3f0c0c213adea174f9a3d4c13177315b588bdb2e9c1012d3d0bf0453ca0f6a","size":1048577}]}
+$ mkdir @/V/blobs/sha256
+"#;
+    assert_runs(&rt, &folder, files)?;
+    let path = format!(in rt.alloc();
+        "{folder}/V/blobs/sha256/4a3f0c0c213adea174f9a3d4c13177315b588bdb2e9c1012d3d0bf0453ca0f6a"
+    )?;
+    let mut layer = vec![in rt.alloc(); b'a'; 1_048_577]?;
+    fs::write(&rt, path.as_str(), layer.as_slice())?;
+    assert_runs(&rt, &folder, "$ ocicp verify @/V\nheld 1\n")?;
+    layer.pop();
+    layer.push(b'b')?;
+    fs::write(&rt, path.as_str(), layer.as_slice())?;
+    let session = r"
+$ ocicp verify @/V
+corrupt sha256:4a3f0c0c213adea174f9a3d4c13177315b588bdb2e9c1012d3d0bf0453ca0f6a 1048577 application/vnd.oci.image.layer.v1.tar
+held 1
+? 1
+";
+    assert_runs(&rt, &folder, session)?;
+    Ok(fs::remove_dir_all(&rt, folder.as_str())?)
+}
+
+/// A manifest whose file does not match is reported by each command, since nothing is known of what it lists.
 #[test]
 fn verify_of_a_changed_manifest(rt: HostRuntime) -> Result<(), Fail> {
     let folder = folder(&rt, "verify_manifest")?;

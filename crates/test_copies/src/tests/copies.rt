@@ -2,8 +2,9 @@
 
 use oci_copy::{CopyFault, Options, Report, copy_graph, copy_one};
 use oci_manifest::Key;
+use oci_plan::Existing;
 use oci_pool::{Hooks, NoHooks};
-use oci_store::{Dest, Source};
+use oci_store::{Dest, MemoryStore, Source};
 use std::alloc::Global;
 use std::process::Abort;
 use std::sync::Wait;
@@ -21,10 +22,46 @@ pub(crate) fn assert_holds<R: AllocGlobal + Abort, A: Source + Dest>(
     Ok(())
 }
 
+/// The entry at a place is the sample.
+fn is_entry(
+    alloc: Global,
+    store: &MemoryStore,
+    place: usize,
+    sample: Sample,
+) -> Result<bool, Fail> {
+    let (key, bytes) = (sample.key(alloc)?, sample.bytes(alloc)?);
+    Ok(match store.entry(place) {
+        Some((found, content)) => *found == key && *content == bytes,
+        None => false,
+    })
+}
+
+/// The entries of the store are these samples, in this order.
+pub(crate) fn assert_entries<R: AllocGlobal + Abort>(
+    rt: &R,
+    store: &MemoryStore,
+    samples: &[Sample],
+) -> Result<(), Fail> {
+    assert_eq!(rt; store.len(), samples.len());
+    for (place, sample) in samples.iter().enumerate() {
+        assert!(rt; is_entry(rt.alloc(), store, place, *sample)?, "{place}");
+    }
+    Ok(())
+}
+
 /// The options of a copy by so many workers.
 pub(crate) fn by(workers: u32) -> Options {
     Options {
         workers,
+        ..Options::default()
+    }
+}
+
+/// The options of a copy by so many workers that descends.
+pub(crate) fn descending_by(workers: u32) -> Options {
+    Options {
+        workers,
+        existing: Existing::Descend,
         ..Options::default()
     }
 }

@@ -1,7 +1,7 @@
 //! Copies of samples with `Existing::Descend` beside the same with `Existing::Skip`, from stores in memory to stores in memory that
 //! may be open, on one thread and by workers.
 
-use super::copies::line;
+use super::copies::{assert_entries, line};
 use oci_copy::{
     CopyFault, Options, Report, copy_graph, copy_one, repair_memory, repair_memory_by_workers,
 };
@@ -15,7 +15,7 @@ use std::sync::Wait;
 use std::test::Fail;
 use std::thread::Threads;
 use test_support::Sample::{Empty, Foo, Image0, Image2};
-use test_support::{Sample, holds, is_closed, keys, memory};
+use test_support::{Sample, is_closed, keys, memory};
 
 /// A destination, and what comes of a copy into it.
 #[derive(Clone, Copy)]
@@ -27,7 +27,7 @@ struct Row<'a> {
     skipping: &'a str,
     /// What is told where the copy descends.
     descending: &'a str,
-    /// What the destination has after the copy that descends, and whether it is closed then.
+    /// The entries of the destination after the copy that descends, in their order, and whether it is closed then.
     copied: &'a [Sample],
     is_closed: bool,
 }
@@ -97,7 +97,26 @@ fn assert_skipped<R: AllocGlobal + Abort>(
 ) -> Result<(), Fail> {
     let told = line(rt.alloc(), &answer)?;
     assert_eq!(rt; told.as_str(), row.skipping);
-    assert!(rt; holds(rt.alloc(), &destination, row.destination)?);
+    assert_entries(rt, &destination, row.destination)
+}
+
+fn assert_told<R: AllocGlobal + Abort>(
+    rt: &R,
+    answer: &Result<Report, CopyFault>,
+    want: &str,
+) -> Result<(), Fail> {
+    let told = line(rt.alloc(), answer)?;
+    assert_eq!(rt; told.as_str(), want);
+    Ok(())
+}
+
+fn assert_left<R: AllocGlobal + Abort>(
+    rt: &R,
+    destination: &MemoryStore,
+    row: Row<'_>,
+) -> Result<(), Fail> {
+    assert_entries(rt, destination, row.copied)?;
+    assert_eq!(rt; is_closed(destination)?, row.is_closed);
     Ok(())
 }
 
@@ -107,11 +126,8 @@ fn assert_descended<R: AllocGlobal + Abort>(
     row: Row<'_>,
     (destination, answer): Copied,
 ) -> Result<(), Fail> {
-    let told = line(rt.alloc(), &answer)?;
-    assert_eq!(rt; told.as_str(), row.descending);
-    assert!(rt; holds(rt.alloc(), &destination, row.copied)?);
-    assert_eq!(rt; is_closed(&destination)?, row.is_closed);
-    Ok(())
+    assert_told(rt, &answer, row.descending)?;
+    assert_left(rt, &destination, row)
 }
 
 /// The row on one thread, and with one worker, with three and with 64.

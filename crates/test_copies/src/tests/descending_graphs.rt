@@ -57,21 +57,51 @@ fn without_every_third(alloc: Global, store: &MemoryStore) -> Result<MemoryStore
     Ok(damaged)
 }
 
+/// The copy that descends, with its answer as text.
+fn told_of_descended<R: AllocGlobal + Threads + Wait + Sync>(
+    rt: &R,
+    source: &MemoryStore,
+    opening: MemoryStore,
+    root: &Key,
+    workers: u32,
+) -> Result<(MemoryStore, String), Fail> {
+    let (destination, answer) = descended(rt, source, opening, root, workers);
+    let told = line(rt.alloc(), &answer)?;
+    Ok((destination, told))
+}
+
+/// The store has what the source has, and is closed.
+fn assert_whole<R: AllocGlobal + Abort>(
+    rt: &R,
+    repaired: &MemoryStore,
+    source: &MemoryStore,
+) -> Result<(), Fail> {
+    assert_eq!(rt; repaired.len(), source.len());
+    assert!(rt; has_all(repaired, source));
+    assert!(rt; is_closed(repaired)?);
+    Ok(())
+}
+
+fn assert_repaired<R: AllocGlobal + Threads + Wait + Sync + Abort>(
+    rt: &R,
+    source: &MemoryStore,
+    root: &Key,
+    workers: u32,
+) -> Result<(), Fail> {
+    let damaged = without_every_third(rt.alloc(), source)?;
+    assert_eq!(rt; damaged.len(), 2_000);
+    let (repaired, told) = told_of_descended(rt, source, damaged, root, workers)?;
+    assert_eq!(rt; told.as_str(), "planned 1001 pushed 1001 skipped 0");
+    assert_whole(rt, &repaired, source)
+}
+
 /// A chain of images of which every third content is missing is whole again. The last image is one of those.
 #[test]
 fn long_chain(rt: HostRuntime) -> Result<(), Fail> {
-    let alloc = rt.alloc();
-    let mut source = memory(alloc, &[Empty])?;
-    let root = put_chain(alloc, &mut source, 3_000)?;
+    let mut source = memory(rt.alloc(), &[Empty])?;
+    let root = put_chain(rt.alloc(), &mut source, 3_000)?;
     for workers in [0, 1, 3, 64] {
-        let damaged = without_every_third(alloc, &source)?;
-        assert_eq!(&rt; damaged.len(), 2_000);
-        let (repaired, answer) = descended(&rt, &source, damaged, &root, workers);
-        let told = line(alloc, &answer)?;
-        assert_eq!(&rt; told.as_str(), "planned 1001 pushed 1001 skipped 0");
-        assert_eq!(&rt; repaired.len(), source.len());
-        assert!(&rt; has_all(&repaired, &source));
-        assert!(&rt; is_closed(&repaired)?);
+        assert_repaired(&rt, &source, &root, workers)?;
     }
     Ok(())
 }
@@ -224,21 +254,24 @@ fn reached_by_marking(alloc: Global, graph: &Graph) -> Result<Wanted, AllocError
     Ok(wanted)
 }
 
+/// The key of the last number of a graph.
+fn last_key(alloc: Global, graph: &Graph) -> Result<Key, Fail> {
+    match graph.contents.last() {
+        Some(last) => Ok(last.key(alloc)?),
+        None => Err(Fail::from("the graph is empty")),
+    }
+}
+
 /// Copies the last number of a graph by so many workers, and gives what is left and what is told.
 fn copied_last<R: AllocGlobal + Threads + Wait + Sync>(
     rt: &R,
     graph: &Graph,
     workers: u32,
 ) -> Result<(MemoryStore, String), Fail> {
-    let alloc = rt.alloc();
-    let source = marked_store(alloc, &graph.contents, &graph.in_source)?;
-    let opening = marked_store(alloc, &graph.contents, &graph.in_destination)?;
-    let Some(last) = graph.contents.last() else {
-        return Err(Fail::from("the graph is empty"));
-    };
-    let (destination, answer) = descended(rt, &source, opening, &last.key(alloc)?, workers);
-    let told = line(alloc, &answer)?;
-    Ok((destination, told))
+    let last = last_key(rt.alloc(), graph)?;
+    let source = marked_store(rt.alloc(), &graph.contents, &graph.in_source)?;
+    let opening = marked_store(rt.alloc(), &graph.contents, &graph.in_destination)?;
+    told_of_descended(rt, &source, opening, &last, workers)
 }
 
 /// How what is told begins.

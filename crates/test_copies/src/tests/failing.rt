@@ -6,7 +6,7 @@ use std::sync::Wait;
 use std::test::Fail;
 use std::thread::Threads;
 use test_support::Sample::{Bar, Empty, Foo, Image2, Image3, Index1};
-use test_support::{Device, DeviceStore, Sample, closed, is_closed, on_device};
+use test_support::{Device, DeviceStore, FailingClosedStore, Sample, closed, is_closed, on_device};
 
 const ALL: [Sample; 6] = [Empty, Foo, Bar, Image2, Image3, Index1];
 
@@ -26,18 +26,21 @@ where
     }
 }
 
-/// Copies it from a store in memory into a device.
-fn copied_into<'d, R: AllocGlobal + Threads + Wait + Sync>(
+/// Copies it from a store in memory into a store that fails.
+fn copied_into<D: Dest + Drop + Send, R: AllocGlobal + Threads + Wait + Sync>(
     rt: &R,
-    destination: DeviceStore<'d>,
+    destination: D,
     workers: Option<u32>,
-) -> Result<(DeviceStore<'d>, String), Fail> {
+) -> Result<(D, String), Fail>
+where
+    D::Draft: Send,
+{
     let source = closed(rt.alloc(), &ALL)?;
     copied(rt, &source, destination, workers)
 }
 
-/// Whether this tells that the put of one of the samples failed, which the destination then does not hold.
-fn names_missing(alloc: Global, destination: &DeviceStore<'_>, told: &str) -> Result<bool, Fail> {
+/// Whether this tells that the push of one of the samples failed, which the destination then does not hold.
+fn names_missing<D: Dest>(alloc: Global, destination: &D, told: &str) -> Result<bool, Fail> {
     for sample in ALL {
         let key = sample.key(alloc)?;
         let line = format!(in alloc; "82 Push {key} 43 Device")?;
@@ -48,16 +51,56 @@ fn names_missing(alloc: Global, destination: &DeviceStore<'_>, told: &str) -> Re
     Ok(false)
 }
 
-/// A put failed, and what was pushed is closed.
-fn assert_failed<R: AllocGlobal + Abort>(
+/// A push failed, and what was pushed before is closed.
+fn assert_failed<R: AllocGlobal + Abort, D: Dest>(
     rt: &R,
-    destination: &DeviceStore<'_>,
+    destination: &D,
     told: &str,
 ) -> Result<(), Fail> {
     assert!(rt; names_missing(rt.alloc(), destination, told)?, "{told}");
     assert_eq!(rt; destination.failures(), 1);
     assert!(rt; is_closed(destination)?);
     Ok(())
+}
+
+/// A copy into a store of which a push fails, which is refused: what it left.
+fn left_by_refused<D: Dest + Drop + Send, R: AllocGlobal + Threads + Wait + Sync + Abort>(
+    rt: &R,
+    destination: D,
+    workers: Option<u32>,
+) -> Result<D, Fail>
+where
+    D::Draft: Send,
+{
+    let (destination, told) = copied_into(rt, destination, workers)?;
+    assert_failed(rt, &destination, told.as_str())?;
+    Ok(destination)
+}
+
+/// The same copy again brings the rest.
+fn assert_finished<A: Dest + Source + Drop + Send, R: AllocGlobal + Threads + Wait + Sync + Abort>(
+    rt: &R,
+    destination: A,
+    workers: Option<u32>,
+) -> Result<(), Fail>
+where
+    A::Draft: Send,
+{
+    let rest = 6u64.saturating_sub(destination.count() as u64);
+    let (destination, told) = copied_into(rt, destination, workers)?;
+    let want = format!(in rt.alloc(); "planned {rest} pushed {rest} skipped 0")?;
+    assert_eq!(rt; told.as_str(), want.as_str());
+    assert_holds(rt, &destination, &ALL)
+}
+
+/// The third push into a closed store fails. The plan leaves the order of the pushes open, so any key that is not held may be the
+/// third one.
+#[test]
+fn failing_push(rt: HostRuntime) -> Result<(), Fail> {
+    let failing = FailingClosedStore::after(closed(rt.alloc(), &[])?, 2);
+    let destination = left_by_refused(&rt, failing, None)?;
+    assert_eq!(&rt; destination.count(), 2);
+    assert_finished(&rt, destination, None)
 }
 
 /// A copy into a device that fails the put after so many, and the same copy again: how many contents the first one left.
@@ -67,21 +110,16 @@ fn left_by_failed<R: AllocGlobal + Threads + Wait + Sync + Abort>(
     workers: Option<u32>,
 ) -> Result<u64, Fail> {
     let device = Device::failing(Some(passing), None);
-    let (destination, told) = copied_into(rt, on_device(rt.alloc(), &device, &[])?, workers)?;
-    assert_failed(rt, &destination, told.as_str())?;
+    let destination = left_by_refused(rt, on_device(rt.alloc(), &device, &[])?, workers)?;
     let left = destination.count() as u64;
-    let (destination, told) = copied_into(rt, destination, workers)?;
-    let rest = 6u64.saturating_sub(left);
-    let want = format!(in rt.alloc(); "planned {rest} pushed {rest} skipped 0")?;
-    assert_eq!(rt; told.as_str(), want.as_str());
-    assert_holds(rt, &destination, &ALL)?;
+    assert_finished(rt, destination, workers)?;
     Ok(left)
 }
 
-/// One push fails, and the copy is refused; the same copy into what came back brings the rest. On one thread what was pushed before
+/// One put fails, and the copy is refused; the same copy into what came back brings the rest. On one thread what was pushed before
 /// is there; workers may have gone on with what was begun.
 #[test]
-fn failing_push(rt: HostRuntime) -> Result<(), Fail> {
+fn failing_puts(rt: HostRuntime) -> Result<(), Fail> {
     for passing in 0..6u64 {
         let left = left_by_failed(&rt, passing, None)?;
         assert_eq!(rt; left, passing);

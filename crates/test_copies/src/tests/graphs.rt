@@ -1,4 +1,6 @@
-use crate::tests::copies::{assert_holds, by, copied_samples, copied_samples_on_one_thread, line};
+use crate::tests::copies::{
+    assert_entries, assert_holds, by, copied_samples, copied_samples_on_one_thread, line,
+};
 use oci_copy::{CopyFault, Options, Report, copy_memory, copy_memory_by_workers};
 use oci_manifest::Key;
 use oci_pool::NoHooks;
@@ -146,18 +148,34 @@ fn assert_copied<R: AllocGlobal + Threads + Wait + Sync + Abort>(
     Ok(())
 }
 
+/// The row's copy leaves its contents as entries in this order, by so many workers or on one thread.
+fn assert_in_order<R: AllocGlobal + Threads + Wait + Sync + Abort>(
+    rt: &R,
+    row: Row<'_>,
+    workers: Option<u32>,
+) -> Result<(), Fail> {
+    let (destination, told) = match workers {
+        Some(workers) => copied_row(rt, row, workers)?,
+        None => row_on_one_thread(rt.alloc(), row)?,
+    };
+    assert_eq!(rt; told.as_str(), row.told);
+    assert_entries(rt, destination.memory(), row.copied)
+}
+
+/// The config comes before the image that lists it, on one thread and by workers.
 #[test]
 fn one_image(rt: HostRuntime) -> Result<(), Fail> {
-    assert_copied(
-        &rt,
-        Row {
-            source: &[Empty, Image0],
-            destination: &[],
-            roots: &[Image0],
-            told: "planned 2 pushed 2 skipped 0",
-            copied: &[Empty, Image0],
-        },
-    )
+    let row = Row {
+        source: &[Empty, Image0],
+        destination: &[],
+        roots: &[Image0],
+        told: "planned 2 pushed 2 skipped 0",
+        copied: &[Empty, Image0],
+    };
+    for workers in [None, Some(1), Some(3), Some(64)] {
+        assert_in_order(&rt, row, workers)?;
+    }
+    Ok(())
 }
 
 #[test]

@@ -1,12 +1,14 @@
-use crate::tests::copies::copied_samples_with;
+use crate::tests::copies::{copied_samples_with, descending_by, line};
+use oci_copy::copy_graph;
 use oci_manifest::Key;
 use oci_pool::Hooks;
+use std::alloc::Global;
 use std::sync::Wait;
 use std::sync::atomic::{AtomicU64, Ordering};
 use std::test::Fail;
 use std::thread::Threads;
-use test_support::Sample::{Bar, Empty, Foo, Image2, Image3, Index1};
-use test_support::{Device, DeviceStore, memory, on_device};
+use test_support::Sample::{Bar, Empty, Foo, Image0, Image2, Image3, Index1};
+use test_support::{Device, DeviceStore, keys, memory, on_device};
 
 /// Hooks that count their calls, and those that come out of order.
 #[derive(Drop)]
@@ -89,5 +91,83 @@ fn calls_of_hooks(rt: HostRuntime) -> Result<(), Fail> {
     assert_eq!(rt; hooks.pushed(), 3);
     assert_eq!(rt; hooks.ended.load(Ordering::SeqCst), 3);
     assert_eq!(rt; hooks.late.load(Ordering::SeqCst), 0);
+    Ok(())
+}
+
+/// Hooks that know which roots they are to be told as held, in their order.
+#[derive(Drop)]
+struct Naming {
+    held: Vec<Key>,
+    /// How many roots were told as held, and how many keys began.
+    skipped: AtomicU64,
+    began: AtomicU64,
+    /// Roots that were told out of turn, or once a key had begun.
+    wrong: AtomicU64,
+}
+
+impl Naming {
+    fn new(held: Vec<Key>) -> Naming {
+        Naming {
+            held,
+            skipped: AtomicU64::new(0),
+            began: AtomicU64::new(0),
+            wrong: AtomicU64::new(0),
+        }
+    }
+
+    fn is_next(&self, key: &Key) -> bool {
+        let place = self.skipped.fetch_add(1, Ordering::SeqCst);
+        match self.held.get(place as usize) {
+            Some(held) => *held == *key,
+            None => false,
+        }
+    }
+}
+
+impl Hooks for Naming {
+    fn pre_copy(&self, _key: &Key) {
+        self.began.fetch_add(1, Ordering::SeqCst);
+    }
+
+    fn post_copy(&self, _key: &Key) {}
+
+    fn skipped(&self, key: &Key) {
+        if !self.is_next(key) || self.began.load(Ordering::SeqCst) > 0 {
+            self.wrong.fetch_add(1, Ordering::SeqCst);
+        }
+    }
+}
+
+/// Copies two images and a layer, of which the layer and an image without its config are held, by so many workers that descend.
+fn copied_below<R: AllocGlobal + Threads + Wait + Sync>(
+    rt: &R,
+    workers: u32,
+    hooks: &Naming,
+) -> Result<String, Fail> {
+    let alloc = rt.alloc();
+    let source = memory(alloc, &[Empty, Foo, Image0, Image2])?;
+    let open = memory(alloc, &[Image0, Foo])?;
+    let roots = keys(alloc, &[Foo, Image2, Image0, Foo])?;
+    let options = descending_by(workers);
+    let (_, answer) = copy_graph(rt, alloc, &source, open, &roots, &options, hooks);
+    line(alloc, &answer)
+}
+
+/// The hooks for held roots, which are a layer and an image in the order of the roots.
+fn for_held_roots(alloc: Global) -> Result<Naming, Fail> {
+    Ok(Naming::new(keys(alloc, &[Foo, Image0])?))
+}
+
+/// A copy that descends tells held roots as one that skips them: each once, in their order, and first.
+#[test]
+fn calls_of_hooks_below_held_keys(rt: HostRuntime) -> Result<(), Fail> {
+    for workers in [1, 3] {
+        let hooks = for_held_roots(rt.alloc())?;
+        let told = copied_below(&rt, workers, &hooks)?;
+        assert_eq!(&rt; told.as_str(), "planned 2 pushed 2 skipped 2");
+        assert_eq!(&rt; hooks.skipped.load(Ordering::SeqCst), 2);
+        assert_eq!(&rt; hooks.began.load(Ordering::SeqCst), 2);
+        assert_eq!(&rt; hooks.wrong.load(Ordering::SeqCst), 0);
+    }
     Ok(())
 }

@@ -2,7 +2,7 @@ use crate::tests::copies::copied_samples_with;
 use bytes::Bytes;
 use oci_manifest::Key;
 use oci_pool::{Hooks, NoHooks};
-use oci_store::{FetchFault, Source, Store};
+use oci_store::{FetchFault, MemoryStore, Source, Store};
 use std::sync::Wait;
 use std::sync::atomic::{AtomicU64, Ordering};
 use std::test::Fail;
@@ -10,16 +10,23 @@ use std::thread::Threads;
 use test_support::Sample::{Bar, Foo};
 use test_support::{closed, memory};
 
-/// A place that two workers are to be at together: whoever comes waits for the other, for some seconds at most.
+/// A place that two workers are to be at together: whoever comes looks for the other so often, and then gives up.
 #[derive(Drop)]
 struct MeetingPlace {
+    looks: u64,
     came: AtomicU64,
     met: AtomicU64,
 }
 
 impl MeetingPlace {
+    /// One at which nobody gives up for some seconds.
     fn new() -> MeetingPlace {
+        MeetingPlace::looking(1_000_000_000)
+    }
+
+    fn looking(looks: u64) -> MeetingPlace {
         MeetingPlace {
+            looks,
             came: AtomicU64::new(0),
             met: AtomicU64::new(0),
         }
@@ -27,7 +34,7 @@ impl MeetingPlace {
 
     fn come(&self) {
         self.came.fetch_add(1, Ordering::SeqCst);
-        for _ in 0..1_000_000_000u64 {
+        for _ in 0..self.looks {
             if self.came.load(Ordering::SeqCst) >= 2 {
                 self.met.fetch_add(1, Ordering::SeqCst);
                 break;
@@ -89,15 +96,76 @@ impl<S: Source> Source for MeetingStore<S> {
     }
 }
 
+/// A store whose fetches may fail, so that layers are read part by part. Each such read comes to a meeting.
+#[derive(Drop)]
+struct PartsMeet {
+    store: MemoryStore,
+    meeting: MeetingPlace,
+}
+
+impl Store for PartsMeet {
+    ghost use Rattle.std.specs.Prelude.{true, [], ⊤};
+    ghost use Rattle.std.proofs.Common.{refl};
+    ghost use Rattle.oci_store.specs.Graph.{nodes_of};
+    ghost use Rattle.oci_store.specs.GraphLaws.{keys_of-nodes_of};
+
+    ghost state = { λ s. record {
+      nodes = nodes_of s.store.entries;
+      entries = s.store.entries;
+      tags = s.store.tags;
+      name = [];
+      failures = 0;
+      fails_at = λ k. true;
+      is_honest = ⊤;
+      is_sound = ⊤;
+      is_halted = ⊥;
+    } };
+
+    ghost same_keys = { λ s. keys_of-nodes_of s.store.entries };
+
+    ghost trusted = { λ s _. tt };
+
+    ghost listed = { λ s _. refl };
+}
+
+impl Source for PartsMeet {
+    fn exists(&self, key: &Key) -> bool {
+        self.store.exists(key)
+    }
+
+    fn may_fail(&self, _key: &Key) -> bool {
+        true
+    }
+
+    fn fetch(&self, key: &Key) -> Result<Bytes, FetchFault> {
+        self.store.fetch(key)
+    }
+
+    fn fetch_part(&self, key: &Key, from: u64, most: usize) -> Result<Bytes, FetchFault> {
+        self.meeting.come();
+        self.store.fetch_part(key, from, most)
+    }
+}
+
+/// Copies two layers by so many workers.
+fn copied_two_by<R: AllocGlobal + Threads + Wait + Sync, A: Source + Sync, H: Hooks + Sync>(
+    rt: &R,
+    source: &A,
+    workers: u32,
+    hooks: &H,
+) -> Result<String, Fail> {
+    let destination = closed(rt.alloc(), &[])?;
+    let (_, told) = copied_samples_with(rt, source, destination, &[Foo, Bar], workers, hooks)?;
+    Ok(told)
+}
+
 /// Copies two layers by two workers.
 fn copied_two<R: AllocGlobal + Threads + Wait + Sync, A: Source + Sync, H: Hooks + Sync>(
     rt: &R,
     source: &A,
     hooks: &H,
 ) -> Result<String, Fail> {
-    let destination = closed(rt.alloc(), &[])?;
-    let (_, told) = copied_samples_with(rt, source, destination, &[Foo, Bar], 2, hooks)?;
-    Ok(told)
+    copied_two_by(rt, source, 2, hooks)
 }
 
 /// Two workers are at work at once: each of two keys waits for the other to have begun.
@@ -112,6 +180,18 @@ fn meeting(rt: HostRuntime) -> Result<(), Fail> {
     Ok(())
 }
 
+/// One worker begins with a key and gives up, since the other key has not begun; with the other it finds that the first has.
+#[test]
+fn meeting_of_one_worker(rt: HostRuntime) -> Result<(), Fail> {
+    let hooks = MeetingHooks {
+        meeting: MeetingPlace::looking(1_000),
+    };
+    let told = copied_two_by(&rt, &memory(rt.alloc(), &[Foo, Bar])?, 1, &hooks)?;
+    assert_eq!(rt; told.as_str(), "planned 2 pushed 2 skipped 0");
+    assert_eq!(rt; hooks.meeting.met(), 1);
+    Ok(())
+}
+
 /// Two workers fetch at once, so none of them has the destination's lock meanwhile.
 #[test]
 fn fetches_meet(rt: HostRuntime) -> Result<(), Fail> {
@@ -122,5 +202,18 @@ fn fetches_meet(rt: HostRuntime) -> Result<(), Fail> {
     let told = copied_two(&rt, &source, &NoHooks)?;
     assert_eq!(rt; told.as_str(), "planned 2 pushed 2 skipped 0");
     assert!(rt; source.meeting.met() >= 2);
+    Ok(())
+}
+
+/// Two workers read parts of two layers at once, so none of them has the destination's lock meanwhile.
+#[test]
+fn parts_meet(rt: HostRuntime) -> Result<(), Fail> {
+    let source = PartsMeet {
+        store: memory(rt.alloc(), &[Foo, Bar])?,
+        meeting: MeetingPlace::new(),
+    };
+    let told = copied_two(&rt, &source, &NoHooks)?;
+    assert_eq!(rt; told.as_str(), "planned 2 pushed 2 skipped 0");
+    assert_eq!(rt; source.meeting.met(), 2);
     Ok(())
 }

@@ -1,5 +1,5 @@
-use crate::tests::copies::{assert_holds, by};
-use oci_copy::{CopyFault, Report, copy};
+use crate::tests::copies::{assert_entries, assert_holds, by, descending_by};
+use oci_copy::{CopyFault, Options, Report, copy};
 use oci_manifest::Key;
 use oci_pool::NoHooks;
 use oci_store::{ClosedStore, Dest, MemoryStore, Source, Tagger};
@@ -49,12 +49,12 @@ pub(crate) fn told_by_reference(
     })
 }
 
-/// The references and the number of workers of a copy.
+/// The references and the options of a copy.
 #[derive(Clone, Copy)]
 struct Words<'a> {
     from: &'a str,
     to: &'a str,
-    workers: u32,
+    options: Options,
 }
 
 /// Copies by reference.
@@ -66,7 +66,6 @@ fn copied_by<
 where
     D::Draft: Send,
 {
-    let options = by(words.workers);
     copy(
         rt,
         rt.alloc(),
@@ -74,7 +73,7 @@ where
         words.from,
         destination,
         words.to,
-        &options,
+        &words.options,
         &NoHooks,
     )
 }
@@ -114,7 +113,7 @@ fn copied_row<R: AllocGlobal + Threads + Wait + Sync>(
     let words = Words {
         from: row.from,
         to: row.to,
-        workers: 0,
+        options: by(0),
     };
     copied(rt, &source, closed(rt.alloc(), &[])?, words)
 }
@@ -218,7 +217,7 @@ fn assert_refused<R: AllocGlobal + Threads + Wait + Sync + Abort>(
     let words = Words {
         from,
         to: "",
-        workers,
+        options: by(workers),
     };
     assert_unchanged(rt, &source, words, want)
 }
@@ -245,7 +244,61 @@ fn copy_of_a_hole(rt: HostRuntime) -> Result<(), Fail> {
     let words = Words {
         from: "m",
         to: "v1",
-        workers: 3,
+        options: by(3),
     };
     assert_unchanged(&rt, &source, words, want.as_str())
+}
+
+/// What is told of a destination that has the image without its config.
+fn open_image(alloc: Global) -> Result<String, Fail> {
+    let (holder, missing) = (Image0.key(alloc)?, Empty.key(alloc)?);
+    Ok(format!(in alloc; "80 DestinationOpen {holder} {missing}")?)
+}
+
+/// A copy into a store that has the image without its config.
+fn copied_into_open<R: AllocGlobal + Threads + Wait + Sync>(
+    rt: &R,
+    options: Options,
+) -> Result<(MemoryStore, String), Fail> {
+    let source = named(rt.alloc(), Image0)?;
+    let words = Words {
+        from: "m",
+        to: "v1",
+        options,
+    };
+    copied(rt, &source, memory(rt.alloc(), &[Image0])?, words)
+}
+
+/// Where held keys are skipped, an open destination is refused and takes no name.
+fn assert_open<R: AllocGlobal + Threads + Wait + Sync + Abort>(
+    rt: &R,
+    workers: u32,
+) -> Result<(), Fail> {
+    let (destination, told) = copied_into_open(rt, by(workers))?;
+    let want = open_image(rt.alloc())?;
+    assert_eq!(rt; told.as_str(), want.as_str());
+    assert!(rt; destination.tags()?.is_empty());
+    assert_entries(rt, &destination, &[Image0])
+}
+
+/// A copy that descends brings what the held image lacks, and names the image.
+fn assert_mended<R: AllocGlobal + Threads + Wait + Sync + Abort>(
+    rt: &R,
+    workers: u32,
+) -> Result<(), Fail> {
+    let (destination, told) = copied_into_open(rt, descending_by(workers))?;
+    let key = Image0.key(rt.alloc())?;
+    let want = told_of(rt.alloc(), &key, "planned 1 pushed 1 skipped 1")?;
+    assert_eq!(rt; told.as_str(), want.as_str());
+    assert_name(rt, &destination, "v1", &key)?;
+    assert_entries(rt, &destination, &[Image0, Empty])
+}
+
+#[test]
+fn copy_below_a_held_image(rt: HostRuntime) -> Result<(), Fail> {
+    for workers in [1, 3] {
+        assert_open(&rt, workers)?;
+        assert_mended(&rt, workers)?;
+    }
+    Ok(())
 }

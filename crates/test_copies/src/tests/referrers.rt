@@ -1,9 +1,9 @@
-use crate::tests::copies::{assert_holds, by, copied_samples, line};
+use crate::tests::copies::{assert_holds, by, copied_samples, descending_by, line};
 use crate::tests::references::{assert_name, told_by_reference};
-use oci_copy::{CopyFault, Report, extended_copy, extended_copy_graph};
+use oci_copy::{CopyFault, Options, Report, extended_copy, extended_copy_graph};
 use oci_manifest::Key;
 use oci_pool::NoHooks;
-use oci_store::{ClosedStore, Dest, GraphSource, MemoryStore, Tagger};
+use oci_store::{Dest, GraphSource, MemoryStore, Tagger};
 use std::alloc::Global;
 use std::process::Abort;
 use std::sync::Wait;
@@ -25,12 +25,12 @@ fn extended_by<
     key: &Key,
     depth: u32,
     destination: D,
-    workers: u32,
+    options: Options,
 ) -> (D, Result<Report, CopyFault>)
 where
     D::Draft: Send,
 {
-    let (alloc, options) = (rt.alloc(), by(workers));
+    let alloc = rt.alloc();
     extended_copy_graph(
         rt,
         alloc,
@@ -50,13 +50,13 @@ fn extended<R: AllocGlobal + Threads + Wait + Sync, D: Dest + Drop + Send>(
     sample: Sample,
     depth: u32,
     destination: D,
-    workers: u32,
+    options: Options,
 ) -> Result<(D, String), Fail>
 where
     D::Draft: Send,
 {
     let key = sample.key(rt.alloc())?;
-    let (destination, answer) = extended_by(rt, source, &key, depth, destination, workers);
+    let (destination, answer) = extended_by(rt, source, &key, depth, destination, options);
     let told = line(rt.alloc(), &answer)?;
     Ok((destination, told))
 }
@@ -70,7 +70,7 @@ fn assert_brought<R: AllocGlobal + Threads + Wait + Sync + Abort>(
     samples: &[Sample],
 ) -> Result<(), Fail> {
     let empty = closed(rt.alloc(), &[])?;
-    let (destination, told) = extended(rt, source, Image2, depth, empty, 0)?;
+    let (destination, told) = extended(rt, source, Image2, depth, empty, by(0))?;
     assert_eq!(rt; told.as_str(), report);
     assert_holds(rt, &destination, samples)
 }
@@ -117,7 +117,7 @@ fn assert_refused<R: AllocGlobal + Threads + Wait + Sync + Abort>(
 ) -> Result<(), Fail> {
     let source = memory(rt.alloc(), &[Empty, Image0])?;
     let store = memory(rt.alloc(), destination)?;
-    let (store, told) = extended(rt, &source, Bar, 3, store, workers)?;
+    let (store, told) = extended(rt, &source, Bar, 3, store, by(workers))?;
     assert_eq!(rt; told.as_str(), want);
     assert_holds(rt, &store, destination)
 }
@@ -159,12 +159,12 @@ fn extended_named<
     source: &A,
     from: &str,
     destination: D,
-    workers: u32,
+    options: Options,
 ) -> (D, Result<(Key, Report), CopyFault>)
 where
     D::Draft: Send,
 {
-    let (alloc, options) = (rt.alloc(), by(workers));
+    let alloc = rt.alloc();
     extended_copy(
         rt,
         alloc,
@@ -179,14 +179,17 @@ where
 }
 
 /// The same of a signed image, with the answer as text.
-fn extended_image<R: AllocGlobal + Threads + Wait + Sync>(
+fn extended_image<R: AllocGlobal + Threads + Wait + Sync, D: Dest + Tagger + Drop + Send>(
     rt: &R,
     from: &str,
-    destination: ClosedStore,
-    workers: u32,
-) -> Result<(ClosedStore, String), Fail> {
+    destination: D,
+    options: Options,
+) -> Result<(D, String), Fail>
+where
+    D::Draft: Send,
+{
     let source = signed_image(rt.alloc())?;
-    let (destination, answer) = extended_named(rt, &source, from, destination, workers);
+    let (destination, answer) = extended_named(rt, &source, from, destination, options);
     let told = told_by_reference(rt.alloc(), &answer)?;
     Ok((destination, told))
 }
@@ -194,7 +197,7 @@ fn extended_image<R: AllocGlobal + Threads + Wait + Sync>(
 /// The image comes with what lists it, and the name is the image's.
 #[test]
 fn referrers_of_a_tag(rt: HostRuntime) -> Result<(), Fail> {
-    let (destination, told) = extended_image(&rt, "t", closed(rt.alloc(), &[])?, 0)?;
+    let (destination, told) = extended_image(&rt, "t", closed(rt.alloc(), &[])?, by(0))?;
     let key = Image2.key(rt.alloc())?;
     let want = format!(in rt.alloc(); "{key} planned 5 pushed 5 skipped 0")?;
     assert_eq!(rt; told.as_str(), want.as_str());
@@ -212,7 +215,7 @@ fn assert_unnamed<R: AllocGlobal + Threads + Wait + Sync + Abort>(
     let mut store = closed(rt.alloc(), &[Empty])?;
     let key = Empty.key(rt.alloc())?;
     name(&mut store, &key, "e");
-    let (store, told) = extended_image(rt, from, store, workers)?;
+    let (store, told) = extended_image(rt, from, store, by(workers))?;
     assert_eq!(rt; told.as_str(), want);
     assert_holds(rt, &store, &[Empty])?;
     assert_name(rt, store.memory(), "e", &key)
@@ -223,4 +226,79 @@ fn refused_references_of_extended_copies(rt: HostRuntime) -> Result<(), Fail> {
     assert_unnamed(&rt, "x", 65, "87 Reference 36 UnknownReference")?;
     assert_unnamed(&rt, "", 0, "87 Reference 35 EmptyReference")?;
     assert_unnamed(&rt, "t", 65, "85 BadWorkers")
+}
+
+/// What is told of a destination that has the image without its config.
+fn open_image(alloc: Global) -> Result<String, Fail> {
+    let (holder, missing) = (Image2.key(alloc)?, Empty.key(alloc)?);
+    Ok(format!(in alloc; "80 DestinationOpen {holder} {missing}")?)
+}
+
+/// The copy of an image and all above it, with these options, into a store that has the image and what lists it from afar.
+fn extended_into_open<R: AllocGlobal + Threads + Wait + Sync>(
+    rt: &R,
+    options: Options,
+) -> Result<(MemoryStore, String), Fail> {
+    let source = signed_image(rt.alloc())?;
+    let open = memory(rt.alloc(), &[Image2, Index4])?;
+    extended(rt, &source, Image2, 0, open, options)
+}
+
+fn assert_left<R: AllocGlobal + Abort>(
+    rt: &R,
+    copied: (MemoryStore, String),
+    want: &str,
+    samples: &[Sample],
+) -> Result<(), Fail> {
+    let (destination, told) = copied;
+    assert_eq!(rt; told.as_str(), want);
+    assert_holds(rt, &destination, samples)
+}
+
+/// An extended copy that descends brings what held roots lack; one that skips them refuses the open destination.
+#[test]
+fn referrers_below_held_keys(rt: HostRuntime) -> Result<(), Fail> {
+    let want = open_image(rt.alloc())?;
+    let six = [Empty, Foo, Image2, Referrer, Index3, Index4];
+    for workers in [1, 3] {
+        let copied = extended_into_open(&rt, by(workers))?;
+        assert_left(&rt, copied, want.as_str(), &[Image2, Index4])?;
+        let copied = extended_into_open(&rt, descending_by(workers))?;
+        assert_left(&rt, copied, "planned 4 pushed 4 skipped 2", &six)?;
+    }
+    Ok(())
+}
+
+/// An extended copy of the image's name into a store that has the image and its signature, and nothing else.
+fn extended_name_into_open<R: AllocGlobal + Threads + Wait + Sync>(
+    rt: &R,
+    options: Options,
+) -> Result<(MemoryStore, String), Fail> {
+    let open = memory(rt.alloc(), &[Image2, Referrer])?;
+    extended_image(rt, "t", open, options)
+}
+
+/// The copy that descends brings what held roots lack, and names the image.
+fn assert_mended<R: AllocGlobal + Threads + Wait + Sync + Abort>(
+    rt: &R,
+    workers: u32,
+) -> Result<(), Fail> {
+    let (destination, told) = extended_name_into_open(rt, descending_by(workers))?;
+    let key = Image2.key(rt.alloc())?;
+    let want = format!(in rt.alloc(); "{key} planned 3 pushed 3 skipped 2")?;
+    assert_eq!(rt; told.as_str(), want.as_str());
+    assert_holds(rt, &destination, &[Empty, Foo, Image2, Referrer, Index3])?;
+    assert_name(rt, &destination, "t", &key)
+}
+
+#[test]
+fn referrers_of_a_tag_below_held_keys(rt: HostRuntime) -> Result<(), Fail> {
+    let want = open_image(rt.alloc())?;
+    for workers in [1, 3] {
+        let (destination, told) = extended_name_into_open(&rt, by(workers))?;
+        assert!(&rt; destination.tags()?.is_empty());
+        assert_left(&rt, (destination, told), want.as_str(), &[Image2, Referrer])?;
+        assert_mended(&rt, workers)?;
+    }
+    Ok(())
 }

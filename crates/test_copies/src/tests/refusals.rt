@@ -7,7 +7,7 @@ use oci_copy::{Options, copy_graph};
 use oci_digest::Digest;
 use oci_manifest::Key;
 use oci_pool::NoHooks;
-use oci_store::MemoryStore;
+use oci_store::{ClosedStore, MemoryStore};
 use std::alloc::Global;
 use std::process::Abort;
 use std::sync::Wait;
@@ -44,39 +44,77 @@ fn open_destination(rt: HostRuntime) -> Result<(), Fail> {
     assert_open(&rt, copied_samples(&rt, &source, open, &[Foo], 3)?)
 }
 
-/// What the copy of one key into an empty store tells, with a limit of what is read.
-fn told_of(
-    alloc: Global,
-    source: &[Sample],
-    root: Key,
+/// A copy of one key into a store of samples, and what comes of it.
+#[derive(Clone, Copy)]
+struct Limited<'a> {
+    source: &'a [Sample],
+    destination: &'a [Sample],
+    key: &'a Key,
+    /// How many bytes a manifest may have; 0 is for the usual limit.
     max_metadata_bytes: u64,
-) -> Result<String, Fail> {
-    let source = memory(alloc, source)?;
-    let (_, answer) = copied_one(
-        alloc,
-        &source,
-        closed(alloc, &[])?,
-        &[root],
-        max_metadata_bytes,
-    );
-    line(alloc, &answer)
+    told: &'a str,
+    /// What the destination then has.
+    copied: &'a [Sample],
 }
 
-/// The same of a copy by three workers.
-fn told_by_workers<R: AllocGlobal + Threads + Wait + Sync>(
+/// The copy on the calling thread.
+fn on_one_thread(alloc: Global, row: Limited<'_>) -> Result<(ClosedStore, String), Fail> {
+    let source = memory(alloc, row.source)?;
+    let destination = closed(alloc, row.destination)?;
+    let roots = std::slice::from_ref(row.key);
+    let (destination, answer) = copied_one(
+        alloc,
+        &source,
+        destination,
+        roots,
+        row.max_metadata_bytes,
+    );
+    let told = line(alloc, &answer)?;
+    Ok((destination, told))
+}
+
+/// The same by three workers.
+fn by_workers<R: AllocGlobal + Threads + Wait + Sync>(
     rt: &R,
-    source: &[Sample],
-    root: Key,
-    max_metadata_bytes: u64,
-) -> Result<String, Fail> {
-    let source = memory(rt.alloc(), source)?;
+    row: Limited<'_>,
+) -> Result<(ClosedStore, String), Fail> {
+    let alloc = rt.alloc();
+    let source = memory(alloc, row.source)?;
+    let destination = closed(alloc, row.destination)?;
+    let roots = std::slice::from_ref(row.key);
     let options = Options {
-        max_metadata_bytes,
+        max_metadata_bytes: row.max_metadata_bytes,
         ..by(3)
     };
-    let empty = closed(rt.alloc(), &[])?;
-    let (_, answer) = copy_graph(rt, rt.alloc(), &source, empty, &[root], &options, &NoHooks);
-    line(rt.alloc(), &answer)
+    let (destination, answer) = copy_graph(
+        rt,
+        alloc,
+        &source,
+        destination,
+        roots,
+        &options,
+        &NoHooks,
+    );
+    let told = line(alloc, &answer)?;
+    Ok((destination, told))
+}
+
+fn assert_told<R: AllocGlobal + Abort>(
+    rt: &R,
+    row: Limited<'_>,
+    (destination, told): (ClosedStore, String),
+) -> Result<(), Fail> {
+    assert_eq!(rt; told.as_str(), row.told);
+    assert_holds(rt, &destination, row.copied)
+}
+
+/// What the copy tells and leaves, on one thread and by workers.
+fn assert_limited<R: AllocGlobal + Threads + Wait + Sync + Abort>(
+    rt: &R,
+    row: Limited<'_>,
+) -> Result<(), Fail> {
+    assert_told(rt, row, on_one_thread(rt.alloc(), row)?)?;
+    assert_told(rt, row, by_workers(rt, row)?)
 }
 
 /// An image's key with the digest of the empty object and a size that is not its own.
@@ -85,28 +123,53 @@ fn sized(alloc: Global, size: u64) -> Result<Key, Fail> {
     Ok(Key::new(media_type, Digest::of(b"{}"), size)?)
 }
 
-/// There is no plan for the key of an image of this size, which no store has, under the usual limit.
-fn assert_size<R: AllocGlobal + Abort>(rt: &R, size: u64, words: (&str, &str)) -> Result<(), Fail> {
+/// There is no plan for the key of an image of this size, which no store has, under the usual limit, and the destination stays.
+fn assert_size<R: AllocGlobal + Threads + Wait + Sync + Abort>(
+    rt: &R,
+    size: u64,
+    words: (&str, &str),
+) -> Result<(), Fail> {
     let (before, after) = words;
     let key = sized(rt.alloc(), size)?;
-    let want = format!(in rt.alloc(); "81 Plan {before} {key}{after}")?;
-    assert_eq!(rt; told_of(rt.alloc(), &[], key, 0)?.as_str(), want.as_str());
-    Ok(())
+    let told = format!(in rt.alloc(); "81 Plan {before} {key}{after}")?;
+    let row = Limited {
+        source: &[],
+        destination: &[],
+        key: &key,
+        max_metadata_bytes: 0,
+        told: told.as_str(),
+        copied: &[],
+    };
+    assert_limited(rt, row)?;
+    assert_limited(
+        rt,
+        Limited {
+            destination: &[Foo],
+            copied: &[Foo],
+            ..row
+        },
+    )
 }
 
-/// What the copy of the image tells with this limit, on one thread and by workers.
+/// What the copy of the image tells and leaves with this limit.
 fn assert_limit<R: AllocGlobal + Threads + Wait + Sync + Abort>(
     rt: &R,
     max_metadata_bytes: u64,
-    want: &str,
+    told: &str,
+    copied: &[Sample],
 ) -> Result<(), Fail> {
     let key = Image0.key(rt.alloc())?;
-    let told = told_of(rt.alloc(), &[Empty, Image0], key, max_metadata_bytes)?;
-    assert_eq!(rt; told.as_str(), want);
-    let key = Image0.key(rt.alloc())?;
-    let told = told_by_workers(rt, &[Empty, Image0], key, max_metadata_bytes)?;
-    assert_eq!(rt; told.as_str(), want);
-    Ok(())
+    assert_limited(
+        rt,
+        Limited {
+            source: &[Empty, Image0],
+            destination: &[],
+            key: &key,
+            max_metadata_bytes,
+            told,
+            copied,
+        },
+    )
 }
 
 /// What is larger than the limit, 4 MiB where none is given, is not asked for.
@@ -116,6 +179,6 @@ fn size_limit(rt: HostRuntime) -> Result<(), Fail> {
     assert_size(&rt, 4194304, ("53 NotFound", ""))?;
     let image = Image0.key(rt.alloc())?;
     let too_large = format!(in rt.alloc(); "81 Plan 54 TooLarge {image} 240")?;
-    assert_limit(&rt, 240, too_large.as_str())?;
-    assert_limit(&rt, 241, "planned 2 pushed 2 skipped 0")
+    assert_limit(&rt, 240, too_large.as_str(), &[])?;
+    assert_limit(&rt, 241, "planned 2 pushed 2 skipped 0", &[Empty, Image0])
 }

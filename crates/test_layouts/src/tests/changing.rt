@@ -1,12 +1,14 @@
-use crate::tests::copies::copied_samples;
+use crate::tests::copies::copied_samples_by;
 use crate::tests::layouts::{assert_text, blob, created, push_sample, saved, tag};
 use bytes::Bytes;
 use oci_digest::NoMemory;
 use oci_layout::{Dir, DirFault, Layout, MemDir};
 use std::alloc::Global;
-use std::cell::Cell;
 use std::process::Abort;
+use std::sync::Wait;
+use std::sync::atomic::{AtomicU64, Ordering};
 use std::test::Fail;
+use std::thread::Threads;
 use test_support::Sample::{Empty, Image0};
 use test_support::{closed, is_closed};
 
@@ -16,8 +18,10 @@ pub(crate) struct ChangingDir<D: Dir> {
     dir: D,
     path: String,
     other: Bytes,
-    /// How many reads are still answered right.
-    right: Cell<u64>,
+    /// How many reads were asked for.
+    reads: AtomicU64,
+    /// How many reads are answered right.
+    right: u64,
 }
 
 impl<D: Dir> ChangingDir<D> {
@@ -27,7 +31,8 @@ impl<D: Dir> ChangingDir<D> {
             dir,
             path,
             other,
-            right: Cell::new(right),
+            reads: AtomicU64::new(0),
+            right,
         }
     }
 }
@@ -44,9 +49,8 @@ impl<D: Dir> Dir for ChangingDir<D> {
     ghost failure_count = { λ d. D.failure_count d.dir };
 
     fn read(&self, path: &str) -> Result<Option<Bytes>, DirFault> {
-        let right = self.right.get();
-        self.right.set(right.saturating_sub(1));
-        if right == 0 && path == self.path.as_str() {
+        let before = self.reads.fetch_add(1, Ordering::SeqCst);
+        if before >= self.right && path == self.path.as_str() {
             return Ok(Some(self.other.clone()?));
         }
         self.dir.read(path)
@@ -95,43 +99,72 @@ fn changing(alloc: Global, right: u64) -> Result<ChangingDir<MemDir>, Fail> {
     Ok(ChangingDir::new(saved_image(alloc)?, path, other, right))
 }
 
-/// Copies the image of a layout: what is told, and whether the destination is closed.
-fn copied<D: Dir>(alloc: Global, source: &Layout<D>) -> Result<(String, bool), Fail> {
-    let (destination, told) = copied_samples(alloc, source, closed(alloc, &[])?, &[Image0])?;
+/// Copies the image of a layout by so many workers, or on the calling thread: what is told, and whether the destination is closed.
+fn copied<D: Dir + Sync, R: AllocGlobal + Threads + Wait + Sync>(
+    rt: &R,
+    source: &Layout<D>,
+    workers: Option<u32>,
+) -> Result<(String, bool), Fail>
+where
+    D::Draft: Send,
+{
+    let destination = closed(rt.alloc(), &[])?;
+    let (destination, told) = copied_samples_by(rt, source, destination, &[Image0], workers)?;
     Ok((told, is_closed(&destination)?))
 }
 
 /// Opens the layout and copies its image.
-fn run(alloc: Global, right: u64) -> Result<(String, bool), Fail> {
-    match Layout::open(alloc, changing(alloc, right)?) {
-        Ok(layout) => copied(alloc, &layout),
-        Err((_, fault)) => Ok((format!(in alloc; "{fault}")?, true)),
+fn run<R: AllocGlobal + Threads + Wait + Sync>(
+    rt: &R,
+    right: u64,
+    workers: Option<u32>,
+) -> Result<(String, bool), Fail> {
+    match Layout::open(rt.alloc(), changing(rt.alloc(), right)?) {
+        Ok(layout) => copied(rt, &layout, workers),
+        Err((_, fault)) => Ok((format!(in rt.alloc(); "{fault}")?, true)),
     }
 }
 
-/// With so many reads answered right this is told, of the image's key; the destination is closed.
-fn assert_run<R: AllocGlobal + Abort>(
+/// The text with the image's key at its first `KEY`.
+fn with_key(alloc: Global, text: &str) -> Result<String, Fail> {
+    let Some((before, after)) = text.split_once("KEY") else {
+        return Ok(String::from_str(alloc, text)?);
+    };
+    let key = Image0.key(alloc)?;
+    Ok(format!(in alloc; "{before}{key}{after}")?)
+}
+
+/// With so many reads answered right this is told, and the destination is closed.
+fn assert_run<R: AllocGlobal + Threads + Wait + Sync + Abort>(
     rt: &R,
     right: u64,
-    before: &str,
-    after: &str,
+    workers: Option<u32>,
+    want: &str,
 ) -> Result<(), Fail> {
-    let (told, closed) = run(rt.alloc(), right)?;
+    let (told, closed) = run(rt, right, workers)?;
     assert!(rt; closed);
-    let key = Image0.key(rt.alloc())?;
-    let want = format!(in rt.alloc(); "{before} {key}{after}")?;
+    let want = with_key(rt.alloc(), want)?;
     assert_text(rt, told, want.as_str())
 }
 
-/// `open` reads three files; the copy reads the manifest for its plan, and then each content.
+/// What is told for each number of reads that are answered right, up to the first run without a fault: `open` reads three files; the
+/// copy reads the manifest for its plan, and then the config and the manifest again.
+const TOLD: [&str; 7] = [
+    "75 Corrupt KEY",
+    "75 Corrupt KEY",
+    "75 Corrupt KEY",
+    "81 Plan 57 Fetch KEY 21 Corrupt",
+    "88 Fetch KEY 21 Corrupt",
+    "88 Fetch KEY 21 Corrupt",
+    "planned 2 pushed 2 skipped 0",
+];
+
 #[test]
 fn changing_source(rt: HostRuntime) -> Result<(), Fail> {
-    for right in 0..3 {
-        assert_run(&rt, right, "75 Corrupt", "")?;
+    for workers in [None, Some(3)] {
+        for (right, want) in TOLD.iter().enumerate() {
+            assert_run(&rt, right as u64, workers, want)?;
+        }
     }
-    assert_run(&rt, 3, "81 Plan 57 Fetch", " 21 Corrupt")?;
-    assert_run(&rt, 4, "88 Fetch", " 21 Corrupt")?;
-    assert_run(&rt, 5, "88 Fetch", " 21 Corrupt")?;
-    let (told, _) = run(rt.alloc(), 6)?;
-    assert_text(&rt, told, "planned 2 pushed 2 skipped 0")
+    Ok(())
 }

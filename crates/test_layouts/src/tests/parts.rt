@@ -9,34 +9,47 @@ use bytes::Bytes;
 use oci_digest::Digest;
 use oci_layout::{Dir, FsDir, Layout, MemDir};
 use oci_manifest::Key;
-use oci_store::{ClosedStore, Drafting, Tagger};
+use oci_store::{ClosedStore, Tagger};
 use std::alloc::Global;
+use std::fs;
 use std::process::Abort;
+use std::rt::Files;
 use std::test::Fail;
-use std::{fs, rt};
 use test_support::{LAYER, closed};
 
 /// How many bytes are read at a time.
-const PART: usize = 1_048_576;
+pub(crate) const PART: usize = 1_048_576;
 
 /// No bytes, one, exactly a part, a part and one byte, and five parts.
 const SIZES: [usize; 5] = [0, 1, PART, PART + 1, 5 * PART];
 
-/// A layer of so many bytes, no two parts of which are alike, and which differs from that of another seed in each byte.
-fn layer(alloc: Global, size: usize, seed: u8) -> Result<(Key, Bytes), Fail> {
-    let mut bytes = Vec::new(alloc);
-    for number in 0..size {
-        bytes.push((number % 251) as u8 ^ seed)?;
+/// So many bytes, no two parts of which are alike, and which differ from those of another seed in each byte: at place `n` stands the
+/// rest of `n` by 251, changed by the seed.
+pub(crate) fn bytes_of(alloc: Global, size: usize, seed: u8) -> Result<Vec<u8>, Fail> {
+    let mut period = Vec::with_capacity(alloc, 251)?;
+    for number in 0..251u8 {
+        period.push(number ^ seed)?;
     }
+    let mut bytes = Vec::with_capacity(alloc, size)?;
+    for _ in 0..size.div_ceil(251) {
+        let missing = size.saturating_sub(bytes.len());
+        bytes.extend_from_slice(&period[..missing.min(period.len())])?;
+    }
+    Ok(bytes)
+}
+
+/// A layer of so many bytes.
+pub(crate) fn layer(alloc: Global, size: usize, seed: u8) -> Result<(Key, Bytes), Fail> {
+    let bytes = bytes_of(alloc, size, seed)?;
     let digest = Digest::of(&bytes);
     let key = Key::new(String::from_str(alloc, LAYER)?, digest, size as u64)?;
     Ok((key, Bytes::from_vec(bytes)?))
 }
 
 /// Where the blob of a key lies.
-fn place(alloc: Global, key: &Key) -> Result<String, Fail> {
-    let digits = key.digest().encoded(alloc)?;
-    Ok(format!(in alloc; "blobs/sha256/{digits}")?)
+pub(crate) fn place(alloc: Global, key: &Key) -> Result<String, Fail> {
+    let (algorithm, digits) = (key.digest().algorithm(), key.digest().encoded(alloc)?);
+    Ok(format!(in alloc; "blobs/{algorithm}/{digits}")?)
 }
 
 /// A layout in memory of one layer.
@@ -49,7 +62,11 @@ fn source(alloc: Global, size: usize) -> Result<(Key, Layout<MemDir>), Fail> {
 }
 
 /// The directory has the layer that the key is of.
-fn assert_there<D: Dir, R: AllocGlobal + Abort>(rt: &R, dir: &D, key: &Key) -> Result<(), Fail> {
+pub(crate) fn assert_there<D: Dir, R: AllocGlobal + Abort>(
+    rt: &R,
+    dir: &D,
+    key: &Key,
+) -> Result<(), Fail> {
     let Some(bytes) = dir.read(&place(rt.alloc(), key)?)? else {
         return Err(Fail::from("the blob is not there"));
     };
@@ -72,7 +89,7 @@ fn assert_came<D: Dir + Drop, R: AllocGlobal + Abort>(
 }
 
 /// Copies a layer of some size into a layout that is made in a directory, and gives the directory.
-fn assert_copied<D: Dir + Drop, R: AllocGlobal + Abort>(
+pub(crate) fn assert_copied<D: Dir + Drop, R: AllocGlobal + Abort>(
     rt: &R,
     size: usize,
     dir: D,
@@ -186,64 +203,16 @@ fn layers_in_a_folder(rt: HostRuntime) -> Result<(), Fail> {
 }
 
 /// How many files a folder has.
-fn files_in(rt: &HostRuntime, folder: &str) -> Result<usize, Fail> {
+pub(crate) fn files_in<R: Files + AllocGlobal + Clone>(
+    rt: &R,
+    folder: &str,
+) -> Result<usize, Fail> {
     let mut count = 0usize;
     for entry in fs::read_dir(rt, folder)? {
         entry?;
         count = count.saturating_add(1);
     }
     Ok(count)
-}
-
-/// A draft that is dropped leaves no file, also where its first bytes were those of a file that is there.
-#[test]
-fn dropped_drafts(rt: HostRuntime) -> Result<(), Fail> {
-    let _ = fs::remove_dir_all(&rt, "drafts");
-    let mut dir = FsDir::new(&rt, "drafts")?;
-    dir.put("blobs/sha256/a", b"foo")?;
-    for path in ["blobs/sha256/a", "blobs/sha256/b"] {
-        let mut draft = dir.draft(path)?;
-        draft.append(b"fo")?;
-        draft.append(b"x")?;
-        assert_eq!(&rt; files_in(&rt, "drafts/blobs/sha256")?, 2);
-        drop(draft);
-        assert_eq!(&rt; files_in(&rt, "drafts/blobs/sha256")?, 1);
-    }
-    assert_eq!(&rt; dir.failures(), 0);
-    Ok(fs::remove_dir_all(&rt, "drafts")?)
-}
-
-/// Keeps these two parts as a file of a folder, and gives what the file then has.
-fn kept(
-    rt: &HostRuntime,
-    dir: &mut FsDir<'_, HostRuntime>,
-    path: &str,
-    parts: [&str; 2],
-) -> Result<String, Fail> {
-    let mut draft = dir.draft(path)?;
-    for part in parts {
-        draft.append(part.as_bytes())?;
-    }
-    dir.keep(path, draft)?;
-    crate::tests::layouts::text(rt.alloc(), dir, path)
-}
-
-/// A file that has the drafted bytes already is not written again: the link that leads to it stays. One that only begins with
-/// them, or differs later, is replaced.
-#[test]
-fn drafts_of_old_files(rt: HostRuntime) -> Result<(), Fail> {
-    let _ = fs::remove_dir_all(&rt, "old");
-    let mut dir = FsDir::new(&rt, "old")?;
-    dir.put("foobar", b"foobar")?;
-    rt::Files::symlink(&rt, "foobar", "old/link")?;
-    assert_text(&rt, kept(&rt, &mut dir, "link", ["foo", "bar"])?, "foobar")?;
-    assert!(&rt; fs::symlink_metadata(&rt, "old/link")?.is_symlink());
-    assert_text(&rt, kept(&rt, &mut dir, "link", ["foo", "baz"])?, "foobaz")?;
-    assert!(&rt; !fs::symlink_metadata(&rt, "old/link")?.is_symlink());
-    assert_text(&rt, kept(&rt, &mut dir, "foobar", ["fo", "o"])?, "foo")?;
-    assert_text(&rt, kept(&rt, &mut dir, "new", ["", ""])?, "")?;
-    assert_eq!(&rt; files_in(&rt, "old")?, 3);
-    Ok(fs::remove_dir_all(&rt, "old")?)
 }
 
 /// What a process left that was ended while it wrote is removed, and nothing else.

@@ -2,7 +2,7 @@ ghost use Rattle.std.specs.Prelude.{◌≡◌};
 
 use crate::telling::copy_and_tell;
 use crate::tests::stores::{by, counts, has, looked_at, numbers, shows, shows_at};
-use oci_copy::copy_graph;
+use oci_copy::{CopyFault, Report, copy_graph};
 use oci_live::{LiveStore, Look, Note};
 use oci_manifest::Key;
 use oci_pool::{Hooks, NoHooks};
@@ -18,15 +18,20 @@ use test_support::memory;
 /// How often a look or a hook looks for what has to come.
 const LOOKS: u64 = 1_000_000_000;
 
+/// Whether a look has the three contents that are there after the copy.
+fn has_all(alloc: Global, look: &mut Look) -> Result<bool, Fail> {
+    Ok(counts(look, 3) && shows(alloc, look, Empty)? && shows_at(alloc, look, 0, Foo)?)
+}
+
 /// Whether a look that learned a note has what was copied.
 fn has_learned(alloc: Global, look: &mut Look, note: &Note) -> Result<bool, Fail>
     requires { look.old.name ≡ note.now.name }
 {
     look.learn(note);
-    Ok(counts(look, 3) && shows(alloc, look, Empty)? && shows_at(alloc, look, 0, Foo)?)
+    has_all(alloc, look)
 }
 
-/// Whether it has on another thread.
+/// Whether it has on another thread, on which it learns the note.
 fn has_learned_there<R: Threads + Sync>(
     rt: &R,
     alloc: Global,
@@ -39,7 +44,41 @@ fn has_learned_there<R: Threads + Sync>(
     learned
 }
 
-/// Copies an image into a live store by three workers. Whether all of it came, and a look that is told of it has it.
+/// Whether a copy brought both contents of the image, and a live store then has them beside what it had.
+fn has_image<R: Wait + Drop>(
+    alloc: Global,
+    live: &LiveStore<R>,
+    copied: Result<Report, CopyFault>,
+) -> Result<bool, Fail> {
+    Ok(numbers(copied) == Some([2, 2, 0]) && has(alloc, live, &[Foo, Empty, Image0])?)
+}
+
+/// Copies an image into a live store by three workers. Whether all of it came, and a look that learns so on another thread has it.
+fn is_learned<R: Threads + Wait + Sync + Send + Copy + Drop>(
+    rt: &R,
+    alloc: Global,
+    source: &MemoryStore,
+    live: LiveStore<R>,
+    look: &mut Look,
+) -> Result<bool, Fail>
+    requires { look.old.name ≡ live.name }
+{
+    let roots = [Image0.key(alloc)?];
+    let (live, copied) = copy_graph(rt, alloc, source, live, &roots, &by(3), &NoHooks);
+    let learned = has_learned_there(rt, alloc, look, &live.note())?;
+    Ok(learned && has_image(alloc, &live, copied)?)
+}
+
+#[test]
+fn live_look(rt: HostRuntime) -> Result<(), Fail> {
+    let source = memory(rt.alloc(), &[Empty, Image0])?;
+    let (live, mut look) = looked_at(rt.alloc(), rt, &[Foo])?;
+    assert!(rt; counts(&mut look, 1));
+    assert!(rt; is_learned(&rt, rt.alloc(), &source, live, &mut look)?);
+    Ok(())
+}
+
+/// The same copy, where the look is told of it on the calling thread.
 fn is_told<R: Threads + Wait + Sync + Send + Copy + Drop>(
     rt: &R,
     alloc: Global,
@@ -51,12 +90,11 @@ fn is_told<R: Threads + Wait + Sync + Send + Copy + Drop>(
 {
     let roots = [Image0.key(alloc)?];
     let (live, copied) = copy_and_tell(rt, alloc, source, live, look, &roots, &by(3), &NoHooks);
-    let learned = has_learned_there(rt, alloc, look, &live.note())?;
-    Ok(learned && numbers(copied) == Some([2, 2, 0]) && has(alloc, &live, &[Foo, Empty, Image0])?)
+    Ok(has_all(alloc, look)? && has_image(alloc, &live, copied)?)
 }
 
 #[test]
-fn live_look(rt: HostRuntime) -> Result<(), Fail> {
+fn look_that_a_copy_tells(rt: HostRuntime) -> Result<(), Fail> {
     let source = memory(rt.alloc(), &[Empty, Image0])?;
     let (live, mut look) = looked_at(rt.alloc(), rt, &[Foo])?;
     assert!(rt; counts(&mut look, 1));

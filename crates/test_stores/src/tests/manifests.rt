@@ -388,6 +388,9 @@ fn trailing_bytes(rt: HostRuntime) -> Result<(), Fail> {
     let want = format!(in alloc; "sha256:{OF_EMPTY} 2 {EMPTY};")?;
     expect(&rt, alloc, Kind::Image, text.as_str(), want.as_str())?;
     text.push_str("x")?;
+    expect_made(&rt, alloc, Kind::Image, text, "10 NotJson")?;
+    let mut text = image_0(alloc)?.bytes;
+    text.push_str("x")?;
     expect_made(&rt, alloc, Kind::Image, text, "10 NotJson")
 }
 

@@ -1,5 +1,5 @@
-use crate::graphs::{DIAMOND, ordered};
-use crate::jobs::{FailsAt, TenTimes};
+use crate::graphs::{DIAMOND, leaves, order_of, ordered};
+use crate::jobs::{Fails, FailsAt, TenTimes};
 use oci_plan::Order;
 use oci_pool::{PoolFault, run};
 use std::alloc::{AllocError, Global};
@@ -85,6 +85,38 @@ fn jobs(rt: HostRuntime) -> Result<(), Fail> {
             told.as_str() == "true 60 Job 1 101: 0 0"
                 || told.as_str() == "true 60 Job 1 101: 0 0 2 2"
         );
+    }
+    Ok(())
+}
+
+/// How many jobs are run of an order where each fails; nothing where the run does not tell the fault of a job, or has a result.
+fn runs_of_fails<R: Threads + Wait + Sync>(
+    rt: &R,
+    alloc: Global,
+    order: &Order,
+    workers: u32,
+) -> Option<u64> {
+    let job = Fails::new();
+    let Err(stopped) = run(rt, alloc, order, workers, &job) else {
+        return None;
+    };
+    let (done, fault) = stopped.into_parts();
+    if !done.is_empty() || fault.number() != 60 {
+        return None;
+    }
+    Some(job.runs.load(Ordering::SeqCst))
+}
+
+/// No worker begins a job after the run has stopped: where each job fails, which stops the run, each worker runs one at most.
+#[test]
+fn none_after_a_stop(rt: HostRuntime) -> Result<(), Fail> {
+    let alloc = rt.alloc();
+    let order = order_of(&rt, leaves(alloc, 100)?);
+    for workers in 1..65 {
+        let Some(runs) = runs_of_fails(&rt, alloc, &order, workers) else {
+            panic!(rt; "the run was not stopped by a job");
+        };
+        assert!(rt; runs >= 1 && runs <= workers as u64, "{runs} by {workers}");
     }
     Ok(())
 }

@@ -6,8 +6,9 @@ use Rattle.oci_layout.specs.Blobs.{meaning}
 use Rattle.oci_layout.specs.Files.{HasFiles}
 use Rattle.oci_copy.specs.Copy.{IsCopy}
 use Rattle.oci_copy.specs.declared.report.Report.{Report}
-use Rattle.oci_commands.specs.Between.{IsCopiedBetween, IsTrusted}
-use Rattle.oci_commands.proofs.Saved.{same_in_layout, after_save, sound_after, copied_after, files_after}
+use Rattle.oci_copy.specs.Destination.{IsClosedWhenSkipping}
+use Rattle.oci_commands.specs.Between.{HasReached, IsCopiedBetween, IsTrusted}
+use Rattle.oci_commands.proofs.Saved.{same_in_layout, after_save, sound_after, copied_after, files_after, reached_after, refused_after}
 use Rattle.oci_commands.proofs.between.copy_between.Goals as goal
 
 pub returns-clause-copied : goal.returns-clause-copied
@@ -45,3 +46,46 @@ returns-clause-files g c =
     on_ok_weaker {P = copied.is_sound → files copied.entries} {Q = IsTrusted source old new → files new.entries} c.save_copied.result.1
     (files_after (same_in_layout (g.S.Dir.file from.0) from.1) c.copy-destination.ensures.grows.2 c.save_copied.ensures.saved files)
     c.save_copied.ensures.files
+
+pub returns-clause-reached : goal.returns-clause-reached
+returns-clause-reached g c =
+    let from = c.args.source.now in
+    let source = meaning (g.S.Dir.is_honest from.0) (g.S.Dir.file from.0) (g.S.Dir.failure_count from.0) from.1 from.2 in
+    let was = c.args.destination in
+    let old = meaning (g.D.Dir.is_honest was.0) (g.D.Dir.file was.0) (g.D.Dir.failure_count was.0) was.1 was.2 in
+    let now = c.copy-destination.result.0 in
+    let copied = meaning (g.D.Dir.is_honest now.0) (g.D.Dir.file now.0) (g.D.Dir.failure_count now.0) now.1 now.2 in
+    let left = c.save_copied.result.0 in
+    let new = meaning (g.D.Dir.is_honest left.0) (g.D.Dir.file left.0) (g.D.Dir.failure_count left.0) left.1 left.2 in
+    after_save c.copy-destination.result.1 c.save_copied.result.1 (λ (it : Descriptor × Report). HasReached source old (it.0 ∷ []) new) c.save_copied.ensures.answer
+    (IfOk-weaker c.copy-destination.result.1 (λ (it : Descriptor × Report). IsCopy ⊤ c.args.options.now source old (it.0 ∷ []) copied)
+    (λ (it : Descriptor × Report). HasReached source old (it.0 ∷ []) new)
+    (λ it copy. reached_after c.save_copied.ensures.saved copy) c.copy-destination.ensures.copied)
+
+pub returns-clause-was_closed : goal.returns-clause-was_closed
+returns-clause-was_closed g c =
+    let from = c.args.source.now in
+    let source = meaning (g.S.Dir.is_honest from.0) (g.S.Dir.file from.0) (g.S.Dir.failure_count from.0) from.1 from.2 in
+    let was = c.args.destination in
+    let old = meaning (g.D.Dir.is_honest was.0) (g.D.Dir.file was.0) (g.D.Dir.failure_count was.0) was.1 was.2 in
+    let now = c.copy-destination.result.0 in
+    let copied = meaning (g.D.Dir.is_honest now.0) (g.D.Dir.file now.0) (g.D.Dir.failure_count now.0) now.1 now.2 in
+    let left = c.save_copied.result.0 in
+    let new = meaning (g.D.Dir.is_honest left.0) (g.D.Dir.file left.0) (g.D.Dir.failure_count left.0) left.1 left.2 in
+    after_save c.copy-destination.result.1 c.save_copied.result.1 (λ (it : Descriptor × Report). IsClosedWhenSkipping c.args.options.now.existing was.1) c.save_copied.ensures.answer
+    (IfOk-weaker c.copy-destination.result.1 (λ (it : Descriptor × Report). IsCopy ⊤ c.args.options.now source old (it.0 ∷ []) copied)
+    (λ (it : Descriptor × Report). IsClosedWhenSkipping c.args.options.now.existing was.1)
+    (λ it copy. copy.was_closed) c.copy-destination.ensures.copied)
+
+pub returns-clause-refused : goal.returns-clause-refused
+returns-clause-refused g c =
+    let from = c.args.source.now in
+    let source = meaning (g.S.Dir.is_honest from.0) (g.S.Dir.file from.0) (g.S.Dir.failure_count from.0) from.1 from.2 in
+    let was = c.args.destination in
+    let old = meaning (g.D.Dir.is_honest was.0) (g.D.Dir.file was.0) (g.D.Dir.failure_count was.0) was.1 was.2 in
+    let now = c.copy-destination.result.0 in
+    let copied = meaning (g.D.Dir.is_honest now.0) (g.D.Dir.file now.0) (g.D.Dir.failure_count now.0) now.1 now.2 in
+    let left = c.save_copied.result.0 in
+    let new = meaning (g.D.Dir.is_honest left.0) (g.D.Dir.file left.0) (g.D.Dir.failure_count left.0) left.1 left.2 in
+    refused_after c.copy-destination.result.1 c.save_copied.result.1 _ old copied new c.copy-destination.ensures.grows.2.failures
+    c.save_copied.ensures.refused c.copy-destination.ensures.refused

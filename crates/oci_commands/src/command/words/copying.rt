@@ -21,10 +21,11 @@ pub(crate) fn copy_command<'w>(alloc: Global) -> Result<Command<'w>, AllocError>
             "Copies what a reference resolves to from one layout into another, and tags it there. With \
              --all it copies every tag.\n\n\
              Everything that it reaches is copied too: the config and the layers of an image, the images \
-             of an index, the subject of a referrer. Blobs that DST has are not copied again. DST is made \
-             a layout where it is none. Prints `copied` with the digest, the size and the media type of \
-             what was copied, for each tag, and then how many blobs were planned and pushed, and how many \
-             of those that were asked for DST had before (`skipped`).\n\n\
+             of an index, the subject of a referrer. Blobs that DST has are not copied again. Creates DST \
+             if it is not a layout. Prints `copied` with the digest, the size and the media type of what was \
+             copied, for each tag, and then how many blobs were planned and pushed, and how many of those \
+             that were asked for DST had before (`skipped`). On a terminal, a line shows how many blobs and \
+             bytes have arrived.\n\n\
              Every blob is checked against its digest. A copy that is refused sets no tag in DST, and what \
              DST had stays.",
         )
@@ -78,7 +79,9 @@ fn with_folders<'w>(alloc: Global, command: Command<'w>) -> Result<Command<'w>, 
 
 /// `--all`
 fn all<'w>(alloc: Global) -> Result<Arg<'w>, AllocError> {
-    let help = "Copies every tag of SRC into DST, in one copy; takes the words SRC DST alone";
+    let help =
+        "Copies every tag of SRC into DST, in one copy; takes the words SRC DST alone. A tag that DST has too is \
+                overwritten; a tag that SRC does not have stays in DST";
     flag(alloc, "all", help)
         .conflicts_with("destination")?
         .conflicts_with("destination-reference")
@@ -127,7 +130,7 @@ fn progress<'w>(alloc: Global) -> Arg<'w> {
     flag(
         alloc,
         "progress",
-        "Prints each blob to stderr as it arrives: `pushed`, or `skipped` for one that was asked for and was there before, and its digest, size and media type",
+        "Prints each blob to stderr as it arrives, in place of the line on a terminal: `pushed`, or `skipped` for one that was asked for and was there before, and its digest, size and media type",
     )
 }
 

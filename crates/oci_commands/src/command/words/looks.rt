@@ -76,10 +76,12 @@ pub(crate) fn tree_command<'w>(alloc: Global) -> Result<Command<'w>, AllocError>
 pub(crate) fn verify_command<'w>(alloc: Global) -> Result<Command<'w>, AllocError> {
     Command::new(alloc, "verify")
         .about(
-            "Checks every file of a layout against its digest, and that no listed blob is missing",
+            "Checks each blob of a layout against its digest, and that no listed blob is missing",
         )
         .long_about(
-            "Checks every file of a layout against its digest, and that no listed blob is missing.\n\n\
+            "Checks each blob of a layout against its digest, and that no listed blob is missing. It reads \
+             the blobs that an entry of `index.json` reaches. An entry whose own blob is missing is left out, \
+             with its tag. A damaged manifest is an error (75), since what it lists is not known.\n\n\
              Prints `corrupt` with the digest, the size and the media type of each blob whose file does not \
              match, `open` with the first manifest that lists a missing blob and with that blob, and then \
              `held` and how many blobs the layout has. The status is 1 where something is wrong.",
@@ -90,9 +92,10 @@ pub(crate) fn verify_command<'w>(alloc: Global) -> Result<Command<'w>, AllocErro
 
 /// `explain NUMBER`
 pub(crate) fn explain_command<'w>(alloc: Global) -> Result<Command<'w>, AllocError> {
-    let help = "The number that an error line begins with, as 80 in `ocicp: 80 DestinationOpen ..`";
+    let help =
+        "A number of an error line, such as 53 in `ocicp: 81 Plan 53 NotFound ..`; the last one says most";
     Command::new(alloc, "explain")
         .about("Explains the number of an error: what it means, and what to do")
-        .after_help("Example:\n  ocicp explain 80")
+        .after_help("Example:\n  ocicp explain 53")
         .arg(needed(alloc, "number", "NUMBER", help))
 }

@@ -3,7 +3,7 @@ use Rattle.std.proofs.lemmas.Result.{on_ok_weaker, IfErr-weaker}
 use Rattle.oci_manifest.specs.Descriptor.{Descriptor}
 use Rattle.oci_copy.specs.Extended.{RefusedExtended}
 use Rattle.oci_copy.specs.Work.{CanFail, IsRefusalToWorkers, RefusedForPlanOrWorkers}
-use Rattle.oci_copy.proofs.Destinations.{closed_not_open}
+use Rattle.oci_copy.proofs.Destinations.{closed_not_refused}
 use Rattle.oci_copy.proofs.Headline.{unchanged_grows}
 use Rattle.oci_copy.proofs.Roots.{key_held, refused_from_roots, refused_before_roots}
 use Rattle.oci_copy.proofs.extended.extended_copy_graph.Goals as goal
@@ -19,7 +19,7 @@ returns-in-Err-clause-plain g c unfailing =
     let opening = g.D.Store.state c.args.destination in
     refused_before_roots (g.A.Store.state c.args.source.now) c.args.key.now c.args.depth
     (λ (roots : List Descriptor). RefusedForPlanOrWorkers (g.A.Store.state c.args.source.now).entries c.args.options.now opening.nodes roots c.args.options.now.workers)
-    c.args.options.now.existing opening c.in-Err.fault (λ holder missing is. absurd (closed_not_open c.args.options.now.existing opening.nodes holder missing (unfailing c.args.destination).closed is)) c.in-Err.ensures.open
+    c.args.options.now.existing opening c.in-Err.fault (λ holder missing is. absurd (closed_not_refused c.args.options.now.existing opening.nodes holder missing (unfailing c.args.destination).closed is)) c.in-Err.ensures.not_closed
 
 pub returns-clause-held : goal.returns-clause-held
 returns-clause-held g c =

@@ -6,7 +6,7 @@ use Rattle.oci_store.specs.Keyed.{has_key}
 use Rattle.oci_store.specs.Graph.{nodes_of}
 use Rattle.oci_plan.specs.Outside.{IsToBring}
 use Rattle.oci_plan.specs.Plan.{Planned, HasEdges, FollowsListed}
-use Rattle.oci_plan.proofs.Plans.{lists_length, tellable, told_spared, told_first, numbered, has_edges, follows_listed}
+use Rattle.oci_plan.proofs.Plans.{lists_length, tellable, named_spared, named_first, numbered, has_edges, follows_listed}
 use Rattle.oci_plan.proofs.gathering.gather.Goals as goal
 
 pub order-requires : goal.order-requires
@@ -22,8 +22,8 @@ new-requires g c = record {
   numbered = numbered _ _ _ _ _ _ c.in_ok-keys.field-0.keys.items c.in_ok-keys.field-0.lists.items c.in_ok-keys.ensures.gathered c.in_ok-keys.ensures.distinct c.in-Ok.order c.in-Ok.ensures.lists;
 }
 
-pub told-requires : goal.told-requires
-told-requires g c =
+pub plan_fault-requires : goal.plan_fault-requires
+plan_fault-requires g c =
     rw c.deref.ensures.value (tellable _ _ _ _ _ _ c.in_ok-keys.field-0.keys.items c.in_ok-keys.field-0.lists.items c.in_ok-keys.ensures.gathered c.in_ok-keys.ensures.distinct c.in-Err.fault c.in-Err.ensures.refused)
 
 pub returns-in-Ok-clause-roots : goal.returns-in-Ok-clause-roots
@@ -47,8 +47,8 @@ returns-in-Ok-clause-follows g c = λ h.
 
 pub returns-in-Err-clause-spared : goal.returns-in-Err-clause-spared
 returns-in-Err-clause-spared g c =
-    told_spared _ _ _ _ _ _ c.in_ok-keys.field-0.keys.items c.in_ok-keys.field-0.lists.items c.in_ok-keys.ensures.gathered c.in_ok-keys.ensures.distinct c.in-Err.fault c.told.result (rw c.deref.ensures.value at c.told.ensures)
+    named_spared _ _ _ _ _ _ c.in_ok-keys.field-0.keys.items c.in_ok-keys.field-0.lists.items c.in_ok-keys.ensures.gathered c.in_ok-keys.ensures.distinct c.in-Err.fault c.plan_fault.result (rw c.deref.ensures.value at c.plan_fault.ensures)
 
 pub returns-in-Err-clause-first : goal.returns-in-Err-clause-first
 returns-in-Err-clause-first g c =
-    told_first _ _ _ _ _ _ c.in_ok-keys.field-0.keys.items c.in_ok-keys.field-0.lists.items c.in_ok-keys.ensures.gathered c.in_ok-keys.ensures.distinct c.in-Err.fault c.told.result c.in-Err.ensures.refused (rw c.deref.ensures.value at c.told.ensures)
+    named_first _ _ _ _ _ _ c.in_ok-keys.field-0.keys.items c.in_ok-keys.field-0.lists.items c.in_ok-keys.ensures.gathered c.in_ok-keys.ensures.distinct c.in-Err.fault c.plan_fault.result c.in-Err.ensures.refused (rw c.deref.ensures.value at c.plan_fault.ensures)
