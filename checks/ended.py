@@ -1,71 +1,132 @@
-"""Copies that are ended half-way, and that find no room: nothing is lost, and the same copy finishes."""
+"""Copies that are ended half-way, and that find no room: nothing is lost, and the same copy finishes. Wants `cc`."""
+import os
 import resource
 import shutil
+import signal
 
-from layouts import BAR, E, LAYER, Content, image, key, write_layout
+import shim
+from layouts import BAR, E, FOO, LAYER, M2, Content, blob, image, key, write_layout
 from program import first, leftovers, run, told, wrong_layout
 
-KILLS = 20
+# Of so many kills of a large copy, spread over its time, so many are to come while it runs.
+KILLS, ENDED = 20, 5
+# A small copy makes at most so many changes, and is killed before each. So many kills are to leave a file that is not whole.
+CHANGES, HALF = 100, 3
 MEGABYTE = 1 << 20
 LAYERS = [Content(LAYER, b"%7d\n" % number * (MEGABYTE // 8)) for number in range(40)]
-IMAGE = image(LAYERS)
-NEW = [E, *LAYERS, IMAGE]
-COPY = ["copy", "source", "new", "copied"]
+# Layers are copied in parts of a megabyte: these have three.
+LONG = [Content(LAYER, b"%7d\n" % number * (3 * MEGABYTE // 8)) for number in range(100, 103)]
+SOURCES = {
+    "small": [E, FOO, M2],
+    "large": [E, *LAYERS, image(LAYERS)],
+    "long": [E, *LONG, image(LONG)],
+}
 OLD = {"old": BAR}
 
-
-def fresh(folder):
-    """A destination that has an old content alone."""
-    shutil.rmtree(folder + "/copied", ignore_errors=True)
-    write_layout(folder + "/copied", [BAR], OLD)
-
-
-def wrong_state(folder):
-    """What is wrong with a destination after a copy that did not finish. It may have been saved by then."""
-    old = wrong_layout(folder, "copied", [BAR], OLD)
-    return old and wrong_layout(folder, "copied", [BAR, *NEW], {**OLD, "new": IMAGE}) and old
+# Each change is marked, and the process killed before one of them.
+SHIM = shim.CHANGES + r"""
+static int on_change(const char *path) {
+  static int count;
+  mark();
+  if (__atomic_add_fetch(&count, 1, __ATOMIC_SEQ_CST) == atoi(getenv("LAST_CHANGE"))) kill(getpid(), SIGKILL);
+  return 0;
+}
+"""
 
 
-def wrong_again(folder):
-    """What is wrong with the same copy, made again: it brings all, and nothing else is left."""
-    ended = run(COPY, folder, seconds=30)
-    if ended.status != 0 or ended.err or not ended.out.startswith("copied %s\n" % key(IMAGE)):
-        return "the same copy again: " + told(ended)
-    return first([
-        wrong_layout(folder, "copied", [BAR, *NEW], {**OLD, "new": IMAGE}),
-        leftovers(folder + "/copied", [BAR, *NEW]),
-    ])
+class Copy:
+    """A copy of one of the sources, whose last content is the image, into a destination that has old contents or is not there."""
+
+    def __init__(self, room, source, old):
+        self.room, self.old = room, old
+        self.contents = SOURCES[source]
+        self.image = self.contents[-1]
+        self.words = ["copy", source, "new", "copied"]
+
+    def fresh(self):
+        """Puts the destination into the state that it has before."""
+        shutil.rmtree(self.room + "/copied", ignore_errors=True)
+        if self.old:
+            write_layout(self.room + "/copied", self.old.values(), self.old)
+
+    def wrong_old(self):
+        return wrong_layout(self.room, "copied", self.old.values(), self.old)
+
+    def wrong_new(self):
+        return wrong_layout(self.room, "copied", [*self.old.values(), *self.contents], {**self.old, "new": self.image})
+
+    def wrong_state(self):
+        """What is wrong with the destination after the copy did not finish. It may have been saved by then."""
+        if not self.old and not os.path.exists(self.room + "/copied/oci-layout"):
+            return None
+        old = self.wrong_old()
+        return old and self.wrong_new() and old
+
+    def leftovers(self):
+        return leftovers(self.room + "/copied", [*self.old.values(), *self.contents])
+
+    def wrong_again(self):
+        """What is wrong with the same copy, made again: it brings all, and nothing else is left."""
+        ended = run(self.words, self.room, seconds=30)
+        if ended.status != 0 or ended.err or not ended.out.startswith("copied %s\n" % key(self.image)):
+            return "the same copy again: " + told(ended)
+        return first([self.wrong_new(), self.leftovers()])
 
 
-def killed(folder, seconds):
-    """What is wrong after a copy that is killed after so many seconds."""
-    fresh(folder)
-    run(COPY, folder, seconds=seconds)
-    return first([wrong_state(folder), wrong_again(folder)])
+def killed_by_time(copy):
+    """Kills a copy at several moments of its time."""
+    copy.fresh()
+    whole = run(copy.words, copy.room, seconds=60).seconds
+    killed = 0
+    for number in range(KILLS):
+        copy.fresh()
+        killed += run(copy.words, copy.room, seconds=whole * number / KILLS).status == -signal.SIGKILL
+        yield "killed at %d/%d of its time" % (number, KILLS), first([copy.wrong_state(), copy.wrong_again()])
+    yield "%d kills came while the copy ran" % killed, None if killed >= ENDED else "too few"
 
 
-def short_of_room(folder, most):
-    """What is wrong after a copy that can write no file of more than so many bytes."""
-    fresh(folder)
+def killed_by_change(copy, library, what):
+    """Kills a copy before each change that it makes to a file or folder."""
+    words, half = ["copy", "--workers", "1", *copy.words[1:]], 0
+    for number in range(1, CHANGES + 1):
+        copy.fresh()
+        made, ended = shim.run_marked(library, words, copy.room, {"LAST_CHANGE": str(number)})
+        if made < number:
+            break
+        half += copy.leftovers() is not None
+        wrong = None if ended.status == -signal.SIGKILL else "it was not killed: " + told(ended)
+        yield "%s, killed before change %d" % (what, number), first([wrong, copy.wrong_state(), copy.wrong_again()])
+    yield "%s makes at most %d changes" % (what, CHANGES), None if made < number else "it makes more"
+    yield "%d of these kills left a file that is not whole" % half, None if half >= HALF else "too few"
+
+
+def short_of_room(copy, most, wanted):
+    """What is wrong after a copy that can write no file of more than so many bytes, and is to be refused with one of these lines."""
+    copy.fresh()
     limit = lambda: resource.setrlimit(resource.RLIMIT_FSIZE, (most, most))
     # Python ignores the signal of this limit, and so does the program then: it is told by the system that it cannot write.
-    ended = run(COPY, folder, preexec_fn=limit, restore_signals=False)
-    refused = ended.status == 1 and ended.err.startswith("ocicp: ") and ended.err.endswith((" 43 Device\n", "ocicp: 74 Device\n"))
+    ended = run(copy.words, copy.room, preexec_fn=limit, restore_signals=False)
     return first([
-        None if refused else "the copy without room: " + told(ended),
-        wrong_state(folder),
-        leftovers(folder + "/copied", [BAR, *NEW]),
-        wrong_again(folder),
+        None if ended.status == 1 and ended.err in ["ocicp: %s\n" % it for it in wanted] else "without room: " + told(ended),
+        copy.wrong_state(),
+        copy.leftovers(),
+        first("%s is there" % blob(it) for it in copy.contents if len(it.bytes) > most and exists(copy, it)),
+        copy.wrong_again(),
     ])
+
+
+def exists(copy, content):
+    return os.path.exists("%s/copied/%s" % (copy.room, blob(content)))
 
 
 def checks(room):
-    write_layout(room + "/source", NEW, {"new": IMAGE})
-    fresh(room)
-    yield "not ended", wrong_again(room)
-    fresh(room)
-    whole = run(COPY, room, seconds=60).seconds
-    for number in range(KILLS):
-        yield "killed at %d/%d of its time" % (number, KILLS), killed(room, whole * number / KILLS)
-    for most in [0, 10, 1000, MEGABYTE - 1]:
-        yield "no room for files of more than %d bytes" % most, short_of_room(room, most)
+    library = shim.built(room, "kill", SHIM)
+    for source, contents in SOURCES.items():
+        write_layout("%s/%s" % (room, source), contents, {"new": contents[-1]})
+    yield from killed_by_change(Copy(room, "small", OLD), library, "a copy into a layout")
+    yield from killed_by_change(Copy(room, "small", {}), library, "a copy into a folder that is not there")
+    yield from killed_by_time(Copy(room, "large", OLD))
+    for source, most in ("large", 0), ("large", 10), ("large", 1000), ("large", MEGABYTE - 1), ("long", 3 * MEGABYTE // 2):
+        # (what is too large for the limit; of a copy by workers any of it may be refused first)
+        wanted = ["82 Push %s 43 Device" % key(it) for it in SOURCES[source] if len(it.bytes) > most]
+        yield "no room for files of more than %d bytes" % most, short_of_room(Copy(room, source, OLD), most, wanted)

@@ -2,12 +2,18 @@
 import os
 import re
 import shutil
+import stat
 
-from layouts import BAR, E, FOO, M2, blob, key, write_layout
+from layouts import BAR, E, FOO, M2, blob, image, key, write_layout
 from program import first, leftovers, run, told, wrong_layout
 
 SECONDS, KILOBYTES = 1, 32 << 10
 SECRET = b"known to its owner alone"
+
+
+def device(path):
+    """Makes /dev/zero anew, which root alone may do, and not everywhere."""
+    os.mknod(path, stat.S_IFCHR | 0o666, os.makedev(1, 5))
 
 
 def elsewhere(path):
@@ -22,6 +28,7 @@ def sparse(path):
 
 HARMS = {
     "a FIFO": os.mkfifo,
+    "a device": device,
     "a link to /dev/zero": lambda path: os.symlink("/dev/zero", path),
     "a folder": os.mkdir,
     "a link to itself": lambda path: os.symlink(path, path),
@@ -30,7 +37,8 @@ HARMS = {
     "a link to nothing": lambda path: os.symlink("nothing", path),
 }
 
-# What each harm in the place of a file has to be answered with. What is not named here is no regular file.
+# What a copy from a layout has to answer with each harm in the place of a file. What is not named here is no regular file, or is a
+# link in the place of a file that no digest checks. An empty answer is success.
 LEAF = {
     "": ["88 Fetch KEY 22 Device"],
     "a link to itself": ["74 Device", "88 Fetch KEY 22 Device"],
@@ -38,18 +46,14 @@ LEAF = {
     "a link to another file": ["88 Fetch KEY 21 Corrupt"],
     "a link to nothing": ["81 Plan 53 NotFound KEY"],
 }
-WANTED = {
+FROM = {
     "oci-layout": {
         "": ["74 Device"],
         "a sparse file of 1 TB": ["memory", "71 BadLayoutFile"],
-        "a link to another file": ["71 BadLayoutFile"],
-        "a link to nothing": ["70 NoLayoutFile"],
     },
     "index.json": {
         "": ["74 Device"],
         "a sparse file of 1 TB": ["memory", "73 BadIndex 10 NotJson"],
-        "a link to another file": ["73 BadIndex 10 NotJson"],
-        "a link to nothing": ["36 UnknownReference"],
     },
     "the manifest": {
         "": ["74 Device"],
@@ -60,7 +64,37 @@ WANTED = {
     "the config": LEAF,
     "the layer": LEAF,
 }
-CONTENTS = {"the manifest": M2, "the config": E, "the layer": FOO}
+
+# The same of a copy into a layout. A link in the place of a new layer is replaced, and not followed. An old layer is not read by a
+# copy, and is held where a file of its name is there; without one the destination is not closed.
+INTO = {
+    "oci-layout": FROM["oci-layout"],
+    "index.json": FROM["index.json"],
+    "an old manifest": {**FROM["the manifest"], "a link to nothing": [""]},
+    "an old layer": {"": [""], "a link to itself": ["74 Device"], "a link to nothing": ["80 DestinationOpen HOLDER KEY"]},
+    "a new layer": {"": [""], "a folder": ["82 Push KEY 43 Device"]},
+}
+
+# What a destination has, and its tags. One that is harmed has an image too.
+PLAIN, PLAIN_TAGS = [BAR], {"layer": BAR}
+OLD_IMAGE = image([BAR])
+OLD, TAGS = [E, BAR, OLD_IMAGE], {"layer": BAR, "old": OLD_IMAGE}
+NEW = [FOO, M2]
+# The tags and blobs that are there after a copy into such a layout that succeeded, where these are not all.
+LEFT = {"an old manifest": ({"layer": BAR}, [BAR, E, *NEW])}
+# What `verify` says then of an old layer that is no regular file or has other bytes.
+VERIFIED = {
+    "a sparse file of 1 TB": "corrupt %s\nheld 5\n" % key(BAR),
+    "a link to another file": "corrupt %s\nheld 5\n" % key(BAR),
+}
+CONTENTS = {
+    "the manifest": M2,
+    "the config": E,
+    "the layer": FOO,
+    "an old manifest": OLD_IMAGE,
+    "an old layer": BAR,
+    "a new layer": FOO,
+}
 
 
 def harmed(folder, file, harm):
@@ -71,24 +105,29 @@ def harmed(folder, file, harm):
     HARMS[harm](path)
 
 
-def fresh(folder):
-    """A source with an image, and a destination with a content that the image does not reach."""
+def fresh(folder, old, tags):
+    """A source with an image, and a destination with old contents."""
     shutil.rmtree(folder, ignore_errors=True)
     os.mkdir(folder)
     with open(folder + "/secret", "wb") as file:
         file.write(SECRET)
     write_layout(folder + "/source", [E, FOO, M2], {"new": M2})
-    write_layout(folder + "/copied", [BAR], {"old": BAR})
+    write_layout(folder + "/copied", old, tags)
+
+
+def answers_to(table, file, harm):
+    """What a table wants as the answer."""
+    found = table[file].get(harm, table[file][""])
+    return [it.replace("KEY", key(CONTENTS.get(file, E))).replace("HOLDER", key(OLD_IMAGE)) for it in found]
 
 
 def wrong_copy(folder, wanted):
     """What is wrong with the copy's answer, its time and its memory. The answer is to be one of those that are wanted."""
     ended = run(["copy", "source", "new", "copied"], folder)
-    status = 3 if wanted[0] == "memory" else 1 if wanted[0] else 0
-    lines = ["ocicp: %s\n" % it if it else "" for it in wanted]
+    statuses = {"ocicp: %s\n" % it if it else "": 3 if it == "memory" else 1 if it else 0 for it in wanted}
     if ended.status < 0:
         return "it had not ended after %.0f seconds" % ended.seconds
-    if ended.err not in lines or ended.status != (3 if "memory" in ended.err else status and 1):
+    if ended.status != statuses.get(ended.err):
         return "%s, and not %s" % (told(ended), " or ".join(it or "success" for it in wanted))
     if ended.seconds > SECONDS:
         return "it took %.1f s" % ended.seconds
@@ -96,52 +135,94 @@ def wrong_copy(folder, wanted):
         return "it took %d KB" % ended.kilobytes
 
 
+def files(folder):
+    """Each path below a folder, with its bytes, where a link leads, or else its kind. What is large or no file is not read."""
+    found = {}
+    for at, folders, names in os.walk(folder):
+        for name in [*folders, *names]:
+            path = os.path.join(at, name)
+            state = os.lstat(path)
+            found[os.path.relpath(path, folder)] = (
+                os.readlink(path) if stat.S_ISLNK(state.st_mode)
+                else read(path) if stat.S_ISREG(state.st_mode) and state.st_size <= KILOBYTES
+                else (stat.S_IFMT(state.st_mode), stat.S_ISREG(state.st_mode) and state.st_size)
+            )
+    return found
+
+
+def read(path):
+    with open(path, "rb") as file:
+        return file.read()
+
+
 def wrong_secret(folder):
     """What is wrong with the file that belongs to no layout: it is as it was, and no layout has its bytes."""
-    with open(folder + "/secret", "rb") as file:
-        if file.read() != SECRET:
-            return "a file of no layout was written to"
-    for at, _, files in os.walk(folder + "/copied"):
-        for file in files:
-            path = os.path.join(at, file)
-            # (what the program left of a FIFO or of a file of 1 TB is not read here)
-            if not os.path.isfile(path) or os.path.getsize(path) > KILOBYTES:
-                continue
-            with open(path, "rb") as opened:
-                if SECRET in opened.read():
-                    return "%s has what a file of no layout holds" % path
+    if read(folder + "/secret") != SECRET:
+        return "a file of no layout was written to"
+    for path, found in files(folder + "/copied").items():
+        if isinstance(found, bytes) and SECRET in found:
+            return "%s has what a file of no layout holds" % path
+
+
+def wrong_from(folder, file, harm):
+    """What is wrong with a copy from a layout that has the harm in the place of a file."""
+    fresh(folder, PLAIN, PLAIN_TAGS)
+    harmed(folder + "/source", file, harm)
+    return first([
+        wrong_copy(folder, answers_to(FROM, file, harm)),
+        wrong_layout(folder, "copied", PLAIN, PLAIN_TAGS),
+        leftovers(folder + "/copied", [*PLAIN, E, FOO]),
+        wrong_secret(folder),
+    ])
+
+
+def wrong_into(folder, file, harm):
+    """What is wrong with a copy into a layout that has the harm in the place of a file. A refused one changes no file."""
+    fresh(folder, OLD, TAGS)
+    harmed(folder + "/copied", file, harm)
+    before = files(folder + "/copied")
+    wanted = answers_to(INTO, file, harm)
+    complaint = wrong_copy(folder, wanted)
+    after = files(folder + "/copied")
+    if wanted != [""]:
+        wrong = None if after == before else "the destination is not as it was"
+    elif file == "an old layer":
+        wrong = wrong_held(folder, harm)
+    else:
+        tags, contents = LEFT.get(file, (TAGS, [*OLD, *NEW]))
+        wrong = wrong_layout(folder, "copied", contents, {**tags, "new": M2})
+    return first([complaint, wrong, leftovers(folder + "/copied", [*OLD, *NEW]), wrong_secret(folder)])
+
+
+def wrong_held(folder, harm):
+    """What is wrong with a destination in which an old layer is held that is no regular file or has other bytes."""
+    lines = ["%s %s\n" % (name, key(it)) for name, it in sorted({**TAGS, "new": M2}.items())]
+    tags, verified = run(["tags", "copied"], folder), run(["verify", "copied"], folder)
+    wanted = (1, VERIFIED[harm], "") if harm in VERIFIED else (1, "", "ocicp: 22 Device\n")
+    if tags[:3] != (0, "".join(lines), ""):
+        return "tags: " + told(tags)
+    if verified[:3] != wanted:
+        return "verify: " + told(verified)
+
+
+def harms(room):
+    """The harms that can be made here, and the names of the others."""
+    made, others = [], []
+    for harm, make in HARMS.items():
+        try:
+            make("%s/%d" % (room, len(made) + len(others)))
+            made.append(harm)
+        except PermissionError:
+            others.append(harm)
+    return made, others
 
 
 def checks(room):
     folder = room + "/room"
-    for file, answers in WANTED.items():
-        for harm in HARMS:
-            fresh(folder)
-            harmed(folder + "/source", file, harm)
-            wanted = [it.replace("KEY", key(CONTENTS.get(file, E))) for it in answers.get(harm, answers[""])]
-            yield "%s in the place of %s" % (harm, file), first([
-                wrong_copy(folder, wanted),
-                wrong_layout(folder, "copied", [BAR], {"old": BAR}),
-                leftovers(folder + "/copied", [BAR, E, FOO]),
-                wrong_secret(folder),
-            ])
-    for harm in HARMS:
-        fresh(folder)
-        harmed(folder + "/copied", "the layer", harm)
-        yield "%s in the place of an old blob of the destination" % harm, wrong_into(folder, harm)
-
-
-def wrong_into(folder, harm):
-    """What is wrong with a copy into a layout that has the harm where a blob is to be written. What can be replaced is."""
-    if harm == "a folder":
-        return first([
-            wrong_copy(folder, ["82 Push %s 43 Device" % key(FOO)]),
-            wrong_layout(folder, "copied", [BAR], {"old": BAR}),
-            leftovers(folder + "/copied", [BAR, E]),
-        ])
-    return first([
-        wrong_copy(folder, [""]),
-        wrong_layout(folder, "copied", [BAR, E, FOO, M2], {"old": BAR, "new": M2}),
-        leftovers(folder + "/copied", [BAR, E, FOO, M2]),
-        wrong_secret(folder),
-    ])
+    made, others = harms(room)
+    for harm in others:
+        yield "%s is not looked at, since it cannot be made here" % harm, None
+    for where, table, wrong in ("from", FROM, wrong_from), ("into", INTO, wrong_into):
+        for file in table:
+            for harm in made:
+                yield "a copy %s a layout with %s in the place of %s" % (where, harm, file), wrong(folder, file, harm)

@@ -1,4 +1,4 @@
-"""Runs the commands of the README's sessions in a copy of the folder, and compares what they print."""
+"""Runs each fenced command of the README in a copy of the folder, and compares what those of the sessions print."""
 import os
 import re
 import shutil
@@ -13,11 +13,15 @@ END = "== that was it =="
 LARGE = shutil.ignore_patterns("crates", ".git", "out", "ocicp")
 
 
+def blocks():
+    """The fenced blocks of the README, each with its kind: `console` for a session, `sh` for commands alone."""
+    with open(TOP + "/README.md") as file:
+        return re.findall(r"^```(\w*)\n(.*?)^```$", file.read(), re.M | re.S)
+
+
 def sessions():
     """The sessions of the README: each a list of commands and the lines that each is to print."""
-    with open(TOP + "/README.md") as file:
-        blocks = re.findall(r"^```console\n(.*?)^```$", file.read(), re.M | re.S)
-    for block in blocks:
+    for block in [text for kind, text in blocks() if kind == "console"]:
         session = []
         for line in block.splitlines():
             if line.startswith("$ "):
@@ -42,6 +46,7 @@ def checks(room):
     shutil.copytree(TOP, folder, ignore=LARGE)
     shutil.copyfile(PROGRAM, folder + "/ocicp")
     os.chmod(folder + "/ocicp", 0o755)
+    yield from commands_alone(folder)
     found = list(sessions())
     if not found:
         yield "sessions", "README.md has none"
@@ -51,6 +56,23 @@ def checks(room):
         for command, wanted in session:
             lines = next(outputs)
             yield "session %d: $ %s" % (number, command), None if lines == wanted else difference(lines, wanted)
+
+
+def commands_alone(folder):
+    """Runs the commands that stand without what they print."""
+    found = [line for kind, text in blocks() if kind == "sh" for line in text.splitlines()]
+    if not found:
+        yield "commands", "README.md has none"
+    others = {kind for kind, _ in blocks()} - {"console", "sh"}
+    if others:
+        yield "blocks", "nothing runs those of the kinds %s" % others
+    for command in found:
+        # (`./test` is what runs this: it cannot be run here)
+        if command == "./test":
+            yield "$ " + command, None if os.access(TOP + "/test", os.X_OK) else "there is no such script"
+            continue
+        lines, = printed([command + " && echo done"], folder)[:1]
+        yield "$ " + command, None if len(lines) > 1 and lines[-1] == "done" else "it prints %r" % lines[-3:]
 
 
 def difference(lines, wanted):

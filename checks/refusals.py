@@ -1,8 +1,6 @@
 """Runs the program with one request for memory refused: the nth call of malloc, calloc or realloc. Wants `cc`."""
-import os
-import subprocess
+import shim
 
-from program import run
 
 SHIM = r"""
 #define _GNU_SOURCE
@@ -15,7 +13,7 @@ static int refuses(void) {
   /* The first call comes before there is a second thread. */
   if (nth < 0) { const char *text = getenv("REFUSED_REQUEST"); nth = text ? atol(text) : 0; }
   if (__atomic_add_fetch(&calls, 1, __ATOMIC_RELAXED) != nth) return 0;
-  if (write(atoi(getenv("REFUSAL_MARK")), "x", 1) != 1) abort();
+  if (write(atoi(getenv("MARK")), "x", 1) != 1) abort();
   errno = ENOMEM;
   return 1;
 }
@@ -39,16 +37,10 @@ void *realloc(void *old, size_t size) {
 
 def build(folder):
     """Builds the library that refuses, and gives its path."""
-    shim = os.path.join(folder, "refuse.so")
-    subprocess.run(["cc", "-shared", "-fPIC", "-O1", "-x", "c", "-", "-o", shim, "-ldl"], input=SHIM.encode(), check=True)
-    return shim
+    return shim.built(folder, "refuse", SHIM)
 
 
-def run_refused(shim, nth, words, folder, **how):
+def run_refused(library, nth, words, folder, **how):
     """Runs a command with the nth request refused: whether it made so many, and how it ended. `how` goes to `run`."""
-    marks, refused = os.pipe()
-    environment = dict(os.environ, LD_PRELOAD=shim, REFUSED_REQUEST=str(nth), REFUSAL_MARK=str(refused))
-    ended = run(words, folder, env=environment, pass_fds=[refused], **how)
-    os.close(refused)
-    with os.fdopen(marks) as file:
-        return file.read() != "", ended
+    marks, ended = shim.run_marked(library, words, folder, {"REFUSED_REQUEST": str(nth)}, **how)
+    return marks > 0, ended

@@ -16,8 +16,8 @@ from program import first, leftovers, run, told, wrong_layout
 OLD = Content(LAYER, b"old")
 TWO_IMAGES = [E, FOO, BAR, M2, M3, I1]
 REFERRERS = [E, FOO, M2, S, I3, I4]
-# A batch ends where one of its runs made fewer requests.
-BATCH = 64
+# A batch ends where one of its runs made fewer requests. A command that makes more than so many is not looked at whole.
+BATCH, MOST = 64, 4096
 
 # A command, what its source holds and names, and what its destination names before; none where there is no destination.
 Case = namedtuple("Case", "words contents names old", defaults=[{}])
@@ -78,12 +78,13 @@ def refused_in_turn(case, shim, room):
     """Refuses each request of a command in turn: how many it makes, and the first thing that is wrong."""
     os.mkdir(room)
     with multiprocessing.Pool() as pool:
-        for start in range(1, 1 << 20, BATCH):
+        for start in range(1, MOST, BATCH):
             runs = pool.map(functools.partial(wrong_run, case, shim, room), range(start, start + BATCH), 4)
             complaint = first(it for _, it in runs)
             if complaint or not all(refused for refused, _ in runs):
                 count = start - 1 + sum(refused for refused, _ in runs)
                 return count, complaint or (None if count else "nothing was refused")
+    return MOST, "it makes more requests than these"
 
 
 def checks(room):

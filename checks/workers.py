@@ -1,7 +1,5 @@
 """How many threads a copy starts: where no number of workers is given, as many as for three. Wants `cc`."""
-import os
-import subprocess
-
+import shim
 from layouts import BAR, E, FOO, I1, M2, M3, write_layout
 from program import run, told
 
@@ -13,30 +11,24 @@ SHIM = r"""
 #include <unistd.h>
 int pthread_create(pthread_t *thread, const pthread_attr_t *attributes, void *(*start)(void *), void *argument) {
   int (*next)(pthread_t *, const pthread_attr_t *, void *(*)(void *), void *) = dlsym(RTLD_NEXT, "pthread_create");
-  if (write(atoi(getenv("THREAD_MARK")), "x", 1) != 1) abort();
+  if (write(atoi(getenv("MARK")), "x", 1) != 1) abort();
   return next(thread, attributes, start, argument);
 }
 """
 
 
-def started(shim, folder, number, *flags):
+def started(library, folder, number, *flags):
     """How many threads a copy of five blobs starts, or how it was refused."""
-    marks, mark = os.pipe()
-    environment = dict(os.environ, LD_PRELOAD=shim, THREAD_MARK=str(mark))
     words = ["copy", *flags, "source", "new", "copied%d" % number]
-    ended = run(words, folder, env=environment, pass_fds=[mark])
-    os.close(mark)
-    with os.fdopen(marks) as file:
-        threads = len(file.read())
+    threads, ended = shim.run_marked(library, words, folder)
     return threads if ended.status == 0 else told(ended)
 
 
 def checks(room):
-    shim = os.path.join(room, "count.so")
-    subprocess.run(["cc", "-shared", "-fPIC", "-O1", "-x", "c", "-", "-o", shim, "-ldl"], input=SHIM.encode(), check=True)
+    library = shim.built(room, "count", SHIM)
     write_layout(room + "/source", [E, FOO, BAR, M2, M3, I1], {"new": I1})
     usual, one, three = (
-        started(shim, room, number, *flags)
+        started(library, room, number, *flags)
         for number, flags in enumerate(([], ["--workers", "1"], ["--workers", "3"]))
     )
     counts = "%s threads by itself, %s for one worker, %s for three" % (usual, one, three)

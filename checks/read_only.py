@@ -1,0 +1,69 @@
+"""Commands over a layout on a file system that may only be read. Wants `cc`.
+
+A library answers EROFS to each call that would change something below one folder. What reads makes no such call, and answers as it
+does elsewhere. A copy into that folder is refused, and the layout stays.
+"""
+import shim
+from layouts import BAR, E, FOO, I1, LAYER, M2, M3, S, Content, key, write_layout
+from program import first, leftovers, run, told, wrong_layout
+
+# Each call that is refused is marked.
+SHIM = shim.CHANGES + r"""
+static int on_change(const char *path) {
+  const char *folder = getenv("READ_ONLY");
+  size_t length = strlen(folder);
+  if (!path || strncmp(path, folder, length) != 0 || (path[length] != '/' && path[length] != 0)) return 0;
+  mark();
+  return EROFS;
+}
+"""
+
+CONTENTS = [E, FOO, BAR, M2, M3, I1, S]
+OTHER = Content(LAYER, b"other")
+TAGS = {"both": I1, "one": M2, "signature": S}
+READING = [
+    ["tags", "source"],
+    ["resolve", "source", "one"],
+    ["predecessors", "source", "one"],
+    ["tree", "source", "both"],
+    ["tree", "--referrers", "source", "one"],
+    ["verify", "source"],
+    ["copy", "--dry-run", "source", "both", "copied"],
+    ["copy", "--dry-run", "other", "bar", "source"],
+    ["copy", "--referrers", "source", "one", "copied"],
+]
+
+
+def wrong_read(library, words, room, usual):
+    """What is wrong with a command that reads, which is to answer as it does over a folder that may be written."""
+    refused, ended = shim.run_marked(library, words, room, {"READ_ONLY": "source"})
+    return first([
+        None if usual.status == 0 and usual.out else "without the library: " + told(usual),
+        None if ended[:3] == usual[:3] else told(ended),
+        "%d calls would have changed something" % refused if refused else None,
+    ])
+
+
+def wrong_write(library, words, room, wanted):
+    """What is wrong with a copy into the folder."""
+    refused, ended = shim.run_marked(library, words, room, {"READ_ONLY": "source"})
+    return first([
+        None if ended[:3] == (1, "", wanted) else told(ended),
+        None if refused else "no call was refused",
+        wrong_layout(room, "source", CONTENTS, TAGS),
+        leftovers(room + "/source", CONTENTS),
+    ])
+
+
+def checks(room):
+    library = shim.built(room, "read_only", SHIM)
+    write_layout(room + "/source", CONTENTS, TAGS)
+    write_layout(room + "/other", [BAR, OTHER], {"bar": BAR, "other": OTHER})
+    for words in READING:
+        # (each copy has a destination of its own)
+        usual = run([it + "-before" if it == "copied" else it for it in words], room)
+        yield " ".join(words), wrong_read(library, words, room, usual)
+    yield "what was copied", wrong_layout(room, "copied", CONTENTS, {"one": M2})
+    for name, line in ("bar", "74 Device"), ("other", "82 Push %s 43 Device" % key(OTHER)):
+        words = ["copy", "other", name, "source"]
+        yield " ".join(words), wrong_write(library, words, room, "ocicp: %s\n" % line)

@@ -1,0 +1,90 @@
+"""Builds libraries that stand between the program and the C library. Wants `cc`."""
+import os
+import subprocess
+
+from program import run
+
+# Calls `on_change` before each call that would change a file or a folder, with the path, or with none for a write to an open file.
+# What it answers is the error of that call; 0 lets the call through.
+CHANGES = r"""
+#define _GNU_SOURCE
+#include <dlfcn.h>
+#include <errno.h>
+#include <fcntl.h>
+#include <signal.h>
+#include <stdarg.h>
+#include <stdlib.h>
+#include <string.h>
+#include <sys/stat.h>
+#include <sys/syscall.h>
+#include <unistd.h>
+static int on_change(const char *path);
+static int is_refused(const char *path) {
+  int error = on_change(path);
+  if (error) errno = error;
+  return error;
+}
+static int changes(int flags) { return (flags & O_ACCMODE) != O_RDONLY || (flags & (O_CREAT | O_TRUNC)); }
+#define NEXT(type, name) ((type)dlsym(RTLD_NEXT, name))
+#define OPEN(name)                                                                         \
+  int name(const char *path, int flags, ...) {                                             \
+    va_list rest; va_start(rest, flags); int mode = va_arg(rest, int); va_end(rest);        \
+    if (changes(flags) && is_refused(path)) return -1;                                     \
+    return NEXT(int (*)(const char *, int, ...), #name)(path, flags, mode);                \
+  }
+#define OPENAT(name)                                                                       \
+  int name(int at, const char *path, int flags, ...) {                                     \
+    va_list rest; va_start(rest, flags); int mode = va_arg(rest, int); va_end(rest);        \
+    if (changes(flags) && is_refused(path)) return -1;                                     \
+    return NEXT(int (*)(int, const char *, int, ...), #name)(at, path, flags, mode);       \
+  }
+OPEN(open)
+OPEN(open64)
+OPENAT(openat)
+OPENAT(openat64)
+int mkdir(const char *path, mode_t mode) {
+  /* (as the system has it: that a folder is there is told first) */
+  if (access(path, F_OK) == 0) { errno = EEXIST; return -1; }
+  return is_refused(path) ? -1 : NEXT(int (*)(const char *, mode_t), "mkdir")(path, mode);
+}
+int rename(const char *from, const char *to) {
+  if (is_refused(to)) return -1;
+  return NEXT(int (*)(const char *, const char *), "rename")(from, to);
+}
+int renameat(int of, const char *from, int at, const char *to) {
+  if (is_refused(to)) return -1;
+  return NEXT(int (*)(int, const char *, int, const char *), "renameat")(of, from, at, to);
+}
+int unlink(const char *path) {
+  return is_refused(path) ? -1 : NEXT(int (*)(const char *), "unlink")(path);
+}
+int unlinkat(int at, const char *path, int flags) {
+  return is_refused(path) ? -1 : NEXT(int (*)(int, const char *, int), "unlinkat")(at, path, flags);
+}
+ssize_t write(int file, const void *bytes, size_t count) {
+  if (file > 2 && is_refused(NULL)) return -1;
+  return NEXT(ssize_t (*)(int, const void *, size_t), "write")(file, bytes, count);
+}
+/* Writes a mark into the pipe that the environment names. */
+static void mark(void) {
+  if (syscall(SYS_write, atoi(getenv("MARK")), "x", 1) != 1) abort();
+}
+"""
+
+
+def built(folder, name, source):
+    """Builds a library from C source, and gives its path, for LD_PRELOAD."""
+    path = os.path.join(folder, name + ".so")
+    words = ["cc", "-shared", "-fPIC", "-O1", "-Wall", "-Werror", "-x", "c", "-", "-o", path, "-ldl"]
+    subprocess.run(words, input=source.encode(), check=True)
+    return path
+
+
+def run_marked(library, words, folder, environment={}, **how):
+    """Runs a command with a library that marks something: how many marks it made, and how it ended. `how` goes to `run`."""
+    marks, mark = os.pipe()
+    environment = dict(os.environ, LD_PRELOAD=library, MARK=str(mark), **environment)
+    ended = run(words, folder, env=environment, pass_fds=[mark], **how)
+    os.close(mark)
+    with os.fdopen(marks) as file:
+        return len(file.read()), ended
