@@ -1,8 +1,8 @@
 //! Tests of copies, on one thread and by workers, run through their public calls.
 //!
-//! This crate has tests alone. A proof covers what a contract says, for every input and every order in which workers come; what
-//! stands here is what no contract says: that a call succeeds where memory is there and returns, that two workers are at work at
-//! once, when hooks are called, and what a store that fails once leaves.
+//! A proof covers what a contract says, for every input and every order in which workers come; what the tests show is what no
+//! contract says: that a call succeeds where memory is there and returns, that two workers are at work at once, when hooks are
+//! called, and what a store that fails once leaves. `plain` is a plain program that is proved, with which they compare copies.
 //!
 //! `tests` has `graphs` (small graphs, on one thread and with each number of workers), `references` (copies by a reference),
 //! `referrers` (extended copies, of a key and of a reference), `refusals` (limits and open destinations), `faults` (how each refusal
@@ -11,5 +11,8 @@
 //! copies that they share.
 #![tactic(auto)]
 
+mod plain;
 #[cfg(test)]
 mod tests;
+
+pub use plain::lacking;

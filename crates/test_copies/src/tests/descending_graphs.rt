@@ -1,7 +1,9 @@
-//! Repairs of large graphs with holes, and of random ones, beside what a plain slow program says of them.
+//! Repairs of large graphs with holes, and of random ones, beside what a plain program says of them that is proved to find what a
+//! copy has to bring.
 
 use super::copies::line;
 use super::large::has_all;
+use crate::plain::lacking;
 use bytes::Bytes;
 use oci_copy::{CopyFault, Options, Report, copy_graph, copy_one};
 use oci_manifest::Key;
@@ -117,11 +119,9 @@ fn below(state: &mut u64, bound: u32) -> u32 {
         .unwrap_or(0)
 }
 
-/// A graph of numbers, the contents that stand for them, and which of these the two stores have.
+/// The contents of a random graph, and which of them the two stores have.
 #[derive(Drop)]
 struct Graph {
-    /// What each number lists: lesser numbers, a doubled one among them at times.
-    lists: Vec<Vec<u32>>,
     contents: Vec<Content>,
     in_source: Vec<bool>,
     in_destination: Vec<bool>,
@@ -172,7 +172,6 @@ fn random_list(alloc: Global, state: &mut u64, number: u32) -> Result<Vec<u32>, 
 /// A random graph with so many numbers, of which the source lacks some, and the destination more.
 fn random_graph(alloc: Global, state: &mut u64, count: u32) -> Result<Graph, Fail> {
     let mut graph = Graph {
-        lists: Vec::new(alloc),
         contents: Vec::new(alloc),
         in_source: Vec::new(alloc),
         in_destination: Vec::new(alloc),
@@ -182,7 +181,6 @@ fn random_graph(alloc: Global, state: &mut u64, count: u32) -> Result<Graph, Fai
         let list = random_list(alloc, state, number)?;
         let content = content(alloc, &graph.contents, number, &list)?;
         graph.contents.push(content)?;
-        graph.lists.push(list)?;
         graph.in_source.push(below(state, 8) >= holes)?;
         graph.in_destination.push(below(state, 3) > 0)?;
     }
@@ -201,59 +199,6 @@ fn marked_store(alloc: Global, contents: &[Content], marks: &[bool]) -> Result<M
     Ok(store)
 }
 
-fn is_marked(marks: &[bool], number: usize) -> bool {
-    marks.get(number).copied().unwrap_or(false)
-}
-
-fn mark_all(marks: &mut [bool], numbers: &[u32]) {
-    for number in numbers {
-        if let Some(mark) = marks.get_mut(*number as usize) {
-            *mark = true;
-        }
-    }
-}
-
-/// Which numbers the source reaches from the last one: again and again, what is listed by those that are reached and that it has.
-fn reached(alloc: Global, graph: &Graph) -> Result<Vec<bool>, AllocError> {
-    let mut marks = vec![in alloc; false; graph.lists.len()]?;
-    if let Some(last) = marks.last_mut() {
-        *last = true;
-    }
-    for _ in 0..graph.lists.len() {
-        for (number, list) in graph.lists.iter().enumerate() {
-            if is_marked(&marks, number) && is_marked(&graph.in_source, number) {
-                mark_all(&mut marks, list);
-            }
-        }
-    }
-    Ok(marks)
-}
-
-/// What a copy from the last number is to leave: which numbers the destination has then, or none where a key is in neither store.
-#[derive(Drop)]
-struct Wanted {
-    has: Vec<bool>,
-    lacking: usize,
-    is_refused: bool,
-}
-
-fn reached_by_marking(alloc: Global, graph: &Graph) -> Result<Wanted, AllocError> {
-    let reached = reached(alloc, graph)?;
-    let mut wanted = Wanted {
-        has: graph.in_destination.clone()?,
-        lacking: 0,
-        is_refused: false,
-    };
-    for (number, mark) in wanted.has.iter_mut().enumerate() {
-        if is_marked(&reached, number) && !*mark {
-            *mark = true;
-            wanted.lacking = wanted.lacking.saturating_add(1);
-            wanted.is_refused = wanted.is_refused || !is_marked(&graph.in_source, number);
-        }
-    }
-    Ok(wanted)
-}
-
 /// The key of the last number of a graph.
 fn last_key(alloc: Global, graph: &Graph) -> Result<Key, Fail> {
     match graph.contents.last() {
@@ -262,74 +207,82 @@ fn last_key(alloc: Global, graph: &Graph) -> Result<Key, Fail> {
     }
 }
 
-/// Copies the last number of a graph by so many workers, and gives what is left and what is told.
-fn copied_last<R: AllocGlobal + Threads + Wait + Sync>(
-    rt: &R,
-    graph: &Graph,
-    workers: u32,
-) -> Result<(MemoryStore, String), Fail> {
-    let last = last_key(rt.alloc(), graph)?;
-    let source = marked_store(rt.alloc(), &graph.contents, &graph.in_source)?;
-    let opening = marked_store(rt.alloc(), &graph.contents, &graph.in_destination)?;
-    told_of_descended(rt, &source, opening, &last, workers)
+/// A copy of the last content of a random graph: its two stores, its root, and what it has to bring.
+#[derive(Drop)]
+struct Repair {
+    source: MemoryStore,
+    destination: MemoryStore,
+    root: Key,
+    lacking: Vec<Key>,
 }
 
-/// How what is told begins.
-fn beginning(alloc: Global, graph: &Graph, wanted: &Wanted) -> Result<String, Fail> {
-    if wanted.is_refused {
+fn repair_of(alloc: Global, graph: &Graph) -> Result<Repair, Fail> {
+    let root = last_key(alloc, graph)?;
+    let source = marked_store(alloc, &graph.contents, &graph.in_source)?;
+    let destination = marked_store(alloc, &graph.contents, &graph.in_destination)?;
+    let lacking = lacking(alloc, &source, &destination, &root)?;
+    Ok(Repair {
+        source,
+        destination,
+        root,
+        lacking,
+    })
+}
+
+/// Whether a key that the copy has to bring is in neither store.
+fn is_refused(repair: &Repair) -> bool {
+    repair.lacking.iter().any(|key| !repair.source.exists(key))
+}
+
+/// How what is told of the copy begins.
+fn beginning(alloc: Global, repair: &Repair) -> Result<String, Fail> {
+    if is_refused(repair) {
         return Ok(String::from_str(alloc, "81 Plan 53 NotFound ")?);
     }
-    let lacking = wanted.lacking;
-    let skipped = u32::from(graph.in_destination.last().copied().unwrap_or(false));
+    let lacking = repair.lacking.len();
+    let skipped = u32::from(repair.destination.exists(&repair.root));
     Ok(format!(in alloc; "planned {lacking} pushed {lacking} skipped {skipped}")?)
 }
 
-/// A store has exactly the contents that are marked.
-fn has_exactly(
-    alloc: Global,
-    store: &MemoryStore,
-    contents: &[Content],
-    marks: &[bool],
-) -> Result<bool, Fail> {
-    let wanted = marked_store(alloc, contents, marks)?;
-    Ok(store.len() == wanted.len() && has_all(store, &wanted))
+/// The store has exactly what the destination had, and what the copy had to bring unless it was refused.
+fn is_repaired(store: &MemoryStore, repair: &Repair) -> bool {
+    let came = if is_refused(repair) {
+        &[]
+    } else {
+        repair.lacking.as_slice()
+    };
+    store.len() == repair.destination.len().saturating_add(came.len())
+        && has_all(store, &repair.destination)
+        && came.iter().all(|key| store.exists(key))
 }
 
-/// The copy of a graph's last number by so many workers leaves what the plain program says.
+/// The copy by so many workers leaves, and tells, what the plain program says of it.
 fn assert_wanted<R: AllocGlobal + Threads + Wait + Sync + Abort>(
     rt: &R,
     graph: &Graph,
-    wanted: &Wanted,
     workers: u32,
-) -> Result<(), Fail> {
-    let alloc = rt.alloc();
-    let (destination, told) = copied_last(rt, graph, workers)?;
-    let begins = beginning(alloc, graph, wanted)?;
+) -> Result<bool, Fail> {
+    let repair = repair_of(rt.alloc(), graph)?;
+    let opening = marked_store(rt.alloc(), &graph.contents, &graph.in_destination)?;
+    let (store, told) = told_of_descended(rt, &repair.source, opening, &repair.root, workers)?;
+    let begins = beginning(rt.alloc(), &repair)?;
     assert!(rt; told.as_str().starts_with(begins.as_str()));
-    let marks = if wanted.is_refused {
-        &graph.in_destination
-    } else {
-        &wanted.has
-    };
-    assert!(rt; has_exactly(alloc, &destination, &graph.contents, marks)?);
-    Ok(())
+    assert!(rt; is_repaired(&store, &repair));
+    Ok(is_refused(&repair))
 }
 
 /// Random graphs into destinations with random holes, some of them from sources with holes of their own.
 #[test]
 fn random_graphs(rt: HostRuntime) -> Result<(), Fail> {
-    let alloc = rt.alloc();
     let mut state = 2026;
     let mut refused = 0u32;
     for _ in 0..40 {
         let count = below(&mut state, 40).max(1);
-        let graph = random_graph(alloc, &mut state, count)?;
-        let wanted = reached_by_marking(alloc, &graph)?;
-        refused = refused.saturating_add(u32::from(wanted.is_refused));
+        let graph = random_graph(rt.alloc(), &mut state, count)?;
         for workers in [0, 1, 3, 64] {
-            assert_wanted(&rt, &graph, &wanted, workers)?;
+            refused = refused.saturating_add(u32::from(assert_wanted(&rt, &graph, workers)?));
         }
     }
-    assert!(&rt; refused > 0 && refused < 40);
+    assert!(&rt; refused > 0 && refused < 160);
     Ok(())
 }

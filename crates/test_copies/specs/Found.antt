@@ -1,0 +1,13 @@
+-- What a walk along every edge has found.
+use Rattle.std.specs.Prelude.{◌≡◌, ℕ, List, [], ◌∷◌, take}
+use Rattle.std.specs.List.{All}
+use Rattle.oci_manifest.specs.Descriptor.{Descriptor}
+use Rattle.oci_manifest.specs.Manifest.{first_places}
+use Rattle.oci_store.specs.Graph.{Node, Reaches}
+use Rattle.oci_store.specs.Visiting.{candidates}
+use Rattle.oci_plan.specs.Visiting.{successors_at}
+
+-- the root and what the keys before a place list are found, each once, and all of it is reached
+pub record IsFound (graph : List Node) (root : Descriptor) (place : ℕ) (found : List Descriptor) : Type 0 where
+  pub exact : found ≡ first_places (candidates (successors_at graph) (root ∷ []) (take place found))
+  pub reached : All (Reaches graph (root ∷ [])) found
