@@ -1,7 +1,6 @@
 -- What a hasher has taken so far.
 use Rattle.std.specs.Prelude.{◌≡◌, ℕ, List}
 use Rattle.sha2.specs.Hashers.{Holds256, Holds512}
-use Rattle.oci_digest.specs.Algorithm.{Algorithm, sha256, sha512}
 use Rattle.oci_digest.specs.Hash.{IsHash, text_of}
 use Rattle.oci_digest.specs.declared.hash.Hash.{Hash}
 use Rattle.oci_digest.specs.declared.hash.Hash.TheVariants as code

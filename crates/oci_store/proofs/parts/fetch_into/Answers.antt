@@ -1,6 +1,5 @@
-use Rattle.std.proofs.Common.{◌≡◌, ◌<◌, ℕ, List, [], ◌++◌, ◌≤◌, ◌-◌, length, refl, arith, rules}
+use Rattle.std.proofs.Common.{◌≡◌, ◌<◌, [], ◌++◌, ◌≤◌, ◌-◌, length, refl, arith}
 use Rattle.oci_store.specs.Keyed.{value_at}
-use Rattle.oci_store.specs.Parts.{IsReading, IsDraftOf}
 use Rattle.oci_store.proofs.Leaves.{IsReading-on, IsDraftOf-end}
 use Rattle.oci_store.proofs.parts.fetch_into.Goals as goal
 

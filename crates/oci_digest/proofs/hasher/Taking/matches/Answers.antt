@@ -1,6 +1,5 @@
-use Rattle.std.proofs.Common.{◌≡◌, ap, subst}
-use Rattle.oci_digest.specs.Hash.{text_of}
-use Rattle.oci_digest.specs.Hashing.{hash_in, HasTaken, IsTaking}
+use Rattle.std.proofs.Common.{ap, subst}
+use Rattle.oci_digest.specs.Hashing.{hash_in, HasTaken}
 use Rattle.oci_digest.specs.declared.hash.Hash.TheVariants as code
 use Rattle.oci_digest.proofs.DigestLemmas.{verifies_as_hash}
 use Rattle.oci_digest.proofs.hasher.Taking.matches.Goals as goal
