@@ -10,3 +10,4 @@ pub mod InMemory
 pub mod Tagging
 pub mod Roots
 pub mod Workers
+pub mod Pushes

@@ -7,6 +7,7 @@ pub mod Copy
 pub mod Report
 pub mod Fault
 pub mod Cause
+pub mod Brought
 pub mod Tagged
 pub mod Extended
 pub mod Plain

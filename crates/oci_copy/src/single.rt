@@ -1,19 +1,17 @@
-ghost use Rattle.std.specs.Prelude.{◌≡◌, OnOk, IfOk, IfErr, ◌+◌, ◌<◌, ℕ, Some, length, slice_get, ◌++◌, ◌∷◌, [], true, false, List, Contains, OnErr};
-ghost use Rattle.oci_copy.specs.Cause.{IsRefusal, IsRunCause, IsStepCause};
-ghost use Rattle.oci_copy.specs.Copy.{IsCopy, OnlyGrows};
-ghost use Rattle.oci_copy.specs.Fault.{IsEarly};
-ghost use Rattle.oci_copy.specs.Plain.{IsUnfailing, RefusedForPlan};
-ghost use Rattle.oci_copy.specs.Report.{IsReport};
-ghost use Rattle.oci_store.specs.Keyed.{HasAll, has_key};
+ghost use Rattle.std.specs.Prelude.{◌≡◌, OnOk, IfOk, IfErr, ◌+◌, ◌<◌, ℕ, Some, length, slice_get, true, List, Contains};
+ghost use Rattle.oci_manifest.specs.Descriptor.{Descriptor};
+ghost use Rattle.oci_store.specs.Keyed.{HasAll};
+ghost use Rattle.oci_store.specs.Parts.{IsLeaf};
 ghost use Rattle.oci_plan.specs.Order.{IsOrder};
 ghost use Rattle.oci_plan.specs.Plan.{IsPlan};
+ghost use Rattle.oci_copy.specs.Brought.{CanBring, IsBrought};
+ghost use Rattle.oci_copy.specs.Cause.{IsRefusal, IsRunCause};
+ghost use Rattle.oci_copy.specs.Copy.{IsCopy, OnlyGrows};
+ghost use Rattle.oci_copy.specs.Fault.{IsEarly};
 ghost use Rattle.oci_copy.specs.Kept.{Keeps};
-ghost use Rattle.oci_copy.specs.Planned.{CanPush, CanBeRead};
-ghost use Rattle.std.specs.Map.{keys_of};
-ghost use Rattle.oci_manifest.specs.Descriptor.{Descriptor};
-ghost use Rattle.oci_store.specs.Parts.{IsLeaf};
-ghost use Rattle.oci_plan.specs.Visiting.{successors_at};
-ghost use Rattle.oci_copy.specs.Grown.{graph_of};
+ghost use Rattle.oci_copy.specs.Plain.{IsUnfailing, RefusedForPlan};
+ghost use Rattle.oci_copy.specs.Planned.{CanPush};
+ghost use Rattle.oci_copy.specs.Report.{IsReport};
 
 use crate::fault::CopyFault;
 use crate::fetching::{draft_planned, fetch_planned, goes_by_parts, push_fault};
@@ -118,24 +116,12 @@ pub(crate) fn push_planned<A: Source, D: Dest>(
     destination: &mut D,
     key: &Key,
 ) -> Result<(), CopyFault>
-    requires there { has_key (A.state source.now).entries key.now ≡ true }
-    requires reads { (A.state source.now).is_honest
-        → CanBeRead (A.state source.now).entries key.now }
-    requires fresh { has_key (D.state destination.old).nodes key.now ≡ false }
-    requires ready { (A.state source.now).is_honest
-        → HasAll (D.state destination.old).nodes (successors_at (graph_of (A.state source.now))
-        key.now) }
-    ensures pushed { OnOk result (keys_of (D.state destination.new).nodes ≡ keys_of
-        (D.state destination.old).nodes ++ key.now ∷ []) }
-    ensures refused { OnErr result ((D.state destination.new).nodes ≡ (D.state
-        destination.old).nodes) }
+    requires can { CanBring (A.state source.now) (D.state destination.old) key.now }
+    ensures brought { IsBrought (A.state source.now) (D.state destination.old)
+        (D.state destination.new) key.now result }
     ensures keeps { (planned : List Descriptor) (opening : D) → Contains planned key.now
         → Keeps D.shares (A.state source.now) planned (D.state opening) (D.state destination.old)
         → Keeps D.shares (A.state source.now) planned (D.state opening) (D.state destination.new) }
-    ensures cause { IfErr result (IsStepCause (A.state source.now) (D.state destination.old)
-        (D.state destination.new) key.now) }
-    ensures running { OnOk result ((D.state destination.new).is_halted
-        → (D.state destination.old).is_halted) }
 {
     if goes_by_parts(source, key) {
         return push_parts(source, destination, key);
@@ -155,24 +141,12 @@ fn push_parts<A: Source, D: Dest>(
 ) -> Result<(), CopyFault>
     requires leaf { IsLeaf key.now }
     requires fails { (A.state source.now).fails_at key.now ≡ true }
-    requires there { has_key (A.state source.now).entries key.now ≡ true }
-    requires reads { (A.state source.now).is_honest
-        → CanBeRead (A.state source.now).entries key.now }
-    requires fresh { has_key (D.state destination.old).nodes key.now ≡ false }
-    requires ready { (A.state source.now).is_honest
-        → HasAll (D.state destination.old).nodes (successors_at (graph_of (A.state source.now))
-        key.now) }
-    ensures pushed { OnOk result (keys_of (D.state destination.new).nodes ≡ keys_of
-        (D.state destination.old).nodes ++ key.now ∷ []) }
-    ensures refused { OnErr result ((D.state destination.new).nodes ≡ (D.state
-        destination.old).nodes) }
+    requires can { CanBring (A.state source.now) (D.state destination.old) key.now }
+    ensures brought { IsBrought (A.state source.now) (D.state destination.old)
+        (D.state destination.new) key.now result }
     ensures keeps { (planned : List Descriptor) (opening : D) → Contains planned key.now
         → Keeps D.shares (A.state source.now) planned (D.state opening) (D.state destination.old)
         → Keeps D.shares (A.state source.now) planned (D.state opening) (D.state destination.new) }
-    ensures cause { IfErr result (IsStepCause (A.state source.now) (D.state destination.old)
-        (D.state destination.new) key.now) }
-    ensures running { OnOk result ((D.state destination.new).is_halted
-        → (D.state destination.old).is_halted) }
 {
     let Ok(mut draft) = destination.draft(key) else {
         return Err(CopyFault::Memory);

@@ -21,29 +21,22 @@ loop-place-init g c = record {
   running = λ halted. halted;
 }
 
-pub push_planned-requires-clause-there : goal.push_planned-requires-clause-there
-push_planned-requires-clause-there g c =
+pub push_planned-requires : goal.push_planned-requires
+push_planned-requires g c =
     let at = c.key_at.ensures in
-    All-contains (λ (k : Descriptor). has_key (g.A.Store.state c.args.source.now).entries k ≡ true) c.args.plan.now.keys c.key_at.result.now c.requires.there
-    (Contains-from_slice_get c.args.plan.now.keys at.0 c.key_at.result.now at.2)
-
-pub push_planned-requires-clause-reads : goal.push_planned-requires-clause-reads
-push_planned-requires-clause-reads g c honest =
-    let at = c.key_at.ensures in
-    All-contains (CanBeRead (g.A.Store.state c.args.source.now).entries) c.args.plan.now.keys c.key_at.result.now (c.requires.reads honest)
-    (Contains-from_slice_get c.args.plan.now.keys at.0 c.key_at.result.now at.2)
-
-pub push_planned-requires-clause-fresh : goal.push_planned-requires-clause-fresh
-push_planned-requires-clause-fresh g c =
-    let at = c.key_at.ensures in
-    fresh_at c.args.plan.now c.requires.plan c.requires.order (g.D.Store.state c.args.destination.now).nodes (g.D.Store.state c.loop-place.destination).nodes c.loop-place.place at.0 c.key_at.result.now
-    c.requires.fresh c.loop-place.invariant.keys at.1 at.2
-
-pub push_planned-requires-clause-ready : goal.push_planned-requires-clause-ready
-push_planned-requires-clause-ready g c honest =
-    let at = c.key_at.ensures in
-    ready_at c.args.plan.now c.requires.plan c.requires.order (graph_of (g.A.Store.state c.args.source.now)) (g.D.Store.state c.args.destination.now).nodes (g.D.Store.state c.loop-place.destination).nodes
-    c.loop-place.place at.0 c.key_at.result.now (c.requires.follows honest) c.loop-place.invariant.keys at.1 at.2
+    let k = c.key_at.result.now in
+    let source = g.A.Store.state c.args.source.now in
+    let opening = (g.D.Store.state c.args.destination.now).nodes in
+    let now = (g.D.Store.state c.loop-place.destination).nodes in
+    let planned = Contains-from_slice_get c.args.plan.now.keys at.0 k at.2 in
+    record {
+      can = record {
+        there = All-contains (λ (k : Descriptor). has_key source.entries k ≡ true) c.args.plan.now.keys k c.requires.there planned;
+        fresh = fresh_at c.args.plan.now c.requires.plan c.requires.order opening now c.loop-place.place at.0 k c.requires.fresh c.loop-place.invariant.keys at.1 at.2;
+        reads = λ honest. All-contains (CanBeRead source.entries) c.args.plan.now.keys k (c.requires.reads honest) planned;
+        ready = λ honest. ready_at c.args.plan.now c.requires.plan c.requires.order (graph_of source) opening now c.loop-place.place at.0 k (c.requires.follows honest) c.loop-place.invariant.keys at.1 at.2;
+      };
+    }
 
 pub returns-in_err-push_planned-clause-keeps : goal.returns-in_err-push_planned-clause-keeps
 returns-in_err-push_planned-clause-keeps g c =
@@ -59,15 +52,15 @@ returns-in_err-push_planned-clause-cause g c =
     rw (p.1, p.2) (
       c.key_at.result.now,
       Contains-from_slice_get c.args.plan.now.keys at.0 c.key_at.result.now at.2,
-      subst (λ (graph : List Node). has_key graph c.key_at.result.now ≡ false) (sym c.in_err-push_planned.ensures.refused) fresh,
+      subst (λ (graph : List Node). has_key graph c.key_at.result.now ≡ false) (sym c.in_err-push_planned.ensures.brought.refused) fresh,
       step_earlier (g.A.Store.state c.args.source.now) (g.D.Store.state c.args.destination.now) (g.D.Store.state c.loop-place.destination) (g.D.Store.state c.push_planned.new.destination) c.key_at.result.now _
-          c.loop-place.invariant.running c.loop-place.invariant.keeps.rising c.in_err-push_planned.ensures.cause,
+          c.loop-place.invariant.running c.loop-place.invariant.keeps.rising c.in_err-push_planned.ensures.brought.cause,
     )
 
 pub loop-place-preserved : goal.loop-place-preserved
 loop-place-preserved g c =
     let at = c.key_at.ensures in
-    let pushed = c.in_ok-push_planned.ensures.pushed in
+    let pushed = c.in_ok-push_planned.ensures.brought.pushed in
     let more = length-more (g.D.Store.state c.loop-place.destination).nodes (g.D.Store.state c.push_planned.new.destination).nodes c.key_at.result.now pushed in
     record {
       keys = pushed ∙ (ap (λ (ks : List Descriptor). ks ++ c.key_at.result.now ∷ []) c.loop-place.invariant.keys
@@ -75,7 +68,7 @@ loop-place-preserved g c =
           (sym (keys_before-more c.args.plan.now c.requires.plan c.requires.order c.loop-place.place at.0 c.key_at.result.now at.1 at.2))));
       count = omega (arith, more, c.loop-place.invariant.count);
       keeps = c.push_planned.ensures.keeps c.args.plan.now.keys c.args.destination.now (Contains-from_slice_get c.args.plan.now.keys at.0 c.key_at.result.now at.2) c.loop-place.invariant.keeps;
-      running = λ halted. c.loop-place.invariant.running (c.in_ok-push_planned.ensures.running halted);
+      running = λ halted. c.loop-place.invariant.running (c.in_ok-push_planned.ensures.brought.running halted);
     }
 
 pub returns-clause-held : goal.returns-clause-held

@@ -1,0 +1,35 @@
+-- What is done to bring one planned key.
+use Rattle.std.proofs.Common.{◌≡◌, ℕ, List, [], ◌∷◌, Ok, Err, Some, inl, inr, ap, ◌∙◌}
+use Rattle.std.specs.Map.{keys_of}
+use Rattle.oci_manifest.specs.Descriptor.{Descriptor}
+use Rattle.oci_store.specs.Content.{IsChecked}
+use Rattle.oci_store.specs.Graph.{node_of}
+use Rattle.oci_store.specs.Keyed.{value_at}
+use Rattle.oci_store.specs.Push.{IsPush}
+use Rattle.oci_store.specs.State.{State}
+use Rattle.oci_store.specs.declared.fault.PushFault.{PushFault}
+use Rattle.oci_copy.specs.Brought.{CanBring, IsBrought}
+use Rattle.oci_copy.specs.Fault.{ReportsPush}
+use Rattle.oci_copy.specs.declared.fault.CopyFault.{CopyFault}
+use Rattle.oci_copy.proofs.Causes.{step_cause, HasFailed-raised}
+use Rattle.oci_copy.proofs.Workers.{keys_of-append}
+
+-- content of the key is pushed that was checked, and is the source's where that is honest
+module _ {X : Type 0} {shares : Type 0} {source old new : State} {k : Descriptor} {bytes : List ℕ} {listed : List Descriptor}
+    (can : CanBring source old k) (checked : IsChecked k bytes listed) (own : source.is_honest → value_at source.entries k ≡ Some bytes) where
+  pub brought : {place : ℕ} {done : X} → IsPush shares old new (k, bytes) (Ok place) → IsBrought source old new k (Ok done)
+  brought {place = place} did = record {
+    pushed = ap keys_of did.keys.pushed ∙ keys_of-append old.nodes (node_of (k, bytes) ∷ []);
+    refused = tt;
+    cause = tt;
+    running = λ halted. elim (did.running halted) [ inl was ↦ was | inr memory ↦ cc memory ];
+  }
+
+  pub refused : {e : PushFault} {told : CopyFault} → IsPush shares old new (k, bytes) (Err e) → ReportsPush k e told → IsBrought {X = X} source old new k (Err told)
+  refused {e = e} {told = told} did tells = record {
+    pushed = tt;
+    refused = did.keys.refused;
+    cause = step_cause source old new k bytes listed can.fresh checked own can.ready did.keys.refused e told did.keys.checked
+        (λ same. HasFailed-raised old new (did.device (cc))) (λ same. did.halted (cc)) tells;
+    running = tt;
+  }

@@ -1,0 +1,28 @@
+-- What it takes to push one planned key, and what that does.
+use Rattle.std.specs.Prelude.{◌≡◌, true, false, ◌++◌, ◌∷◌, [], Result, OnOk, OnErr, IfErr}
+use Rattle.std.specs.Map.{keys_of}
+use Rattle.oci_manifest.specs.Descriptor.{Descriptor}
+use Rattle.oci_store.specs.Keyed.{has_key, HasAll}
+use Rattle.oci_store.specs.State.{State}
+use Rattle.oci_plan.specs.Visiting.{successors_at}
+use Rattle.oci_copy.specs.Cause.{IsStepCause}
+use Rattle.oci_copy.specs.Grown.{graph_of}
+use Rattle.oci_copy.specs.Planned.{CanBeRead}
+use Rattle.oci_copy.specs.declared.fault.CopyFault.{CopyFault}
+
+-- the key can be pushed: the source has it and the destination lacks it, and of an honest source it reads, and the destination has all
+-- that it lists
+pub record CanBring (source now : State) (k : Descriptor) : Type 0 where
+  pub there : has_key source.entries k ≡ true
+  pub fresh : has_key now.nodes k ≡ false
+  pub reads : source.is_honest → CanBeRead source.entries k
+  pub ready : source.is_honest → HasAll now.nodes (successors_at (graph_of source) k)
+
+-- what was done to bring the key, by the answer
+pub record IsBrought {X : Type 0} (source old new : State) (k : Descriptor) (answer : Result X CopyFault) : Type 0 where
+  -- the key stands after the others; where it is refused, for its cause, they are as they were
+  pub pushed : OnOk answer (keys_of new.nodes ≡ keys_of old.nodes ++ k ∷ [])
+  pub refused : OnErr answer (new.nodes ≡ old.nodes)
+  pub cause : IfErr answer (IsStepCause source old new k)
+  -- a push that is done halts nothing
+  pub running : OnOk answer (new.is_halted → old.is_halted)
