@@ -1,8 +1,7 @@
-use Rattle.std.proofs.Common.{◌≡◌, false, [], ◌∷◌, ◌++◌, Ok, Err, refl, ap, ◌∙◌, rules}
+use Rattle.std.proofs.Common.{◌≡◌, false, [], Ok, Err, refl, ◌∙◌, rules}
 use Rattle.oci_digest.proofs.DigestLemmas.{IsDigest-from_Verifies}
 use Rattle.oci_store.specs.Keyed.{has_key}
 use Rattle.oci_store.specs.Push.{closed_check}
-use Rattle.oci_store.proofs.Checks.{IsPush-refused}
 use Rattle.oci_store.proofs.Contents.{IsNew-from_checked, IsNew-successors}
 use Rattle.oci_store.proofs.Leaves.{IsChecked-leaf, closed_check-leaf, leaf_check-fresh}
 use Rattle.oci_store.proofs.References.{AreNames-pushed}
