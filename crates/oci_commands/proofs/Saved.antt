@@ -1,9 +1,9 @@
 -- Why what a copy between layouts promises still stands after the save.
-use Rattle.std.proofs.Common.{◌≡◌, ℕ, List, [], ◌∷◌, Result, Ok, Err, refl, sym, ap, ◌∙◌, arith, inl, inr}
-use Rattle.std.specs.Prelude.{⊤, ◌<◌, ◌≤◌, ◌^◌, ◌-◌, IfOk, IfErr}
+use Rattle.std.proofs.Common.{◌≡◌, ℕ, List, [], ◌∷◌, Option, None, Some, Result, Ok, Err, refl, sym, ap, ◌∙◌, subst, arith, inl, inr}
+use Rattle.std.specs.Prelude.{⊤, ◌<◌, ◌≤◌, ◌^◌, ◌-◌, IfOk, OnOk, IfErr}
 use Rattle.std.specs.List.{All}
 use Rattle.std.proofs.lemmas.List.Elements.{All-nil, All-cons}
-use Rattle.std.proofs.lemmas.Result.{IfOk-at_ok, IfErr-at_err}
+use Rattle.std.proofs.lemmas.Result.{IfOk-at_ok, IfErr-at_err, on_ok_weaker}
 use Rattle.oci_manifest.specs.Descriptor.{Descriptor}
 use Rattle.oci_store.specs.Content.{Entry}
 use Rattle.oci_store.specs.Graph.{Node}
@@ -13,14 +13,16 @@ use Rattle.oci_layout.specs.Device.{File}
 use Rattle.oci_layout.specs.Blobs.{blob_at, stored}
 use Rattle.oci_layout.specs.Refusal.{IsPutFault}
 use Rattle.oci_copy.specs.Copy.{IsCopy, OnlyGrows}
+use Rattle.oci_copy.specs.Destination.{IsClosedWhenSkipping}
 use Rattle.oci_copy.specs.Grown.{IsTold, SameByDigest}
 use Rattle.oci_copy.specs.declared.options.Options.{Options}
 use Rattle.oci_copy.specs.declared.fault.CopyFault.{CopyFault}
+use Rattle.oci_copy.specs.declared.report.Report.{Report}
 use Rattle.oci_exit.specs.declared.fault.ProgramFault.{ProgramFault}
 use Rattle.oci_exit.specs.declared.fault.ProgramFault.TheVariants as fault
 use Rattle.oci_layout.specs.declared.fault.LayoutFault.{LayoutFault}
 use Rattle.oci_layout.specs.declared.fault.LayoutFault.TheVariants as layout
-use Rattle.oci_commands.specs.Between.{IsTrusted, IsSaved, IsCopiedBetween, HasReached}
+use Rattle.oci_commands.specs.Between.{IsTrusted, IsSaved, IsCopiedBetween, HasReached, OfRoots}
 use Rattle.oci_commands.specs.Refusal.{IsRefusedBetween, IsSaveFault}
 
 -- each entry of a layout has the bytes of its digest's file
@@ -35,13 +37,22 @@ same_in_layout file graph k other x y at_k at_other same =
     let y_is : y ≡ blob_at file other.digest = All-value_at (λ (e : Entry). e.1 ≡ blob_at file e.0.digest) (stored file graph) other y (file_bytes file graph) at_other in
     y_is ∙ (ap (blob_at file) same ∙ sym x_is)
 
--- what holds of a copy's answer holds of the same answer after the save
-pub after_save : {X E F : Type 0} (copied : Result X E) (saved : Result X F) (P : X → Type 0) → IfOk saved (λ x. copied ≡ Ok x) → IfOk copied P → IfOk saved P
-after_save copied (Ok x) P same holds = IfOk-at_ok P same holds
-after_save copied (Err e) P same holds = same
+-- what holds of the roots of a copy, for a weaker reason holds too, and what holds of any roots holds
+roots_weaker : (source : State) (referrers : Option ℕ) (k : Descriptor) {P Q : List Descriptor → Type 0} → ((roots : List Descriptor) → P roots → Q roots) → OfRoots source referrers k P → OfRoots source referrers k Q
+roots_weaker source None k weaker holds = weaker (k ∷ []) holds
+roots_weaker source (Some depth) k weaker holds = (holds.0, holds.1, weaker holds.0 holds.2)
+
+of_any_roots : (source : State) (referrers : Option ℕ) (k : Descriptor) {P : List Descriptor → Type 0} {Q : Type 0} → ((roots : List Descriptor) → P roots → Q) → OfRoots source referrers k P → Q
+of_any_roots source None k gives holds = gives (k ∷ []) holds
+of_any_roots source (Some depth) k gives holds = gives holds.0 holds.2
+
+-- what follows from what holds of a copy's answer holds of the same answer after the save
+after_save : {X E F : Type 0} {P Q : X → Type 0} (copied : Result X E) (saved : Result X F) → ((x : X) → P x → Q x) → IfOk saved (λ x. copied ≡ Ok x) → IfOk copied P → IfOk saved Q
+after_save {P = P} {Q = Q} copied (Ok x) gives same holds = gives x (IfOk-at_ok P same holds)
+after_save copied (Err e) gives same holds = same
 
 -- what a copy holds is held after the save
-pub reached_after : {source old copied new : State} {options : Options} {roots : List Descriptor} → IsSaved copied new → IsCopy ⊤ options source old roots copied → HasReached source old roots new
+reached_after : {source old copied new : State} {options : Options} {roots : List Descriptor} → IsSaved copied new → IsCopy ⊤ options source old roots copied → HasReached source old roots new
 reached_after saved copy honest agree k reached = rw saved.nodes (copy.reached honest agree k reached)
 
 -- a save that failed for the device failed after the copy was opened
@@ -84,15 +95,31 @@ module _ {source old copied new : State} {grown : List Descriptor} (alike : Same
       let less : copied.failures < 2 ^ 64 - 1 = (let e = calm.0 in let l = calm.1 in omega arith) in
       record { is_honest = trusted.is_honest; is_sound = trusted.is_sound; is_calm = (same, less); same_old = λ _. trusted.same; same_source = λ _. alike }
 
-  pub sound_before : IsTrusted source old new → copied.is_sound
+  sound_before : IsTrusted source old new → copied.is_sound
   sound_before trusted = grows.sound (told_before trusted)
 
   pub sound_after : IsTrusted source old new → new.is_sound
   sound_after trusted = saved.sound (sound_before trusted)
 
-  pub copied_after : {options : Options} {roots : List Descriptor} → IsCopy ⊤ options source old roots copied → IsCopiedBetween source old roots new
+  copied_after : {options : Options} {roots : List Descriptor} → IsCopy ⊤ options source old roots copied → IsCopiedBetween source old roots new
   copied_after copy trusted =
       rw (saved.entries (sound_before trusted)) (copy.content (told_before trusted) (λ k x y at_source at_old. sym (trusted.same k k x y at_source at_old refl)))
 
-  pub files_after : (P : List Entry → Type 0) → (copied.is_sound → P copied.entries) → IsTrusted source old new → P new.entries
-  files_after P files trusted = rw (saved.entries (sound_before trusted)) (files (sound_before trusted))
+  pub files_after : {X E : Type 0} (answer : Result X E) (files : List Entry → Type 0) → OnOk answer (copied.is_sound → files copied.entries) → OnOk answer (IsTrusted source old new → files new.entries)
+  files_after answer files there =
+      on_ok_weaker {P = copied.is_sound → files copied.entries} {Q = IsTrusted source old new → files new.entries} answer (λ of trusted. rw (saved.entries (sound_before trusted)) (of (sound_before trusted))) there
+
+  -- what the answer of a copy says of its roots, the answer after the save says
+  module _ {E F : Type 0} (options : Options) (referrers : Option ℕ) {matched : Option ℕ} (is : referrers ≡ matched) (answer : Result (Descriptor × Report) E) (after : Result (Descriptor × Report) F)
+      (same : IfOk after (λ it. answer ≡ Ok it)) (done : IfOk answer (λ it. OfRoots source matched it.0 (λ roots. IsCopy ⊤ options source old roots copied))) where
+    copy : IfOk answer (λ it. OfRoots source referrers it.0 (λ roots. IsCopy ⊤ options source old roots copied))
+    copy = subst (λ (r : Option ℕ). IfOk answer (λ it. OfRoots source r it.0 (λ roots. IsCopy ⊤ options source old roots copied))) (sym is) done
+
+    pub copied_saved : IfOk after (λ it. OfRoots source referrers it.0 (λ roots. IsCopiedBetween source old roots new))
+    copied_saved = after_save answer after (λ it. roots_weaker source referrers it.0 (λ roots. copied_after)) same copy
+
+    pub reached_saved : IfOk after (λ it. OfRoots source referrers it.0 (λ roots. HasReached source old roots new))
+    reached_saved = after_save answer after (λ it. roots_weaker source referrers it.0 (λ roots. reached_after saved)) same copy
+
+    pub was_closed_saved : IfOk after (λ it. IsClosedWhenSkipping options.existing old.nodes)
+    was_closed_saved = after_save answer after (λ it. of_any_roots source referrers it.0 (λ roots done. done.was_closed)) same copy

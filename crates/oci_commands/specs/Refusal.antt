@@ -1,5 +1,5 @@
 -- Why a copy between two layouts is refused.
-use Rattle.std.specs.Prelude.{ℕ, List, [], ◌∷◌}
+use Rattle.std.specs.Prelude.{ℕ, List, [], ◌∷◌, Option, None, Some}
 use Rattle.oci_store.specs.State.{State}
 use Rattle.oci_copy.specs.Cause.{HasFailed}
 use Rattle.oci_copy.specs.Extended.{RefusedExtended}
@@ -12,14 +12,12 @@ use Rattle.oci_layout.specs.declared.fault.LayoutFault.TheVariants as layout
 use Rattle.oci_exit.specs.declared.fault.ProgramFault.{ProgramFault}
 use Rattle.oci_exit.specs.declared.fault.ProgramFault.TheVariants as fault
 
--- why a copy of what a reference resolves to is refused; `fails` is whether a put into the destination may have failed
-abbrev pub IsRefusedCopy : (fails : Type 0) → Options → State → State → List ℕ → CopyFault → Type 0
-IsRefusedCopy fails options source opening name = RefusedByReference source name options.workers
+-- why a copy of what a reference resolves to is refused, with what leads to that up to a depth or without; `fails` is whether a put into
+-- the destination may have failed
+abbrev pub IsRefusedCopy : (fails : Type 0) → Options → State → State → List ℕ → Option ℕ → CopyFault → Type 0
+IsRefusedCopy fails options source opening name None = RefusedByReference source name options.workers
     (λ root. IsRefusalToWorkers fails options source opening (root ∷ []) options.workers)
-
--- the same of a copy with what leads to that key, up to a depth
-abbrev pub IsRefusedExtendedCopy : (fails : Type 0) → Options → State → State → List ℕ → ℕ → CopyFault → Type 0
-IsRefusedExtendedCopy fails options source opening name depth = RefusedByReference source name options.workers
+IsRefusedCopy fails options source opening name (Some depth) = RefusedByReference source name options.workers
     (λ root. RefusedExtended source root depth (λ roots. IsRefusalToWorkers fails options source opening roots options.workers))
 
 -- why a layout could not be saved after a copy: a put failed, or memory ran out

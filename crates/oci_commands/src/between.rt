@@ -1,13 +1,12 @@
-ghost use Rattle.std.specs.Prelude.{◌≡◌, [], ◌∷◌, Ok, Err, IfOk, OnOk, IfErr};
+ghost use Rattle.std.specs.Prelude.{◌≡◌, Ok, Err, IfOk, OnOk, IfErr};
 ghost use Rattle.oci_store.specs.Tags.{set_tag};
 ghost use Rattle.oci_copy.specs.Destination.{IsClosedWhenSkipping};
-ghost use Rattle.oci_copy.specs.Extended.{OfUp};
 ghost use Rattle.oci_copy.specs.Tagged.{name_of, ResolvesIn};
 ghost use Rattle.oci_copy.specs.Work.{CanFail};
 ghost use Rattle.oci_layout.specs.Files.{HasFiles};
 ghost use Rattle.oci_layout.specs.Refusal.{IsPutFault};
-ghost use Rattle.oci_commands.specs.Between.{HasReached, IsCopiedBetween, IsSaved, IsTrusted};
-ghost use Rattle.oci_commands.specs.Refusal.{IsRefusedBetween, IsRefusedCopy, IsRefusedExtendedCopy, IsSaveFault};
+ghost use Rattle.oci_commands.specs.Between.{HasReached, IsCopiedBetween, IsSaved, IsTrusted, OfRoots};
+ghost use Rattle.oci_commands.specs.Refusal.{IsRefusedBetween, IsRefusedCopy, IsSaveFault};
 
 use oci_copy::{CopyFault, Options, Report, copy, extended_copy};
 use oci_exit::ProgramFault;
@@ -20,7 +19,8 @@ use std::thread::Threads;
 
 /// Copies what a reference of a layout resolves to into another layout, tags it there, and saves that.
 ///
-/// The tag is `to`, or `from` where that is empty. The destination always comes back. Refused as `copy` is, and then it is not
+/// With `referrers` it also copies what refers to that, so many steps up, 0 for any number (`extended_copy`). The tag is `to`, or
+/// `from` where that is empty. The destination always comes back. Refused as `copy` or `extended_copy` is, and then it is not
 /// saved; and where `index.json` could not be written. A copy that descends is not refused for an open destination.
 pub fn copy_between<
     R: AllocGlobal + Threads + Wait + Sync,
@@ -31,6 +31,7 @@ pub fn copy_between<
     rt: &R,
     source: &Layout<S>,
     from: &str,
+    referrers: Option<u32>,
     destination: Layout<D>,
     to: &str,
     options: &Options,
@@ -41,12 +42,14 @@ where
     D::Draft: Send,
     ensures root { IfOk result.1 (λ it. ResolvesIn (⟦<Layout<S> as Store>⟧.state source.now)
         from.now it.0) }
-    ensures copied { IfOk result.1 (λ it. IsCopiedBetween (⟦<Layout<S> as Store>⟧.state source.now)
-        (⟦<Layout<D> as Store>⟧.state destination) (it.0 ∷ [])
-        (⟦<Layout<D> as Store>⟧.state result.0)) }
-    ensures reached { IfOk result.1 (λ it. HasReached (⟦<Layout<S> as Store>⟧.state source.now)
-        (⟦<Layout<D> as Store>⟧.state destination) (it.0 ∷ [])
-        (⟦<Layout<D> as Store>⟧.state result.0)) }
+    ensures copied { IfOk result.1 (λ it. OfRoots (⟦<Layout<S> as Store>⟧.state source.now)
+        referrers it.0 (λ roots. IsCopiedBetween (⟦<Layout<S> as Store>⟧.state source.now)
+        (⟦<Layout<D> as Store>⟧.state destination)
+        roots (⟦<Layout<D> as Store>⟧.state result.0))) }
+    ensures reached { IfOk result.1 (λ it. OfRoots (⟦<Layout<S> as Store>⟧.state source.now)
+        referrers it.0 (λ roots. HasReached (⟦<Layout<S> as Store>⟧.state source.now)
+        (⟦<Layout<D> as Store>⟧.state destination)
+        roots (⟦<Layout<D> as Store>⟧.state result.0))) }
     ensures was_closed { IfOk result.1 (λ it. IsClosedWhenSkipping options.now.existing
         destination.1) }
     ensures tagged { IfOk result.1 (λ it. result.0.2 ≡ set_tag destination.2
@@ -63,77 +66,31 @@ where
         (IsRefusedCopy (CanFail ⟦<Layout<D> as Store>⟧.state
         (⟦<Layout<D> as Store>⟧.state destination)) options.now
         (⟦<Layout<S> as Store>⟧.state source.now)
-        (⟦<Layout<D> as Store>⟧.state destination) from.now)
+        (⟦<Layout<D> as Store>⟧.state destination) from.now referrers)
         (IsSaveFault (⟦<Layout<D> as Store>⟧.state destination)
         (⟦<Layout<D> as Store>⟧.state result.0))) }
 {
     let alloc = rt.alloc();
-    let (destination, copied) = copy(rt, alloc, source, from, destination, to, options, hooks);
-    save_copied(destination, copied)
-}
-
-/// The same with what leads to the key, up to a depth: `extended_copy` in the place of `copy`.
-pub fn extended_copy_between<
-    R: AllocGlobal + Threads + Wait + Sync,
-    S: Dir + Sync,
-    D: Dir + Drop + Send,
-    H: Hooks + Sync,
->(
-    rt: &R,
-    source: &Layout<S>,
-    from: &str,
-    depth: u32,
-    destination: Layout<D>,
-    to: &str,
-    options: &Options,
-    hooks: &H,
-) -> (Layout<D>, Result<(Key, Report), ProgramFault>)
-where
-    S::Draft: Send,
-    D::Draft: Send,
-    ensures root { IfOk result.1 (λ it. ResolvesIn (⟦<Layout<S> as Store>⟧.state source.now)
-        from.now it.0) }
-    ensures copied { IfOk result.1 (λ it. OfUp (⟦<Layout<S> as Store>⟧.state source.now) it.0 depth
-        (λ roots. IsCopiedBetween (⟦<Layout<S> as Store>⟧.state source.now)
-        (⟦<Layout<D> as Store>⟧.state destination)
-        roots (⟦<Layout<D> as Store>⟧.state result.0))) }
-    ensures reached { IfOk result.1 (λ it. OfUp (⟦<Layout<S> as Store>⟧.state source.now) it.0 depth
-        (λ roots. HasReached (⟦<Layout<S> as Store>⟧.state source.now)
-        (⟦<Layout<D> as Store>⟧.state destination)
-        roots (⟦<Layout<D> as Store>⟧.state result.0))) }
-    ensures was_closed { IfOk result.1 (λ it. IsClosedWhenSkipping options.now.existing
-        destination.1) }
-    ensures tagged { IfOk result.1 (λ it. result.0.2 ≡ set_tag destination.2
-        (name_of from.now to.now) it.0) }
-    ensures sound { IsTrusted (⟦<Layout<S> as Store>⟧.state source.now)
-        (⟦<Layout<D> as Store>⟧.state destination)
-        (⟦<Layout<D> as Store>⟧.state result.0) → (⟦<Layout<D> as Store>⟧.state result.0).is_sound }
-    ensures files { OnOk result.1 (IsTrusted (⟦<Layout<S> as Store>⟧.state source.now)
-        (⟦<Layout<D> as Store>⟧.state destination)
-        (⟦<Layout<D> as Store>⟧.state result.0)
-        → HasFiles (D.file result.0.0) (⟦<Layout<D> as Store>⟧.state result.0).entries result.0.1
-        result.0.2) }
-    ensures refused { IfErr result.1 (IsRefusedBetween
-        (IsRefusedExtendedCopy (CanFail ⟦<Layout<D> as Store>⟧.state
-        (⟦<Layout<D> as Store>⟧.state destination)) options.now
-        (⟦<Layout<S> as Store>⟧.state source.now)
-        (⟦<Layout<D> as Store>⟧.state destination) from.now depth)
-        (IsSaveFault (⟦<Layout<D> as Store>⟧.state destination)
-        (⟦<Layout<D> as Store>⟧.state result.0))) }
-{
-    let alloc = rt.alloc();
-    let (destination, copied) = extended_copy(
-        rt,
-        alloc,
-        source,
-        from,
-        depth,
-        destination,
-        to,
-        options,
-        hooks,
-    );
-    save_copied(destination, copied)
+    match referrers {
+        None => {
+            let (left, copied) = copy(rt, alloc, source, from, destination, to, options, hooks);
+            save_copied(left, copied)
+        }
+        Some(depth) => {
+            let (left, copied) = extended_copy(
+                rt,
+                alloc,
+                source,
+                from,
+                depth,
+                destination,
+                to,
+                options,
+                hooks,
+            );
+            save_copied(left, copied)
+        }
+    }
 }
 
 /// Saves a layout that was copied into, unless the copy was refused.

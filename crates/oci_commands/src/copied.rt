@@ -1,4 +1,4 @@
-use crate::between::{copy_between, extended_copy_between};
+use crate::between::copy_between;
 use crate::copy::{CopyWords, Selection};
 use crate::roots::roots_of_tags;
 use oci_copy::{CopyFault, Report, copy_graph};
@@ -35,20 +35,16 @@ where
     else {
         return copied_tags(rt, source, destination, words, hooks);
     };
-    let options = words.options();
-    let (_saved, answer) = match words.referrers {
-        Some(depth) => extended_copy_between(
-            rt,
-            source,
-            from,
-            depth,
-            destination,
-            to,
-            &options,
-            hooks,
-        ),
-        None => copy_between(rt, source, from, destination, to, &options, hooks),
-    };
+    let (_saved, answer) = copy_between(
+        rt,
+        source,
+        from,
+        words.referrers,
+        destination,
+        to,
+        &words.options(),
+        hooks,
+    );
     let (key, report) = answer?;
     let mut keys = Vec::new(rt.alloc());
     keys.push(key)?;

@@ -30,6 +30,6 @@ mod tree;
 mod verify;
 
 pub use alone::Lockable;
-pub use between::{copy_between, extended_copy_between};
+pub use between::copy_between;
 pub use process::run_process;
 pub use run::run_words;

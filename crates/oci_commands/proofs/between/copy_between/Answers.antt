@@ -1,91 +1,94 @@
-use Rattle.std.specs.Prelude.{⊤, List, [], ◌∷◌}
-use Rattle.std.proofs.lemmas.Result.{IfOk-weaker, on_ok_weaker}
-use Rattle.oci_manifest.specs.Descriptor.{Descriptor}
+use Rattle.std.proofs.Common.{List}
 use Rattle.oci_store.specs.Content.{Entry}
 use Rattle.oci_layout.specs.Blobs.{meaning}
 use Rattle.oci_layout.specs.Files.{HasFiles}
-use Rattle.oci_copy.specs.Copy.{IsCopy}
-use Rattle.oci_copy.specs.declared.report.Report.{Report}
-use Rattle.oci_copy.specs.Destination.{IsClosedWhenSkipping}
-use Rattle.oci_commands.specs.Between.{HasReached, IsCopiedBetween, IsTrusted}
-use Rattle.oci_commands.proofs.Saved.{same_in_layout, after_save, sound_after, copied_after, files_after, reached_after, refused_after}
+use Rattle.oci_commands.proofs.Saved.{same_in_layout, sound_after, files_after, refused_after, copied_saved, reached_saved, was_closed_saved}
 use Rattle.oci_commands.proofs.between.copy_between.Goals as goal
 
-pub returns-clause-copied : goal.returns-clause-copied
-returns-clause-copied g c =
+pub returns-in-None-clause-copied : goal.returns-in-None-clause-copied
+returns-in-None-clause-copied g c =
     let from = c.args.source.now in
-    let source = meaning (g.S.Dir.is_honest from.0) (g.S.Dir.file from.0) (g.S.Dir.failure_count from.0) from.1 from.2 in
-    let was = c.args.destination in
-    let old = meaning (g.D.Dir.is_honest was.0) (g.D.Dir.file was.0) (g.D.Dir.failure_count was.0) was.1 was.2 in
-    let now = c.copy-destination.result.0 in
-    let copied = meaning (g.D.Dir.is_honest now.0) (g.D.Dir.file now.0) (g.D.Dir.failure_count now.0) now.1 now.2 in
-    let left = c.save_copied.result.0 in
-    let new = meaning (g.D.Dir.is_honest left.0) (g.D.Dir.file left.0) (g.D.Dir.failure_count left.0) left.1 left.2 in
-    let grows = c.copy-destination.ensures.grows.2 in
-    after_save c.copy-destination.result.1 c.save_copied.result.1 (λ (it : Descriptor × Report). IsCopiedBetween source old (it.0 ∷ []) new) c.save_copied.ensures.answer
-    (IfOk-weaker c.copy-destination.result.1 (λ (it : Descriptor × Report). IsCopy ⊤ c.args.options.now source old (it.0 ∷ []) copied)
-    (λ (it : Descriptor × Report). IsCopiedBetween source old (it.0 ∷ []) new)
-    (λ it copy. copied_after (same_in_layout (g.S.Dir.file from.0) from.1) grows c.save_copied.ensures.saved copy) c.copy-destination.ensures.copied)
+    let copy = c.copy-left.ensures in
+    let save = c.save_copied.ensures in
+    copied_saved (same_in_layout (g.S.Dir.file from.0) from.1) copy.grows.2 save.saved c.args.options.now c.args.referrers c.in-None.is c.copy-left.result.1 c.save_copied.result.1 save.answer copy.copied
 
-pub returns-clause-sound : goal.returns-clause-sound
-returns-clause-sound g c =
+pub returns-in-None-clause-reached : goal.returns-in-None-clause-reached
+returns-in-None-clause-reached g c =
     let from = c.args.source.now in
-    sound_after (same_in_layout (g.S.Dir.file from.0) from.1) c.copy-destination.ensures.grows.2 c.save_copied.ensures.saved
+    let copy = c.copy-left.ensures in
+    let save = c.save_copied.ensures in
+    reached_saved (same_in_layout (g.S.Dir.file from.0) from.1) copy.grows.2 save.saved c.args.options.now c.args.referrers c.in-None.is c.copy-left.result.1 c.save_copied.result.1 save.answer copy.copied
 
-pub returns-clause-files : goal.returns-clause-files
-returns-clause-files g c =
+pub returns-in-None-clause-was_closed : goal.returns-in-None-clause-was_closed
+returns-in-None-clause-was_closed g c =
     let from = c.args.source.now in
-    let source = meaning (g.S.Dir.is_honest from.0) (g.S.Dir.file from.0) (g.S.Dir.failure_count from.0) from.1 from.2 in
-    let was = c.args.destination in
-    let old = meaning (g.D.Dir.is_honest was.0) (g.D.Dir.file was.0) (g.D.Dir.failure_count was.0) was.1 was.2 in
-    let now = c.copy-destination.result.0 in
-    let copied = meaning (g.D.Dir.is_honest now.0) (g.D.Dir.file now.0) (g.D.Dir.failure_count now.0) now.1 now.2 in
-    let left = c.save_copied.result.0 in
-    let new = meaning (g.D.Dir.is_honest left.0) (g.D.Dir.file left.0) (g.D.Dir.failure_count left.0) left.1 left.2 in
-    let files = λ (content : List Entry). HasFiles (g.D.Dir.file left.0) content left.1 left.2 in
-    on_ok_weaker {P = copied.is_sound → files copied.entries} {Q = IsTrusted source old new → files new.entries} c.save_copied.result.1
-    (files_after (same_in_layout (g.S.Dir.file from.0) from.1) c.copy-destination.ensures.grows.2 c.save_copied.ensures.saved files)
-    c.save_copied.ensures.files
+    let copy = c.copy-left.ensures in
+    let save = c.save_copied.ensures in
+    was_closed_saved (same_in_layout (g.S.Dir.file from.0) from.1) copy.grows.2 save.saved c.args.options.now c.args.referrers c.in-None.is c.copy-left.result.1 c.save_copied.result.1 save.answer copy.copied
 
-pub returns-clause-reached : goal.returns-clause-reached
-returns-clause-reached g c =
+pub returns-in-None-clause-sound : goal.returns-in-None-clause-sound
+returns-in-None-clause-sound g c =
     let from = c.args.source.now in
-    let source = meaning (g.S.Dir.is_honest from.0) (g.S.Dir.file from.0) (g.S.Dir.failure_count from.0) from.1 from.2 in
-    let was = c.args.destination in
-    let old = meaning (g.D.Dir.is_honest was.0) (g.D.Dir.file was.0) (g.D.Dir.failure_count was.0) was.1 was.2 in
-    let now = c.copy-destination.result.0 in
-    let copied = meaning (g.D.Dir.is_honest now.0) (g.D.Dir.file now.0) (g.D.Dir.failure_count now.0) now.1 now.2 in
-    let left = c.save_copied.result.0 in
-    let new = meaning (g.D.Dir.is_honest left.0) (g.D.Dir.file left.0) (g.D.Dir.failure_count left.0) left.1 left.2 in
-    after_save c.copy-destination.result.1 c.save_copied.result.1 (λ (it : Descriptor × Report). HasReached source old (it.0 ∷ []) new) c.save_copied.ensures.answer
-    (IfOk-weaker c.copy-destination.result.1 (λ (it : Descriptor × Report). IsCopy ⊤ c.args.options.now source old (it.0 ∷ []) copied)
-    (λ (it : Descriptor × Report). HasReached source old (it.0 ∷ []) new)
-    (λ it copy. reached_after c.save_copied.ensures.saved copy) c.copy-destination.ensures.copied)
+    sound_after (same_in_layout (g.S.Dir.file from.0) from.1) c.copy-left.ensures.grows.2 c.save_copied.ensures.saved
 
-pub returns-clause-was_closed : goal.returns-clause-was_closed
-returns-clause-was_closed g c =
+pub returns-in-None-clause-files : goal.returns-in-None-clause-files
+returns-in-None-clause-files g c =
     let from = c.args.source.now in
-    let source = meaning (g.S.Dir.is_honest from.0) (g.S.Dir.file from.0) (g.S.Dir.failure_count from.0) from.1 from.2 in
-    let was = c.args.destination in
-    let old = meaning (g.D.Dir.is_honest was.0) (g.D.Dir.file was.0) (g.D.Dir.failure_count was.0) was.1 was.2 in
-    let now = c.copy-destination.result.0 in
-    let copied = meaning (g.D.Dir.is_honest now.0) (g.D.Dir.file now.0) (g.D.Dir.failure_count now.0) now.1 now.2 in
     let left = c.save_copied.result.0 in
-    let new = meaning (g.D.Dir.is_honest left.0) (g.D.Dir.file left.0) (g.D.Dir.failure_count left.0) left.1 left.2 in
-    after_save c.copy-destination.result.1 c.save_copied.result.1 (λ (it : Descriptor × Report). IsClosedWhenSkipping c.args.options.now.existing was.1) c.save_copied.ensures.answer
-    (IfOk-weaker c.copy-destination.result.1 (λ (it : Descriptor × Report). IsCopy ⊤ c.args.options.now source old (it.0 ∷ []) copied)
-    (λ (it : Descriptor × Report). IsClosedWhenSkipping c.args.options.now.existing was.1)
-    (λ it copy. copy.was_closed) c.copy-destination.ensures.copied)
+    files_after (same_in_layout (g.S.Dir.file from.0) from.1) c.copy-left.ensures.grows.2 c.save_copied.ensures.saved c.save_copied.result.1
+    (λ (content : List Entry). HasFiles (g.D.Dir.file left.0) content left.1 left.2) c.save_copied.ensures.files
 
-pub returns-clause-refused : goal.returns-clause-refused
-returns-clause-refused g c =
-    let from = c.args.source.now in
-    let source = meaning (g.S.Dir.is_honest from.0) (g.S.Dir.file from.0) (g.S.Dir.failure_count from.0) from.1 from.2 in
+pub returns-in-None-clause-refused : goal.returns-in-None-clause-refused
+returns-in-None-clause-refused g c =
     let was = c.args.destination in
-    let old = meaning (g.D.Dir.is_honest was.0) (g.D.Dir.file was.0) (g.D.Dir.failure_count was.0) was.1 was.2 in
-    let now = c.copy-destination.result.0 in
-    let copied = meaning (g.D.Dir.is_honest now.0) (g.D.Dir.file now.0) (g.D.Dir.failure_count now.0) now.1 now.2 in
+    let now = c.copy-left.result.0 in
     let left = c.save_copied.result.0 in
-    let new = meaning (g.D.Dir.is_honest left.0) (g.D.Dir.file left.0) (g.D.Dir.failure_count left.0) left.1 left.2 in
-    refused_after c.copy-destination.result.1 c.save_copied.result.1 _ old copied new c.copy-destination.ensures.grows.2.failures
-    c.save_copied.ensures.refused c.copy-destination.ensures.refused
+    rw c.in-None.is (refused_after c.copy-left.result.1 c.save_copied.result.1 _
+    (meaning (g.D.Dir.is_honest was.0) (g.D.Dir.file was.0) (g.D.Dir.failure_count was.0) was.1 was.2)
+    (meaning (g.D.Dir.is_honest now.0) (g.D.Dir.file now.0) (g.D.Dir.failure_count now.0) now.1 now.2)
+    (meaning (g.D.Dir.is_honest left.0) (g.D.Dir.file left.0) (g.D.Dir.failure_count left.0) left.1 left.2)
+    c.copy-left.ensures.grows.2.failures c.save_copied.ensures.refused c.copy-left.ensures.refused)
+
+pub returns-in-Some-clause-copied : goal.returns-in-Some-clause-copied
+returns-in-Some-clause-copied g c =
+    let from = c.args.source.now in
+    let copy = c.extended_copy-left.ensures in
+    let save = c.save_copied-in-Some.ensures in
+    copied_saved (same_in_layout (g.S.Dir.file from.0) from.1) copy.grows.2 save.saved c.args.options.now c.args.referrers c.in-Some.is c.extended_copy-left.result.1 c.save_copied-in-Some.result.1 save.answer copy.copied
+
+pub returns-in-Some-clause-reached : goal.returns-in-Some-clause-reached
+returns-in-Some-clause-reached g c =
+    let from = c.args.source.now in
+    let copy = c.extended_copy-left.ensures in
+    let save = c.save_copied-in-Some.ensures in
+    reached_saved (same_in_layout (g.S.Dir.file from.0) from.1) copy.grows.2 save.saved c.args.options.now c.args.referrers c.in-Some.is c.extended_copy-left.result.1 c.save_copied-in-Some.result.1 save.answer copy.copied
+
+pub returns-in-Some-clause-was_closed : goal.returns-in-Some-clause-was_closed
+returns-in-Some-clause-was_closed g c =
+    let from = c.args.source.now in
+    let copy = c.extended_copy-left.ensures in
+    let save = c.save_copied-in-Some.ensures in
+    was_closed_saved (same_in_layout (g.S.Dir.file from.0) from.1) copy.grows.2 save.saved c.args.options.now c.args.referrers c.in-Some.is c.extended_copy-left.result.1 c.save_copied-in-Some.result.1 save.answer copy.copied
+
+pub returns-in-Some-clause-sound : goal.returns-in-Some-clause-sound
+returns-in-Some-clause-sound g c =
+    let from = c.args.source.now in
+    sound_after (same_in_layout (g.S.Dir.file from.0) from.1) c.extended_copy-left.ensures.grows.2 c.save_copied-in-Some.ensures.saved
+
+pub returns-in-Some-clause-files : goal.returns-in-Some-clause-files
+returns-in-Some-clause-files g c =
+    let from = c.args.source.now in
+    let left = c.save_copied-in-Some.result.0 in
+    files_after (same_in_layout (g.S.Dir.file from.0) from.1) c.extended_copy-left.ensures.grows.2 c.save_copied-in-Some.ensures.saved c.save_copied-in-Some.result.1
+    (λ (content : List Entry). HasFiles (g.D.Dir.file left.0) content left.1 left.2) c.save_copied-in-Some.ensures.files
+
+pub returns-in-Some-clause-refused : goal.returns-in-Some-clause-refused
+returns-in-Some-clause-refused g c =
+    let was = c.args.destination in
+    let now = c.extended_copy-left.result.0 in
+    let left = c.save_copied-in-Some.result.0 in
+    rw c.in-Some.is (refused_after c.extended_copy-left.result.1 c.save_copied-in-Some.result.1 _
+    (meaning (g.D.Dir.is_honest was.0) (g.D.Dir.file was.0) (g.D.Dir.failure_count was.0) was.1 was.2)
+    (meaning (g.D.Dir.is_honest now.0) (g.D.Dir.file now.0) (g.D.Dir.failure_count now.0) now.1 now.2)
+    (meaning (g.D.Dir.is_honest left.0) (g.D.Dir.file left.0) (g.D.Dir.failure_count left.0) left.1 left.2)
+    c.extended_copy-left.ensures.grows.2.failures c.save_copied-in-Some.ensures.refused c.extended_copy-left.ensures.refused)
