@@ -62,7 +62,11 @@ fn put(
     media_type: &str,
     content: &'static [u8],
 ) -> Result<Key, Error>
-    ensures describes { IfOk result (λ key. key ≡ record { media_type = media_type.now; digest = digest_of content.now; size = length content.now }) }
+    ensures describes { IfOk result (λ key. key ≡ record {
+      media_type = media_type.now;
+      digest = digest_of content.now;
+      size = length content.now;
+    }) }
 {
     let media_type = String::from_str(alloc, media_type)?;
     let key = Key::new(media_type, Digest::of(content), content.len() as u64)?;

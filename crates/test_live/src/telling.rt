@@ -32,9 +32,11 @@ pub fn copy_and_tell<T: Threads + Wait + Sync, R: Wait + Drop + Send, H: Hooks +
     ensures name { (result.0.name ≡ live.name) × (look.new.name ≡ look.old.name) }
     ensures later { IsPrefix look.old.entries look.new.entries }
     ensures told { IsPrefix result.0.entries look.new.entries }
-    ensures copied { OnOk result.1 (Agree source.now.entries live.entries → (k : Descriptor) (bytes : List ℕ)
+    ensures copied { OnOk result.1 (Agree source.now.entries live.entries
+        → (k : Descriptor) (bytes : List ℕ)
         → (value_at live.entries k ≡ Some bytes)
-        ⊎ ((value_at source.now.entries k ≡ Some bytes) × Reaches (nodes_of source.now.entries) roots.now k)
+        ⊎ ((value_at source.now.entries k ≡ Some bytes)
+        × Reaches (nodes_of source.now.entries) roots.now k)
         → value_at look.new.entries k ≡ Some bytes) }
     ensures reached { OnOk result.1 (Agree source.now.entries live.entries → (k : Descriptor)
         → Reaches (nodes_of source.now.entries) roots.now k → has_key look.new.entries k ≡ true) }

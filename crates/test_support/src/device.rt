@@ -201,7 +201,8 @@ fn put(
     key: &Key,
     bytes: &[u8],
 ) -> Result<(), NoMemory>
-    ensures put { OnOk result (Changes files.old.entries files.new.entries key.now.digest bytes.now) }
+    ensures put { OnOk result (Changes files.old.entries files.new.entries key.now.digest
+        bytes.now) }
     ensures refused { OnErr result (files.new.entries ≡ files.old.entries) }
 {
     let bytes = Bytes::copy_from_slice(alloc, bytes)?;
