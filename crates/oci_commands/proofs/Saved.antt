@@ -69,7 +69,7 @@ saved_since opening between now before (layout.BadManifest k e) failed = failed
 saved_since opening between now before layout.AlreadyLayout failed = failed
 
 -- what a copy was refused for, the copy with its save is
-pub refused_after : {X Y : Type 0} (copied : Result X CopyFault) (saved : Result Y ProgramFault) (cause : CopyFault → Type 0) (opening between now : State) → opening.failures ≤ between.failures
+refused_after : {X Y : Type 0} (copied : Result X CopyFault) (saved : Result Y ProgramFault) (cause : CopyFault → Type 0) (opening between now : State) → opening.failures ≤ between.failures
     → IfErr saved (IsRefusedBetween (λ e. copied ≡ Err e) (IsPutFault between.failures now.failures)) → IfErr copied cause → IfErr saved (IsRefusedBetween cause (IsSaveFault opening now))
 refused_after copied (Ok x) cause opening between now before refused causes = refused
 refused_after copied (Err (fault.Copy e)) cause opening between now before same causes = IfErr-at_err cause same causes
@@ -108,6 +108,10 @@ module _ {source old copied new : State} {grown : List Descriptor} (alike : Same
   pub files_after : {X E : Type 0} (answer : Result X E) (files : List Entry → Type 0) → OnOk answer (copied.is_sound → files copied.entries) → OnOk answer (IsTrusted source old new → files new.entries)
   files_after answer files there =
       on_ok_weaker {P = copied.is_sound → files copied.entries} {Q = IsTrusted source old new → files new.entries} answer (λ of trusted. rw (saved.entries (sound_before trusted)) (of (sound_before trusted))) there
+
+  pub refused_saved : {X Y : Type 0} (answer : Result X CopyFault) (after : Result Y ProgramFault) (cause : CopyFault → Type 0)
+      → IfErr after (IsRefusedBetween (λ e. answer ≡ Err e) (IsPutFault copied.failures new.failures)) → IfErr answer cause → IfErr after (IsRefusedBetween cause (IsSaveFault old new))
+  refused_saved answer after cause = refused_after answer after cause old copied new grows.failures
 
   -- what the answer of a copy says of its roots, the answer after the save says
   module _ {E F : Type 0} (options : Options) (referrers : Option ℕ) {matched : Option ℕ} (is : referrers ≡ matched) (answer : Result (Descriptor × Report) E) (after : Result (Descriptor × Report) F)

@@ -1,8 +1,7 @@
 use Rattle.std.proofs.Common.{List}
 use Rattle.oci_store.specs.Content.{Entry}
-use Rattle.oci_layout.specs.Blobs.{meaning}
 use Rattle.oci_layout.specs.Files.{HasFiles}
-use Rattle.oci_commands.proofs.Saved.{same_in_layout, sound_after, files_after, refused_after, copied_saved, reached_saved, was_closed_saved}
+use Rattle.oci_commands.proofs.Saved.{same_in_layout, sound_after, files_after, refused_saved, copied_saved, reached_saved, was_closed_saved}
 use Rattle.oci_commands.proofs.between.copy_between.Goals as goal
 
 pub returns-in-None-clause-copied : goal.returns-in-None-clause-copied
@@ -40,14 +39,10 @@ returns-in-None-clause-files g c =
 
 pub returns-in-None-clause-refused : goal.returns-in-None-clause-refused
 returns-in-None-clause-refused g c =
-    let was = c.args.destination in
-    let now = c.copy-left.result.0 in
-    let left = c.save_copied.result.0 in
-    rw c.in-None.is (refused_after c.copy-left.result.1 c.save_copied.result.1 _
-    (meaning (g.D.Dir.is_honest was.0) (g.D.Dir.file was.0) (g.D.Dir.failure_count was.0) was.1 was.2)
-    (meaning (g.D.Dir.is_honest now.0) (g.D.Dir.file now.0) (g.D.Dir.failure_count now.0) now.1 now.2)
-    (meaning (g.D.Dir.is_honest left.0) (g.D.Dir.file left.0) (g.D.Dir.failure_count left.0) left.1 left.2)
-    c.copy-left.ensures.grows.2.failures c.save_copied.ensures.refused c.copy-left.ensures.refused)
+    let from = c.args.source.now in
+    let copy = c.copy-left.ensures in
+    let save = c.save_copied.ensures in
+    rw c.in-None.is (refused_saved (same_in_layout (g.S.Dir.file from.0) from.1) copy.grows.2 save.saved c.copy-left.result.1 c.save_copied.result.1 _ save.refused copy.refused)
 
 pub returns-in-Some-clause-copied : goal.returns-in-Some-clause-copied
 returns-in-Some-clause-copied g c =
@@ -84,11 +79,7 @@ returns-in-Some-clause-files g c =
 
 pub returns-in-Some-clause-refused : goal.returns-in-Some-clause-refused
 returns-in-Some-clause-refused g c =
-    let was = c.args.destination in
-    let now = c.extended_copy-left.result.0 in
-    let left = c.save_copied-in-Some.result.0 in
-    rw c.in-Some.is (refused_after c.extended_copy-left.result.1 c.save_copied-in-Some.result.1 _
-    (meaning (g.D.Dir.is_honest was.0) (g.D.Dir.file was.0) (g.D.Dir.failure_count was.0) was.1 was.2)
-    (meaning (g.D.Dir.is_honest now.0) (g.D.Dir.file now.0) (g.D.Dir.failure_count now.0) now.1 now.2)
-    (meaning (g.D.Dir.is_honest left.0) (g.D.Dir.file left.0) (g.D.Dir.failure_count left.0) left.1 left.2)
-    c.extended_copy-left.ensures.grows.2.failures c.save_copied-in-Some.ensures.refused c.extended_copy-left.ensures.refused)
+    let from = c.args.source.now in
+    let copy = c.extended_copy-left.ensures in
+    let save = c.save_copied-in-Some.ensures in
+    rw c.in-Some.is (refused_saved (same_in_layout (g.S.Dir.file from.0) from.1) copy.grows.2 save.saved c.extended_copy-left.result.1 c.save_copied-in-Some.result.1 _ save.refused copy.refused)
