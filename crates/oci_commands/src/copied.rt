@@ -1,6 +1,7 @@
 use crate::between::copy_between;
-use crate::copy::{CopyWords, Selection};
+use crate::copy::options_of;
 use crate::roots::roots_of_tags;
+use oci_command_line::{CopyWords, Selection};
 use oci_copy::{CopyFault, Report, copy_graph};
 use oci_exit::ProgramFault;
 use oci_layout::{Dir, Layout};
@@ -42,7 +43,7 @@ where
         words.referrers,
         destination,
         to,
-        &words.options(),
+        &options_of(words),
         hooks,
     );
     let (key, report) = answer?;
@@ -69,7 +70,7 @@ where
     S::Draft: Send,
     D::Draft: Send,
 {
-    let (alloc, options) = (rt.alloc(), words.options());
+    let (alloc, options) = (rt.alloc(), options_of(words));
     let tags = source.tags()?;
     let roots = roots_of_tags(alloc, source, &tags, words.referrers)?;
     let (mut destination, answer) = copy_graph(

@@ -5,6 +5,7 @@ use crate::opened::{opened, opened_or_made};
 use crate::output::output_fault;
 use crate::progress::Progress;
 use crate::progress_line::ProgressLine;
+use oci_command_line::{CopyWords, Selection, Shown};
 use oci_copy::{Options, Report};
 use oci_exit::{Outcome, ProgramFault};
 use oci_layout::{Dir, Layout};
@@ -18,55 +19,17 @@ use std::sync::Wait;
 use std::thread::Threads;
 use std::time::Clock;
 
-/// What a copy copies.
-#[derive(Clone, Copy)]
-pub(crate) enum Selection<'w> {
-    /// What a reference of the source resolves to.
-    Reference {
-        source: &'w str,
-        /// The tag that it gets in the destination; the source's reference where this is empty.
-        destination: &'w str,
-    },
-    /// What each tag of the source resolves to.
-    AllTags,
-}
-
-/// What is shown on stderr while a copy goes on.
-#[derive(Clone, Copy)]
-pub(crate) enum Shown {
-    Nothing,
-    /// A line for each blob as it arrives.
-    EachBlob,
-    /// One line that says how far the copy is, on a terminal.
-    Line,
-}
-
-/// The words of `copy`.
-#[derive(Clone, Copy)]
-pub(crate) struct CopyWords<'w> {
-    /// The folder to copy from.
-    pub(crate) source: &'w str,
-    pub(crate) selection: Selection<'w>,
-    /// The folder to copy into.
-    pub(crate) destination: &'w str,
-    pub(crate) workers: u32,
-    /// How many steps up referrers are copied too, 0 for any number; `None` where they are not copied.
-    pub(crate) referrers: Option<u32>,
-    pub(crate) shown: Shown,
-    /// Whether nothing is to be changed.
-    pub(crate) is_dry: bool,
-    /// What is done about blobs that the destination has.
-    pub(crate) existing: Existing,
-}
-
-impl<'w> CopyWords<'w> {
-    /// How the copy is made.
-    pub(crate) fn options(&self) -> Options {
-        Options {
-            workers: self.workers,
-            existing: self.existing,
-            ..Options::default()
-        }
+/// How the words ask for the copy to be made.
+pub(crate) fn options_of(words: &CopyWords<'_>) -> Options {
+    let existing = if words.descends {
+        Existing::Descend
+    } else {
+        Existing::Skip
+    };
+    Options {
+        workers: words.workers,
+        existing,
+        ..Options::default()
     }
 }
 

@@ -1,7 +1,8 @@
-use crate::copy::{CopyWords, Selection, check_selection};
+use crate::copy::{check_selection, options_of};
 use crate::opened::{opened, opened_if_there};
 use crate::output::output_fault;
 use crate::roots::roots_of_tags;
+use oci_command_line::{CopyWords, Selection};
 use oci_copy::{CopyFault, plan_copy, plan_extended, plan_reference};
 use oci_exit::{Outcome, ProgramFault};
 use oci_layout::{Dir, Layout};
@@ -53,7 +54,7 @@ pub(crate) fn plan_of<S: Dir, D: Dest>(
         } => { Ok(plan_of_reference(alloc, source, reference, destination, words)?) }
         Selection::AllTags => {
             let roots = roots_of_tags(alloc, source, &source.tags()?, words.referrers)?;
-            Ok(plan_copy(alloc, source, destination, &roots, &words.options())?)
+            Ok(plan_copy(alloc, source, destination, &roots, &options_of(words))?)
         }
     }
 }
@@ -66,7 +67,7 @@ fn plan_of_reference<S: Dir, D: Dest>(
     destination: &D,
     words: &CopyWords<'_>,
 ) -> Result<Plan, CopyFault> {
-    let options = words.options();
+    let options = options_of(words);
     match words.referrers {
         Some(depth) => plan_extended(alloc, source, reference, depth, destination, &options),
         None => plan_reference(alloc, source, reference, destination, &options),

@@ -3,6 +3,7 @@ ghost use Rattle.oci_digest.specs.Digest.{Verifies};
 ghost use Rattle.oci_store.specs.Content.{Matches};
 
 use bytes::Bytes;
+use oci_command_line::Algorithm;
 use oci_digest::Digest;
 use oci_exit::ProgramFault;
 use oci_manifest::Key;
@@ -11,22 +12,13 @@ use std::alloc::Global;
 use std::rt::Files;
 use std::{fs, io};
 
-/// How the digests of items are made.
-#[derive(Clone, Copy)]
-pub(crate) enum Algorithm {
-    Sha256,
-    Sha512,
-}
-
-impl Algorithm {
-    /// The digest of some bytes by this algorithm.
-    fn digest_of(self, bytes: &[u8]) -> Digest
-        ensures { Verifies result bytes.now }
-    {
-        match self {
-            Algorithm::Sha256 => Digest::of(bytes),
-            Algorithm::Sha512 => Digest::of_sha512(bytes),
-        }
+/// The digest of some bytes by an algorithm.
+fn digest_of(algorithm: Algorithm, bytes: &[u8]) -> Digest
+    ensures { Verifies result bytes.now }
+{
+    match algorithm {
+        Algorithm::Sha256 => Digest::of(bytes),
+        Algorithm::Sha512 => Digest::of_sha512(bytes),
     }
 }
 
@@ -75,7 +67,7 @@ fn key_of(
     ensures { IfOk result (λ key. Matches key bytes.now) }
 {
     let media_type = String::from_str(alloc, media_type)?;
-    let digest = algorithm.digest_of(bytes);
+    let digest = digest_of(algorithm, bytes);
     Ok(Key::new(media_type, digest, bytes.len() as u64)?)
 }
 

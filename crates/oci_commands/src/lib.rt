@@ -6,11 +6,9 @@
 
 mod alone;
 mod between;
-mod command;
 mod copied;
 mod copy;
 mod dry_run;
-mod explain;
 mod item;
 mod lines;
 mod look;

@@ -4,29 +4,11 @@ use crate::resolve::resolve;
 use crate::tags::tags;
 use crate::tree::tree;
 use crate::verify::verify;
+use oci_command_line::Look;
 use oci_exit::{Outcome, ProgramFault};
 use oci_layout::{Dir, Layout};
 use std::alloc::Global;
 use std::io::Write;
-
-/// What is asked of one layout, which is not changed.
-#[derive(Clone, Copy)]
-pub(crate) enum Look<'w> {
-    /// Its tags.
-    Tags,
-    /// What a reference resolves to.
-    Resolve(&'w str),
-    /// What lists the blob that a reference resolves to.
-    Predecessors(&'w str),
-    /// What a reference reaches.
-    Tree {
-        reference: &'w str,
-        /// Whether what refers to it is shown too.
-        shows_referrers: bool,
-    },
-    /// Whether its files match, and nothing that is listed is missing.
-    Verify,
-}
 
 /// Opens a layout, and prints what is asked of it.
 pub(crate) fn look_into<D: Dir + Drop, W: Write>(

@@ -1,6 +1,7 @@
-use crate::item::{Algorithm, Item};
+use crate::item::Item;
 use crate::lines::print_lines;
 use crate::output::output_fault;
+use oci_command_line::{Algorithm, MemWords};
 use oci_copy::{CopyFault, Options, Report, copy_memory, copy_memory_by_workers};
 use oci_exit::{Outcome, ProgramFault};
 use oci_manifest::Key;
@@ -11,28 +12,6 @@ use std::io::Write;
 use std::rt::Files;
 use std::sync::Wait;
 use std::thread::Threads;
-
-/// The words of `mem`.
-#[derive(Drop)]
-pub(crate) struct MemWords<'w> {
-    /// The items, at least one.
-    pub(crate) items: Vec<&'w str>,
-    /// How many workers copy; none where one thread does.
-    pub(crate) workers: Option<u32>,
-    /// How the digests of the items are made.
-    pub(crate) algorithm: Algorithm,
-}
-
-impl<'w> MemWords<'w> {
-    /// No items.
-    pub(crate) fn none(alloc: Global) -> MemWords<'w> {
-        MemWords {
-            items: Vec::new(alloc),
-            workers: None,
-            algorithm: Algorithm::Sha256,
-        }
-    }
-}
 
 /// `mem [--workers N] [--sha512] TYPE=PATH..`: pushes the items' files into a store in memory, copies from the last item's
 /// key into an empty one, and prints what arrived there, in key order, and the report.

@@ -1,14 +1,15 @@
 ghost use Rattle.std.specs.Prelude.{◌≤◌};
 
 use crate::alone::Lockable;
-use crate::command::Request;
-use crate::copy::{CopyWords, copy};
+use crate::copy::copy;
 use crate::dry_run::dry_run;
-use crate::look::{Look, look_into};
+use crate::look::look_into;
 use crate::mem::mem;
 use crate::output::output_fault;
+use oci_command_line::{CommandLineFault, CopyWords, Look, Request};
 use oci_exit::{Ending, Outcome, ProgramFault};
 use oci_layout::{Dir, FsDir};
+use oci_pool::MAX_WORKERS;
 use std::alloc::Global;
 use std::io::Write;
 use std::rt::Files;
@@ -35,18 +36,26 @@ where
     R::Dir: Send,
     ensures { result ≤ 3 }
 {
-    match Request::parse(rt.alloc(), words, on_terminal) {
+    match Request::parse(rt.alloc(), words, on_terminal, MAX_WORKERS) {
         Ok(Request::Text(text)) => end(print_text(&text, out), out, err),
         Ok(Request::Explain(text)) => end(print_explanation(text, out), out, err),
         Ok(Request::Mem(words)) => end(mem(rt, &words, out), out, err),
         Ok(Request::Copy(words)) => run_copy(rt, &words, out, err),
         Ok(Request::Look(folder, look)) => run_look(rt, folder, look, out, err),
-        Err(ending) => ending.tell(err),
+        Err(fault) => ending_of(fault).tell(err),
+    }
+}
+
+/// How a run ends whose command line asks for nothing.
+fn ending_of(fault: CommandLineFault) -> Ending {
+    match fault {
+        CommandLineFault::Usage(text) => Ending::Usage(text),
+        CommandLineFault::Memory => Ending::Fault(ProgramFault::Memory),
     }
 }
 
 /// Prints the text of `--help` or `--version`, which ends its lines itself.
-fn print_text<W: Write>(text: &clap::Error, out: &mut W) -> Result<Outcome, ProgramFault> {
+fn print_text<W: Write>(text: &str, out: &mut W) -> Result<Outcome, ProgramFault> {
     write!(out, "{text}").map_err(output_fault)?;
     Ok(Outcome::Good)
 }

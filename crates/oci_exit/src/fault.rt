@@ -116,7 +116,7 @@ impl<T: Drop> From<AllocFailed<T>> for ProgramFault {
 #[derive(Drop)]
 pub enum Ending {
     /// The command line is invalid: the text says how the program is used.
-    Usage(clap::Error),
+    Usage(String),
     /// A word is not UTF-8, which makes the command line invalid too.
     NotUtf8,
     /// What was asked for is refused.

@@ -1,4 +1,4 @@
-use crate::command::words::{flag, needed};
+use crate::words::{flag, needed};
 use clap::{Arg, Command};
 use std::alloc::{AllocError, Global};
 

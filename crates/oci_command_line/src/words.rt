@@ -2,20 +2,20 @@ mod copying;
 mod looks;
 mod memory;
 
-use crate::command::words::copying::copy_command;
-use crate::command::words::looks::{
+use crate::words::copying::copy_command;
+use crate::words::looks::{
     explain_command, predecessors_command, resolve_command, tags_command, tree_command,
     verify_command,
 };
-use crate::command::words::memory::mem_command;
+use crate::words::memory::mem_command;
 use clap::{Arg, Command};
 use std::alloc::{AllocError, Global};
 
 /// What `--version` prints after the program's name.
 const VERSION: &str = "0.1.0";
 
-/// The command line of the program.
-pub(crate) fn command<'w>(alloc: Global) -> Result<Command<'w>, AllocError> {
+/// The command line of the program, of which a copy takes at most so many workers.
+pub(crate) fn command<'w>(alloc: Global, most_workers: u32) -> Result<Command<'w>, AllocError> {
     let program = Command::new(alloc, "ocicp")
         .version(VERSION)
         .about("Copies container images, and what is attached to them, between OCI image layouts")
@@ -23,9 +23,9 @@ pub(crate) fn command<'w>(alloc: Global) -> Result<Command<'w>, AllocError> {
         .no_binary_name(true)
         .disable_help_subcommand(true)
         .subcommand_required(true);
-    let program = program.subcommand(copy_command(alloc)?)?;
+    let program = program.subcommand(copy_command(alloc, most_workers)?)?;
     with_looks(alloc, program)?
-        .subcommand(mem_command(alloc)?)?
+        .subcommand(mem_command(alloc, most_workers)?)?
         .subcommand(explain_command(alloc)?)
 }
 

@@ -1,7 +1,6 @@
-use crate::command::words::{flag, needed};
+use crate::words::{flag, needed};
 use clap::builder::ValueParser;
 use clap::{Arg, Command};
-use oci_pool::MAX_WORKERS;
 use std::alloc::{AllocError, Global};
 
 const EXAMPLES: &str = "\
@@ -14,7 +13,10 @@ Examples:
   ocicp copy --descend build v1 mirror     also brings back blobs that `mirror` has lost";
 
 /// `copy [FLAGS] SRC SRCREF DST [DSTREF]` and `copy --all [FLAGS] SRC DST`
-pub(crate) fn copy_command<'w>(alloc: Global) -> Result<Command<'w>, AllocError> {
+pub(crate) fn copy_command<'w>(
+    alloc: Global,
+    most_workers: u32,
+) -> Result<Command<'w>, AllocError> {
     let command = Command::new(alloc, "copy")
         .about("Copies what a reference resolves to, or every tag, from one layout into another")
         .long_about(
@@ -34,17 +36,21 @@ pub(crate) fn copy_command<'w>(alloc: Global) -> Result<Command<'w>, AllocError>
              ocicp copy --all [OPTIONS] <SRC> <DST>",
         )
         .after_help(EXAMPLES);
-    with_folders(alloc, with_flags(alloc, command)?)
+    with_folders(alloc, with_flags(alloc, command, most_workers)?)
 }
 
 /// The same with what says how to copy.
-fn with_flags<'w>(alloc: Global, command: Command<'w>) -> Result<Command<'w>, AllocError> {
+fn with_flags<'w>(
+    alloc: Global,
+    command: Command<'w>,
+    most_workers: u32,
+) -> Result<Command<'w>, AllocError> {
     command
         .arg(all(alloc)?)?
         .arg(referrers(alloc))?
         .arg(depth(alloc))?
         .arg(descend(alloc))?
-        .arg(workers(alloc))?
+        .arg(workers(alloc, most_workers))?
         .arg(progress(alloc))?
         .arg(dry_run(alloc))
 }
@@ -116,12 +122,12 @@ fn descend<'w>(alloc: Global) -> Arg<'w> {
 }
 
 /// `--workers N`
-fn workers<'w>(alloc: Global) -> Arg<'w> {
+fn workers<'w>(alloc: Global, most_workers: u32) -> Arg<'w> {
     Arg::new(alloc, "workers")
         .long("workers")
         .value_name("N")
         .help("How many workers copy at once, at most 64; 0 means 3")
-        .value_parser(ValueParser::Unsigned(0, u64::from(MAX_WORKERS)))
+        .value_parser(ValueParser::Unsigned(0, u64::from(most_workers)))
         .default_value("0")
 }
 

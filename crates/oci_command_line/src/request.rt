@@ -1,23 +1,17 @@
-use crate::copy::{CopyWords, Selection, Shown};
+use crate::copying::{CopyWords, Selection, Shown};
 use crate::explain::explanation;
-use crate::item::Algorithm;
 use crate::look::Look;
-use crate::mem::MemWords;
+use crate::memory::{Algorithm, MemWords};
+use crate::words::command;
 use clap::error::ErrorKind;
 use clap::{ArgMatches, Error};
-use oci_exit::{Ending, ProgramFault};
-use oci_plan::Existing;
 use std::alloc::{AllocError, Global};
 
-mod words;
-
-use crate::command::words::command;
-
-/// What the command line asks for.
+/// What a command line asks for.
 #[derive(Drop)]
-pub(crate) enum Request<'w> {
-    /// The text that `--help` or `--version` prints.
-    Text(Error),
+pub enum Request<'w> {
+    /// The text that `--help` or `--version` prints, with the end of its last line.
+    Text(String),
     /// What the number of a refusal means.
     Explain(&'static str),
     /// `mem` with its items and flags.
@@ -28,18 +22,38 @@ pub(crate) enum Request<'w> {
     Look(&'w str, Look<'w>),
 }
 
+/// Why a command line asks for nothing.
+#[derive(Drop)]
+pub enum CommandLineFault {
+    /// It is invalid: the text says why, and how the program is used.
+    Usage(String),
+    /// Out of memory.
+    Memory,
+}
+
+impl From<AllocError> for CommandLineFault {
+    fn from(_refused: AllocError) -> CommandLineFault {
+        CommandLineFault::Memory
+    }
+}
+
 impl<'w> Request<'w> {
-    /// Reads the words after the program's name, of a run whose stderr is a terminal or is none.
-    pub(crate) fn parse(
+    /// Reads the words after the program's name, of a run whose stderr is a terminal or is none. More workers than
+    /// `most_workers` make the command line invalid.
+    pub fn parse(
         alloc: Global,
         words: &'w [String],
         on_terminal: bool,
-    ) -> Result<Request<'w>, Ending> {
-        let matches = match command(alloc)?.try_get_matches_from(words) {
+        most_workers: u32,
+    ) -> Result<Request<'w>, CommandLineFault> {
+        let matches = match command(alloc, most_workers)?.try_get_matches_from(words) {
             Ok(matches) => matches,
-            Err(error) => return asked_or_refused(error),
+            Err(error) => return asked_or_refused(alloc, &error),
         };
         match matches.subcommand() {
+            Some(("explain", matches)) => {
+                explained(alloc, word(matches, "number"), most_workers)
+            }
             Some((name, matches)) => request_of(alloc, name, matches, on_terminal),
             None => Ok(Request::Mem(MemWords::none(alloc))),
         }
@@ -47,12 +61,18 @@ impl<'w> Request<'w> {
 }
 
 /// What came in place of matches: the text that was asked for, or an invalid command line.
-fn asked_or_refused<'w>(error: Error) -> Result<Request<'w>, Ending> {
+fn asked_or_refused<'w>(alloc: Global, error: &Error) -> Result<Request<'w>, CommandLineFault> {
     match error.kind() {
-        ErrorKind::DisplayHelp | ErrorKind::DisplayVersion => Ok(Request::Text(error)),
-        ErrorKind::OutOfMemory => Err(Ending::Fault(ProgramFault::Memory)),
-        _ => Err(Ending::Usage(error)),
+        ErrorKind::OutOfMemory => Err(CommandLineFault::Memory),
+        ErrorKind::DisplayHelp | ErrorKind::DisplayVersion => {
+            Ok(Request::Text(text_of(alloc, error)?))
+        }
+        _ => Err(CommandLineFault::Usage(text_of(alloc, error)?)),
     }
+}
+
+fn text_of(alloc: Global, error: &Error) -> Result<String, AllocError> {
+    format!(in alloc; "{error}")
 }
 
 /// What a command and its words ask for.
@@ -61,7 +81,7 @@ fn request_of<'w>(
     name: &str,
     matches: &ArgMatches<'w>,
     on_terminal: bool,
-) -> Result<Request<'w>, Ending> {
+) -> Result<Request<'w>, CommandLineFault> {
     match name {
         "copy" => Ok(Request::Copy(copy_words(matches, on_terminal))),
         "tags" => Ok(of_folder(matches, Look::Tags)),
@@ -69,7 +89,6 @@ fn request_of<'w>(
         "predecessors" => Ok(of_folder(matches, Look::Predecessors(word(matches, "reference")))),
         "tree" => Ok(of_folder(matches, tree_of(matches))),
         "verify" => Ok(of_folder(matches, Look::Verify)),
-        "explain" => explained(alloc, word(matches, "number")),
         _ => Ok(Request::Mem(mem_words(alloc, matches)?)),
     }
 }
@@ -93,20 +112,30 @@ fn tree_of<'w>(matches: &ArgMatches<'w>) -> Look<'w> {
 }
 
 /// The explanation of a refusal. A number that no refusal has makes the command line invalid.
-fn explained<'w>(alloc: Global, number: &str) -> Result<Request<'w>, Ending> {
+fn explained<'w>(
+    alloc: Global,
+    number: &str,
+    most_workers: u32,
+) -> Result<Request<'w>, CommandLineFault> {
     match explanation(number) {
         Some(text) => Ok(Request::Explain(text)),
-        None => Err(Ending::Usage(unknown_number(alloc, number)?)),
+        None => {
+            let error = unknown_number(alloc, number, most_workers)?;
+            Err(CommandLineFault::Usage(text_of(alloc, &error)?))
+        }
     }
 }
 
 /// The error of a command line that asks for a number that no refusal has.
-fn unknown_number(alloc: Global, number: &str) -> Result<Error, AllocError> {
+fn unknown_number(alloc: Global, number: &str, most_workers: u32) -> Result<Error, AllocError> {
     let message = format!(in alloc; "no error has the number '{number}'")?;
-    command(alloc)?.error(ErrorKind::InvalidValue, &message)
+    command(alloc, most_workers)?.error(ErrorKind::InvalidValue, &message)
 }
 
-fn mem_words<'w>(alloc: Global, matches: &ArgMatches<'w>) -> Result<MemWords<'w>, Ending> {
+fn mem_words<'w>(
+    alloc: Global,
+    matches: &ArgMatches<'w>,
+) -> Result<MemWords<'w>, CommandLineFault> {
     let mut items = Vec::new(alloc);
     items.extend_from_slice(matches.get_strs("item").unwrap_or(&[]))?;
     Ok(MemWords {
@@ -135,7 +164,7 @@ fn copy_words<'w>(matches: &ArgMatches<'w>, on_terminal: bool) -> CopyWords<'w> 
         referrers: referrers(matches),
         shown: shown(matches, on_terminal),
         is_dry: matches.get_flag("dry-run"),
-        existing: existing(matches),
+        descends: matches.get_flag("descend"),
     }
 }
 
@@ -159,15 +188,6 @@ fn selected<'w>(matches: &ArgMatches<'w>) -> (Selection<'w>, &'w str) {
         destination: word(matches, "destination-reference"),
     };
     (selection, word(matches, "destination"))
-}
-
-/// What is done about blobs that the destination has.
-fn existing(matches: &ArgMatches<'_>) -> Existing {
-    if matches.get_flag("descend") {
-        Existing::Descend
-    } else {
-        Existing::Skip
-    }
 }
 
 /// How many steps up referrers are copied too; `None` where they are not copied.

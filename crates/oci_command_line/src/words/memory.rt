@@ -1,7 +1,6 @@
-use crate::command::words::flag;
+use crate::words::flag;
 use clap::builder::ValueParser;
 use clap::{Arg, Command};
-use oci_pool::MAX_WORKERS;
 use std::alloc::{AllocError, Global};
 
 const EXAMPLES: &str = "\
@@ -10,7 +9,7 @@ Example:
             application/vnd.oci.image.manifest.v1+json=manifest.json";
 
 /// `mem [--workers N] [--sha512] TYPE=PATH..`
-pub(crate) fn mem_command<'w>(alloc: Global) -> Result<Command<'w>, AllocError> {
+pub(crate) fn mem_command<'w>(alloc: Global, most_workers: u32) -> Result<Command<'w>, AllocError> {
     let item = Arg::new(alloc, "item")
         .value_name("TYPE=PATH")
         .help("A media type and a file; the last one is copied, with everything that it reaches")
@@ -20,7 +19,7 @@ pub(crate) fn mem_command<'w>(alloc: Global) -> Result<Command<'w>, AllocError> 
         .long("workers")
         .value_name("N")
         .help("How many workers copy at once, at most 64; 0 means 3. Without it one thread copies")
-        .value_parser(ValueParser::Unsigned(0, u64::from(MAX_WORKERS)));
+        .value_parser(ValueParser::Unsigned(0, u64::from(most_workers)));
     let sha512 = flag(
         alloc,
         "sha512",
