@@ -1,8 +1,8 @@
-use crate::telling::{by_three, destination_with, source_of, told, yes};
+use crate::line::Line;
+use crate::stores::{Graph, by_three, destination_with};
 use oci_copy::{CopyFault, Report, copy_graph, copy_one, extended_copy_graph};
-use oci_manifest::Key;
 use oci_pool::NoHooks;
-use oci_store::{ClosedStore, MemoryStore};
+use oci_store::ClosedStore;
 use std::alloc::Global;
 use std::slice;
 use std::sync::Wait;
@@ -24,19 +24,11 @@ pub(crate) enum Call {
 }
 
 impl Call {
-    fn source(self, alloc: Global) -> Result<MemoryStore, Fail> {
+    /// What the source has, and the root of the copy.
+    fn samples(self) -> ([Sample; 6], Sample) {
         match self {
-            Call::One | Call::Workers => {
-                source_of(alloc, &[Empty, Foo, Bar, Image2, Image3, Index1])
-            }
-            Call::Referrers => source_of(alloc, &[Empty, Foo, Image2, Referrer, Index3, Index4]),
-        }
-    }
-
-    fn root(self, alloc: Global) -> Result<Key, Fail> {
-        match self {
-            Call::One | Call::Workers => Index1.key(alloc),
-            Call::Referrers => Image2.key(alloc),
+            Call::One | Call::Workers => ([Empty, Foo, Bar, Image2, Image3, Index1], Index1),
+            Call::Referrers => ([Empty, Foo, Image2, Referrer, Index3, Index4], Image2),
         }
     }
 
@@ -44,10 +36,10 @@ impl Call {
         self,
         rt: &R,
         alloc: Global,
-        source: &MemoryStore,
-        root: &Key,
+        graph: &Graph,
         store: ClosedStore,
     ) -> (ClosedStore, Result<Report, CopyFault>) {
+        let Graph { source, root } = graph;
         let (roots, by) = (slice::from_ref(root), by_three());
         match self {
             Call::One => copy_one(alloc, source, store, roots, &by),
@@ -64,26 +56,28 @@ pub(crate) fn copied_twice<R: Threads + Wait + Sync>(
     rt: &R,
     alloc: Global,
     call: Call,
-) -> Result<String, Fail> {
-    let source = call.source(alloc)?;
-    let root = call.root(alloc)?;
-    let store = destination_with(alloc, OLD)?;
-    let (store, answer) = call.copy(rt, alloc, &source, &root, store);
-    let first = told_with_old(alloc, &answer, &store)?;
-    let (store, answer) = call.copy(rt, alloc, &source, &root, store);
-    let second = told_with_old(alloc, &answer, &store)?;
-    Ok(format!(in alloc; "{first} {second}")?)
+    line: &mut Line,
+) -> Result<(), Fail> {
+    let (samples, root) = call.samples();
+    let graph = Graph::of(alloc, &samples, root)?;
+    let mut store = destination_with(alloc, OLD)?;
+    for _ in 0..2 {
+        store = copied(rt, alloc, call, &graph, store, line)?;
+    }
+    Ok(())
 }
 
-/// What a copy answered, and what the destination then is.
-fn told_with_old(
+/// Makes the copy, and tells what the destination then is.
+fn copied<R: Threads + Wait + Sync>(
+    rt: &R,
     alloc: Global,
-    answer: &Result<Report, CopyFault>,
-    store: &ClosedStore,
-) -> Result<String, Fail> {
-    let (told, old) = (
-        told(alloc, answer, store)?,
-        yes(gives_sample(alloc, store, OLD)?),
-    );
-    Ok(format!(in alloc; "{told} old {old}")?)
+    call: Call,
+    graph: &Graph,
+    store: ClosedStore,
+    line: &mut Line,
+) -> Result<ClosedStore, Fail> {
+    let (store, answer) = call.copy(rt, alloc, graph, store);
+    line.copy(&answer, &store);
+    line.old(gives_sample(alloc, &store, OLD)?);
+    Ok(store)
 }

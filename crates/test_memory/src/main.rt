@@ -15,11 +15,13 @@
 #![tactic(auto)]
 
 mod copies;
+mod line;
 mod live;
 mod round_trip;
-mod telling;
+mod stores;
 
 use copies::{Call, copied_twice};
+use line::Line;
 use live::looked_at;
 use round_trip::taken_round;
 use std::alloc::Global;
@@ -34,8 +36,8 @@ fn main(rt: HostRuntime) -> Result<(), Fail> {
     let words: Vec<String> = env::args(&rt)?.skip(1).collect(rt.alloc())?;
     for name in ALL {
         if is_wanted(&words, name) {
-            let line = run(rt, rt.alloc(), name)?;
-            println!(rt; "{name}: {line}")?;
+            let line = line_of(rt, rt.alloc(), name)?;
+            println!(rt; "{name}:{line}")?;
         }
     }
     Ok(())
@@ -50,16 +52,28 @@ fn is_wanted(words: &[String], name: &str) -> bool {
 }
 
 /// What the steps answered.
-fn run<R: Threads + Wait + Send + Sync + Copy + Drop>(
+fn line_of<R: Threads + Wait + Send + Sync + Copy + Drop>(
     rt: R,
     alloc: Global,
     name: &str,
 ) -> Result<String, Fail> {
+    let mut line = Line::new(alloc);
+    run(rt, alloc, name, &mut line)?;
+    Ok(line.into_text()?)
+}
+
+/// Takes the steps.
+fn run<R: Threads + Wait + Send + Sync + Copy + Drop>(
+    rt: R,
+    alloc: Global,
+    name: &str,
+    line: &mut Line,
+) -> Result<(), Fail> {
     match name {
-        "one" => copied_twice(&rt, alloc, Call::One),
-        "workers" => copied_twice(&rt, alloc, Call::Workers),
-        "referrers" => copied_twice(&rt, alloc, Call::Referrers),
-        "round-trip" => taken_round(&rt, alloc),
-        _ => looked_at(rt, alloc),
+        "one" => copied_twice(&rt, alloc, Call::One, line),
+        "workers" => copied_twice(&rt, alloc, Call::Workers, line),
+        "referrers" => copied_twice(&rt, alloc, Call::Referrers, line),
+        "round-trip" => taken_round(&rt, alloc, line),
+        _ => looked_at(rt, alloc, line),
     }
 }

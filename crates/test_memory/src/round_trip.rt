@@ -1,5 +1,6 @@
-use crate::telling::{by_three, source_of, told, yes};
-use oci_copy::{CopyFault, Report, copy};
+use crate::line::Line;
+use crate::stores::{Graph, by_three};
+use oci_copy::copy;
 use oci_layout::{Layout, MemDir};
 use oci_pool::NoHooks;
 use oci_store::{Dest, MemoryStore, Tagger};
@@ -10,39 +11,71 @@ use std::thread::Threads;
 use test_support::Sample;
 use test_support::Sample::{Empty, Image0};
 
-/// Makes a layout, copies an image into it, saves it and opens it again.
-pub(crate) fn taken_round<R: Threads + Wait + Sync>(rt: &R, alloc: Global) -> Result<String, Fail> {
-    let mut source = source_of(alloc, &[Empty, Image0])?;
-    if source.tag(&Image0.key(alloc)?, "m").is_err() {
-        return Err(Fail::from("no memory for the source"));
-    }
-    let (layout, created) = created(alloc)?;
-    let (mut layout, filled) = filled(rt, alloc, &source, layout)?;
-    let saved = saved(alloc, &mut layout)?;
-    let (layout, opened) = opened(alloc, layout.into_dir())?;
-    let names = names(alloc, &layout)?;
-    let again = created_again(alloc, layout)?;
-    Ok(format!(in alloc;
-        "create {created} {filled} save {saved} open {opened} {names} create {again}"
-    )?)
+/// How a layout is made of a directory.
+#[derive(Clone, Copy)]
+enum Way {
+    Create,
+    Open,
 }
 
 /// A new layout. One that is refused is made again; where its first file stands by then, it is opened.
-fn created(alloc: Global) -> Result<(Layout<MemDir>, String), Fail> {
-    let (dir, first) = match Layout::create(alloc, MemDir::new(alloc)) {
-        Ok(layout) => return Ok((layout, String::from_str(alloc, "done")?)),
-        Err(refused) => refused,
+const NEW: &[Way] = &[Way::Create, Way::Create, Way::Open];
+
+/// A saved layout. One that is refused is opened once more.
+const SAVED: &[Way] = &[Way::Open, Way::Open];
+
+/// Makes a layout, copies an image into it, saves it and opens it again.
+pub(crate) fn taken_round<R: Threads + Wait + Sync>(
+    rt: &R,
+    alloc: Global,
+    line: &mut Line,
+) -> Result<(), Fail> {
+    let source = tagged(Graph::of(alloc, &[Empty, Image0], Image0)?)?;
+    let Some(layout) = laid(alloc, MemDir::new(alloc), NEW, line) else {
+        return Err(Fail::from("the new layout cannot be opened"));
     };
-    let (dir, second) = match Layout::create(alloc, dir) {
-        Ok(layout) => return Ok((layout, format!(in alloc; "{first} create done")?)),
-        Err(refused) => refused,
+    let layout = filled(rt, alloc, &source, layout, line);
+    let dir = saved(layout, line)?;
+    opened(alloc, dir, line)
+}
+
+/// The source of a graph, in which its root has a tag.
+fn tagged(graph: Graph) -> Result<MemoryStore, Fail> {
+    let Graph { mut source, root } = graph;
+    match source.tag(&root, "m") {
+        Ok(()) => Ok(source),
+        Err(_) => Err(Fail::from("no memory for the source")),
+    }
+}
+
+/// The layout that is made by the first of these ways that is not refused.
+fn laid(alloc: Global, dir: MemDir, ways: &[Way], line: &mut Line) -> Option<Layout<MemDir>> {
+    let mut dir = dir;
+    for way in ways {
+        match made(alloc, dir, *way, line) {
+            Ok(layout) => return Some(layout),
+            Err(refused) => dir = refused,
+        }
+    }
+    None
+}
+
+/// A layout that is made in this way, or its directory where that is refused.
+fn made(alloc: Global, dir: MemDir, way: Way, line: &mut Line) -> Result<Layout<MemDir>, MemDir> {
+    let (word, answer) = match way {
+        Way::Create => ("create", Layout::create(alloc, dir)),
+        Way::Open => ("open", Layout::open(alloc, dir)),
     };
-    match Layout::open(alloc, dir) {
-        Ok(layout) => Ok((
-            layout,
-            format!(in alloc; "{first} create {second} open done")?,
-        )),
-        Err(_) => Err(Fail::from("the new layout cannot be opened")),
+    line.say(word);
+    match answer {
+        Ok(layout) => {
+            line.say("done");
+            Ok(layout)
+        }
+        Err((dir, fault)) => {
+            line.tell(&fault);
+            Err(dir)
+        }
     }
 }
 
@@ -52,15 +85,13 @@ fn filled<R: Threads + Wait + Sync>(
     alloc: Global,
     source: &MemoryStore,
     layout: Layout<MemDir>,
-) -> Result<(Layout<MemDir>, String), Fail> {
-    let (layout, answer) = fill(rt, alloc, source, layout);
-    let first = told(alloc, &answer, &layout)?;
-    if answer.is_ok() {
-        return Ok((layout, first));
+    line: &mut Line,
+) -> Layout<MemDir> {
+    let (layout, is_filled) = fill(rt, alloc, source, layout, line);
+    if is_filled {
+        return layout;
     }
-    let (layout, answer) = fill(rt, alloc, source, layout);
-    let second = told(alloc, &answer, &layout)?;
-    Ok((layout, format!(in alloc; "{first} {second}")?))
+    fill(rt, alloc, source, layout, line).0
 }
 
 fn fill<R: Threads + Wait + Sync>(
@@ -68,71 +99,76 @@ fn fill<R: Threads + Wait + Sync>(
     alloc: Global,
     source: &MemoryStore,
     layout: Layout<MemDir>,
-) -> (Layout<MemDir>, Result<Report, CopyFault>) {
+    line: &mut Line,
+) -> (Layout<MemDir>, bool) {
     let by = by_three();
     let (layout, answer) = copy(rt, alloc, source, "m", layout, "v1", &by, &NoHooks);
-    match answer {
-        Ok((_, report)) => (layout, Ok(report)),
-        Err(fault) => (layout, Err(fault)),
+    line.say("copy");
+    match &answer {
+        Ok((_, report)) => line.tell(report),
+        Err(fault) => line.tell(fault),
     }
+    line.state(&layout);
+    (layout, answer.is_ok())
 }
 
 /// Saves the layout; once more where that is refused.
-fn saved(alloc: Global, layout: &mut Layout<MemDir>) -> Result<String, Fail> {
-    match layout.save() {
-        Ok(()) => Ok(String::from_str(alloc, "done")?),
-        Err(fault) => {
-            if layout.save().is_err() {
-                return Err(Fail::from("the layout cannot be saved"));
+fn saved(layout: Layout<MemDir>, line: &mut Line) -> Result<MemDir, Fail> {
+    let mut layout = layout;
+    for _ in 0..2 {
+        line.say("save");
+        match layout.save() {
+            Ok(()) => {
+                line.say("done");
+                return Ok(layout.into_dir());
             }
-            Ok(format!(in alloc; "{fault} save done")?)
+            Err(fault) => line.tell(&fault),
         }
     }
+    Err(Fail::from("the layout cannot be saved"))
 }
 
-/// Opens the layout; once more where that is refused.
-fn opened(alloc: Global, dir: MemDir) -> Result<(Layout<MemDir>, String), Fail> {
-    let (dir, first) = match Layout::open(alloc, dir) {
-        Ok(layout) => return Ok((layout, String::from_str(alloc, "done")?)),
-        Err(refused) => refused,
+/// Opens the layout, tells what its references are, and what making another one in its directory answers.
+fn opened(alloc: Global, dir: MemDir, line: &mut Line) -> Result<(), Fail> {
+    let Some(layout) = laid(alloc, dir, SAVED, line) else {
+        return Err(Fail::from("the saved layout cannot be opened"));
     };
-    match Layout::open(alloc, dir) {
-        Ok(layout) => Ok((layout, format!(in alloc; "{first} open done")?)),
-        Err(_) => Err(Fail::from("the saved layout cannot be opened")),
-    }
+    names(alloc, &layout, line)?;
+    let _ = made(alloc, layout.into_dir(), Way::Create, line);
+    Ok(())
 }
 
-/// How many keys the layout holds, and what its references are.
-fn names(alloc: Global, layout: &Layout<MemDir>) -> Result<String, Fail> {
+/// Tells how many keys the layout holds, and what its references are.
+fn names(alloc: Global, layout: &Layout<MemDir>, line: &mut Line) -> Result<(), Fail> {
     let image = Image0.key(alloc)?.digest().to_string(alloc)?;
     let config = Empty.key(alloc)?.digest().to_string(alloc)?;
-    let held = layout.count();
-    let name = named(alloc, layout, "v1", Image0)?;
-    let image = named(alloc, layout, image.as_str(), Image0)?;
-    let config = named(alloc, layout, config.as_str(), Empty)?;
-    let other = named(alloc, layout, "v2", Image0)?;
-    let none = named(alloc, layout, "", Image0)?;
-    Ok(format!(in alloc; "held {held} names {name} {image} {config} {other} {none}")?)
+    line.say("held");
+    line.tell(&layout.count());
+    line.say("names");
+    for (reference, sample) in [
+        ("v1", Image0),
+        (image.as_str(), Image0),
+        (config.as_str(), Empty),
+        ("v2", Image0),
+        ("", Image0),
+    ] {
+        named(alloc, layout, reference, sample, line)?;
+    }
+    Ok(())
 }
 
-/// Whether a reference is that of this sample, or how it is refused.
+/// Tells whether a reference is that of this sample, or how it is refused.
 fn named(
     alloc: Global,
     layout: &Layout<MemDir>,
     reference: &str,
     sample: Sample,
-) -> Result<String, Fail> {
+    line: &mut Line,
+) -> Result<(), Fail> {
     let key = sample.key(alloc)?;
-    Ok(match layout.resolve(reference) {
-        Ok(found) => String::from_str(alloc, yes(found == key))?,
-        Err(fault) => format!(in alloc; "{fault}")?,
-    })
-}
-
-/// What making another layout in the directory of this one answers.
-fn created_again(alloc: Global, layout: Layout<MemDir>) -> Result<String, Fail> {
-    match Layout::create(alloc, layout.into_dir()) {
-        Ok(_) => Ok(String::from_str(alloc, "done")?),
-        Err((_, fault)) => Ok(format!(in alloc; "{fault}")?),
+    match layout.resolve(reference) {
+        Ok(found) => line.yes(found == key),
+        Err(fault) => line.tell(&fault),
     }
+    Ok(())
 }
