@@ -2,18 +2,20 @@ ghost use Rattle.std.specs.Prelude.{◌≡◌};
 
 use crate::telling::copy_and_tell;
 use crate::tests::stores::{by, counts, has, looked_at, numbers, shows, shows_at};
-use oci_copy::{CopyFault, Report, copy_graph};
+use oci_copy::copy_graph;
 use oci_live::{LiveStore, Look, Note};
 use oci_manifest::Key;
 use oci_pool::{Hooks, NoHooks};
 use oci_store::MemoryStore;
 use std::alloc::Global;
+use std::process::Abort;
+use std::slice;
 use std::sync::Wait;
 use std::sync::atomic::{AtomicBool, Ordering};
 use std::test::Fail;
 use std::thread::{Threads, join};
 use test_support::Sample::{Empty, Foo, Image0};
-use test_support::memory;
+use test_support::{Sample, memory};
 
 /// How often a look or a hook looks for what has to come.
 const LOOKS: u64 = 1_000_000_000;
@@ -44,38 +46,25 @@ fn has_learned_there<R: Threads + Sync>(
     learned
 }
 
-/// Whether a copy brought both contents of the image, and a live store then has them beside what it had.
-fn has_image<R: Wait + Drop>(
-    alloc: Global,
-    live: &LiveStore<R>,
-    copied: Result<Report, CopyFault>,
-) -> Result<bool, Fail> {
-    Ok(numbers(copied) == Some([2, 2, 0]) && has(alloc, live, &[Foo, Empty, Image0])?)
-}
+/// What a live store has after the copy.
+const AFTER: [Sample; 3] = [Foo, Empty, Image0];
 
 /// Copies an image into a live store by three workers. Whether all of it came, and a look that learns so on another thread has it.
 fn is_learned<R: Threads + Wait + Sync + Send + Copy + Drop>(
     rt: &R,
     alloc: Global,
     source: &MemoryStore,
+    root: &Key,
     live: LiveStore<R>,
     look: &mut Look,
 ) -> Result<bool, Fail>
     requires { look.old.name ≡ live.name }
 {
-    let roots = [Image0.key(alloc)?];
-    let (live, copied) = copy_graph(rt, alloc, source, live, &roots, &by(3), &NoHooks);
+    let roots = slice::from_ref(root);
+    let (live, copied) = copy_graph(rt, alloc, source, live, roots, &by(3), &NoHooks);
+    let came = numbers(copied) == Some([2, 2, 0]);
     let learned = has_learned_there(rt, alloc, look, &live.note())?;
-    Ok(learned && has_image(alloc, &live, copied)?)
-}
-
-#[test]
-fn live_look(rt: HostRuntime) -> Result<(), Fail> {
-    let source = memory(rt.alloc(), &[Empty, Image0])?;
-    let (live, mut look) = looked_at(rt.alloc(), rt, &[Foo])?;
-    assert!(rt; counts(&mut look, 1));
-    assert!(rt; is_learned(&rt, rt.alloc(), &source, live, &mut look)?);
-    Ok(())
+    Ok(came && learned && has(alloc, &live, &AFTER)?)
 }
 
 /// The same copy, where the look is told of it on the calling thread.
@@ -83,23 +72,64 @@ fn is_told<R: Threads + Wait + Sync + Send + Copy + Drop>(
     rt: &R,
     alloc: Global,
     source: &MemoryStore,
+    root: &Key,
     live: LiveStore<R>,
     look: &mut Look,
 ) -> Result<bool, Fail>
     requires { look.old.name ≡ live.name }
 {
-    let roots = [Image0.key(alloc)?];
-    let (live, copied) = copy_and_tell(rt, alloc, source, live, look, &roots, &by(3), &NoHooks);
-    Ok(has_all(alloc, look)? && has_image(alloc, &live, copied)?)
+    let roots = slice::from_ref(root);
+    let (live, copied) = copy_and_tell(rt, alloc, source, live, look, roots, &by(3), &NoHooks);
+    let came = numbers(copied) == Some([2, 2, 0]);
+    let told = has_all(alloc, look)?;
+    Ok(came && told && has(alloc, &live, &AFTER)?)
+}
+
+/// How a look gets to know what a copy brought.
+#[derive(Clone, Copy)]
+enum Telling {
+    /// It learns a note on another thread.
+    ByNote,
+    /// The copy tells it on the calling thread.
+    ByCopy,
+}
+
+/// A look at a live store with one content has that alone; after the copy it has all.
+fn assert_looks<R: Threads + Wait + Abort + Sync + Send + Copy + Drop>(
+    rt: &R,
+    alloc: Global,
+    source: &MemoryStore,
+    root: &Key,
+    telling: Telling,
+) -> Result<(), Fail> {
+    let (live, mut look) = looked_at(alloc, *rt, &[Foo])?;
+    assert!(rt; counts(&mut look, 1));
+    let shown = match telling {
+        Telling::ByNote => is_learned(rt, alloc, source, root, live, &mut look)?,
+        Telling::ByCopy => is_told(rt, alloc, source, root, live, &mut look)?,
+    };
+    assert!(rt; shown);
+    Ok(())
+}
+
+/// The same of a store with the image, which the copy brings.
+fn assert_looks_at_image<R: Threads + Wait + Abort + Sync + Send + Copy + Drop>(
+    rt: R,
+    alloc: Global,
+    telling: Telling,
+) -> Result<(), Fail> {
+    let source = memory(alloc, &[Empty, Image0])?;
+    assert_looks(&rt, alloc, &source, &Image0.key(alloc)?, telling)
+}
+
+#[test]
+fn live_look(rt: HostRuntime) -> Result<(), Fail> {
+    assert_looks_at_image(rt, rt.alloc(), Telling::ByNote)
 }
 
 #[test]
 fn look_that_a_copy_tells(rt: HostRuntime) -> Result<(), Fail> {
-    let source = memory(rt.alloc(), &[Empty, Image0])?;
-    let (live, mut look) = looked_at(rt.alloc(), rt, &[Foo])?;
-    assert!(rt; counts(&mut look, 1));
-    assert!(rt; is_told(&rt, rt.alloc(), &source, live, &mut look)?);
-    Ok(())
+    assert_looks_at_image(rt, rt.alloc(), Telling::ByCopy)
 }
 
 /// Hooks that look for a flag before one key is fetched.
@@ -159,8 +189,8 @@ fn copied<R: Threads + Wait + Sync + Send + Drop + Copy, H: Hooks + Sync>(
     root: &Key,
     hooks: &H,
 ) -> Option<[u64; 3]> {
-    let roots = [root.try_clone().ok()?];
-    let (_live, copied) = copy_graph(rt, alloc, source, live, &roots, &by(2), hooks);
+    let roots = slice::from_ref(root);
+    let (_live, copied) = copy_graph(rt, alloc, source, live, roots, &by(2), hooks);
     numbers(copied)
 }
 
@@ -169,31 +199,38 @@ fn copied<R: Threads + Wait + Sync + Send + Drop + Copy, H: Hooks + Sync>(
 fn copied_meanwhile<R: Threads + Wait + Sync + Send + Copy + Drop>(
     rt: &R,
     alloc: Global,
-    live: LiveStore<R>,
-    look: Look,
+    source: &MemoryStore,
+    config: &Key,
+    hooks: &LooksForFlag,
+) -> Result<(bool, Option<[u64; 3]>), Fail> {
+    let (live, mut look) = looked_at(alloc, *rt, &[Foo])?;
+    Ok(join(
+        rt,
+        || is_between(&mut look, config, &hooks.key, hooks.flag),
+        || copied(rt, alloc, source, live, &hooks.key, hooks),
+    ))
+}
+
+/// The same copy of the image that the hooks wait before.
+fn image_copied_meanwhile<R: Threads + Wait + Sync + Send + Copy + Drop>(
+    rt: &R,
+    alloc: Global,
     hooks: &LooksForFlag,
 ) -> Result<(bool, Option<[u64; 3]>), Fail> {
     let source = memory(alloc, &[Empty, Image0])?;
-    let config = Empty.key(alloc)?;
-    let mut look = look;
-    Ok(join(
-        rt,
-        || is_between(&mut look, &config, &hooks.key, hooks.flag),
-        || copied(rt, alloc, &source, live, &hooks.key, hooks),
-    ))
+    copied_meanwhile(rt, alloc, &source, &Empty.key(alloc)?, hooks)
 }
 
 /// The hook keeps the image back until the look has answered: so it answers between the two pushes of the copy.
 #[test]
 fn look_in_the_middle_of_a_copy(rt: HostRuntime) -> Result<(), Fail> {
-    let (live, look) = looked_at(rt.alloc(), rt, &[Foo])?;
     let flag = AtomicBool::new(false);
     let hooks = LooksForFlag {
         key: Image0.key(rt.alloc())?,
         flag: &flag,
         saw: AtomicBool::new(false),
     };
-    let (answered, copied) = copied_meanwhile(&rt, rt.alloc(), live, look, &hooks)?;
+    let (answered, copied) = image_copied_meanwhile(&rt, rt.alloc(), &hooks)?;
     assert!(rt; answered && hooks.saw.load(Ordering::SeqCst));
     assert_eq!(rt; copied, Some([2, 2, 0]));
     Ok(())

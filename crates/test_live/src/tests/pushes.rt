@@ -1,7 +1,9 @@
 use crate::tests::stores::{counts, live, looked_at};
 use oci_live::{LiveStore, Look};
+use oci_manifest::Key;
 use oci_store::Dest;
 use std::alloc::Global;
+use std::process::Abort;
 use std::sync::Wait;
 use std::test::Fail;
 use test_support::Sample;
@@ -16,25 +18,55 @@ fn is_seen<R: Wait + Drop>(
 ) -> Result<bool, Fail> {
     let key = sample.key(alloc)?;
     let before = look.exists(&key)?;
-    live.push_closed(&key, sample.bytes(alloc)?)?;
+    push(alloc, live, &key, sample)?;
     Ok(!before && look.exists(&key)?)
+}
+
+fn push<R: Wait + Drop>(
+    alloc: Global,
+    live: &mut LiveStore<R>,
+    key: &Key,
+    sample: Sample,
+) -> Result<(), Fail> {
+    live.push_closed(key, sample.bytes(alloc)?)?;
+    Ok(())
+}
+
+fn assert_seen<R: Wait + Abort + Drop>(
+    rt: &R,
+    alloc: Global,
+    live: &mut LiveStore<R>,
+    look: &mut Look,
+    samples: &[Sample],
+) -> Result<(), Fail> {
+    for (row, sample) in samples.iter().enumerate() {
+        assert!(rt; is_seen(alloc, live, look, *sample)?, "row {row}");
+    }
+    Ok(())
 }
 
 #[test]
 fn each_push_is_seen_at_once(rt: HostRuntime) -> Result<(), Fail> {
     let (mut live, mut look) = looked_at(rt.alloc(), rt, &[])?;
-    for sample in [Empty, Foo, Image0] {
-        assert!(rt; is_seen(rt.alloc(), &mut live, &mut look, sample)?);
+    assert_seen(&rt, rt.alloc(), &mut live, &mut look, &[Empty, Foo, Image0])
+}
+
+/// So many looks at a store.
+fn looks<R: Wait + Drop>(
+    alloc: Global,
+    live: &mut LiveStore<R>,
+    count: usize,
+) -> Result<Vec<Look>, Fail> {
+    let mut looks = Vec::new(alloc);
+    for _ in 0..count {
+        looks.push(live.look()?)?;
     }
-    Ok(())
+    Ok(looks)
 }
 
 /// Whether 64 looks have their places, one more has none, and a look that is dropped gives its place back.
 fn has_places<R: Wait + Drop>(alloc: Global, live: &mut LiveStore<R>) -> Result<bool, Fail> {
-    let mut looks = Vec::new(alloc);
-    for _ in 0..64 {
-        looks.push(live.look()?)?;
-    }
+    let mut looks = looks(alloc, live, 64)?;
     let is_full = live.look().is_err();
     drop(looks.pop());
     Ok(is_full && live.look().is_ok())
