@@ -109,7 +109,7 @@ impl Job for Fails {
 }
 
 /// How often a job looks that is to meet another.
-const MANY_LOOKS: u64 = 1_000_000_000;
+pub(crate) const MANY_LOOKS: u64 = 1_000_000_000;
 
 /// Looks at a count until it is high enough, at most so many times. Whether it was.
 fn saw(count: &AtomicU64, wanted: u64, looks: u64) -> bool {
@@ -121,50 +121,31 @@ fn saw(count: &AtomicU64, wanted: u64, looks: u64) -> bool {
     false
 }
 
+/// Which jobs meet.
+#[derive(Clone, Copy)]
+pub(crate) struct Meeting {
+    /// The least number of a job that is to meet others.
+    pub from: u32,
+    /// How many jobs are to meet.
+    pub wanted: u64,
+    /// How often a job looks that is to meet others, at most.
+    pub looks: u64,
+    /// How often a job looks that comes before them.
+    pub looks_before: u64,
+}
+
 /// Jobs from a number on each raise a count, and look until it is high enough. They answer whether they saw it; the jobs
 /// before that number look for a while at what nobody sets, and answer true.
 #[derive(Drop)]
 pub(crate) struct Meets {
-    from: u32,
-    /// How many jobs are to meet.
-    wanted: u64,
-    /// How often a job looks that is to meet others, at most.
-    looks: u64,
-    /// How often a job looks that comes before them.
-    looks_before: u64,
+    meeting: Meeting,
     came: AtomicU64,
 }
 
 impl Meets {
-    /// So many jobs meet, from a number on.
-    pub fn new(from: u32, wanted: u64) -> Meets {
+    pub fn new(meeting: Meeting) -> Meets {
         Meets {
-            from,
-            wanted,
-            looks: MANY_LOOKS,
-            looks_before: 0,
-            came: AtomicU64::new(0),
-        }
-    }
-
-    /// The same, where each job looks at most so often.
-    pub fn looking(from: u32, wanted: u64, looks: u64) -> Meets {
-        Meets {
-            from,
-            wanted,
-            looks,
-            looks_before: 0,
-            came: AtomicU64::new(0),
-        }
-    }
-
-    /// The same, where the jobs before that number look so often.
-    pub fn after(from: u32, wanted: u64, looks_before: u64) -> Meets {
-        Meets {
-            from,
-            wanted,
-            looks: MANY_LOOKS,
-            looks_before,
+            meeting,
             came: AtomicU64::new(0),
         }
     }
@@ -180,12 +161,22 @@ impl Job for Meets {
     ghost fails = { λ job k f. Unit {0} };
 
     fn run(&self, number: u32, _pass: Pass) -> Result<bool, u32> {
-        if number < self.from {
-            return Ok(!saw(&self.came, u64::MAX, self.looks_before));
+        let meeting = self.meeting;
+        if number < meeting.from {
+            return Ok(!saw(&self.came, u64::MAX, meeting.looks_before));
         }
         self.came.fetch_add(1, Ordering::SeqCst);
-        Ok(saw(&self.came, self.wanted, self.looks))
+        Ok(saw(&self.came, meeting.wanted, meeting.looks))
     }
+}
+
+/// What the jobs leave of a number.
+#[derive(Drop)]
+struct Mark {
+    /// How often its job was run.
+    runs: AtomicU64,
+    /// 1 where its job has ended.
+    flag: AtomicU64,
 }
 
 /// Each job counts its run, notes whether the flags of its successors are set as it starts, looks at a flag that nobody sets,
@@ -193,29 +184,29 @@ impl Job for Meets {
 #[derive(Drop)]
 pub(crate) struct Flags {
     lists: Vec<Vec<u32>>,
-    runs: Vec<AtomicU64>,
-    flags: Vec<AtomicU64>,
+    marks: Vec<Mark>,
     looks: u64,
     never: AtomicU64,
 }
 
-/// So many counts of nothing.
-fn zeros(alloc: Global, count: usize) -> Result<Vec<AtomicU64>, AllocError> {
-    let mut counts = Vec::with_capacity(alloc, count)?;
+/// So many marks of nothing.
+fn marks(alloc: Global, count: usize) -> Result<Vec<Mark>, AllocError> {
+    let mut marks = Vec::with_capacity(alloc, count)?;
     for _ in 0..count {
-        counts.push(AtomicU64::new(0))?;
+        marks.push(Mark {
+            runs: AtomicU64::new(0),
+            flag: AtomicU64::new(0),
+        })?;
     }
-    Ok(counts)
+    Ok(marks)
 }
 
 impl Flags {
     pub fn new(alloc: Global, lists: Vec<Vec<u32>>, looks: u64) -> Result<Flags, AllocError> {
-        let runs = zeros(alloc, lists.len())?;
-        let flags = zeros(alloc, lists.len())?;
+        let marks = marks(alloc, lists.len())?;
         Ok(Flags {
             lists,
-            runs,
-            flags,
+            marks,
             looks,
             never: AtomicU64::new(0),
         })
@@ -223,8 +214,8 @@ impl Flags {
 
     /// Whether the flag of a number is set.
     fn is_set(&self, number: u32) -> bool {
-        match self.flags.get(number as usize) {
-            Some(flag) => flag.load(Ordering::SeqCst) == 1,
+        match self.marks.get(number as usize) {
+            Some(mark) => mark.flag.load(Ordering::SeqCst) == 1,
             None => false,
         }
     }
@@ -254,8 +245,8 @@ impl Flags {
 
     /// Whether each job was run once.
     pub fn ran_once(&self) -> bool {
-        for runs in &self.runs {
-            if runs.load(Ordering::SeqCst) != 1 {
+        for mark in &self.marks {
+            if mark.runs.load(Ordering::SeqCst) != 1 {
                 return false;
             }
         }
@@ -273,15 +264,15 @@ impl Job for Flags {
     ghost fails = { λ job k f. Unit {0} };
 
     fn run(&self, number: u32, _pass: Pass) -> Result<bool, u32> {
-        if let Some(runs) = self.runs.get(number as usize) {
-            runs.fetch_add(1, Ordering::SeqCst);
+        if let Some(mark) = self.marks.get(number as usize) {
+            mark.runs.fetch_add(1, Ordering::SeqCst);
         }
         let found = self.found(number);
         if self.saw_never() {
             return Err(number);
         }
-        if let Some(flag) = self.flags.get(number as usize) {
-            flag.store(1, Ordering::SeqCst);
+        if let Some(mark) = self.marks.get(number as usize) {
+            mark.flag.store(1, Ordering::SeqCst);
         }
         Ok(found)
     }

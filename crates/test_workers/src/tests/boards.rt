@@ -1,8 +1,22 @@
 use crate::graphs::{DIAMOND, ordered};
+use crate::tests::boards::Step::{Done, Issued, Pass, Stop};
 use oci_pool::Board;
 use std::alloc::{AllocError, Global};
 use std::process::Abort;
 use std::test::Fail;
+
+/// What is asked of a board, and what it answers.
+#[derive(Clone, Copy)]
+enum Step {
+    /// A job of a number has ended.
+    Done(u32, Option<(usize, usize)>),
+    /// The pass of a number, which tells the number.
+    Pass(u32, Option<u32>),
+    /// The issue list is this.
+    Issued(&'static [u32]),
+    /// The board is stopped.
+    Stop,
+}
 
 /// A board of the diamond.
 fn board(rt: &impl Abort, alloc: Global) -> Result<Board, AllocError> {
@@ -13,63 +27,75 @@ fn board(rt: &impl Abort, alloc: Global) -> Result<Board, AllocError> {
     }
 }
 
-/// The issue list.
-fn issued(alloc: Global, board: &Board) -> Result<Vec<u32>, AllocError> {
-    let mut numbers = Vec::new(alloc);
+/// Whether the issue list is this; the first five places are looked at.
+fn is_issued(board: &Board, numbers: &[u32]) -> bool {
     for place in 0..5 {
-        if let Some(number) = board.issued(place) {
-            numbers.push(number)?;
+        if board.issued(place) != numbers.get(place).copied() {
+            return false;
         }
     }
-    Ok(numbers)
+    true
 }
 
-/// The number of the pass that the board gives for a number.
-fn pass(board: &mut Board, number: u32) -> Option<u32> {
-    board.pass(number).map(|pass| pass.number())
+/// Whether the board answers so.
+fn answers(board: &mut Board, step: Step) -> bool {
+    match step {
+        Done(number, answer) => board.done(number) == answer,
+        Pass(number, answer) => board.pass(number).map(|pass| pass.number()) == answer,
+        Issued(numbers) => is_issued(board, numbers),
+        Stop => {
+            board.stop();
+            true
+        }
+    }
 }
 
-/// What `done` answers.
-fn done(board: &mut Board, number: u32) -> Option<(usize, usize)> {
-    board.done(number)
+/// A board of the diamond answers so, step by step.
+fn assert_steps(rt: &impl Abort, alloc: Global, steps: &[Step]) -> Result<(), Fail> {
+    let mut board = board(rt, alloc)?;
+    for (place, step) in steps.iter().enumerate() {
+        assert!(rt; answers(&mut board, *step), "step {place}");
+    }
+    Ok(())
 }
 
 #[test]
 fn order_and_board(rt: HostRuntime) -> Result<(), Fail> {
-    let alloc = rt.alloc();
-    let mut board = board(&rt, alloc)?;
-    assert_eq!(rt; issued(alloc, &board)?.as_slice(), [0].as_slice());
-    assert_eq!(rt; done(&mut board, 0), Some((1, 3)));
-    assert_eq!(rt; issued(alloc, &board)?.as_slice(), [0, 1, 2].as_slice());
-    assert_eq!(rt; done(&mut board, 2), Some((3, 3)));
-    assert_eq!(rt; done(&mut board, 2), None);
-    assert_eq!(rt; done(&mut board, 1), Some((3, 4)));
-    assert_eq!(rt; issued(alloc, &board)?.as_slice(), [0, 1, 2, 3].as_slice());
-    Ok(())
+    const STEPS: &[Step] = &[
+        Issued(&[0]),
+        Done(0, Some((1, 3))),
+        Issued(&[0, 1, 2]),
+        Done(2, Some((3, 3))),
+        Done(2, None),
+        Done(1, Some((3, 4))),
+        Issued(&[0, 1, 2, 3]),
+    ];
+    assert_steps(&rt, rt.alloc(), STEPS)
 }
 
 #[test]
 fn order_and_board_passes(rt: HostRuntime) -> Result<(), Fail> {
-    let mut board = board(&rt, rt.alloc())?;
-    assert_eq!(rt; pass(&mut board, 1), None);
-    assert_eq!(rt; pass(&mut board, 0), Some(0));
-    assert_eq!(rt; pass(&mut board, 0), None);
-    assert_eq!(rt; done(&mut board, 0), Some((1, 3)));
-    assert_eq!(rt; pass(&mut board, 2), Some(2));
-    assert_eq!(rt; pass(&mut board, 4), None);
-    Ok(())
+    const STEPS: &[Step] = &[
+        Pass(1, None),
+        Pass(0, Some(0)),
+        Pass(0, None),
+        Done(0, Some((1, 3))),
+        Pass(2, Some(2)),
+        Pass(4, None),
+    ];
+    assert_steps(&rt, rt.alloc(), STEPS)
 }
 
 #[test]
 fn stopped_board(rt: HostRuntime) -> Result<(), Fail> {
-    let alloc = rt.alloc();
-    let mut board = board(&rt, alloc)?;
-    assert_eq!(rt; done(&mut board, 1), None);
-    board.stop();
-    assert_eq!(rt; pass(&mut board, 0), None);
-    assert_eq!(rt; done(&mut board, 0), Some((1, 1)));
-    assert_eq!(rt; done(&mut board, 0), None);
-    assert_eq!(rt; done(&mut board, 4), None);
-    assert_eq!(rt; issued(alloc, &board)?.as_slice(), [0].as_slice());
-    Ok(())
+    const STEPS: &[Step] = &[
+        Done(1, None),
+        Stop,
+        Pass(0, None),
+        Done(0, Some((1, 1))),
+        Done(0, None),
+        Done(4, None),
+        Issued(&[0]),
+    ];
+    assert_steps(&rt, rt.alloc(), STEPS)
 }

@@ -1,5 +1,6 @@
 use crate::graphs::{DIAMOND, chain, lists_of, order_of, random};
 use crate::jobs::Flags;
+use crate::tests::flags::Shape::{Chain, Diamond, Random};
 use oci_plan::Order;
 use oci_pool::run;
 use std::alloc::{AllocError, Global};
@@ -7,6 +8,24 @@ use std::process::Abort;
 use std::sync::Wait;
 use std::test::Fail;
 use std::thread::Threads;
+
+/// A graph whose jobs are run.
+#[derive(Clone, Copy)]
+enum Shape {
+    Diamond,
+    /// A random one of 2000 numbers, by its seed.
+    Random(u64),
+    /// A chain of so many numbers.
+    Chain(u32),
+}
+
+fn lists(alloc: Global, shape: Shape) -> Result<Vec<Vec<u32>>, AllocError> {
+    match shape {
+        Diamond => lists_of(alloc, DIAMOND),
+        Random(seed) => random(alloc, seed, 2000),
+        Chain(count) => chain(alloc, count),
+    }
+}
 
 /// Whether each job ran once, and found the flags of its successors set as it started.
 fn in_order<R: Threads + Wait + Sync>(
@@ -22,45 +41,54 @@ fn in_order<R: Threads + Wait + Sync>(
     }
 }
 
-/// The same of a graph, which is made twice, for the order and for the jobs.
-fn runs_in_order<R: Threads + Wait + Sync + Abort>(
+/// The same of an order of a graph, whose lists are made once more for the jobs.
+fn shape_in_order<R: Threads + Wait + Sync>(
     rt: &R,
     alloc: Global,
-    lists: (Vec<Vec<u32>>, Vec<Vec<u32>>),
+    order: &Order,
+    shape: Shape,
     workers: u32,
     looks: u64,
 ) -> Result<bool, AllocError> {
-    let order = order_of(rt, lists.0);
-    let job = Flags::new(alloc, lists.1, looks)?;
-    Ok(in_order(rt, alloc, &order, workers, &job))
+    let job = Flags::new(alloc, lists(alloc, shape)?, looks)?;
+    Ok(in_order(rt, alloc, order, workers, &job))
+}
+
+fn assert_in_order<R: Threads + Wait + Sync + Abort>(
+    rt: &R,
+    alloc: Global,
+    shape: Shape,
+    workers: u32,
+    looks: u64,
+) -> Result<(), Fail> {
+    let order = order_of(rt, lists(alloc, shape)?);
+    assert!(rt;
+        shape_in_order(rt, alloc, &order, shape, workers, looks)?,
+        "{workers} workers"
+    );
+    Ok(())
 }
 
 #[test]
 fn each_runs_once_after_its_successors(rt: HostRuntime) -> Result<(), Fail> {
-    let alloc = rt.alloc();
     for workers in 1..65 {
-        let lists = (lists_of(alloc, DIAMOND)?, lists_of(alloc, DIAMOND)?);
-        assert!(rt; runs_in_order(&rt, alloc, lists, workers, 1_000_000)?);
+        assert_in_order(&rt, rt.alloc(), Diamond, workers, 1_000_000)?;
     }
     Ok(())
 }
 
 #[test]
 fn random_graphs(rt: HostRuntime) -> Result<(), Fail> {
-    let alloc = rt.alloc();
     for seed in 0..10 {
-        let lists = (random(alloc, seed, 2000)?, random(alloc, seed, 2000)?);
-        assert!(rt; runs_in_order(&rt, alloc, lists, 64, 0)?);
+        assert_in_order(&rt, rt.alloc(), Random(seed), 64, 0)?;
     }
     Ok(())
 }
 
 #[test]
 fn long_chain(rt: HostRuntime) -> Result<(), Fail> {
-    let alloc = rt.alloc();
     for workers in [1, 3, 64] {
-        let lists = (chain(alloc, 3000)?, chain(alloc, 3000)?);
-        assert!(rt; runs_in_order(&rt, alloc, lists, workers, 0)?);
+        assert_in_order(&rt, rt.alloc(), Chain(3000), workers, 0)?;
     }
     Ok(())
 }

@@ -1,11 +1,18 @@
 use crate::graphs::ordered;
-use crate::jobs::{FailsAt, Meets};
+use crate::jobs::{FailsAt, MANY_LOOKS, Meeting, Meets};
 use oci_plan::Order;
 use oci_pool::run;
 use std::alloc::{AllocError, Global};
+use std::process::Abort;
 use std::sync::Wait;
 use std::test::Fail;
 use std::thread::Threads;
+
+/// Two numbers that need nothing.
+const TWO: &[&[u32]] = &[&[], &[]];
+
+/// 1 and 2 need 0.
+const FORK: &[&[u32]] = &[&[], &[0], &[0]];
 
 /// Whether all jobs met that were to meet.
 fn met<R: Threads + Wait + Sync>(
@@ -13,70 +20,104 @@ fn met<R: Threads + Wait + Sync>(
     alloc: Global,
     order: &Order,
     workers: u32,
-    job: &Meets,
+    meeting: Meeting,
 ) -> bool {
-    match run(rt, alloc, order, workers, job) {
+    match run(rt, alloc, order, workers, &Meets::new(meeting)) {
         Ok(all) => all.iter().all(|met| *met),
         Err(_) => false,
     }
 }
 
+/// In each of so many runs all jobs meet that are to meet, or not all of them where they are too many for the workers.
+fn assert_met<R: Threads + Wait + Sync + Abort>(
+    rt: &R,
+    alloc: Global,
+    lists: &[&[u32]],
+    workers: u32,
+    meeting: Meeting,
+    (times, meet): (u32, bool),
+) -> Result<(), Fail> {
+    let order = ordered(rt, alloc, lists)?;
+    for time in 0..times {
+        assert!(rt;
+            met(rt, alloc, &order, workers, meeting) == meet,
+            "run {time}"
+        );
+    }
+    Ok(())
+}
+
+/// A meeting of so many jobs, from a number on.
+const fn of(from: u32, wanted: u64) -> Meeting {
+    Meeting {
+        from,
+        wanted,
+        looks: MANY_LOOKS,
+        looks_before: 0,
+    }
+}
+
 #[test]
 fn meeting(rt: HostRuntime) -> Result<(), Fail> {
-    let two: &[&[u32]] = &[&[], &[]];
-    let order = ordered(&rt, rt.alloc(), two)?;
-    assert!(rt; met(&rt, rt.alloc(), &order, 2, &Meets::new(0, 2)));
-    Ok(())
+    assert_met(&rt, rt.alloc(), TWO, 2, of(0, 2), (1, true))
+}
+
+/// What two jobs answer that one worker runs, if each looks so often for the other.
+fn alone<R: Threads + Wait + Sync>(
+    rt: &R,
+    alloc: Global,
+    order: &Order,
+    looks: u64,
+) -> Option<[bool; 2]> {
+    let meeting = Meeting { looks, ..of(0, 2) };
+    match run(rt, alloc, order, 1, &Meets::new(meeting)) {
+        Ok(all) => match all.as_slice() {
+            [first, second] => Some([*first, *second]),
+            _ => None,
+        },
+        Err(_) => None,
+    }
 }
 
 /// One worker runs the first job to its end, which gives up, and then the second, which finds that the first has come.
 #[test]
 fn one_worker(rt: HostRuntime) -> Result<(), Fail> {
-    let two: &[&[u32]] = &[&[], &[]];
-    let order = ordered(&rt, rt.alloc(), two)?;
-    let job = Meets::looking(0, 2, 1_000_000);
-    match run(&rt, rt.alloc(), &order, 1, &job) {
-        Ok(all) => assert_eq!(rt; all.as_slice(), [false, true].as_slice()),
-        Err(_) => panic!(rt; "the run stopped"),
-    }
+    let order = ordered(&rt, rt.alloc(), TWO)?;
+    assert_eq!(rt;
+        alone(&rt, rt.alloc(), &order, 1_000_000),
+        Some([false, true])
+    );
     Ok(())
 }
 
 /// Where no number of workers is told there are three: three jobs meet, and four do not.
 #[test]
 fn usual_workers(rt: HostRuntime) -> Result<(), Fail> {
-    let three: &[&[u32]] = &[&[], &[], &[]];
-    let order = ordered(&rt, rt.alloc(), three)?;
-    assert!(rt; met(&rt, rt.alloc(), &order, 0, &Meets::new(0, 3)));
-    let four: &[&[u32]] = &[&[], &[], &[], &[]];
-    let order = ordered(&rt, rt.alloc(), four)?;
-    let job = Meets::looking(0, 4, 100_000_000);
-    assert!(rt; !met(&rt, rt.alloc(), &order, 0, &job));
-    Ok(())
+    const THREE: &[&[u32]] = &[&[], &[], &[]];
+    const FOUR: &[&[u32]] = &[&[], &[], &[], &[]];
+    assert_met(&rt, rt.alloc(), THREE, 0, of(0, 3), (1, true))?;
+    let meeting = Meeting {
+        looks: 100_000_000,
+        ..of(0, 4)
+    };
+    assert_met(&rt, rt.alloc(), FOUR, 0, meeting, (1, false))
 }
 
 /// One worker makes both numbers ready, and the other has to be woken to steal one of them.
 #[test]
 fn stealing(rt: HostRuntime) -> Result<(), Fail> {
-    let fork: &[&[u32]] = &[&[], &[0], &[0]];
-    let order = ordered(&rt, rt.alloc(), fork)?;
-    for _ in 0..100 {
-        assert!(rt; met(&rt, rt.alloc(), &order, 2, &Meets::new(1, 2)));
-    }
-    Ok(())
+    assert_met(&rt, rt.alloc(), FORK, 2, of(1, 2), (100, true))
 }
 
 /// The first job goes on for so long that the other worker waits before it ends: the numbers that it makes ready have to
 /// wake that worker.
 #[test]
 fn waking(rt: HostRuntime) -> Result<(), Fail> {
-    let fork: &[&[u32]] = &[&[], &[0], &[0]];
-    let order = ordered(&rt, rt.alloc(), fork)?;
-    for _ in 0..10 {
-        let job = Meets::after(1, 2, 20_000_000);
-        assert!(rt; met(&rt, rt.alloc(), &order, 2, &job));
-    }
-    Ok(())
+    let meeting = Meeting {
+        looks_before: 20_000_000,
+        ..of(1, 2)
+    };
+    assert_met(&rt, rt.alloc(), FORK, 2, meeting, (10, true))
 }
 
 /// The line of the fault of a run of two jobs that meet and then both fail.
@@ -91,15 +132,20 @@ fn both_fail<R: Threads + Wait + Sync>(
     }
 }
 
+fn assert_both_fail<R: Threads + Wait + Sync + Abort>(
+    rt: &R,
+    alloc: Global,
+    order: &Order,
+) -> Result<(), Fail> {
+    assert_eq!(rt; both_fail(rt, alloc, order)?.as_str(), "60 Job 0 100");
+    Ok(())
+}
+
 #[test]
 fn least_number_is_told(rt: HostRuntime) -> Result<(), Fail> {
-    let two: &[&[u32]] = &[&[], &[]];
-    let order = ordered(&rt, rt.alloc(), two)?;
+    let order = ordered(&rt, rt.alloc(), TWO)?;
     for _ in 0..100 {
-        assert_eq!(rt;
-            both_fail(&rt, rt.alloc(), &order)?.as_str(),
-            "60 Job 0 100"
-        );
+        assert_both_fail(&rt, rt.alloc(), &order)?;
     }
     Ok(())
 }

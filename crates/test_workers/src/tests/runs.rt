@@ -3,90 +3,153 @@ use crate::jobs::{Fails, FailsAt, TenTimes};
 use oci_plan::Order;
 use oci_pool::{PoolFault, run};
 use std::alloc::{AllocError, Global};
+use std::fmt::Write;
+use std::process::Abort;
 use std::sync::Wait;
 use std::sync::atomic::Ordering;
 use std::test::Fail;
 use std::thread::Threads;
 
-/// The results of a run, or its fault, and how many jobs were run.
-fn line<R: Threads + Wait + Sync>(
+/// What is run.
+#[derive(Clone, Copy)]
+enum Kind {
+    TenTimes,
+    /// The job of number 1 fails.
+    FailsAtOne,
+}
+
+/// Tells the results of a run, or its fault, and how many jobs were run.
+fn tell_ten_times<R: Threads + Wait + Sync>(
     rt: &R,
     alloc: Global,
     order: &Order,
     workers: u32,
-) -> Result<String, AllocError> {
+    text: &mut String,
+) -> Result<(), AllocError> {
     let job = TenTimes::new();
     let answer = run(rt, alloc, order, workers, &job);
     let runs = job.runs.load(Ordering::SeqCst);
     match answer {
         Ok(all) => {
-            let mut text = format!(in alloc; "{runs} runs:")?;
-            for result in all.iter() {
-                text.push_str(format!(in alloc; " {result}")?.as_str())?;
-            }
-            Ok(text)
+            write!(text, "{runs} runs:")?;
+            tell_all(all.as_slice(), text)
         }
         Err(stopped) => {
             let (done, fault) = stopped.into_parts();
-            format!(in alloc; "{runs} runs, {} done: {fault}", done.len())
+            write!(text, "{runs} runs, {} done: {fault}", done.len())
         }
     }
 }
 
-#[test]
-fn ten_times(rt: HostRuntime) -> Result<(), Fail> {
-    let alloc = rt.alloc();
-    let order = ordered(&rt, alloc, DIAMOND)?;
-    for workers in [0, 1, 2, 64] {
-        assert_eq!(rt;
-            line(&rt, alloc, &order, workers)?.as_str(),
-            "4 runs: 0 10 20 30"
-        );
+fn tell_all(results: &[u64], text: &mut String) -> Result<(), AllocError> {
+    for result in results {
+        write!(text, " {result}")?;
     }
-    assert_eq!(rt;
-        line(&rt, alloc, &order, 65)?.as_str(),
-        "0 runs, 0 done: 62 BadWorkers"
-    );
-    let empty: &[&[u32]] = &[];
-    let none = ordered(&rt, alloc, empty)?;
-    assert_eq!(rt; line(&rt, alloc, &none, 2)?.as_str(), "0 runs:");
     Ok(())
 }
 
-/// Whether a run whose job of number 1 fails has as many results as jobs answered, its fault, and the numbers and results.
-fn fails_at_one<R: Threads + Wait + Sync>(
+/// Tells of a run whose job of number 1 fails: whether it has as many results as jobs answered, its fault, and the numbers and
+/// results.
+fn tell_fails_at_one<R: Threads + Wait + Sync>(
     rt: &R,
     alloc: Global,
     order: &Order,
     workers: u32,
-) -> Result<String, AllocError> {
+    text: &mut String,
+) -> Result<(), AllocError> {
     let job = FailsAt::new(1, 1, 0);
     match run(rt, alloc, order, workers, &job) {
-        Ok(_) => String::from_str(alloc, "done"),
+        Ok(_) => write!(text, "done"),
         Err(stopped) => {
             let (done, fault) = stopped.into_parts();
             let all = job.answered.load(Ordering::SeqCst) == done.len() as u64;
-            let mut text = format!(in alloc; "{all} {fault}:")?;
-            for (number, result) in done.iter() {
-                text.push_str(format!(in alloc; " {number} {result}")?.as_str())?;
-            }
-            Ok(text)
+            write!(text, "{all} {fault}:")?;
+            tell_done(done.as_slice(), text)
         }
     }
 }
 
-#[test]
-fn jobs(rt: HostRuntime) -> Result<(), Fail> {
-    let alloc = rt.alloc();
-    let order = ordered(&rt, alloc, DIAMOND)?;
-    for workers in 0..65 {
-        let told = fails_at_one(&rt, alloc, &order, workers)?;
-        assert!(rt;
-            told.as_str() == "true 60 Job 1 101: 0 0"
-                || told.as_str() == "true 60 Job 1 101: 0 0 2 2"
-        );
+fn tell_done(done: &[(u32, u32)], text: &mut String) -> Result<(), AllocError> {
+    for (number, result) in done {
+        write!(text, " {number} {result}")?;
     }
     Ok(())
+}
+
+/// What is told of a run.
+fn told<R: Threads + Wait + Sync>(
+    rt: &R,
+    alloc: Global,
+    order: &Order,
+    workers: u32,
+    kind: Kind,
+) -> Result<String, AllocError> {
+    let mut text = String::new(alloc);
+    match kind {
+        Kind::TenTimes => tell_ten_times(rt, alloc, order, workers, &mut text)?,
+        Kind::FailsAtOne => tell_fails_at_one(rt, alloc, order, workers, &mut text)?,
+    }
+    Ok(text)
+}
+
+fn is_one_of(told: &str, lines: &[&str]) -> bool {
+    for line in lines {
+        if *line == told {
+            return true;
+        }
+    }
+    false
+}
+
+/// One of these lines is told of the run.
+fn assert_run<R: Threads + Wait + Sync + Abort>(
+    rt: &R,
+    alloc: Global,
+    order: &Order,
+    workers: u32,
+    kind: Kind,
+    lines: &[&str],
+) -> Result<(), Fail> {
+    let told = told(rt, alloc, order, workers, kind)?;
+    assert!(rt; is_one_of(told.as_str(), lines), "{told} by {workers}");
+    Ok(())
+}
+
+/// One of these lines is told of each run by a number of workers from the first on to before the last.
+fn assert_runs<R: Threads + Wait + Sync + Abort>(
+    rt: &R,
+    alloc: Global,
+    lists: &[&[u32]],
+    (first, last): (u32, u32),
+    kind: Kind,
+    lines: &[&str],
+) -> Result<(), Fail> {
+    let order = ordered(rt, alloc, lists)?;
+    for workers in first..last {
+        assert_run(rt, alloc, &order, workers, kind, lines)?;
+    }
+    Ok(())
+}
+
+#[test]
+fn ten_times(rt: HostRuntime) -> Result<(), Fail> {
+    const EMPTY: &[&[u32]] = &[];
+    const ROWS: [(&[&[u32]], (u32, u32), &str); 4] = [
+        (DIAMOND, (0, 3), "4 runs: 0 10 20 30"),
+        (DIAMOND, (64, 65), "4 runs: 0 10 20 30"),
+        (DIAMOND, (65, 66), "0 runs, 0 done: 62 BadWorkers"),
+        (EMPTY, (2, 3), "0 runs:"),
+    ];
+    for (lists, workers, line) in ROWS {
+        assert_runs(&rt, rt.alloc(), lists, workers, Kind::TenTimes, &[line])?;
+    }
+    Ok(())
+}
+
+#[test]
+fn jobs(rt: HostRuntime) -> Result<(), Fail> {
+    const LINES: &[&str] = &["true 60 Job 1 101: 0 0", "true 60 Job 1 101: 0 0 2 2"];
+    assert_runs(&rt, rt.alloc(), DIAMOND, (0, 65), Kind::FailsAtOne, LINES)
 }
 
 /// How many jobs are run of an order where each fails; nothing where the run does not tell the fault of a job, or has a result.
@@ -121,26 +184,28 @@ fn none_after_a_stop(rt: HostRuntime) -> Result<(), Fail> {
     Ok(())
 }
 
-/// A fault's number and its line.
-fn told(alloc: Global, fault: &PoolFault<u32>) -> Result<String, AllocError> {
-    format!(in alloc; "{}: {fault}", fault.number())
+/// A fault's number and its line are these.
+fn assert_fault(
+    rt: &impl Abort,
+    alloc: Global,
+    fault: &PoolFault<u32>,
+    line: &str,
+) -> Result<(), Fail> {
+    let told = format!(in alloc; "{}: {fault}", fault.number())?;
+    assert_eq!(rt; told.as_str(), line);
+    Ok(())
 }
 
 #[test]
 fn fault_lines(rt: HostRuntime) -> Result<(), Fail> {
-    let alloc = rt.alloc();
-    assert_eq!(rt;
-        told(alloc, &PoolFault::Job(3, 7))?.as_str(),
-        "60: 60 Job 3 7"
-    );
-    assert_eq!(rt;
-        told(alloc, &PoolFault::Incomplete(3))?.as_str(),
-        "61: 61 Incomplete 3"
-    );
-    assert_eq!(rt;
-        told(alloc, &PoolFault::BadWorkers)?.as_str(),
-        "62: 62 BadWorkers"
-    );
-    assert_eq!(rt; told(alloc, &PoolFault::Memory)?.as_str(), "63: 63 Memory");
+    const FAULTS: &[(PoolFault<u32>, &str)] = &[
+        (PoolFault::Job(3, 7), "60: 60 Job 3 7"),
+        (PoolFault::Incomplete(3), "61: 61 Incomplete 3"),
+        (PoolFault::BadWorkers, "62: 62 BadWorkers"),
+        (PoolFault::Memory, "63: 63 Memory"),
+    ];
+    for (fault, line) in FAULTS {
+        assert_fault(&rt, rt.alloc(), fault, line)?;
+    }
     Ok(())
 }
