@@ -1,7 +1,7 @@
 //! The rows of the commands: words, status, and both outputs, whole. Each has a folder of its own.
 //!
-//! `sessions` goes through a text of runs and compares; `contents` and `layouts` have the files; `broken` has writers and
-//! files that fail.
+//! `sessions` goes through a text of runs and compares, and `rows` through rows of words; `runs` and `files` do what a line of
+//! a session says; `contents` and `layouts` have the files; `broken` has writers and files that fail.
 
 mod algorithms;
 mod broken;
@@ -10,12 +10,15 @@ mod copy;
 mod copy_all;
 mod dry_run;
 mod explain;
+mod files;
 mod layouts;
 mod looks;
 mod mem;
 mod outputs;
 mod progress;
 mod refused_layouts;
+mod rows;
+mod runs;
 mod sessions;
 mod side_by_side;
 mod strange_folders;

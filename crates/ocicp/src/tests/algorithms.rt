@@ -1,11 +1,10 @@
 use crate::tests::layouts::BOTH_ALGORITHMS;
-use crate::tests::sessions::{assert_session, folder};
+use crate::tests::sessions::assert_session_in;
 use std::test::Fail;
 
 /// The digest of `abc` is the one of FIPS 180-4.
 #[test]
 fn mem_by_sha512(rt: HostRuntime) -> Result<(), Fail> {
-    let folder = folder(&rt, "mem_by_sha512")?;
     let session = r"
 $ ocicp mem --sha512 text/plain=@/abc.txt
 sha512:ddaf35a193617abacc417349ae20413112e6fa4e89a97ea20a9eeee64b55d39a2192992a274fc1a836ba3c23a3feebbd454d4423643ce80e2a9ac94fa54ca49f 3 text/plain
@@ -18,13 +17,12 @@ planned 1 pushed 1 skipped 0
 $ write @/abc.txt abc
 $ write @/foo <FOO bytes>
 ";
-    assert_session(&rt, &folder, files, session)
+    assert_session_in(&rt, "mem_by_sha512", files, session)
 }
 
 /// One content under two digests is two contents, each with a file in its algorithm's folder.
 #[test]
 fn copy_of_both_algorithms(rt: HostRuntime) -> Result<(), Fail> {
-    let folder = folder(&rt, "both_algorithms")?;
     let session = r"
 $ ocicp copy @/B v5 @/N
 copied <M5>
@@ -51,5 +49,5 @@ open <M5> <FOO512>
 held 4
 ? 1
 ";
-    assert_session(&rt, &folder, BOTH_ALGORITHMS, session)
+    assert_session_in(&rt, "both_algorithms", BOTH_ALGORITHMS, session)
 }

@@ -16,30 +16,25 @@ pub(crate) struct Broken {
 }
 
 /// What of a writer fails.
-#[derive(Clone, Copy, PartialEq, Eq)]
+#[derive(Clone, Copy)]
 pub(crate) enum Step {
     Write,
     Flush,
 }
 
-impl Broken {
-    fn answer(&self, step: Step) -> io::Result<()> {
-        if self.at == step {
-            Err(io::Error::from(self.kind))
-        } else {
-            Ok(())
-        }
-    }
-}
-
 impl Write for Broken {
     fn write(&mut self, bytes: &[u8]) -> io::Result<usize> {
-        self.answer(Step::Write)?;
-        Ok(bytes.len())
+        match self.at {
+            Step::Write => Err(io::Error::from(self.kind)),
+            Step::Flush => Ok(bytes.len()),
+        }
     }
 
     fn flush(&mut self) -> io::Result<()> {
-        self.answer(Step::Flush)
+        match self.at {
+            Step::Write => Ok(()),
+            Step::Flush => Err(io::Error::from(self.kind)),
+        }
     }
 }
 

@@ -4,7 +4,6 @@
 //! its digest, the digest's first twelve digits, its descriptor, its bytes, and the place of its blob in a layout.
 
 use std::alloc::Global;
-use std::fmt::Write;
 use std::test::Fail;
 
 const IMAGE: &str = "application/vnd.oci.image.manifest.v1+json";
@@ -17,12 +16,13 @@ const DOCKER: &str = "application/vnd.docker.distribution.manifest.v2+json";
 
 const LAYER: &str = "application/vnd.oci.image.layer.v1.tar";
 
-/// A content: its media type, the algorithm and the digits of its digest, and its bytes.
+/// A content: its media type, the algorithm and the digits of its digest, its size, and its bytes.
 #[derive(Clone, Copy)]
 struct Sample {
     media_type: &'static str,
     algorithm: &'static str,
     digits: &'static str,
+    size: &'static str,
     bytes: &'static str,
 }
 
@@ -31,6 +31,7 @@ const E: Sample = Sample {
     media_type: EMPTY,
     algorithm: "sha256",
     digits: "44136fa355b3678a1146ad16f7e8649e94fb4fc21fe77e8310c060f61caaff8a",
+    size: "2",
     bytes: "{}",
 };
 
@@ -39,6 +40,7 @@ const FOO: Sample = Sample {
     media_type: LAYER,
     algorithm: "sha256",
     digits: "2c26b46b68ffc68ff99b453c1d30413413422d706483bfa0f98a5e886266e7ae",
+    size: "3",
     bytes: "foo",
 };
 
@@ -47,6 +49,7 @@ const FOO512: Sample = Sample {
     media_type: LAYER,
     algorithm: "sha512",
     digits: "f7fbba6e0636f890e56fbbf3283e524c6fa3204ae298382d624741d0dc6638326e282c41be5e4254d8820772c5518a2c5a8c0c7f7eda19594a7eb539453e1ed7",
+    size: "3",
     bytes: "foo",
 };
 
@@ -55,6 +58,7 @@ const M0: Sample = Sample {
     media_type: IMAGE,
     algorithm: "sha256",
     digits: "88028e7a699c392898fd180bf967edbcdb6227a9b7434a3ba0c9efff269e613f",
+    size: "241",
     bytes: r#"{"schemaVersion":2,"mediaType":"application/vnd.oci.image.manifest.v1+json","config":{"mediaType":"application/vnd.oci.empty.v1+json","digest":"sha256:44136fa355b3678a1146ad16f7e8649e94fb4fc21fe77e8310c060f61caaff8a","size":2},"layers":null}"#,
 };
 
@@ -63,6 +67,7 @@ const M2: Sample = Sample {
     media_type: IMAGE,
     algorithm: "sha256",
     digits: "7e1df211bc4556d2a9db939a81721c52e5e53c59e3dfb45a57205a794dd412b7",
+    size: "385",
     bytes: r#"{"schemaVersion":2,"mediaType":"application/vnd.oci.image.manifest.v1+json","config":{"mediaType":"application/vnd.oci.empty.v1+json","digest":"sha256:44136fa355b3678a1146ad16f7e8649e94fb4fc21fe77e8310c060f61caaff8a","size":2},"layers":[{"mediaType":"application/vnd.oci.image.layer.v1.tar","digest":"sha256:2c26b46b68ffc68ff99b453c1d30413413422d706483bfa0f98a5e886266e7ae","size":3}]}"#,
 };
 
@@ -71,6 +76,7 @@ const M5: Sample = Sample {
     media_type: IMAGE,
     algorithm: "sha256",
     digits: "09a5744821fe06e8c5f8224a7862972f42b7f22098b496e9bd3d4322ab9a6731",
+    size: "449",
     bytes: r#"{"schemaVersion":2,"mediaType":"application/vnd.oci.image.manifest.v1+json","config":{"mediaType":"application/vnd.oci.empty.v1+json","digest":"sha256:44136fa355b3678a1146ad16f7e8649e94fb4fc21fe77e8310c060f61caaff8a","size":2},"layers":[{"mediaType":"application/vnd.oci.image.layer.v1.tar","digest":"sha512:f7fbba6e0636f890e56fbbf3283e524c6fa3204ae298382d624741d0dc6638326e282c41be5e4254d8820772c5518a2c5a8c0c7f7eda19594a7eb539453e1ed7","size":3}]}"#,
 };
 
@@ -79,6 +85,7 @@ const S: Sample = Sample {
     media_type: IMAGE,
     algorithm: "sha256",
     digits: "bab9e997a499d9a01debd4356f23454db050baa4f31321e5a33e2e3aebd4f8eb",
+    size: "402",
     bytes: r#"{"schemaVersion":2,"mediaType":"application/vnd.oci.image.manifest.v1+json","config":{"mediaType":"application/vnd.oci.empty.v1+json","digest":"sha256:44136fa355b3678a1146ad16f7e8649e94fb4fc21fe77e8310c060f61caaff8a","size":2},"layers":[],"subject":{"mediaType":"application/vnd.oci.image.manifest.v1+json","digest":"sha256:7e1df211bc4556d2a9db939a81721c52e5e53c59e3dfb45a57205a794dd412b7","size":385}}"#,
 };
 
@@ -87,6 +94,7 @@ const I3: Sample = Sample {
     media_type: INDEX,
     algorithm: "sha256",
     digits: "d9c3e7cfc5f64c505159926d395e41fe249bf6d3a5bf23f53c6bdce34993a368",
+    size: "186",
     bytes: r#"{"schemaVersion":2,"manifests":[{"mediaType":"application/vnd.oci.image.manifest.v1+json","digest":"sha256:7e1df211bc4556d2a9db939a81721c52e5e53c59e3dfb45a57205a794dd412b7","size":385}]}"#,
 };
 
@@ -95,6 +103,7 @@ const I4: Sample = Sample {
     media_type: INDEX,
     algorithm: "sha256",
     digits: "04b54ec52bc620cd8553bcdfd876570329efa5cc7ead029e4d6b03ae3f4b29dd",
+    size: "183",
     bytes: r#"{"schemaVersion":2,"manifests":[{"mediaType":"application/vnd.oci.image.index.v1+json","digest":"sha256:d9c3e7cfc5f64c505159926d395e41fe249bf6d3a5bf23f53c6bdce34993a368","size":186}]}"#,
 };
 
@@ -103,22 +112,23 @@ const DM: Sample = Sample {
     media_type: DOCKER,
     algorithm: "sha256",
     digits: "655f703d5da3c83b1f8c9a8bb0cc7d4f6921a4a30b0b9d024a867ed937c03921",
+    size: "347",
     bytes: r#"{"schemaVersion":2,"config":{"mediaType":"application/vnd.oci.empty.v1+json","digest":"sha256:44136fa355b3678a1146ad16f7e8649e94fb4fc21fe77e8310c060f61caaff8a","size":2},"layers":[{"mediaType":"application/vnd.docker.image.rootfs.foreign.diff.tar.gzip","digest":"sha256:fcde2b2edba56bf408601fb721fe9b5c338d10ee429ea04fae5511b68fbf8fb9","size":3}]}"#,
 };
 
 /// The content of a name.
-fn named(name: &str) -> Result<Sample, Fail> {
+fn named(name: &str) -> Result<&'static Sample, Fail> {
     match name {
-        "E" => Ok(E),
-        "FOO" => Ok(FOO),
-        "FOO512" => Ok(FOO512),
-        "M0" => Ok(M0),
-        "M2" => Ok(M2),
-        "M5" => Ok(M5),
-        "S" => Ok(S),
-        "I3" => Ok(I3),
-        "I4" => Ok(I4),
-        "DM" => Ok(DM),
+        "E" => Ok(&E),
+        "FOO" => Ok(&FOO),
+        "FOO512" => Ok(&FOO512),
+        "M0" => Ok(&M0),
+        "M2" => Ok(&M2),
+        "M5" => Ok(&M5),
+        "S" => Ok(&S),
+        "I3" => Ok(&I3),
+        "I4" => Ok(&I4),
+        "DM" => Ok(&DM),
         _ => Err(Fail::from("no content has this name")),
     }
 }
@@ -151,25 +161,43 @@ fn push_named(told: &mut String, name: &str) -> Result<(), Fail> {
     }
 }
 
-fn push_part_of(told: &mut String, sample: Sample, part: &str) -> Result<(), Fail> {
+fn push_part_of(told: &mut String, sample: &Sample, part: &str) -> Result<(), Fail> {
     let Sample {
         media_type,
         algorithm,
         digits,
+        size,
         bytes,
-    } = sample;
-    let size = bytes.len();
+    } = *sample;
+    let first = digits.get(..12).unwrap_or(digits);
     match part {
-        "key" => write!(told, "{algorithm}:{digits} {size} {media_type}")?,
-        "digest" => write!(told, "{algorithm}:{digits}")?,
-        "short" => write!(told, "{algorithm}:{digits:.12}")?,
-        "descriptor" => write!(
+        "key" => push_all(told, &[algorithm, ":", digits, " ", size, " ", media_type]),
+        "digest" => push_all(told, &[algorithm, ":", digits]),
+        "short" => push_all(told, &[algorithm, ":", first]),
+        "descriptor" => push_all(
             told,
-            "{{\"mediaType\":\"{media_type}\",\"digest\":\"{algorithm}:{digits}\",\"size\":{size}}}"
-        )?,
-        "bytes" => told.push_str(bytes)?,
-        "file" => write!(told, "blobs/{algorithm}/{digits}")?,
-        _ => return Err(Fail::from("a content has no such part")),
+            &[
+                r#"{"mediaType":""#,
+                media_type,
+                r#"","digest":""#,
+                algorithm,
+                ":",
+                digits,
+                r#"","size":"#,
+                size,
+                "}",
+            ],
+        ),
+        "bytes" => push_all(told, &[bytes]),
+        "file" => push_all(told, &["blobs/", algorithm, "/", digits]),
+        _ => Err(Fail::from("a content has no such part")),
+    }
+}
+
+/// Texts, one after the other.
+pub(crate) fn push_all(told: &mut String, texts: &[&str]) -> Result<(), Fail> {
+    for text in texts {
+        told.push_str(text)?;
     }
     Ok(())
 }

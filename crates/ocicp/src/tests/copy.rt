@@ -1,11 +1,10 @@
 use crate::tests::layouts::{IMAGE, REFERRERS};
-use crate::tests::sessions::{assert_runs, assert_session, folder};
+use crate::tests::sessions::assert_session_in;
 use std::test::Fail;
 
 /// A layout, and one that is made beside it.
 #[test]
 fn copy_between_layouts(rt: HostRuntime) -> Result<(), Fail> {
-    let folder = folder(&rt, "copy")?;
     let session = r"
 $ ocicp copy @/L nope @/N
 ! ocicp: 36 UnknownReference
@@ -32,13 +31,12 @@ $ ocicp predecessors @/N w
 $ ocicp verify @/N
 held 2
 ";
-    assert_session(&rt, &folder, IMAGE, session)
+    assert_session_in(&rt, "copy", IMAGE, session)
 }
 
 /// Without a name of its own what is copied gets the reference that it was copied by.
 #[test]
 fn copy_without_a_name(rt: HostRuntime) -> Result<(), Fail> {
-    let folder = folder(&rt, "copy_without_a_name")?;
     let session = r"
 $ ocicp copy --workers 64 @/L v1 @/N
 copied <M0>
@@ -53,13 +51,12 @@ $ ocicp copy @/L '' @/N
 ! ocicp: 35 EmptyReference
 ? 1
 ";
-    assert_session(&rt, &folder, IMAGE, session)
+    assert_session_in(&rt, "copy_without_a_name", IMAGE, session)
 }
 
 /// A destination that lacks what it lists is left as it is: neither its blobs nor its index change.
 #[test]
 fn copy_into_an_open_layout(rt: HostRuntime) -> Result<(), Fail> {
-    let folder = folder(&rt, "copy_open")?;
     let session = r#"
 $ ocicp copy @/L v1 @/N w
 copied <M0>
@@ -78,20 +75,17 @@ held 1
 $ cat @/N/index.json
 {"manifests":[{"annotations":{"org.opencontainers.image.ref.name":"w"},"digest":"<M0 digest>","mediaType":"application/vnd.oci.image.manifest.v1+json","size":241}],"mediaType":"application/vnd.oci.image.index.v1+json","schemaVersion":2}
 "#;
-    assert_session(&rt, &folder, IMAGE, session)
+    assert_session_in(&rt, "copy_open", IMAGE, session)
 }
 
 /// The destination has lost a blob of the image that it has.
 #[test]
 fn copy_descend(rt: HostRuntime) -> Result<(), Fail> {
-    let folder = folder(&rt, "copy_descend")?;
-    let files = r"
+    let session = r"
 $ ocicp copy @/L v1 @/N w
 copied <M0>
 planned 2 pushed 2 skipped 0
 $ rm @/N/<E file>
-";
-    let session = r"
 $ ocicp copy @/L v1 @/N w
 ! ocicp: 80 DestinationOpen <M0> <E>
 ? 1
@@ -101,15 +95,13 @@ planned 1 pushed 1 skipped 1
 $ ocicp verify @/N
 held 2
 ";
-    assert_runs(&rt, &folder, IMAGE)?;
-    assert_session(&rt, &folder, files, session)
+    assert_session_in(&rt, "copy_descend", IMAGE, session)
 }
 
 /// A damaged manifest closes the whole layout. Once its file is deleted, a copy that descends brings it back, with what it
 /// lists: that is reached from nothing else, so it was not held either.
 #[test]
 fn copy_descend_to_a_manifest(rt: HostRuntime) -> Result<(), Fail> {
-    let folder = folder(&rt, "copy_descend_manifest")?;
     let session = r"
 $ ocicp copy @/R <I4 digest> @/N i
 copied <I4>
@@ -134,13 +126,12 @@ i <I4>
 $ ocicp verify @/N
 held 5
 ";
-    assert_session(&rt, &folder, REFERRERS, session)
+    assert_session_in(&rt, "copy_descend_manifest", REFERRERS, session)
 }
 
 /// A copy that descends brings what a destination lacks below what it holds. A damaged file is held, until somebody deletes it.
 #[test]
 fn copy_below_what_is_held(rt: HostRuntime) -> Result<(), Fail> {
-    let folder = folder(&rt, "copy_below")?;
     let session = r"
 $ ocicp copy @/L v1 @/N w
 copied <M0>
@@ -163,13 +154,12 @@ planned 1 pushed 1 skipped 1
 $ ocicp verify @/N
 held 2
 ";
-    assert_session(&rt, &folder, IMAGE, session)
+    assert_session_in(&rt, "copy_below", IMAGE, session)
 }
 
 /// A copy that is refused after its destination was made names nothing there.
 #[test]
 fn copy_from_an_open_layout(rt: HostRuntime) -> Result<(), Fail> {
-    let folder = folder(&rt, "copy_from_open")?;
     let session = r"
 $ rm @/L/<E file>
 $ ocicp copy --dry-run @/L v1 @/N w
@@ -182,13 +172,12 @@ $ ocicp tags @/N
 $ ocicp verify @/N
 held 0
 ";
-    assert_session(&rt, &folder, IMAGE, session)
+    assert_session_in(&rt, "copy_from_open", IMAGE, session)
 }
 
 /// A content whose file does not match it is not copied.
 #[test]
 fn copy_of_a_changed_file(rt: HostRuntime) -> Result<(), Fail> {
-    let folder = folder(&rt, "copy_changed")?;
     let session = r"
 $ write @/L/<E file> []
 $ ocicp copy @/L v1 @/N w
@@ -196,13 +185,12 @@ $ ocicp copy @/L v1 @/N w
 ? 1
 $ ocicp tags @/N
 ";
-    assert_session(&rt, &folder, IMAGE, session)
+    assert_session_in(&rt, "copy_changed", IMAGE, session)
 }
 
 /// With its referrers an image brings its signature, the index that lists it, and, further up, the index of that.
 #[test]
 fn copy_with_referrers(rt: HostRuntime) -> Result<(), Fail> {
-    let folder = folder(&rt, "copy_with_referrers")?;
     let session = r"
 $ ocicp copy --depth 1 @/R t @/M
 copied <M2>
@@ -239,5 +227,5 @@ planned 1 pushed 1 skipped 4
 $ ocicp verify @/N
 held 6
 ";
-    assert_session(&rt, &folder, REFERRERS, session)
+    assert_session_in(&rt, "copy_with_referrers", REFERRERS, session)
 }

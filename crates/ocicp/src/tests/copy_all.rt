@@ -1,13 +1,12 @@
 //! Copies of every tag of a layout.
 
 use crate::tests::layouts::{BOTH_ALGORITHMS, IMAGE, REFERRERS};
-use crate::tests::sessions::{assert_session, folder};
+use crate::tests::sessions::assert_session_in;
 use std::test::Fail;
 
 /// Each tag is copied and printed, in byte order of the tags; the report is that of one copy.
 #[test]
 fn copy_all(rt: HostRuntime) -> Result<(), Fail> {
-    let folder = folder(&rt, "copy_all")?;
     let session = r"
 $ ocicp copy --all @/B @/N
 copied <M2>
@@ -25,13 +24,12 @@ planned 0 pushed 0 skipped 2
 ! skipped <M2>
 ! skipped <M5>
 ";
-    assert_session(&rt, &folder, BOTH_ALGORITHMS, session)
+    assert_session_in(&rt, "copy_all", BOTH_ALGORITHMS, session)
 }
 
 /// Two tags of one image are copied once, and both are set. What refers to it comes only with `--referrers`.
 #[test]
 fn copy_all_with_referrers(rt: HostRuntime) -> Result<(), Fail> {
-    let folder = folder(&rt, "copy_all_referrers")?;
     let session = r"
 $ ocicp copy --all --depth 1 @/R @/M
 copied <M2>
@@ -56,13 +54,12 @@ t <M2>
 $ ocicp verify @/N
 held 6
 ";
-    assert_session(&rt, &folder, REFERRERS, session)
+    assert_session_in(&rt, "copy_all_referrers", REFERRERS, session)
 }
 
 /// A tag that the destination has is moved, and its other tags stay.
 #[test]
 fn copy_all_moves_tags(rt: HostRuntime) -> Result<(), Fail> {
-    let folder = folder(&rt, "copy_all_moves")?;
     let session = r"
 $ ocicp copy @/L <E digest> @/N v1
 copied <E>
@@ -77,13 +74,12 @@ $ ocicp tags @/N
 v1 <M0>
 w <E>
 ";
-    assert_session(&rt, &folder, IMAGE, session)
+    assert_session_in(&rt, "copy_all_moves", IMAGE, session)
 }
 
 /// A layout without tags copies nothing, and the destination is made all the same.
 #[test]
 fn copy_all_of_no_tags(rt: HostRuntime) -> Result<(), Fail> {
-    let folder = folder(&rt, "copy_all_none")?;
     let files = r#"
 $ write @/L/oci-layout {"imageLayoutVersion":"1.0.0"}
 "#;
@@ -96,13 +92,12 @@ $ ocicp copy --all @/M @/N
 ! ocicp: 70 NoLayoutFile
 ? 1
 "#;
-    assert_session(&rt, &folder, files, session)
+    assert_session_in(&rt, "copy_all_none", files, session)
 }
 
 /// Where one tag cannot be copied, none is set.
 #[test]
 fn refused_copy_of_all(rt: HostRuntime) -> Result<(), Fail> {
-    let folder = folder(&rt, "copy_all_refused")?;
     let session = r"
 $ write @/B/<FOO512 file> fox
 $ ocicp copy --all @/B @/N
@@ -118,13 +113,12 @@ $ ocicp copy --all --dry-run @/B @/N
 ? 1
 $ ocicp tags @/N
 ";
-    assert_session(&rt, &folder, BOTH_ALGORITHMS, session)
+    assert_session_in(&rt, "copy_all_refused", BOTH_ALGORITHMS, session)
 }
 
 /// `--dry-run` changes nothing. A destination that has lost a blob is refused, and gets it back by `--descend`.
 #[test]
 fn copy_all_below_what_is_held(rt: HostRuntime) -> Result<(), Fail> {
-    let folder = folder(&rt, "copy_all_below")?;
     let session = r"
 $ ocicp copy --all --dry-run @/L @/N
 <E>
@@ -148,5 +142,5 @@ planned 1 pushed 1 skipped 1
 $ ocicp verify @/N
 held 2
 ";
-    assert_session(&rt, &folder, IMAGE, session)
+    assert_session_in(&rt, "copy_all_below", IMAGE, session)
 }

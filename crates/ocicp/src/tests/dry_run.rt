@@ -1,11 +1,10 @@
 use crate::tests::layouts::{IMAGE, REFERRERS};
-use crate::tests::sessions::{assert_session, folder};
+use crate::tests::sessions::assert_session_in;
 use std::test::Fail;
 
 /// What is planned is printed, and nothing is made; where all is there, nothing is planned.
 #[test]
 fn dry_run(rt: HostRuntime) -> Result<(), Fail> {
-    let folder = folder(&rt, "dry_run")?;
     let session = r"
 $ ocicp copy --dry-run @/L v1 @/N w
 <E>
@@ -24,13 +23,12 @@ $ ocicp copy --dry-run @/L nope @/N
 ! ocicp: 36 UnknownReference
 ? 1
 ";
-    assert_session(&rt, &folder, IMAGE, session)
+    assert_session_in(&rt, "dry_run", IMAGE, session)
 }
 
 /// The reference is looked up before the destination is opened, as by the copy itself.
 #[test]
 fn dry_run_of_a_bad_reference_to_a_broken_layout(rt: HostRuntime) -> Result<(), Fail> {
-    let folder = folder(&rt, "dry_run_order")?;
     let session = r"
 $ write @/K/oci-layout {}
 $ ocicp copy @/L nope @/K
@@ -46,13 +44,12 @@ $ ocicp copy --dry-run @/L v1 @/K
 ! ocicp: 71 BadLayoutFile
 ? 1
 ";
-    assert_session(&rt, &folder, IMAGE, session)
+    assert_session_in(&rt, "dry_run_order", IMAGE, session)
 }
 
 /// What the destination holds is not planned, and the root comes after what it lists.
 #[test]
 fn dry_run_of_what_is_partly_there(rt: HostRuntime) -> Result<(), Fail> {
-    let folder = folder(&rt, "dry_run_partly")?;
     let session = r"
 $ ocicp copy @/R t @/N
 copied <M2>
@@ -62,5 +59,5 @@ $ ocicp copy --dry-run @/R <I4 digest> @/N
 <I4>
 planned 2 bytes 369 skipped 0
 ";
-    assert_session(&rt, &folder, REFERRERS, session)
+    assert_session_in(&rt, "dry_run_partly", REFERRERS, session)
 }

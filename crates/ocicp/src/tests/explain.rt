@@ -1,6 +1,7 @@
 //! The command `explain`.
 
-use crate::tests::sessions::transcript;
+use crate::tests::rows::{Wanted, assert_rows};
+use crate::tests::sessions::assert_runs;
 use std::test::Fail;
 
 /// The numbers of all refusals, and their names.
@@ -17,44 +18,24 @@ const NUMBERS: &str = "\
 /// Each number has its name, what it means, and what to do, each on a line.
 #[test]
 fn each_number_is_explained(rt: HostRuntime) -> Result<(), Fail> {
-    for refusal in NUMBERS.split(", ") {
-        let (number, _name) = refusal.split_once(' ').unwrap_or((refusal, ""));
-        let words = format!(in rt.alloc(); "explain {number}")?;
-        let told = transcript(&rt, &words)?;
-        let lines: Vec<&str> = told.lines().collect(rt.alloc())?;
-        assert_eq!(&rt; lines.len(), 3, "{told}");
-        assert_eq!(&rt; lines[0], refusal, "{told}");
-        assert!(&rt;
-            lines[1].ends_with('.') && lines[2].ends_with('.'),
-            "{told}"
-        );
-    }
-    Ok(())
+    assert_rows(&rt, NUMBERS, ", ", Wanted::Explanation)
 }
 
 /// A number that no refusal has makes the command line invalid.
 #[test]
 fn unknown_numbers(rt: HostRuntime) -> Result<(), Fail> {
-    for number in "0 5 9 16 19 24 29 39 49 64 69 79 89 95 100 -1 080 eighty 80x".split(' ') {
-        let words = format!(in rt.alloc(); "explain {number}")?;
-        let told = transcript(&rt, &words)?;
-        assert!(&rt;
-            told.starts_with("! error: ") && told.ends_with("\n? 2\n"),
-            "{told}"
-        );
-    }
-    Ok(())
+    let numbers = "0 5 9 16 19 24 29 39 49 64 69 79 89 95 100 -1 080 eighty 80x";
+    assert_rows(&rt, numbers, " ", Wanted::NoNumber)
 }
 
 /// One of them, whole.
 #[test]
 fn explanation_of_an_open_destination(rt: HostRuntime) -> Result<(), Fail> {
-    let told = transcript(&rt, "explain 80")?;
-    let wanted = "\
+    let session = "\
+$ ocicp explain 80
 80 DestinationOpen
 The destination is damaged: the manifest of the first KEY lists the blob of the second, which is missing there. Nothing was copied.
 Copy the image that needs the missing blob with `ocicp copy --descend`, from a layout that has that blob.
 ";
-    assert_eq!(&rt; told.as_str(), wanted);
-    Ok(())
+    assert_runs(&rt, "", session)
 }

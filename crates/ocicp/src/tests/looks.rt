@@ -1,12 +1,11 @@
 //! The commands that only look.
 
 use crate::tests::layouts::{IMAGE, REFERRERS};
-use crate::tests::sessions::{assert_session, folder};
+use crate::tests::sessions::assert_session_in;
 use std::test::Fail;
 
 #[test]
 fn tags_and_references(rt: HostRuntime) -> Result<(), Fail> {
-    let folder = folder(&rt, "tags")?;
     let session = r"
 $ ocicp tags @/L
 v1 <M0>
@@ -21,13 +20,12 @@ $ ocicp resolve @/L ''
 ! ocicp: 35 EmptyReference
 ? 1
 ";
-    assert_session(&rt, &folder, IMAGE, session)
+    assert_session_in(&rt, "tags", IMAGE, session)
 }
 
 /// What lists an image: an index and a referrer, in key order. Names are in byte order, and printed as they are.
 #[test]
 fn predecessors_of_an_image(rt: HostRuntime) -> Result<(), Fail> {
-    let folder = folder(&rt, "predecessors")?;
     let session = r"
 $ ocicp tags @/R
 a b <M2>
@@ -42,5 +40,5 @@ $ ocicp predecessors @/R nope
 $ ocicp verify @/R
 held 6
 ";
-    assert_session(&rt, &folder, REFERRERS, session)
+    assert_session_in(&rt, "predecessors", REFERRERS, session)
 }

@@ -1,9 +1,4 @@
-use crate::tests::broken::Step;
-use crate::tests::contents::filled;
-use crate::tests::outputs::assert_broken;
-use crate::tests::sessions::{assert_runs, assert_session, folder};
-use std::fs;
-use std::io::ErrorKind;
+use crate::tests::sessions::assert_session_in;
 use std::test::Fail;
 
 /// The file of the runs.
@@ -21,7 +16,6 @@ $ write @/foo <FOO bytes>
 
 #[test]
 fn mem_command(rt: HostRuntime) -> Result<(), Fail> {
-    let folder = folder(&rt, "mem_command")?;
     let session = r"
 $ ocicp mem text/plain=@/abc.txt
 sha256:ba7816bf8f01cfea414140de5dae2223b00361a396177a9cb410ff61f20015ad 3 text/plain
@@ -36,24 +30,21 @@ $ ocicp mem text/plain=@/abc.txt text/plain=@/abc.txt
 ! ocicp: 30 AlreadyExists
 ? 1
 ";
-    assert_session(&rt, &folder, ABC, session)
+    assert_session_in(&rt, "mem_command", ABC, session)
 }
 
 /// The first run of the row, where the first write to the output fails.
 #[test]
 fn mem_command_without_an_output(rt: HostRuntime) -> Result<(), Fail> {
-    let folder = folder(&rt, "mem_command_without_an_output")?;
-    assert_runs(&rt, &folder, ABC)?;
-    let line = filled(rt.alloc(), &folder, "mem text/plain=@/abc.txt")?;
-    let wanted = "! ocicp: 94 Output\n? 1\n";
-    assert_broken(&rt, &line, Step::Write, ErrorKind::Other, wanted)?;
-    Ok(fs::remove_dir_all(&rt, folder.as_str())?)
+    let session = r"
+$ broken mem text/plain=@/abc.txt
+";
+    assert_session_in(&rt, "mem_command_without_an_output", ABC, session)
 }
 
 /// An item is cut at its first `=`; what follows is the path.
 #[test]
 fn item_with_two_equal_signs(rt: HostRuntime) -> Result<(), Fail> {
-    let folder = folder(&rt, "two_equal_signs")?;
     let session = r"
 $ write @/a=b.txt abc
 $ ocicp mem text/plain=@/a=b.txt
@@ -63,25 +54,23 @@ $ ocicp mem text/plain=@/b=a.txt
 ! ocicp: 93 File @/b=a.txt
 ? 1
 ";
-    assert_session(&rt, &folder, ABC, session)
+    assert_session_in(&rt, "two_equal_signs", ABC, session)
 }
 
 /// What is copied is what the last item reaches, and no other item.
 #[test]
 fn item_that_is_not_reached(rt: HostRuntime) -> Result<(), Fail> {
-    let folder = folder(&rt, "not_reached")?;
     let session = r"
 $ ocicp mem application/vnd.oci.image.layer.v1.tar=@/foo application/vnd.oci.empty.v1+json=@/e.json application/vnd.oci.image.manifest.v1+json=@/m0.json
 <E>
 <M0>
 planned 2 pushed 2 skipped 0
 ";
-    assert_session(&rt, &folder, FILES, session)
+    assert_session_in(&rt, "not_reached", FILES, session)
 }
 
 #[test]
 fn first_run(rt: HostRuntime) -> Result<(), Fail> {
-    let folder = folder(&rt, "first_run")?;
     let session = r"
 $ ocicp mem application/vnd.oci.empty.v1+json=@/e.json application/vnd.oci.image.manifest.v1+json=@/m0.json
 <E>
@@ -91,13 +80,12 @@ $ ocicp mem application/vnd.oci.image.manifest.v1+json=@/m0.json
 ! ocicp: 81 Plan 53 NotFound <E>
 ? 1
 ";
-    assert_session(&rt, &folder, FILES, session)
+    assert_session_in(&rt, "first_run", FILES, session)
 }
 
 /// What arrives is the same by workers.
 #[test]
 fn first_run_by_workers(rt: HostRuntime) -> Result<(), Fail> {
-    let folder = folder(&rt, "first_run_by_workers")?;
     let session = r"
 $ ocicp mem --workers 4 application/vnd.oci.empty.v1+json=@/e.json application/vnd.oci.image.manifest.v1+json=@/m0.json
 <E>
@@ -107,19 +95,18 @@ $ ocicp mem --workers 0 application/vnd.oci.image.manifest.v1+json=@/m0.json
 ! ocicp: 81 Plan 53 NotFound <E>
 ? 1
 ";
-    assert_session(&rt, &folder, FILES, session)
+    assert_session_in(&rt, "first_run_by_workers", FILES, session)
 }
 
 /// What arrived is listed in key order, which is not the order in which it came. The only layer of a Docker image stays where it
 /// is, which is nowhere.
 #[test]
 fn foreign_layer(rt: HostRuntime) -> Result<(), Fail> {
-    let folder = folder(&rt, "foreign_layer")?;
     let session = r"
 $ ocicp mem application/vnd.oci.empty.v1+json=@/e.json application/vnd.docker.distribution.manifest.v2+json=@/dm.json
 <DM>
 <E>
 planned 2 pushed 2 skipped 0
 ";
-    assert_session(&rt, &folder, FILES, session)
+    assert_session_in(&rt, "foreign_layer", FILES, session)
 }

@@ -1,12 +1,11 @@
 //! Folders that are no layout, or one that somebody made in bad faith.
 
 use crate::tests::layouts::IMAGE;
-use crate::tests::sessions::{assert_session, folder};
+use crate::tests::sessions::assert_session_in;
 use std::test::Fail;
 
 #[test]
 fn no_layouts(rt: HostRuntime) -> Result<(), Fail> {
-    let folder = folder(&rt, "no_layouts")?;
     let files = r#"
 $ mkdir @/empty
 $ write @/bad/oci-layout {}
@@ -31,13 +30,12 @@ $ ocicp verify @/list
 ! ocicp: 73 BadIndex 11 NotObject
 ? 1
 ";
-    assert_session(&rt, &folder, files, session)
+    assert_session_in(&rt, "no_layouts", files, session)
 }
 
 /// A manifest that does not read refuses the whole layout, as a source and as a destination, which then stays as it is.
 #[test]
 fn bad_manifest(rt: HostRuntime) -> Result<(), Fail> {
-    let folder = folder(&rt, "bad_manifest")?;
     let session = r#"
 $ write @/B/oci-layout {"imageLayoutVersion":"1.0.0"}
 $ write @/B/index.json {"manifests":[{"mediaType":"application/vnd.oci.image.manifest.v1+json","digest":"<E digest>","size":2}]}
@@ -59,13 +57,12 @@ $ ocicp copy --dry-run @/L v1 @/B
 $ cat @/B/index.json
 {"manifests":[{"mediaType":"application/vnd.oci.image.manifest.v1+json","digest":"<E digest>","size":2}]}
 "#;
-    assert_session(&rt, &folder, IMAGE, session)
+    assert_session_in(&rt, "bad_manifest", IMAGE, session)
 }
 
 /// A digest of another algorithm, one that is too short, and one that would leave the folder.
 #[test]
 fn bad_digests(rt: HostRuntime) -> Result<(), Fail> {
-    let folder = folder(&rt, "bad_digests")?;
     let files = r#"
 $ write @/unknown/oci-layout {"imageLayoutVersion":"1.0.0"}
 $ write @/unknown/index.json {"manifests":[{"mediaType":"text/plain","digest":"sha384:38b060a751ac96384cd9327eb1b1e36a21fdb71114be07434c0cc7bf63f6e1da274edebfe76f65fbd51ad2f14898b95b","size":0}]}
@@ -85,5 +82,5 @@ $ ocicp verify @/outside
 ! ocicp: 73 BadIndex 14 BadDescriptor manifests 0
 ? 1
 ";
-    assert_session(&rt, &folder, files, session)
+    assert_session_in(&rt, "bad_digests", files, session)
 }

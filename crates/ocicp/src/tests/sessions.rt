@@ -7,9 +7,14 @@
 //!
 //! | Line | What it does |
 //! |---|---|
+//! | `$ unordered WORDS` | runs the program, whose lines may come in any order |
+//! | `$ terminal WORDS` | runs the program on a terminal, and prints what it writes to the error output alone, and a line feed |
 //! | `$ locked PART WORDS` | runs the program, which may not open files that have this part in their path |
 //! | `$ starved PART WORDS` | runs the program, which runs out of memory as it opens such a file |
+//! | `$ beside PATH WORDS` | runs the program while another process has a lock on a folder, until an error line is written |
+//! | `$ broken WORDS` | runs the program with outputs that fail, in each way that `outputs` has, and prints nothing |
 //! | `$ write PATH TEXT` | writes a file, and makes the folders above it |
+//! | `$ large PATH TEXT` | writes a file of 1 MiB, each byte the letter `a`, and this text |
 //! | `$ mkdir PATH` | makes a folder |
 //! | `$ link PATH TARGET` | makes a symbolic link |
 //! | `$ rm PATH` | removes a file |
@@ -18,9 +23,11 @@
 
 use crate::tests::broken::Unreadable;
 use crate::tests::contents::filled;
-use oci_commands::{Lockable, run_words};
-use std::alloc::Global;
-use std::fmt::Write;
+use crate::tests::files::{change, shown};
+use crate::tests::outputs::assert_breaks;
+use crate::tests::runs::{drawn, transcript};
+use crate::tests::side_by_side::beside;
+use oci_commands::Lockable;
 use std::io::ErrorKind;
 use std::process::Abort;
 use std::rt::Files;
@@ -30,15 +37,33 @@ use std::thread::Threads;
 use std::time::Clock;
 use std::{env, fs, process};
 
-/// The path of a folder for one test.
-pub(crate) fn folder(rt: &HostRuntime, name: &str) -> Result<String, Fail> {
-    let root = env::temp_dir(rt)?;
-    let id = process::id(rt.process());
-    Ok(format!(in rt.alloc(); "{}/ocicp-{name}-{id}", root.display())?)
+/// Goes through two sessions in a folder of this name, which then goes.
+pub(crate) fn assert_session_in<
+    R: Files + AllocGlobal + Clock + Threads + Wait + Sync + Abort + Placed,
+>(rt: &R, name: &str, before: &str, session: &str) -> Result<(), Fail>
+where
+    R::File: Lockable + Send,
+    R::Dir: Send,
+{
+    let folder = rt.folder(name)?;
+    assert_session(rt, folder.as_str(), before, session)
 }
 
-/// Goes through two sessions in a folder, which then goes.
-pub(crate) fn assert_session<R: Files + AllocGlobal + Clock + Threads + Wait + Sync + Abort>(
+/// A runtime that has a folder for each test.
+pub(crate) trait Placed {
+    /// The path of the folder of this name.
+    fn folder(&self, name: &str) -> Result<String, Fail>;
+}
+
+impl Placed for HostRuntime {
+    fn folder(&self, name: &str) -> Result<String, Fail> {
+        let root = env::temp_dir(self)?;
+        let id = process::id(self.process());
+        Ok(format!(in self.alloc(); "{}/ocicp-{name}-{id}", root.display())?)
+    }
+}
+
+fn assert_session<R: Files + AllocGlobal + Clock + Threads + Wait + Sync + Abort>(
     rt: &R,
     folder: &str,
     before: &str,
@@ -51,8 +76,7 @@ where
     fs::create_dir_all(rt, folder)?;
     assert_runs(rt, folder, before)?;
     assert_runs(rt, folder, session)?;
-    fs::remove_dir_all(rt, folder)?;
-    Ok(())
+    Ok(fs::remove_dir_all(rt, folder)?)
 }
 
 /// Goes through a session.
@@ -81,33 +105,47 @@ where
     R::File: Lockable + Send,
     R::Dir: Send,
 {
-    let (line, wanted) = run.split_once('\n').unwrap_or((run, ""));
-    let told = telling(rt, line)?;
-    assert_eq!(rt; told.as_str(), wanted, "{line}");
+    let (line, wanted) = parts(run, '\n');
+    let (command, rest) = parts(line, ' ');
+    let told = telling(rt, command, rest)?;
+    if command == "unordered" {
+        assert!(rt; have_same_lines(told.as_str(), wanted), "{line}: {told}");
+    } else {
+        assert_eq!(rt; told.as_str(), wanted, "{line}");
+    }
     Ok(())
 }
 
+/// What stands before the first of these characters, and what follows it; all of a text that has none.
+pub(crate) fn parts(text: &str, separator: char) -> (&str, &str) {
+    match text.split_once(separator) {
+        Some(parts) => parts,
+        None => (text, ""),
+    }
+}
+
 /// What a line prints.
-fn telling<R: Files + AllocGlobal + Clock + Threads + Wait + Sync>(
+fn telling<R: Files + AllocGlobal + Clock + Threads + Wait + Sync + Abort>(
     rt: &R,
-    line: &str,
+    command: &str,
+    rest: &str,
 ) -> Result<String, Fail>
 where
     R::File: Lockable + Send,
     R::Dir: Send,
 {
-    let (command, rest) = halves(line);
     match command {
-        "ocicp" => transcript(rt, rest),
+        "ocicp" | "unordered" => transcript(rt, rest),
+        "terminal" => drawn(rt, rest),
         "locked" => hindered(rt, rest, ErrorKind::PermissionDenied),
         "starved" => hindered(rt, rest, ErrorKind::OutOfMemory),
-        _ => of_files(rt, command, rest),
+        "beside" => beside(rt, rest),
+        "cat" | "exists" => shown(rt, command, rest),
+        _ => {
+            silent(rt, command, rest)?;
+            Ok(String::new(rt.alloc()))
+        }
     }
-}
-
-/// The first word of a line, and the others.
-fn halves(line: &str) -> (&str, &str) {
-    line.split_once(' ').unwrap_or((line, ""))
 }
 
 /// Runs the program where some files cannot be opened.
@@ -120,100 +158,43 @@ where
     R::File: Lockable + Send,
     R::Dir: Send,
 {
-    let (part, words) = halves(line);
+    let (part, words) = parts(line, ' ');
     transcript(&Unreadable { rt, part, kind }, words)
 }
 
-/// All that a run of the program prints, and its status.
-pub(crate) fn transcript<R: Files + AllocGlobal + Clock + Threads + Wait + Sync>(
+/// Goes through a line that prints nothing.
+fn silent<R: Files + AllocGlobal + Clock + Threads + Wait + Sync + Abort>(
     rt: &R,
-    words: &str,
-) -> Result<String, Fail>
+    command: &str,
+    rest: &str,
+) -> Result<(), Fail>
 where
     R::File: Lockable + Send,
     R::Dir: Send,
 {
-    let words = words_of(rt.alloc(), words)?;
-    let mut out = Vec::new(rt.alloc());
-    let mut err = Vec::new(rt.alloc());
-    let status = run_words(rt, &words, false, &mut out, &mut err);
-    told(rt.alloc(), &out, &err, status)
-}
-
-/// The words of a line.
-pub(crate) fn words_of(alloc: Global, line: &str) -> Result<Vec<String>, Fail> {
-    let mut words = Vec::new(alloc);
-    for word in line.split(' ').filter(|word| !word.is_empty()) {
-        words.push(word_of(alloc, word)?)?;
-    }
-    Ok(words)
-}
-
-fn word_of(alloc: Global, word: &str) -> Result<String, Fail> {
-    let word = if word == "''" { "" } else { word };
-    Ok(String::from_str(alloc, word)?)
-}
-
-/// What a run wrote and answered.
-pub(crate) fn told(alloc: Global, out: &[u8], err: &[u8], status: u8) -> Result<String, Fail> {
-    let mut told = String::from_str(alloc, str::from_utf8(out)?)?;
-    for line in str::from_utf8(err)?.split_inclusive('\n') {
-        write!(told, "! {line}")?;
-    }
-    if status != 0 {
-        writeln!(told, "? {status}")?;
-    }
-    Ok(told)
-}
-
-/// What a command on files prints.
-fn of_files<R: Files + AllocGlobal>(rt: &R, command: &str, rest: &str) -> Result<String, Fail> {
     match command {
-        "cat" => text_of(rt, rest),
-        "exists" => {
-            let there = if fs::exists(rt, rest)? {
-                "yes\n"
-            } else {
-                "no\n"
-            };
-            Ok(String::from_str(rt.alloc(), there)?)
-        }
-        _ => {
-            change(rt, command, rest)?;
-            Ok(String::new(rt.alloc()))
+        "broken" => assert_breaks(rt, rest),
+        _ => change(rt, command, rest),
+    }
+}
+
+/// The texts have the same lines, in some order.
+fn have_same_lines(told: &str, wanted: &str) -> bool {
+    for line in wanted.lines() {
+        if times(told, line) != times(wanted, line) {
+            return false;
         }
     }
+    told.lines().count() == wanted.lines().count()
 }
 
-fn text_of<R: Files + AllocGlobal>(rt: &R, path: &str) -> Result<String, Fail> {
-    let mut text = fs::read_to_string(rt, path)?;
-    text.push_str("\n")?;
-    Ok(text)
-}
-
-/// Changes the files.
-fn change<R: Files + AllocGlobal>(rt: &R, command: &str, rest: &str) -> Result<(), Fail> {
-    match command {
-        "write" => write_file(rt, rest),
-        "mkdir" => Ok(fs::create_dir_all(rt, rest)?),
-        "link" => link(rt, rest),
-        "rm" => Ok(fs::remove_file(rt, rest)?),
-        _ => Err(Fail::from("no command has this name")),
+/// How many times a text has a line.
+fn times(text: &str, line: &str) -> usize {
+    let mut times = 0usize;
+    for other in text.lines() {
+        if other == line {
+            times = times.saturating_add(1);
+        }
     }
-}
-
-/// Writes a file, and makes the folders that it needs.
-fn write_file<R: Files + AllocGlobal>(rt: &R, line: &str) -> Result<(), Fail> {
-    let (path, text) = halves(line);
-    if let Some((above, _)) = path.rsplit_once('/') {
-        fs::create_dir_all(rt, above)?;
-    }
-    fs::write(rt, path, text)?;
-    Ok(())
-}
-
-/// Makes a symbolic link.
-fn link<R: Files>(rt: &R, line: &str) -> Result<(), Fail> {
-    let (path, target) = halves(line);
-    Ok(rt.symlink(target, path)?)
+    times
 }

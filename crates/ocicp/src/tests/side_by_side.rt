@@ -1,21 +1,26 @@
 //! Runs beside another process that writes into the same folder: one that writes waits for it, and one that reads does not.
 
 use crate::tests::layouts::IMAGE;
-use crate::tests::sessions::{assert_runs, folder, told, words_of};
-use oci_commands::run_words;
+use crate::tests::runs::{told, words_of};
+use crate::tests::sessions::{assert_session_in, parts};
+use oci_commands::{Lockable, run_words};
 use std::fs::File;
 use std::io::Write;
+use std::rt::Files;
+use std::sync::Wait;
 use std::test::Fail;
+use std::thread::Threads;
+use std::time::Clock;
 use std::{fs, io};
 
 /// An error output that lets a lock go as the first line comes, and keeps what is written.
 #[derive(Drop)]
-struct LettingGo {
-    lock: Option<File>,
+struct LettingGo<L: Drop> {
+    lock: Option<L>,
     text: Vec<u8>,
 }
 
-impl Write for LettingGo {
+impl<L: Drop> Write for LettingGo<L> {
     fn write(&mut self, bytes: &[u8]) -> io::Result<usize> {
         self.lock = None;
         self.text.write(bytes)
@@ -26,61 +31,81 @@ impl Write for LettingGo {
     }
 }
 
-/// A lock on the folder `N` of a test's folder, as a process that copies into it has one.
-fn locked(rt: &HostRuntime, folder: &str) -> Result<File, Fail> {
-    let path = format!(in rt.alloc(); "{folder}/N")?;
-    fs::create_dir_all(rt, path.as_str())?;
-    let lock = File::open(rt, path.as_str())?;
-    lock.lock()?;
+/// All that a run prints while another process has a lock on a folder, as one that copies into it has.
+pub(crate) fn beside<R: Files + AllocGlobal + Clock + Threads + Wait + Sync>(
+    rt: &R,
+    line: &str,
+) -> Result<String, Fail>
+where
+    R::File: Lockable + Send,
+    R::Dir: Send,
+{
+    let (folder, words) = parts(line, ' ');
+    let lock = Some(locked(rt, folder)?);
+    let mut err = LettingGo {
+        lock,
+        text: Vec::new(rt.alloc()),
+    };
+    transcript_to(rt, words, &mut err)
+}
+
+/// All that a run with this error output prints, and its status.
+fn transcript_to<R: Files + AllocGlobal + Clock + Threads + Wait + Sync>(
+    rt: &R,
+    words: &str,
+    err: &mut LettingGo<R::File>,
+) -> Result<String, Fail>
+where
+    R::File: Lockable + Send,
+    R::Dir: Send,
+{
+    let words = words_of(rt.alloc(), words)?;
+    let mut out = Vec::new(rt.alloc());
+    let status = run_words(rt, &words, false, &mut out, err);
+    told(rt.alloc(), &out, &err.text, status)
+}
+
+/// A lock on a folder.
+fn locked<R: Files>(rt: &R, folder: &str) -> Result<R::File, Fail>
+where
+    R::File: Lockable,
+{
+    fs::create_dir_all(rt, folder)?;
+    let lock = File::open(rt, folder)?;
+    lock.take()?;
     Ok(lock)
 }
 
 /// A copy into a folder that another process has locked says so, and goes on once it may.
 #[test]
 fn a_copy_waits(rt: HostRuntime) -> Result<(), Fail> {
-    let folder = folder(&rt, "a_copy_waits")?;
-    assert_runs(&rt, &folder, IMAGE)?;
-    let lock = Some(locked(&rt, &folder)?);
-    let mut err = LettingGo {
-        lock,
-        text: Vec::new(rt.alloc()),
-    };
-    let words = format!(in rt.alloc(); "copy {folder}/L v1 {folder}/N")?;
-    let words = words_of(rt.alloc(), &words)?;
-    let mut out = Vec::new(rt.alloc());
-    let status = run_words(&rt, &words, false, &mut out, &mut err);
-    let told = told(rt.alloc(), &[], &err.text, status)?;
-    let wanted = format!(in rt.alloc();
-        "! ocicp: waiting for another process that writes into {folder}/N\n"
-    )?;
-    assert_eq!(&rt; told.as_str(), wanted.as_str());
-    assert_runs(&rt, &folder, "$ ocicp tags @/N\nv1 <M0>\n")?;
-    Ok(fs::remove_dir_all(&rt, folder.as_str())?)
+    let session = r"
+$ beside @/N copy @/L v1 @/N
+copied <M0>
+planned 2 pushed 2 skipped 0
+! ocicp: waiting for another process that writes into @/N
+$ ocicp tags @/N
+v1 <M0>
+";
+    assert_session_in(&rt, "a_copy_waits", IMAGE, session)
 }
 
 /// What only reads a folder that another process has does not wait, nor does a copy from it.
 #[test]
 fn readers_do_not_wait(rt: HostRuntime) -> Result<(), Fail> {
-    let folder = folder(&rt, "readers_do_not_wait")?;
-    assert_runs(&rt, &folder, IMAGE)?;
-    assert_runs(
-        &rt,
-        &folder,
-        "$ ocicp copy @/L v1 @/N\ncopied <M0>\nplanned 2 pushed 2 skipped 0\n",
-    )?;
-    let lock = locked(&rt, &folder)?;
     let session = r"
-$ ocicp tags @/N
+$ ocicp copy @/L v1 @/N
+copied <M0>
+planned 2 pushed 2 skipped 0
+$ beside @/N tags @/N
 v1 <M0>
-$ ocicp verify @/N
+$ beside @/N verify @/N
 held 2
-$ ocicp copy --dry-run @/L v1 @/N
+$ beside @/N copy --dry-run @/L v1 @/N
 planned 0 bytes 0 skipped 1
-$ ocicp copy @/N v1 @/M
+$ beside @/N copy @/N v1 @/M
 copied <M0>
 planned 2 pushed 2 skipped 0
 ";
-    assert_runs(&rt, &folder, session)?;
-    drop(lock);
-    Ok(fs::remove_dir_all(&rt, folder.as_str())?)
+    assert_session_in(&rt, "readers_do_not_wait", IMAGE, session)
 }

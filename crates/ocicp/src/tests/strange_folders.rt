@@ -1,13 +1,12 @@
 //! Folders that are named twice, are not there, are files, or may not be read: each is reported, and nothing is lost.
 
 use crate::tests::layouts::IMAGE;
-use crate::tests::sessions::{assert_session, folder};
+use crate::tests::sessions::assert_session_in;
 use std::test::Fail;
 
 /// A layout is copied into itself, under one name and under two.
 #[test]
 fn one_folder_twice(rt: HostRuntime) -> Result<(), Fail> {
-    let folder = folder(&rt, "one_folder_twice")?;
     let session = r"
 $ mkdir @/other
 $ ocicp copy @/L v1 @/L v2
@@ -23,13 +22,12 @@ v3 <M0>
 $ ocicp verify @/L
 held 2
 ";
-    assert_session(&rt, &folder, IMAGE, session)
+    assert_session_in(&rt, "one_folder_twice", IMAGE, session)
 }
 
 /// The folders above a destination are made; those above a source are not.
 #[test]
 fn folders_that_are_not_there(rt: HostRuntime) -> Result<(), Fail> {
-    let folder = folder(&rt, "not_there")?;
     let session = r"
 $ ocicp copy @/a/b/L v1 @/N
 ! ocicp: 70 NoLayoutFile
@@ -44,13 +42,12 @@ no
 $ exists @/a/b/L
 no
 ";
-    assert_session(&rt, &folder, IMAGE, session)
+    assert_session_in(&rt, "not_there", IMAGE, session)
 }
 
 /// A file in the place of a folder, and one above it, stay as they are.
 #[test]
 fn files_in_the_place_of_folders(rt: HostRuntime) -> Result<(), Fail> {
-    let folder = folder(&rt, "files_as_folders")?;
     let session = r"
 $ write @/file kept
 $ ocicp tags @/file
@@ -68,14 +65,13 @@ $ ocicp copy @/L v1 @/file/N
 $ cat @/file
 kept
 ";
-    assert_session(&rt, &folder, IMAGE, session)
+    assert_session_in(&rt, "files_as_folders", IMAGE, session)
 }
 
 /// A destination whose blobs cannot be put names nothing that was not copied. A folder that has the name of a file beside the index
 /// is passed over.
 #[test]
 fn files_in_the_place_of_blobs(rt: HostRuntime) -> Result<(), Fail> {
-    let folder = folder(&rt, "files_as_blobs")?;
     let session = r#"
 $ write @/N/oci-layout {"imageLayoutVersion":"1.0.0"}
 $ write @/N/blobs kept
@@ -94,13 +90,12 @@ planned 2 pushed 2 skipped 0
 $ ocicp tags @/K
 v1 <M0>
 "#;
-    assert_session(&rt, &folder, IMAGE, session)
+    assert_session_in(&rt, "files_as_blobs", IMAGE, session)
 }
 
 /// A link to a file is that file. A device in the place of a file is reported, and not read.
 #[test]
 fn links_in_the_place_of_files(rt: HostRuntime) -> Result<(), Fail> {
-    let folder = folder(&rt, "links_as_files")?;
     let session = r"
 $ ocicp copy @/L v1 @/K
 copied <M0>
@@ -133,5 +128,5 @@ $ ocicp tags @/K
 ! ocicp: 74 Device
 ? 1
 ";
-    assert_session(&rt, &folder, IMAGE, session)
+    assert_session_in(&rt, "links_as_files", IMAGE, session)
 }

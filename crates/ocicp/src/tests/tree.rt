@@ -1,13 +1,12 @@
 //! The command `tree`, which is for people to read.
 
 use crate::tests::layouts::{IMAGE, REFERRERS};
-use crate::tests::sessions::{assert_session, folder};
+use crate::tests::sessions::assert_session_in;
 use std::test::Fail;
 
 /// What an image and an index reach; the tags stand behind a blob, in byte order.
 #[test]
 fn trees(rt: HostRuntime) -> Result<(), Fail> {
-    let folder = folder(&rt, "trees")?;
     let session = r"
 $ ocicp tree @/R t
 <M2 short> 385 B application/vnd.oci.image.manifest.v1+json [a b] [t]
@@ -25,14 +24,13 @@ $ ocicp tree @/R nope
 ! ocicp: 36 UnknownReference
 ? 1
 ";
-    assert_session(&rt, &folder, REFERRERS, session)
+    assert_session_in(&rt, "trees", REFERRERS, session)
 }
 
 /// With `--referrers` the index that lists the image, the index of that, and the signature follow. A blob that has a line is
 /// marked where it comes again.
 #[test]
 fn tree_of_referrers(rt: HostRuntime) -> Result<(), Fail> {
-    let folder = folder(&rt, "tree_referrers")?;
     let session = r"
 $ ocicp tree --referrers @/R t
 <M2 short> 385 B application/vnd.oci.image.manifest.v1+json [a b] [t]
@@ -50,26 +48,24 @@ $ ocicp tree --referrers @/R <S digest>
   <E short> 2 B application/vnd.oci.empty.v1+json (shown above)
 referrers: none
 ";
-    assert_session(&rt, &folder, REFERRERS, session)
+    assert_session_in(&rt, "tree_referrers", REFERRERS, session)
 }
 
 /// A blob that the layout does not have is marked.
 #[test]
 fn tree_with_an_absent_blob(rt: HostRuntime) -> Result<(), Fail> {
-    let folder = folder(&rt, "tree_absent")?;
     let session = r"
 $ rm @/L/<E file>
 $ ocicp tree @/L v1
 <M0 short> 241 B application/vnd.oci.image.manifest.v1+json [v1]
   <E short> 2 B application/vnd.oci.empty.v1+json (absent)
 ";
-    assert_session(&rt, &folder, IMAGE, session)
+    assert_session_in(&rt, "tree_absent", IMAGE, session)
 }
 
 /// Digests that begin alike are shown with as many digits as tell them apart; of other layouts they are not looked at.
 #[test]
 fn tree_of_digests_that_begin_alike(rt: HostRuntime) -> Result<(), Fail> {
-    let folder = folder(&rt, "tree_digits")?;
     let files = r#"
 $ write @/V/oci-layout {"imageLayoutVersion":"1.0.0"}
 $ write @/V/index.json {"manifests":[<E descriptor>,{"mediaType":"text/plain","digest":"sha256:44136fa355b36700000000000000000000000000000000000000000000000000","size":1}]}
@@ -83,37 +79,47 @@ $ rm @/V/blobs/sha256/44136fa355b36700000000000000000000000000000000000000000000
 $ ocicp tree @/V <E digest>
 sha256:44136fa355b3 2 B application/vnd.oci.empty.v1+json
 ";
-    assert_session(&rt, &folder, files, session)
+    assert_session_in(&rt, "tree_digits", files, session)
 }
 
 /// Sizes are rounded to one decimal, in units that go up by 1000.
 #[test]
 fn tree_of_large_blobs(rt: HostRuntime) -> Result<(), Fail> {
-    let folder = folder(&rt, "tree_sizes")?;
-    let sizes = [
-        ("999", "999 B"),
-        ("1000", "1.0 KB"),
-        ("1049", "1.0 KB"),
-        ("1050", "1.1 KB"),
-        ("999949", "999.9 KB"),
-        ("999950", "1.0 MB"),
-        ("34000000", "34.0 MB"),
-        ("999949999", "999.9 MB"),
-        ("999950000", "1.0 GB"),
-        ("9223372036854775807", "9223372036.9 GB"),
-    ];
-    for (size, shown) in sizes {
-        let files = format!(in rt.alloc();
-            r#"
-$ write @/V/oci-layout {{"imageLayoutVersion":"1.0.0"}}
-$ write @/V/index.json {{"manifests":[{{"mediaType":"a/b","digest":"<E digest>","size":{size}}}]}}
+    let files = r#"
+$ write @/V/oci-layout {"imageLayoutVersion":"1.0.0"}
 $ write @/V/<E file> <E bytes>
-"#
-        )?;
-        let session = format!(in rt.alloc();
-            "$ ocicp tree @/V <E digest>\n<E short> {shown} a/b\n"
-        )?;
-        assert_session(&rt, &folder, &files, &session)?;
-    }
-    Ok(())
+"#;
+    let session = r#"
+$ write @/V/index.json {"manifests":[{"mediaType":"a/b","digest":"<E digest>","size":999}]}
+$ ocicp tree @/V <E digest>
+<E short> 999 B a/b
+$ write @/V/index.json {"manifests":[{"mediaType":"a/b","digest":"<E digest>","size":1000}]}
+$ ocicp tree @/V <E digest>
+<E short> 1.0 KB a/b
+$ write @/V/index.json {"manifests":[{"mediaType":"a/b","digest":"<E digest>","size":1049}]}
+$ ocicp tree @/V <E digest>
+<E short> 1.0 KB a/b
+$ write @/V/index.json {"manifests":[{"mediaType":"a/b","digest":"<E digest>","size":1050}]}
+$ ocicp tree @/V <E digest>
+<E short> 1.1 KB a/b
+$ write @/V/index.json {"manifests":[{"mediaType":"a/b","digest":"<E digest>","size":999949}]}
+$ ocicp tree @/V <E digest>
+<E short> 999.9 KB a/b
+$ write @/V/index.json {"manifests":[{"mediaType":"a/b","digest":"<E digest>","size":999950}]}
+$ ocicp tree @/V <E digest>
+<E short> 1.0 MB a/b
+$ write @/V/index.json {"manifests":[{"mediaType":"a/b","digest":"<E digest>","size":34000000}]}
+$ ocicp tree @/V <E digest>
+<E short> 34.0 MB a/b
+$ write @/V/index.json {"manifests":[{"mediaType":"a/b","digest":"<E digest>","size":999949999}]}
+$ ocicp tree @/V <E digest>
+<E short> 999.9 MB a/b
+$ write @/V/index.json {"manifests":[{"mediaType":"a/b","digest":"<E digest>","size":999950000}]}
+$ ocicp tree @/V <E digest>
+<E short> 1.0 GB a/b
+$ write @/V/index.json {"manifests":[{"mediaType":"a/b","digest":"<E digest>","size":9223372036854775807}]}
+$ ocicp tree @/V <E digest>
+<E short> 9223372036.9 GB a/b
+"#;
+    assert_session_in(&rt, "tree_sizes", files, session)
 }

@@ -1,11 +1,6 @@
-use crate::tests::sessions::transcript;
-use oci_commands::Lockable;
-use std::process::Abort;
-use std::rt::Files;
-use std::sync::Wait;
+use crate::tests::rows::{Wanted, assert_row, assert_rows};
+use crate::tests::sessions::assert_runs;
 use std::test::Fail;
-use std::thread::Threads;
-use std::time::Clock;
 
 /// Invalid command lines.
 #[test]
@@ -34,35 +29,15 @@ explain 80 81
 resolve L
 predecessors L
 verify
-verify L N";
-    for line in lines.lines() {
-        assert_usage(&rt, line)?;
-    }
-    assert_usage(&rt, "")
-}
-
-/// Status 2, and the usage on the error output alone.
-fn assert_usage<R: Files + AllocGlobal + Clock + Threads + Wait + Sync + Abort>(
-    rt: &R,
-    line: &str,
-) -> Result<(), Fail>
-where
-    R::File: Lockable + Send,
-    R::Dir: Send,
-{
-    let told = transcript(rt, line)?;
-    assert!(rt;
-        told.starts_with("! ") && told.ends_with("\n? 2\n"),
-        "{line}: {told}"
-    );
-    Ok(())
+verify L N
+";
+    // The text ends with a line feed, so that its last row is empty.
+    assert_rows(&rt, lines, "\n", Wanted::Usage)
 }
 
 #[test]
 fn version(rt: HostRuntime) -> Result<(), Fail> {
-    let told = transcript(&rt, "--version")?;
-    assert_eq!(&rt; told.as_str(), "ocicp 0.1.0\n");
-    Ok(())
+    assert_runs(&rt, "", "$ ocicp --version\nocicp 0.1.0\n")
 }
 
 /// What `copy --help` prints, but for the spaces at the ends of lines.
@@ -136,14 +111,7 @@ Examples:
 
 #[test]
 fn help_of_copy(rt: HostRuntime) -> Result<(), Fail> {
-    let told = transcript(&rt, "copy --help")?;
-    let lines: Vec<&str> = told
-        .lines()
-        .map(|line| line.trim_end())
-        .collect(rt.alloc())?;
-    let wanted: Vec<&str> = HELP_OF_COPY.lines().collect(rt.alloc())?;
-    assert!(&rt; lines == wanted, "{told}");
-    Ok(())
+    assert_row(&rt, "copy --help", Wanted::Text(HELP_OF_COPY))
 }
 
 /// `--help` prints on the output, has status 0, and names each command, and of a command each word and an example.
@@ -176,27 +144,5 @@ verify --help:<FOLDER>
 verify --help:  ocicp verify mirror
 explain --help:<NUMBER>
 explain --help:  ocicp explain 53";
-    for line in lines.lines() {
-        assert_help(&rt, line)?;
-    }
-    Ok(())
-}
-
-/// Status 0, and this part in the output alone.
-fn assert_help<R: Files + AllocGlobal + Clock + Threads + Wait + Sync + Abort>(
-    rt: &R,
-    line: &str,
-) -> Result<(), Fail>
-where
-    R::File: Lockable + Send,
-    R::Dir: Send,
-{
-    let (words, part) = line.split_once(':').unwrap_or((line, ""));
-    let told = transcript(rt, words)?;
-    assert!(rt; told.contains(part), "{line}: {told}");
-    assert!(rt;
-        !told.contains("! ") && !told.contains("? "),
-        "{line}: {told}"
-    );
-    Ok(())
+    assert_rows(&rt, lines, "\n", Wanted::Help)
 }

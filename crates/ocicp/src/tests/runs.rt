@@ -1,0 +1,85 @@
+//! Runs of the program, and what they write.
+
+use crate::tests::contents::push_all;
+use oci_commands::{Lockable, run_words};
+use std::alloc::Global;
+use std::fmt::Write;
+use std::rt::Files;
+use std::sync::Wait;
+use std::test::Fail;
+use std::thread::Threads;
+use std::time::Clock;
+
+/// All that a run of the program prints, and its status.
+pub(crate) fn transcript<R: Files + AllocGlobal + Clock + Threads + Wait + Sync>(
+    rt: &R,
+    words: &str,
+) -> Result<String, Fail>
+where
+    R::File: Lockable + Send,
+    R::Dir: Send,
+{
+    let words = words_of(rt.alloc(), words)?;
+    let mut out = Vec::new(rt.alloc());
+    let mut err = Vec::new(rt.alloc());
+    let status = run_words(rt, &words, false, &mut out, &mut err);
+    told(rt.alloc(), &out, &err, status)
+}
+
+/// What a run on a terminal writes to stderr, and a line feed.
+pub(crate) fn drawn<R: Files + AllocGlobal + Clock + Threads + Wait + Sync>(
+    rt: &R,
+    words: &str,
+) -> Result<String, Fail>
+where
+    R::File: Lockable + Send,
+    R::Dir: Send,
+{
+    let words = words_of(rt.alloc(), words)?;
+    let mut out = Vec::new(rt.alloc());
+    let mut err = Vec::new(rt.alloc());
+    run_words(rt, &words, true, &mut out, &mut err);
+    Ok(format!(in rt.alloc(); "{}\n", str::from_utf8(&err)?)?)
+}
+
+/// The words of a line.
+pub(crate) fn words_of(alloc: Global, line: &str) -> Result<Vec<String>, Fail> {
+    let mut words = Vec::new(alloc);
+    for word in line.split(' ') {
+        if !word.is_empty() {
+            words.push(word_of(alloc, word)?)?;
+        }
+    }
+    Ok(words)
+}
+
+fn word_of(alloc: Global, word: &str) -> Result<String, Fail> {
+    if word == "''" {
+        Ok(String::new(alloc))
+    } else {
+        Ok(String::from_str(alloc, word)?)
+    }
+}
+
+/// What a run wrote and answered.
+pub(crate) fn told(alloc: Global, out: &[u8], err: &[u8], status: u8) -> Result<String, Fail> {
+    let mut told = String::new(alloc);
+    push_told(
+        &mut told,
+        str::from_utf8(out)?,
+        str::from_utf8(err)?,
+        status,
+    )?;
+    Ok(told)
+}
+
+fn push_told(told: &mut String, out: &str, err: &str, status: u8) -> Result<(), Fail> {
+    told.push_str(out)?;
+    for line in err.split_inclusive('\n') {
+        push_all(told, &["! ", line])?;
+    }
+    if status != 0 {
+        writeln!(told, "? {status}")?;
+    }
+    Ok(())
+}
