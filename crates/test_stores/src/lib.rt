@@ -6,7 +6,8 @@
 //!
 //! `test_support` makes the contents and the stores that have them, and `tests` has a module for each part of the
 //! library: `digests`; `manifests` (what a manifest lists); `pushes`, `graphs`, `tags` and `traits` (stores); `orders`, `plans` and
-//! `climbs`; and `faults`, how each refusal of these prints.
+//! `climbs`; and `faults`, how each refusal of these prints. Most tests are rows of data that one function goes over, and `texts`
+//! makes the texts that answers are compared with.
 #![tactic(auto)]
 
 #[cfg(test)]

@@ -7,4 +7,5 @@ mod orders;
 mod plans;
 mod pushes;
 mod tags;
+mod texts;
 mod traits;

@@ -1,5 +1,7 @@
+use oci_manifest::Key;
 use oci_plan::climb;
-use oci_store::GraphSource;
+use oci_store::MemoryStore;
+use std::alloc::Global;
 use std::process::Abort;
 use std::test::Fail;
 use test_support::Sample::{
@@ -7,56 +9,102 @@ use test_support::Sample::{
 };
 use test_support::{Sample, keys, memory, put_chain};
 
-/// A climb from the sample's key gives the keys of these samples, in this order.
-fn assert_climb<R: AllocGlobal + Abort, G: GraphSource>(
-    rt: &R,
-    source: &G,
+/// The sample from whose key a climb begins, its depth, and the samples of the keys that it gives, in this order.
+type Climb = (Sample, u32, &'static [Sample]);
+
+/// What a climb from the sample's key gives.
+fn climbed(
+    alloc: Global,
+    source: &MemoryStore,
     sample: Sample,
     depth: u32,
-    want: &[Sample],
+) -> Result<Vec<Key>, Fail> {
+    let key = sample.key(alloc)?;
+    Ok(climb(alloc, source, &key, depth)?)
+}
+
+fn assert_climb<R: AllocGlobal + Abort>(
+    rt: &R,
+    source: &MemoryStore,
+    (sample, depth, want): Climb,
 ) -> Result<(), Fail> {
-    let alloc = rt.alloc();
-    let got = climb(alloc, source, &sample.key(alloc)?, depth)?;
-    assert!(rt; got == keys(alloc, want)?);
+    let got = climbed(rt.alloc(), source, sample, depth)?;
+    assert!(rt; got == keys(rt.alloc(), want)?, "depth {depth}");
     Ok(())
 }
+
+/// The climbs of a store of these samples.
+fn assert_climbs<R: AllocGlobal + Abort>(
+    rt: &R,
+    samples: &[Sample],
+    climbs: &[Climb],
+) -> Result<(), Fail> {
+    let source = memory(rt.alloc(), samples)?;
+    for row in climbs {
+        assert_climb(rt, &source, *row)?;
+    }
+    Ok(())
+}
+
+const ALL: [Sample; 5] = [Index5, Index4, Index6, Index3, Image2];
 
 /// `index_6` lies two edges above `image_2`, although the `index_5` between them is met again after three.
 #[test]
 fn met_again_after_more_edges(rt: HostRuntime) -> Result<(), Fail> {
-    let store = memory(
-        rt.alloc(),
+    assert_climbs(
+        &rt,
         &[Empty, Foo, Image2, Index3, Index4, Index5, Index6],
-    )?;
-    let all = [Index5, Index4, Index6, Index3, Image2];
-    assert_climb(&rt, &store, Image2, 1, &[Index5, Index3, Image2])?;
-    assert_climb(&rt, &store, Image2, 2, &all)?;
-    assert_climb(&rt, &store, Image2, 3, &all)?;
-    assert_climb(&rt, &store, Image2, 0, &all)
+        &[
+            (Image2, 1, &[Index5, Index3, Image2]),
+            (Image2, 2, &ALL),
+            (Image2, 3, &ALL),
+            (Image2, 0, &ALL),
+        ],
+    )
 }
 
 #[test]
 fn referrers_climbed(rt: HostRuntime) -> Result<(), Fail> {
-    let store = memory(rt.alloc(), &[Empty, Foo, Image2, Referrer, Index3, Index4])?;
-    assert_climb(&rt, &store, Image2, 1, &[Index3, Image2, Referrer])?;
-    assert_climb(&rt, &store, Image2, 2, &[Index4, Index3, Image2, Referrer])?;
-    assert_climb(&rt, &store, Image2, 0, &[Index4, Index3, Image2, Referrer])
+    assert_climbs(
+        &rt,
+        &[Empty, Foo, Image2, Referrer, Index3, Index4],
+        &[
+            (Image2, 1, &[Index3, Image2, Referrer]),
+            (Image2, 2, &[Index4, Index3, Image2, Referrer]),
+            (Image2, 0, &[Index4, Index3, Image2, Referrer]),
+        ],
+    )
 }
 
 /// The key itself is in the answer, held or not.
 #[test]
 fn climb_of_a_key_that_is_not_held(rt: HostRuntime) -> Result<(), Fail> {
-    let store = memory(rt.alloc(), &[Image0])?;
-    assert_climb(&rt, &store, Bar, 0, &[Bar])?;
-    assert_climb(&rt, &store, Bar, 3, &[Bar])?;
-    assert_climb(&rt, &store, Empty, 1, &[Empty, Image0])
+    assert_climbs(
+        &rt,
+        &[Image0],
+        &[
+            (Bar, 0, &[Bar]),
+            (Bar, 3, &[Bar]),
+            (Empty, 1, &[Empty, Image0]),
+        ],
+    )
+}
+
+/// A store of a chain of images.
+fn chain(alloc: Global, length: u32) -> Result<MemoryStore, Fail> {
+    let mut store = memory(alloc, &[Empty])?;
+    put_chain(alloc, &mut store, length)?;
+    Ok(store)
+}
+
+/// How many keys a climb finds from the first image of a chain.
+fn found(alloc: Global, length: u32) -> Result<usize, Fail> {
+    let store = chain(alloc, length)?;
+    Ok(climbed(alloc, &store, Image0, 0)?.len())
 }
 
 #[test]
 fn climb_of_a_long_chain(rt: HostRuntime) -> Result<(), Fail> {
-    let mut store = memory(rt.alloc(), &[Empty])?;
-    put_chain(rt.alloc(), &mut store, 3_000)?;
-    let found = climb(rt.alloc(), &store, &Image0.key(rt.alloc())?, 0)?;
-    assert_eq!(rt; found.len(), 3_000);
+    assert_eq!(rt; found(rt.alloc(), 3_000)?, 3_000);
     Ok(())
 }

@@ -1,5 +1,6 @@
 use oci_digest::{Digest, DigestFault, NoMemory};
 use std::alloc::{AllocError, Global};
+use std::fmt::Display;
 use std::process::Abort;
 use std::test::Fail;
 
@@ -29,193 +30,246 @@ fn goes_with(alloc: Global, digest: Digest, content: &[u8], text: &str) -> Resul
     )
 }
 
-#[test]
-fn digest_vectors(rt: HostRuntime) -> Result<(), Fail> {
-    let million = repeated(rt.alloc(), b'a', 1_000_000)?;
-    let vectors = [
-        (b"".as_slice(), EMPTY),
-        (b"abc".as_slice(), ABC),
-        // The examples of FIPS 180-4: two blocks, and a message of many.
-        (
-            b"abcdbcdecdefdefgefghfghighijhijkijkljklmklmnlmnomnopnopq".as_slice(),
-            "sha256:248d6a61d20638b8e5c026930c3e6039a33ce45964ff2167f6ecedd419db06c1",
-        ),
-        (
-            million.as_slice(),
-            "sha256:cdc76e5c9914fb9281a1c7e284d73e67f1809a48a497200e046d39ccc7112cd0",
-        ),
-    ];
+#[derive(Clone, Copy)]
+enum Algorithm {
+    Sha256,
+    Sha512,
+}
+
+fn digest(algorithm: Algorithm, content: &[u8]) -> Digest {
+    match algorithm {
+        Algorithm::Sha256 => Digest::of(content),
+        Algorithm::Sha512 => Digest::of_sha512(content),
+    }
+}
+
+/// The digests of contents have these texts.
+fn assert_digests<R: AllocGlobal + Abort>(
+    rt: &R,
+    algorithm: Algorithm,
+    vectors: &[(&[u8], &str)],
+) -> Result<(), Fail> {
     for (content, text) in vectors {
-        let digest = Digest::of(content);
-        assert!(rt; goes_with(rt.alloc(), digest, content, text)?, "{text}");
+        assert!(rt;
+            goes_with(rt.alloc(), digest(algorithm, content), content, text)?,
+            "{text}"
+        );
     }
     Ok(())
 }
+
+/// The digest of a million times `a`.
+fn assert_million<R: AllocGlobal + Abort>(
+    rt: &R,
+    algorithm: Algorithm,
+    text: &str,
+) -> Result<(), Fail> {
+    let million = repeated(rt.alloc(), b'a', 1_000_000)?;
+    assert_digests(rt, algorithm, &[(million.as_slice(), text)])
+}
+
+/// The last is the example of FIPS 180-4 of two blocks.
+const SHA256_VECTORS: [(&[u8], &str); 3] = [
+    (b"", EMPTY),
+    (b"abc", ABC),
+    (
+        b"abcdbcdecdefdefgefghfghighijhijkijkljklmklmnlmnomnopnopq",
+        "sha256:248d6a61d20638b8e5c026930c3e6039a33ce45964ff2167f6ecedd419db06c1",
+    ),
+];
+
+#[test]
+fn digest_vectors(rt: HostRuntime) -> Result<(), Fail> {
+    assert_digests(&rt, Algorithm::Sha256, &SHA256_VECTORS)?;
+    // The example of FIPS 180-4 of many blocks.
+    assert_million(
+        &rt,
+        Algorithm::Sha256,
+        "sha256:cdc76e5c9914fb9281a1c7e284d73e67f1809a48a497200e046d39ccc7112cd0",
+    )
+}
+
+/// The last is the example of FIPS 180-4 of two blocks.
+const SHA512_VECTORS: [(&[u8], &str); 3] = [
+    (b"", EMPTY_SHA512),
+    (b"abc", ABC_SHA512),
+    (
+        b"abcdefghbcdefghicdefghijdefghijkefghijklfghijklmghijklmnhijklmnoijklmnopjklmnopqklmnopqrlmnopqrsmnopqrstnopqrstu",
+        "sha512:8e959b75dae313da8cf4f72814fc143f8f7779c6eb9f7fa17299aeadb6889018501d289e4900f7e4331b99dec4b5433ac7d329eeb6dd26545e96e55b874be909",
+    ),
+];
 
 #[test]
 fn of_sha512(rt: HostRuntime) -> Result<(), Fail> {
-    let million = repeated(rt.alloc(), b'a', 1_000_000)?;
-    let vectors = [
-        (b"".as_slice(), EMPTY_SHA512),
-        (b"abc".as_slice(), ABC_SHA512),
-        // The examples of FIPS 180-4: two blocks, and a message of many.
-        (
-            b"abcdefghbcdefghicdefghijdefghijkefghijklfghijklmghijklmnhijklmnoijklmnopjklmnopqklmnopqrlmnopqrsmnopqrstnopqrstu".as_slice(),
-            "sha512:8e959b75dae313da8cf4f72814fc143f8f7779c6eb9f7fa17299aeadb6889018501d289e4900f7e4331b99dec4b5433ac7d329eeb6dd26545e96e55b874be909",
-        ),
-        (
-            million.as_slice(),
-            "sha512:e718483d0ce769644e2e42c7bc15b4638e1f98b13b2044285632a803afa973ebde0ff244877ea60a4cb0432ce577c31beb009c5c2c49aa2e4eadb217ad8cc09b",
-        ),
-    ];
-    for (content, text) in vectors {
-        let digest = Digest::of_sha512(content);
-        assert!(rt; goes_with(rt.alloc(), digest, content, text)?, "{text}");
-    }
-    Ok(())
+    assert_digests(&rt, Algorithm::Sha512, &SHA512_VECTORS)?;
+    // The example of FIPS 180-4 of many blocks.
+    assert_million(
+        &rt,
+        Algorithm::Sha512,
+        "sha512:e718483d0ce769644e2e42c7bc15b4638e1f98b13b2044285632a803afa973ebde0ff244877ea60a4cb0432ce577c31beb009c5c2c49aa2e4eadb217ad8cc09b",
+    )
 }
+
+/// Each of the texts is refused with this fault.
+fn assert_refused(rt: &impl Abort, fault: DigestFault, texts: &[&str]) {
+    for text in texts {
+        assert!(rt; Digest::parse(text) == Err(fault), "{text:?}");
+    }
+}
+
+/// Encoded parts that are none of SHA-512.
+const SHA512_BAD_ENCODING: &[&str] = &[
+    // 64 and 127 digits, the digest of `abc` with a digit more, and 128 digits of which one is none.
+    "sha512:aaaaaaaaaaaaaaaaaaaaaaaaaaaaaaaaaaaaaaaaaaaaaaaaaaaaaaaaaaaaaaaa",
+    "sha512:aaaaaaaaaaaaaaaaaaaaaaaaaaaaaaaaaaaaaaaaaaaaaaaaaaaaaaaaaaaaaaaaaaaaaaaaaaaaaaaaaaaaaaaaaaaaaaaaaaaaaaaaaaaaaaaaaaaaaaaaaaaaaaa",
+    "sha512:ddaf35a193617abacc417349ae20413112e6fa4e89a97ea20a9eeee64b55d39a2192992a274fc1a836ba3c23a3feebbd454d4423643ce80e2a9ac94fa54ca49f0",
+    "sha512:aaaaaaaaaaaaaaaaaaaaaaaaaaaaaaaaaaaaaaaaaaaaaaaaaaaaaaaaaaaaaaaaaaaaaaaaaaaaaaaaaaaaaaaaaaaaaaaaaaaaaaaaaaaaaaaaaaaaaaaaaaaaaaaA",
+    "sha512:aaaaaaaaaaaaaaaaaaaaaaaaaaaaaaaaaaaaaaaaaaaaaaaaaaaaaaaaaaaaaaaaaaaaaaaaaaaaaaaaaaaaaaaaaaaaaaaaaaaaaaaaaaaaaaaaaaaaaaaaaaaaaaag",
+    "sha512:=",
+];
+
+/// With 128 digits the algorithm is still another.
+const SHA512_UNKNOWN_ALGORITHM: &[&str] = &[
+    "sha384:aa",
+    "sha384:aaaaaaaaaaaaaaaaaaaaaaaaaaaaaaaaaaaaaaaaaaaaaaaaaaaaaaaaaaaaaaaaaaaaaaaaaaaaaaaaaaaaaaaaaaaaaaaaaaaaaaaaaaaaaaaaaaaaaaaaaaaaaaaa",
+    "sha512+b64:aaaaaaaaaaaaaaaaaaaaaaaaaaaaaaaaaaaaaaaaaaaaaaaaaaaaaaaaaaaaaaaaaaaaaaaaaaaaaaaaaaaaaaaaaaaaaaaaaaaaaaaaaaaaaaaaaaaaaaaaaaaaaaaa",
+];
+
+/// 128 digits, which are too many for `sha256`.
+const LONG_SHA256: &str =
+    "sha256:aaaaaaaaaaaaaaaaaaaaaaaaaaaaaaaaaaaaaaaaaaaaaaaaaaaaaaaaaaaaaaaaaaaaaaaaaaaaaaaaaaaaaaaaaaaaaaaaaaaaaaaaaaaaaaaaaaaaaaaaaaaaaaaa";
 
 #[test]
 fn sha512_refusals(rt: HostRuntime) {
-    let bad_encoding = [
-        // 64 and 127 digits, the digest of `abc` with a digit more, and 128 digits of which one is none.
-        "sha512:aaaaaaaaaaaaaaaaaaaaaaaaaaaaaaaaaaaaaaaaaaaaaaaaaaaaaaaaaaaaaaaa",
-        "sha512:aaaaaaaaaaaaaaaaaaaaaaaaaaaaaaaaaaaaaaaaaaaaaaaaaaaaaaaaaaaaaaaaaaaaaaaaaaaaaaaaaaaaaaaaaaaaaaaaaaaaaaaaaaaaaaaaaaaaaaaaaaaaaaa",
-        "sha512:ddaf35a193617abacc417349ae20413112e6fa4e89a97ea20a9eeee64b55d39a2192992a274fc1a836ba3c23a3feebbd454d4423643ce80e2a9ac94fa54ca49f0",
-        "sha512:aaaaaaaaaaaaaaaaaaaaaaaaaaaaaaaaaaaaaaaaaaaaaaaaaaaaaaaaaaaaaaaaaaaaaaaaaaaaaaaaaaaaaaaaaaaaaaaaaaaaaaaaaaaaaaaaaaaaaaaaaaaaaaaA",
-        "sha512:aaaaaaaaaaaaaaaaaaaaaaaaaaaaaaaaaaaaaaaaaaaaaaaaaaaaaaaaaaaaaaaaaaaaaaaaaaaaaaaaaaaaaaaaaaaaaaaaaaaaaaaaaaaaaaaaaaaaaaaaaaaaaaag",
-        "sha512:=",
-    ];
-    for text in bad_encoding {
-        assert!(rt;
-            Digest::parse(text) == Err(DigestFault::BadEncoding),
-            "{text}"
-        );
-    }
-    // With 128 digits the algorithm is still another, and 128 digits are too many for `sha256`.
-    let unknown_algorithm = [
-        "sha384:aa",
-        "sha384:aaaaaaaaaaaaaaaaaaaaaaaaaaaaaaaaaaaaaaaaaaaaaaaaaaaaaaaaaaaaaaaaaaaaaaaaaaaaaaaaaaaaaaaaaaaaaaaaaaaaaaaaaaaaaaaaaaaaaaaaaaaaaaaa",
-        "sha512+b64:aaaaaaaaaaaaaaaaaaaaaaaaaaaaaaaaaaaaaaaaaaaaaaaaaaaaaaaaaaaaaaaaaaaaaaaaaaaaaaaaaaaaaaaaaaaaaaaaaaaaaaaaaaaaaaaaaaaaaaaaaaaaaaaa",
-    ];
-    for text in unknown_algorithm {
-        assert!(rt;
-            Digest::parse(text) == Err(DigestFault::UnknownAlgorithm),
-            "{text}"
-        );
-    }
-    let long_sha256 =
-        "sha256:aaaaaaaaaaaaaaaaaaaaaaaaaaaaaaaaaaaaaaaaaaaaaaaaaaaaaaaaaaaaaaaaaaaaaaaaaaaaaaaaaaaaaaaaaaaaaaaaaaaaaaaaaaaaaaaaaaaaaaaaaaaaaaaa";
-    assert!(rt; Digest::parse(long_sha256) == Err(DigestFault::BadEncoding));
-    assert!(rt; Digest::parse("SHA512:aa") == Err(DigestFault::BadForm));
+    assert_refused(&rt, DigestFault::BadEncoding, SHA512_BAD_ENCODING);
+    assert_refused(&rt, DigestFault::UnknownAlgorithm, SHA512_UNKNOWN_ALGORITHM);
+    assert_refused(&rt, DigestFault::BadEncoding, &[LONG_SHA256]);
+    assert_refused(&rt, DigestFault::BadForm, &["SHA512:aa"]);
 }
+
+/// Encoded parts that are none of SHA-256.
+const BAD_ENCODING: &[&str] = &[
+    "sha256:AAAAAAAAAAAAAAAAAAAAAAAAAAAAAAAAAAAAAAAAAAAAAAAAAAAAAAAAAAAAAAAA",
+    "sha256:aaaaaaaaaaaaaaaaaaaaaaaaaaaaaaaaaaaaaaaaaaaaaaaaaaaaaaaaaaaaaaa",
+    "sha256:aaaaaaaaaaaaaaaaaaaaaaaaaaaaaaaaaaaaaaaaaaaaaaaaaaaaaaaaaaaaaaaaa",
+    "sha256:gaaaaaaaaaaaaaaaaaaaaaaaaaaaaaaaaaaaaaaaaaaaaaaaaaaaaaaaaaaaaaaa",
+    "sha256:aaaaaaaaaaaaaaaaaaaaaaaaaaaaaaaaaaaaaaaaaaaaaaaaaaaaaaaaaaaaaaa=",
+    "sha256:aa",
+    "sha256:=",
+];
+
+/// Texts of other algorithms. The second and the third are examples of descriptor.md.
+const UNKNOWN_ALGORITHM: &[&str] = &[
+    "md5:d41d",
+    "multihash+base58:QmRZxt2b1FVZPNqd8hsiykDL3TdBDeTSPX9Kv46HmX4Gx8",
+    "sha256+b64u:LCa0a2j_xo_5m0U8HTBBNBNCLXBkg7-g-YpeiGJm564",
+    "sha256+b64:=_-",
+    "a.b_c-d+e:Z",
+    "0:0",
+    "sha2560:aaaaaaaaaaaaaaaaaaaaaaaaaaaaaaaaaaaaaaaaaaaaaaaaaaaaaaaaaaaaaaaa",
+    "sha25:aaaaaaaaaaaaaaaaaaaaaaaaaaaaaaaaaaaaaaaaaaaaaaaaaaaaaaaaaaaaaaaa",
+];
+
+/// Texts that are no digest's.
+const BAD_FORM: &[&str] = &[
+    "sha256",
+    "sha256:",
+    "SHA256:aa",
+    "a:b:c",
+    "",
+    ":",
+    ":aa",
+    // No component before, between or after separators.
+    "+sha256:aa",
+    "sha256+:aa",
+    "sha256+-b64:aa",
+    "sha256..b64:aa",
+    // Characters that stand in no algorithm, or in no encoded part.
+    "sha/256:aa",
+    "sha=256:aa",
+    "sh\u{e1}256:aa",
+    "sha256:\u{e9}\u{20ac}\u{1f980}",
+    "sha256:aa+bb",
+    "sha256:aa.bb",
+    "sha256:aa/bb",
+    // The digest of no bytes, with a character more.
+    " sha256:e3b0c44298fc1c149afbf4c8996fb92427ae41e4649b934ca495991b7852b855",
+    "sha256: e3b0c44298fc1c149afbf4c8996fb92427ae41e4649b934ca495991b7852b855",
+    "sha256:e3b0c44298fc1c149afbf4c8996fb92427ae41e4649b934ca495991b7852b855\n",
+    "sha256:e3b0c44298fc1c149afbf4c8996fb92427ae41e4649b934ca495991b7852b855\0",
+    "sha256::e3b0c44298fc1c149afbf4c8996fb92427ae41e4649b934ca495991b7852b855",
+];
 
 #[test]
 fn digest_refusals(rt: HostRuntime) {
-    let bad_encoding = [
-        "sha256:AAAAAAAAAAAAAAAAAAAAAAAAAAAAAAAAAAAAAAAAAAAAAAAAAAAAAAAAAAAAAAAA",
-        "sha256:aaaaaaaaaaaaaaaaaaaaaaaaaaaaaaaaaaaaaaaaaaaaaaaaaaaaaaaaaaaaaaa",
-        "sha256:aaaaaaaaaaaaaaaaaaaaaaaaaaaaaaaaaaaaaaaaaaaaaaaaaaaaaaaaaaaaaaaaa",
-        "sha256:gaaaaaaaaaaaaaaaaaaaaaaaaaaaaaaaaaaaaaaaaaaaaaaaaaaaaaaaaaaaaaaa",
-        "sha256:aaaaaaaaaaaaaaaaaaaaaaaaaaaaaaaaaaaaaaaaaaaaaaaaaaaaaaaaaaaaaaa=",
-        "sha256:aa",
-        "sha256:=",
-    ];
-    for text in bad_encoding {
-        assert!(rt;
-            Digest::parse(text) == Err(DigestFault::BadEncoding),
-            "{text}"
-        );
-    }
-    // The second and the third are examples of descriptor.md.
-    let unknown_algorithm = [
-        "md5:d41d",
-        "multihash+base58:QmRZxt2b1FVZPNqd8hsiykDL3TdBDeTSPX9Kv46HmX4Gx8",
-        "sha256+b64u:LCa0a2j_xo_5m0U8HTBBNBNCLXBkg7-g-YpeiGJm564",
-        "sha256+b64:=_-",
-        "a.b_c-d+e:Z",
-        "0:0",
-        "sha2560:aaaaaaaaaaaaaaaaaaaaaaaaaaaaaaaaaaaaaaaaaaaaaaaaaaaaaaaaaaaaaaaa",
-        "sha25:aaaaaaaaaaaaaaaaaaaaaaaaaaaaaaaaaaaaaaaaaaaaaaaaaaaaaaaaaaaaaaaa",
-    ];
-    for text in unknown_algorithm {
-        assert!(rt;
-            Digest::parse(text) == Err(DigestFault::UnknownAlgorithm),
-            "{text}"
-        );
-    }
-    let bad_form = [
-        "sha256",
-        "sha256:",
-        "SHA256:aa",
-        "a:b:c",
-        "",
-        ":",
-        ":aa",
-        // No component before, between or after separators.
-        "+sha256:aa",
-        "sha256+:aa",
-        "sha256+-b64:aa",
-        "sha256..b64:aa",
-        // Characters that stand in no algorithm, or in no encoded part.
-        "sha/256:aa",
-        "sha=256:aa",
-        "sh\u{e1}256:aa",
-        "sha256:\u{e9}\u{20ac}\u{1f980}",
-        "sha256:aa+bb",
-        "sha256:aa.bb",
-        "sha256:aa/bb",
-        // The digest of no bytes, with a character more.
-        " sha256:e3b0c44298fc1c149afbf4c8996fb92427ae41e4649b934ca495991b7852b855",
-        "sha256: e3b0c44298fc1c149afbf4c8996fb92427ae41e4649b934ca495991b7852b855",
-        "sha256:e3b0c44298fc1c149afbf4c8996fb92427ae41e4649b934ca495991b7852b855\n",
-        "sha256:e3b0c44298fc1c149afbf4c8996fb92427ae41e4649b934ca495991b7852b855\0",
-        "sha256::e3b0c44298fc1c149afbf4c8996fb92427ae41e4649b934ca495991b7852b855",
-    ];
-    for text in bad_form {
-        assert!(rt;
-            Digest::parse(text) == Err(DigestFault::BadForm),
-            "{text:?}"
-        );
+    assert_refused(&rt, DigestFault::BadEncoding, BAD_ENCODING);
+    assert_refused(&rt, DigestFault::UnknownAlgorithm, UNKNOWN_ALGORITHM);
+    assert_refused(&rt, DigestFault::BadForm, BAD_FORM);
+}
+
+/// Texts of digests, in their order.
+const RISING: &[&str] = &[
+    "sha256:0000000000000000000000000000000000000000000000000000000000000000",
+    "sha256:00000000000000000000000000000000000000000000000000000000000000f0",
+    ABC,
+    EMPTY,
+    "sha256:ffffffffffffffffffffffffffffffffffffffffffffffffffffffffffffffff",
+    "sha512:00000000000000000000000000000000000000000000000000000000000000000000000000000000000000000000000000000000000000000000000000000000",
+    EMPTY_SHA512,
+    ABC_SHA512,
+];
+
+/// Two digests compare as their places do.
+fn assert_compares(rt: &impl Abort, (at, first): (usize, &str), (place, second): (usize, &str)) {
+    let (Ok(left), Ok(right)) = (Digest::parse(first), Digest::parse(second)) else {
+        panic!(rt; "{first} and {second} are digests");
+    };
+    assert!(rt; left.cmp(&right) == at.cmp(&place), "{first} with {second}");
+    assert!(rt; (left == right) == (at == place), "{first} with {second}");
+}
+
+/// The digest at a place of the texts, compared with each.
+fn assert_place(rt: &impl Abort, at: usize, first: &str) {
+    for place in 0..RISING.len() {
+        assert_compares(rt, (at, first), (place, RISING[place]));
     }
 }
 
 #[test]
 fn order_is_that_of_the_texts(rt: HostRuntime) {
-    let texts = [
-        "sha256:0000000000000000000000000000000000000000000000000000000000000000",
-        "sha256:00000000000000000000000000000000000000000000000000000000000000f0",
-        ABC,
-        EMPTY,
-        "sha256:ffffffffffffffffffffffffffffffffffffffffffffffffffffffffffffffff",
-        "sha512:00000000000000000000000000000000000000000000000000000000000000000000000000000000000000000000000000000000000000000000000000000000",
-        EMPTY_SHA512,
-        ABC_SHA512,
-    ];
-    for (at, first) in texts.iter().enumerate() {
-        for (place, second) in texts.iter().enumerate() {
-            let (Ok(left), Ok(right)) = (Digest::parse(first), Digest::parse(second)) else {
-                panic!(rt; "{first} and {second} are digests");
-            };
-            assert!(rt; left.cmp(&right) == at.cmp(&place), "{first} with {second}");
-            assert!(rt; (left == right) == (at == place), "{first} with {second}");
-        }
+    for at in 0..RISING.len() {
+        assert_place(&rt, at, RISING[at]);
     }
+}
+
+/// A value prints as this text.
+fn assert_prints<R: AllocGlobal + Abort, T: Display>(
+    rt: &R,
+    value: &T,
+    text: &str,
+) -> Result<(), Fail> {
+    assert_eq!(rt; value.to_string(rt.alloc())?.as_str(), text);
+    Ok(())
+}
+
+/// The same of what is for debugging.
+fn assert_debugs<R: AllocGlobal + Abort>(rt: &R, digest: &Digest, text: &str) -> Result<(), Fail> {
+    let debug = format!(in rt.alloc(); "{digest:?}")?;
+    assert_eq!(rt; debug.as_str(), text);
+    Ok(())
 }
 
 #[test]
 fn printed_texts(rt: HostRuntime) -> Result<(), Fail> {
-    let digest = Digest::of(b"abc");
-    assert_eq!(rt; digest.to_string(rt.alloc())?.as_str(), ABC);
-    let debug = format!(in rt.alloc(); "{digest:?}")?;
-    assert_eq!(rt;
-        debug.as_str(),
-        "Digest(sha256:ba7816bf8f01cfea414140de5dae2223b00361a396177a9cb410ff61f20015ad)"
-    );
-    let long = Digest::of_sha512(b"abc");
+    let (digest, long) = (Digest::of(b"abc"), Digest::of_sha512(b"abc"));
     assert!(rt; long != digest);
-    assert_eq!(rt; long.to_string(rt.alloc())?.as_str(), ABC_SHA512);
-    Ok(())
+    assert_prints(&rt, &digest, ABC)?;
+    assert_prints(&rt, &long, ABC_SHA512)?;
+    assert_debugs(
+        &rt,
+        &digest,
+        "Digest(sha256:ba7816bf8f01cfea414140de5dae2223b00361a396177a9cb410ff61f20015ad)",
+    )
 }
 
 /// The digest is by this algorithm, and has these digits.
@@ -244,8 +298,7 @@ fn printed_faults(rt: HostRuntime) -> Result<(), Fail> {
         (DigestFault::BadEncoding, 3, "3 BadEncoding"),
     ] {
         assert_eq!(rt; fault.number(), number);
-        assert_eq!(rt; fault.to_string(rt.alloc())?.as_str(), text);
+        assert_prints(&rt, &fault, text)?;
     }
-    assert_eq!(rt; NoMemory.to_string(rt.alloc())?.as_str(), "memory");
-    Ok(())
+    assert_prints(&rt, &NoMemory, "memory")
 }

@@ -1,151 +1,286 @@
 //! How each refusal prints: its number, its name, and what it carries.
 
+use crate::tests::faults::Fault::{
+    OfFetch, OfKey, OfManifest, OfOpen, OfPlan, OfPush, OfReference,
+};
+use crate::tests::texts::Part::{self, KeyOf, Words};
+use crate::tests::texts::text;
 use oci_manifest::{KeyFault, ManifestFault};
 use oci_plan::PlanFault;
 use oci_store::{FetchFault, OpenFault, PushFault, RefFault};
+use std::alloc::Global;
+use std::fmt::Display;
 use std::process::Abort;
 use std::test::Fail;
 use test_support::Sample::{Bar, Foo};
-use test_support::keys;
+use test_support::{Sample, keys};
 
-/// A printed fault begins with its number.
-fn assert_line<R: AllocGlobal + Abort>(
+/// A number, and then these parts.
+fn numbered(alloc: Global, number: u8, rest: &[Part]) -> Result<String, Fail> {
+    let rest = text(alloc, rest)?;
+    Ok(format!(in alloc; "{number} {rest}")?)
+}
+
+/// A fault prints as its number and the rest.
+fn assert_printed<R: AllocGlobal + Abort, F: Display>(
     rt: &R,
-    line: String,
+    fault: &F,
     number: u8,
-    rest: &str,
+    rest: &[Part],
 ) -> Result<(), Fail> {
-    let want = format!(in rt.alloc(); "{number} {rest}")?;
+    let want = numbered(rt.alloc(), number, rest)?;
+    let line = format!(in rt.alloc(); "{fault}")?;
     assert!(rt; line == want, "{line}");
     Ok(())
 }
 
-/// A printed fault that carries the key of the layer `foo`, and then the rest.
-fn assert_keyed<R: AllocGlobal + Abort>(
+/// A fault. Each has samples in the place of their keys.
+#[derive(Clone, Copy)]
+enum Fault {
+    OfKey(KeyFault),
+    OfManifest(ManifestFault),
+    OfFetch(FetchFault),
+    OfReference(RefFault),
+    OfPush(Push),
+    OfOpen(Open),
+    OfPlan(Plan),
+}
+
+#[derive(Clone, Copy)]
+enum Push {
+    AlreadyExists,
+    SizeMismatch,
+    DigestMismatch,
+    BadManifest(ManifestFault),
+    Memory,
+    MissingSuccessor(Sample),
+    Device,
+    Halted,
+}
+
+#[derive(Clone, Copy)]
+enum Open {
+    Open(Sample, Sample),
+    Memory,
+}
+
+#[derive(Clone, Copy)]
+enum Plan {
+    NotFound(Sample),
+    TooLarge(Sample, u64),
+    Cycle(&'static [Sample]),
+    Manifest(Sample, ManifestFault),
+    Fetch(Sample, FetchFault),
+    Memory,
+    TooMany,
+}
+
+fn push_fault(alloc: Global, fault: Push) -> Result<PushFault, Fail> {
+    Ok(match fault {
+        Push::AlreadyExists => PushFault::AlreadyExists,
+        Push::SizeMismatch => PushFault::SizeMismatch,
+        Push::DigestMismatch => PushFault::DigestMismatch,
+        Push::BadManifest(fault) => PushFault::BadManifest(fault),
+        Push::Memory => PushFault::Memory,
+        Push::MissingSuccessor(sample) => PushFault::MissingSuccessor(sample.key(alloc)?),
+        Push::Device => PushFault::Device,
+        Push::Halted => PushFault::Halted,
+    })
+}
+
+fn open_fault(alloc: Global, fault: Open) -> Result<OpenFault, Fail> {
+    match fault {
+        Open::Open(holder, missing) => {
+            let holder = holder.key(alloc)?;
+            Ok(OpenFault::Open(holder, missing.key(alloc)?))
+        }
+        Open::Memory => Ok(OpenFault::Memory),
+    }
+}
+
+fn plan_fault(alloc: Global, fault: Plan) -> Result<PlanFault, Fail> {
+    Ok(match fault {
+        Plan::NotFound(sample) => PlanFault::NotFound(sample.key(alloc)?),
+        Plan::TooLarge(sample, limit) => PlanFault::TooLarge(sample.key(alloc)?, limit),
+        Plan::Cycle(samples) => PlanFault::Cycle(keys(alloc, samples)?),
+        Plan::Manifest(sample, fault) => PlanFault::Manifest(sample.key(alloc)?, fault),
+        Plan::Fetch(sample, fault) => PlanFault::Fetch(sample.key(alloc)?, fault),
+        Plan::Memory => PlanFault::Memory,
+        Plan::TooMany => PlanFault::TooMany,
+    })
+}
+
+fn assert_push_fault<R: AllocGlobal + Abort>(
     rt: &R,
-    line: String,
-    number: u8,
-    name: &str,
-    rest: &str,
+    fault: &PushFault,
+    rest: &[Part],
 ) -> Result<(), Fail> {
-    let key = Foo.key(rt.alloc())?;
-    let told = format!(in rt.alloc(); "{name} {key}{rest}")?;
-    assert_line(rt, line, number, told.as_str())
+    assert_printed(rt, fault, fault.number(), rest)
+}
+
+fn assert_open_fault<R: AllocGlobal + Abort>(
+    rt: &R,
+    fault: &OpenFault,
+    rest: &[Part],
+) -> Result<(), Fail> {
+    assert_printed(rt, fault, fault.number(), rest)
+}
+
+fn assert_plan_fault<R: AllocGlobal + Abort>(
+    rt: &R,
+    fault: &PlanFault,
+    rest: &[Part],
+) -> Result<(), Fail> {
+    assert_printed(rt, fault, fault.number(), rest)
+}
+
+fn assert_fault<R: AllocGlobal + Abort>(rt: &R, fault: Fault, rest: &[Part]) -> Result<(), Fail> {
+    match fault {
+        OfKey(fault) => assert_printed(rt, &fault, fault.number(), rest),
+        OfManifest(fault) => assert_printed(rt, &fault, fault.number(), rest),
+        OfFetch(fault) => assert_printed(rt, &fault, fault.number(), rest),
+        OfReference(fault) => assert_printed(rt, &fault, fault.number(), rest),
+        OfPush(fault) => assert_push_fault(rt, &push_fault(rt.alloc(), fault)?, rest),
+        OfOpen(fault) => assert_open_fault(rt, &open_fault(rt.alloc(), fault)?, rest),
+        OfPlan(fault) => assert_plan_fault(rt, &plan_fault(rt.alloc(), fault)?, rest),
+    }
+}
+
+/// Faults, and what each prints after its number.
+fn assert_faults<R: AllocGlobal + Abort>(rt: &R, rows: &[(Fault, &[Part])]) -> Result<(), Fail> {
+    for (fault, rest) in rows {
+        assert_fault(rt, *fault, rest)?;
+    }
+    Ok(())
 }
 
 #[test]
 fn key_and_manifest_faults(rt: HostRuntime) -> Result<(), Fail> {
-    let fault = KeyFault::BadSize;
-    assert_line(&rt, fault.to_string(rt.alloc())?, fault.number(), "BadSize")?;
-    for (fault, rest) in [
-        (ManifestFault::NotJson, "NotJson"),
-        (ManifestFault::NotObject, "NotObject"),
-        (ManifestFault::NoConfig, "NoConfig"),
-        (ManifestFault::BadList("blobs"), "BadList blobs"),
-        (
-            ManifestFault::BadDescriptor("layers", 3),
-            "BadDescriptor layers 3",
-        ),
-        (ManifestFault::Memory, "Memory"),
-    ] {
-        assert_line(&rt, fault.to_string(rt.alloc())?, fault.number(), rest)?;
-    }
-    Ok(())
+    assert_faults(
+        &rt,
+        &[
+            (OfKey(KeyFault::BadSize), &[Words("BadSize")]),
+            (OfManifest(ManifestFault::NotJson), &[Words("NotJson")]),
+            (OfManifest(ManifestFault::NotObject), &[Words("NotObject")]),
+            (OfManifest(ManifestFault::NoConfig), &[Words("NoConfig")]),
+            (
+                OfManifest(ManifestFault::BadList("blobs")),
+                &[Words("BadList blobs")],
+            ),
+            (
+                OfManifest(ManifestFault::BadDescriptor("layers", 3)),
+                &[Words("BadDescriptor layers 3")],
+            ),
+            (OfManifest(ManifestFault::Memory), &[Words("Memory")]),
+        ],
+    )
 }
 
 #[test]
 fn fetch_faults(rt: HostRuntime) -> Result<(), Fail> {
-    for (fault, rest) in [
-        (FetchFault::NotFound, "NotFound"),
-        (FetchFault::Corrupt, "Corrupt"),
-        (FetchFault::Device, "Device"),
-        (FetchFault::Memory, "Memory"),
-    ] {
-        assert_line(&rt, fault.to_string(rt.alloc())?, fault.number(), rest)?;
-    }
-    Ok(())
+    assert_faults(
+        &rt,
+        &[
+            (OfFetch(FetchFault::NotFound), &[Words("NotFound")]),
+            (OfFetch(FetchFault::Corrupt), &[Words("Corrupt")]),
+            (OfFetch(FetchFault::Device), &[Words("Device")]),
+            (OfFetch(FetchFault::Memory), &[Words("Memory")]),
+        ],
+    )
 }
 
 #[test]
 fn reference_faults(rt: HostRuntime) -> Result<(), Fail> {
-    for (fault, rest) in [
-        (RefFault::EmptyReference, "EmptyReference"),
-        (RefFault::UnknownReference, "UnknownReference"),
-        (RefFault::NotHeld, "NotHeld"),
-        (RefFault::Memory, "Memory"),
-    ] {
-        assert_line(&rt, fault.to_string(rt.alloc())?, fault.number(), rest)?;
-    }
-    Ok(())
+    assert_faults(
+        &rt,
+        &[
+            (
+                OfReference(RefFault::EmptyReference),
+                &[Words("EmptyReference")],
+            ),
+            (
+                OfReference(RefFault::UnknownReference),
+                &[Words("UnknownReference")],
+            ),
+            (OfReference(RefFault::NotHeld), &[Words("NotHeld")]),
+            (OfReference(RefFault::Memory), &[Words("Memory")]),
+        ],
+    )
 }
 
 #[test]
 fn push_faults(rt: HostRuntime) -> Result<(), Fail> {
-    for (fault, rest) in [
-        (PushFault::AlreadyExists, "AlreadyExists"),
-        (PushFault::SizeMismatch, "SizeMismatch"),
-        (PushFault::DigestMismatch, "DigestMismatch"),
-        (
-            PushFault::BadManifest(ManifestFault::NoConfig),
-            "BadManifest 12 NoConfig",
-        ),
-        (PushFault::Memory, "Memory"),
-        (PushFault::Device, "Device"),
-        (PushFault::Halted, "Halted"),
-    ] {
-        assert_line(&rt, fault.to_string(rt.alloc())?, fault.number(), rest)?;
-    }
-    let alloc = rt.alloc();
-    let fault = PushFault::MissingSuccessor(Foo.key(alloc)?);
-    let line = fault.to_string(alloc)?;
-    assert_keyed(&rt, line, fault.number(), "MissingSuccessor", "")
+    assert_faults(
+        &rt,
+        &[
+            (OfPush(Push::AlreadyExists), &[Words("AlreadyExists")]),
+            (OfPush(Push::SizeMismatch), &[Words("SizeMismatch")]),
+            (OfPush(Push::DigestMismatch), &[Words("DigestMismatch")]),
+            (
+                OfPush(Push::BadManifest(ManifestFault::NoConfig)),
+                &[Words("BadManifest 12 NoConfig")],
+            ),
+            (OfPush(Push::Memory), &[Words("Memory")]),
+            (OfPush(Push::Device), &[Words("Device")]),
+            (OfPush(Push::Halted), &[Words("Halted")]),
+            (
+                OfPush(Push::MissingSuccessor(Foo)),
+                &[Words("MissingSuccessor "), KeyOf(Foo)],
+            ),
+        ],
+    )
 }
 
 #[test]
 fn open_faults(rt: HostRuntime) -> Result<(), Fail> {
-    let alloc = rt.alloc();
-    let fault = OpenFault::Open(Foo.key(alloc)?, Bar.key(alloc)?);
-    let bar = format!(in alloc; " {}", Bar.key(alloc)?)?;
-    let line = fault.to_string(alloc)?;
-    assert_keyed(&rt, line, fault.number(), "Open", bar.as_str())?;
-    let fault = OpenFault::Memory;
-    assert_line(&rt, fault.to_string(alloc)?, fault.number(), "Memory")
-}
-
-/// The fault of a plan prints as this name, the key of `foo`, and the rest.
-fn assert_plan_fault<R: AllocGlobal + Abort>(
-    rt: &R,
-    fault: PlanFault,
-    name: &str,
-    rest: &str,
-) -> Result<(), Fail> {
-    let line = fault.to_string(rt.alloc())?;
-    assert_keyed(rt, line, fault.number(), name, rest)
+    assert_faults(
+        &rt,
+        &[
+            (
+                OfOpen(Open::Open(Foo, Bar)),
+                &[Words("Open "), KeyOf(Foo), Words(" "), KeyOf(Bar)],
+            ),
+            (OfOpen(Open::Memory), &[Words("Memory")]),
+        ],
+    )
 }
 
 #[test]
 fn plan_faults(rt: HostRuntime) -> Result<(), Fail> {
-    let alloc = rt.alloc();
-    let fault = PlanFault::NotFound(Foo.key(alloc)?);
-    assert_plan_fault(&rt, fault, "NotFound", "")?;
-    let fault = PlanFault::TooLarge(Foo.key(alloc)?, 2);
-    assert_plan_fault(&rt, fault, "TooLarge", " 2")?;
-    let fault = PlanFault::Manifest(Foo.key(alloc)?, ManifestFault::NotJson);
-    assert_plan_fault(&rt, fault, "Manifest", " 10 NotJson")?;
-    let fault = PlanFault::Fetch(Foo.key(alloc)?, FetchFault::Corrupt);
-    assert_plan_fault(&rt, fault, "Fetch", " 21 Corrupt")?;
-    let fault = PlanFault::Cycle(keys(alloc, &[Foo, Bar])?);
-    let bar = format!(in alloc; " {}", Bar.key(alloc)?)?;
-    assert_plan_fault(&rt, fault, "Cycle", bar.as_str())
+    assert_faults(
+        &rt,
+        &[
+            (
+                OfPlan(Plan::NotFound(Foo)),
+                &[Words("NotFound "), KeyOf(Foo)],
+            ),
+            (
+                OfPlan(Plan::TooLarge(Foo, 2)),
+                &[Words("TooLarge "), KeyOf(Foo), Words(" 2")],
+            ),
+            (
+                OfPlan(Plan::Manifest(Foo, ManifestFault::NotJson)),
+                &[Words("Manifest "), KeyOf(Foo), Words(" 10 NotJson")],
+            ),
+            (
+                OfPlan(Plan::Fetch(Foo, FetchFault::Corrupt)),
+                &[Words("Fetch "), KeyOf(Foo), Words(" 21 Corrupt")],
+            ),
+            (
+                OfPlan(Plan::Cycle(&[Foo, Bar])),
+                &[Words("Cycle "), KeyOf(Foo), Words(" "), KeyOf(Bar)],
+            ),
+        ],
+    )
 }
 
 #[test]
 fn plan_faults_without_a_key(rt: HostRuntime) -> Result<(), Fail> {
-    for (fault, rest) in [
-        (PlanFault::Memory, "Memory"),
-        (PlanFault::TooMany, "TooMany"),
-    ] {
-        assert_line(&rt, fault.to_string(rt.alloc())?, fault.number(), rest)?;
-    }
-    Ok(())
+    assert_faults(
+        &rt,
+        &[
+            (OfPlan(Plan::Memory), &[Words("Memory")]),
+            (OfPlan(Plan::TooMany), &[Words("TooMany")]),
+        ],
+    )
 }

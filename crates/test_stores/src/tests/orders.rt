@@ -12,69 +12,62 @@ fn graph(alloc: Global, lists: &[&[u32]]) -> Result<Vec<Vec<u32>>, AllocError> {
     Ok(made)
 }
 
+fn push_place(alloc: Global, text: &mut String, number: u32) -> Result<(), AllocError> {
+    text.push_str(format!(in alloc; " {number}")?.as_str())
+}
+
+/// The numbers of an order.
+fn told(alloc: Global, order: &Order) -> Result<String, AllocError> {
+    let mut text = String::from_str(alloc, "order")?;
+    for place in 0..order.len() {
+        push_place(alloc, &mut text, order.at(place).unwrap_or(0))?;
+    }
+    Ok(text)
+}
+
 /// The order of a graph, or its fault's line.
 fn line(rt: &impl Abort, alloc: Global, lists: &[&[u32]]) -> Result<String, AllocError> {
     let lists = graph(alloc, lists)?;
     assert!(rt; lists.len() < 4294967295);
     match order(lists) {
-        Ok(order) => {
-            let mut text = String::from_str(alloc, "order")?;
-            for place in 0..order.len() {
-                text.push_str(format!(in alloc; " {}", order.at(place).unwrap_or(0))?.as_str())?;
-            }
-            Ok(text)
-        }
+        Ok(order) => told(alloc, &order),
         Err(fault) => fault.to_string(alloc),
     }
 }
 
+/// The line of a graph is one of two.
+fn assert_line<R: AllocGlobal + Abort>(
+    rt: &R,
+    lists: &[&[u32]],
+    first: &str,
+    second: &str,
+) -> Result<(), Fail> {
+    let line = line(rt, rt.alloc(), lists)?;
+    assert!(rt;
+        line.as_str() == first || line.as_str() == second,
+        "{line}, not {first}"
+    );
+    Ok(())
+}
+
+/// Graphs, and two lines each, of which the order of the graph has one.
+const GRAPHS: [(&[&[u32]], &str, &str); 5] = [
+    (&[&[0]], "50 Cycle 0", "50 Cycle 0"),
+    (&[&[1], &[0]], "50 Cycle 0 1", "50 Cycle 1 0"),
+    (
+        &[&[], &[0], &[0], &[1, 2]],
+        "order 0 1 2 3",
+        "order 0 2 1 3",
+    ),
+    (&[], "order", "order"),
+    (&[&[], &[2]], "51 BadNumber 1 2", "51 BadNumber 1 2"),
+];
+
 #[test]
 fn order_and_board(rt: HostRuntime) -> Result<(), Fail> {
-    let alloc = rt.alloc();
-    let one: &[&[u32]] = &[&[0]];
-    assert_eq!(rt; line(&rt, alloc, one)?.as_str(), "50 Cycle 0");
-    let two: &[&[u32]] = &[&[1], &[0]];
-    let told = line(&rt, alloc, two)?;
-    assert!(rt; told.as_str() == "50 Cycle 0 1" || told.as_str() == "50 Cycle 1 0");
-    let diamond: &[&[u32]] = &[&[], &[0], &[0], &[1, 2]];
-    let told = line(&rt, alloc, diamond)?;
-    assert!(rt; told.as_str() == "order 0 1 2 3" || told.as_str() == "order 0 2 1 3");
-    let empty: &[&[u32]] = &[];
-    assert_eq!(rt; line(&rt, alloc, empty)?.as_str(), "order");
-    let bad: &[&[u32]] = &[&[], &[2]];
-    assert_eq!(rt; line(&rt, alloc, bad)?.as_str(), "51 BadNumber 1 2");
-    Ok(())
-}
-
-#[test]
-fn doubled_successor(rt: HostRuntime) -> Result<(), Fail> {
-    let alloc = rt.alloc();
-    let doubled: &[&[u32]] = &[&[1, 1], &[]];
-    assert_eq!(rt; line(&rt, alloc, doubled)?.as_str(), "order 1 0");
-    let lists = graph(alloc, doubled)?;
-    assert!(rt; lists.len() < 4294967295);
-    let Ok(order) = order(lists) else {
-        panic!(rt; "the graph has no cycle");
-    };
-    assert!(rt; !order.is_empty());
-    assert_eq!(rt; order.at(2), None);
-    assert_eq!(rt; order.successors(0).map(|list| list.len()), Some(1));
-    assert_eq!(rt; order.successors(1).map(|list| list.len()), Some(0));
-    assert!(rt; order.successors(2).is_none());
-    Ok(())
-}
-
-#[test]
-fn fault_lines(rt: HostRuntime) -> Result<(), Fail> {
-    let alloc = rt.alloc();
-    let cycle = OrderFault::Cycle([0, 1].to_vec(alloc)?);
-    assert_eq!(rt; cycle.number(), 50);
-    assert_eq!(rt; cycle.to_string(alloc)?.as_str(), "50 Cycle 0 1");
-    let bad = OrderFault::BadNumber(1, 2);
-    assert_eq!(rt; bad.number(), 51);
-    assert_eq!(rt; bad.to_string(alloc)?.as_str(), "51 BadNumber 1 2");
-    assert_eq!(rt; OrderFault::Memory.number(), 52);
-    assert_eq!(rt; OrderFault::Memory.to_string(alloc)?.as_str(), "52 Memory");
+    for (lists, first, second) in &GRAPHS {
+        assert_line(&rt, lists, first, second)?;
+    }
     Ok(())
 }
 
@@ -87,38 +80,92 @@ fn found(rt: &impl Abort, lists: Vec<Vec<u32>>) -> Order {
     }
 }
 
+/// How many successors a number has.
+fn width(order: &Order, number: u32) -> Option<usize> {
+    match order.successors(number) {
+        Some(list) => Some(list.len()),
+        None => None,
+    }
+}
+
+const DOUBLED: &[&[u32]] = &[&[1, 1], &[]];
+
 #[test]
-fn long_chain(rt: HostRuntime) -> Result<(), Fail> {
-    let alloc = rt.alloc();
+fn doubled_successor(rt: HostRuntime) -> Result<(), Fail> {
+    assert_line(&rt, DOUBLED, "order 1 0", "order 1 0")?;
+    let order = found(&rt, graph(rt.alloc(), DOUBLED)?);
+    assert!(rt; !order.is_empty());
+    assert_eq!(rt; order.at(2), None);
+    assert_eq!(rt; width(&order, 0), Some(1));
+    assert_eq!(rt; width(&order, 1), Some(0));
+    assert_eq!(rt; width(&order, 2), None);
+    Ok(())
+}
+
+fn assert_fault<R: AllocGlobal + Abort>(
+    rt: &R,
+    fault: &OrderFault,
+    number: u8,
+    text: &str,
+) -> Result<(), Fail> {
+    assert_eq!(rt; fault.number(), number);
+    assert_eq!(rt; fault.to_string(rt.alloc())?.as_str(), text);
+    Ok(())
+}
+
+#[test]
+fn fault_lines(rt: HostRuntime) -> Result<(), Fail> {
+    let cycle = OrderFault::Cycle([0, 1].to_vec(rt.alloc())?);
+    assert_fault(&rt, &cycle, 50, "50 Cycle 0 1")?;
+    assert_fault(&rt, &OrderFault::BadNumber(1, 2), 51, "51 BadNumber 1 2")?;
+    assert_fault(&rt, &OrderFault::Memory, 52, "52 Memory")
+}
+
+/// The graph of a chain, each number of which lists the next.
+fn chain(alloc: Global, length: u32) -> Result<Vec<Vec<u32>>, AllocError> {
     let mut lists = Vec::new(alloc);
-    for next in 1..100_000 {
+    for next in 1..length {
         lists.push([next].to_vec(alloc)?)?;
     }
     lists.push(Vec::new(alloc))?;
-    let order = found(&rt, lists);
+    Ok(lists)
+}
+
+#[test]
+fn long_chain(rt: HostRuntime) -> Result<(), Fail> {
+    let order = found(&rt, chain(rt.alloc(), 100_000)?);
     assert_eq!(rt; order.len(), 100_000);
     assert_eq!(rt; order.at(0), Some(99_999));
     assert_eq!(rt; order.at(99_999), Some(0));
     Ok(())
 }
 
-#[test]
-fn wide_star(rt: HostRuntime) -> Result<(), Fail> {
-    let alloc = rt.alloc();
+/// The numbers from 1 to below the count, each twice.
+fn doubled(alloc: Global, count: u32) -> Result<Vec<u32>, AllocError> {
     let mut all = Vec::new(alloc);
-    for leaf in 1..100_001 {
+    for leaf in 1..count {
         all.push(leaf)?;
         all.push(leaf)?;
     }
+    Ok(all)
+}
+
+/// The graph whose number 0 lists each other number twice.
+fn star(alloc: Global, count: u32) -> Result<Vec<Vec<u32>>, AllocError> {
     let mut lists = Vec::new(alloc);
-    lists.push(all)?;
-    for _ in 1..100_001 {
+    lists.push(doubled(alloc, count)?)?;
+    for _ in 1..count {
         lists.push(Vec::new(alloc))?;
     }
-    let order = found(&rt, lists);
+    Ok(lists)
+}
+
+#[test]
+fn wide_star(rt: HostRuntime) -> Result<(), Fail> {
+    let order = found(&rt, star(rt.alloc(), 100_001)?);
     assert_eq!(rt; order.len(), 100_001);
     assert_eq!(rt; order.at(100_000), Some(0));
-    assert_eq!(rt; order.successors(0).map(|list| list.len()), Some(100_000));
+    assert_eq!(rt; width(&order, 0), Some(100_000));
     Ok(())
 }
 
@@ -133,6 +180,17 @@ fn below(state: &mut u64, bound: u32) -> u32 {
         .unwrap_or(0)
 }
 
+/// A list of random numbers below a bound; none where the bound is 0.
+fn random_list(alloc: Global, state: &mut u64, bound: u32) -> Result<Vec<u32>, AllocError> {
+    let mut list = Vec::new(alloc);
+    for _ in 0..below(state, 4) {
+        if bound > 0 {
+            list.push(below(state, bound))?;
+        }
+    }
+    Ok(list)
+}
+
 /// A graph with so many numbers; where it is to be tame, each successor is below its number.
 fn random_graph(
     alloc: Global,
@@ -142,15 +200,8 @@ fn random_graph(
 ) -> Result<Vec<Vec<u32>>, AllocError> {
     let mut lists = Vec::new(alloc);
     for number in 0..count {
-        let mut list = Vec::new(alloc);
-        for _ in 0..below(state, 4) {
-            if !tame {
-                list.push(below(state, count))?;
-            } else if number > 0 {
-                list.push(below(state, number))?;
-            }
-        }
-        lists.push(list)?;
+        let bound = if tame { number } else { count };
+        lists.push(random_list(alloc, state, bound)?)?;
     }
     Ok(lists)
 }
@@ -165,18 +216,23 @@ fn all_marked(marks: &[bool], numbers: &[u32]) -> bool {
     true
 }
 
+/// Takes away each number whose successors are gone.
+fn take_away(lists: &[Vec<u32>], gone: &mut [bool]) {
+    for (number, list) in lists.iter().enumerate() {
+        let free = all_marked(gone, list);
+        if let Some(mark) = gone.get_mut(number) {
+            *mark = *mark || free;
+        }
+    }
+}
+
 /// Whether all numbers can be taken away, each once its successors are gone.
 fn has_order(alloc: Global, lists: &[Vec<u32>]) -> Result<bool, AllocError> {
     let mut gone = vec![in alloc; false; lists.len()]?;
     for _ in 0..lists.len() {
-        for (number, list) in lists.iter().enumerate() {
-            let free = all_marked(&gone, list);
-            if let Some(mark) = gone.get_mut(number) {
-                *mark = *mark || free;
-            }
-        }
+        take_away(lists, &mut gone);
     }
-    Ok(gone.iter().all(|mark| *mark))
+    Ok(!gone.contains(&false))
 }
 
 /// Whether each number of the order comes once and after its successors.
@@ -196,7 +252,7 @@ fn is_right(alloc: Global, order: &Order, count: usize) -> Result<bool, AllocErr
             *mark = true;
         }
     }
-    Ok(marks.iter().all(|mark| *mark))
+    Ok(!marks.contains(&false))
 }
 
 /// Whether each number lists the one after it, and the last one the first.
@@ -217,29 +273,46 @@ fn is_cycle(lists: &[Vec<u32>], numbers: &[u32]) -> bool {
     next.is_some()
 }
 
+/// The answer for a graph is right: an order where it has one, and else a cycle of it.
+fn assert_answer<R: AllocGlobal + Abort>(
+    rt: &R,
+    lists: &[Vec<u32>],
+    answer: &Result<Order, OrderFault>,
+    round: u32,
+) -> Result<(), Fail> {
+    let wanted = has_order(rt.alloc(), lists)?;
+    match answer {
+        Ok(order) => {
+            assert!(rt; wanted, "round {round}");
+            assert!(rt; is_right(rt.alloc(), order, lists.len())?, "round {round}");
+        }
+        Err(OrderFault::Cycle(numbers)) => {
+            assert!(rt; !wanted, "round {round}");
+            assert!(rt; is_cycle(lists, numbers), "round {round}");
+        }
+        Err(fault) => panic!(rt; "round {round}: {fault}"),
+    }
+    Ok(())
+}
+
+/// Orders the random graph of a round, and gives 1 where it has an order, and 0 where it has a cycle.
+fn ordered<R: AllocGlobal + Abort>(rt: &R, state: &mut u64, round: u32) -> Result<u32, Fail> {
+    let count = below(state, 31).max(1);
+    let lists = random_graph(rt.alloc(), state, count, round % 2 == 0)?;
+    let copy = lists.clone()?;
+    assert!(rt; copy.len() < 4294967295);
+    let answer = order(copy);
+    assert_answer(rt, &lists, &answer, round)?;
+    Ok(if answer.is_ok() { 1 } else { 0 })
+}
+
 #[test]
 fn random_graphs(rt: HostRuntime) -> Result<(), Fail> {
-    let alloc = rt.alloc();
     let mut state = 2024;
-    let mut ordered = 0u32;
+    let mut count = 0u32;
     for round in 0..300u32 {
-        let count = below(&mut state, 31).max(1);
-        let lists = random_graph(alloc, &mut state, count, round % 2 == 0)?;
-        assert!(rt; lists.len() < 4294967295);
-        let wanted = has_order(alloc, &lists)?;
-        match order(lists.clone()?) {
-            Ok(order) => {
-                assert!(rt; wanted, "round {round}");
-                assert!(rt; is_right(alloc, &order, lists.len())?, "round {round}");
-                ordered = ordered.saturating_add(1);
-            }
-            Err(OrderFault::Cycle(numbers)) => {
-                assert!(rt; !wanted, "round {round}");
-                assert!(rt; is_cycle(&lists, &numbers), "round {round}");
-            }
-            Err(fault) => panic!(rt; "round {round}: {fault}"),
-        }
+        count = count.saturating_add(ordered(&rt, &mut state, round)?);
     }
-    assert!(rt; ordered >= 150 && ordered < 300);
+    assert!(rt; count >= 150 && count < 300);
     Ok(())
 }

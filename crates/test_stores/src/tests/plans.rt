@@ -1,3 +1,5 @@
+use crate::tests::texts::Part::{self, KeyOf, LineOf, Words};
+use crate::tests::texts::assert_text;
 use bytes::Bytes;
 use oci_manifest::Key;
 use oci_plan::{Existing, Plan, PlanFault, gather};
@@ -45,6 +47,37 @@ impl<'a> Source for Counted<'a> {
     }
 }
 
+fn push_line(alloc: Global, text: &mut String, before: &str, key: &Key) -> Result<(), Fail> {
+    text.push_str(format!(in alloc; "{before}{key}\n")?.as_str())?;
+    Ok(())
+}
+
+/// The planned keys in their order, a line each.
+fn push_planned(alloc: Global, text: &mut String, plan: &Plan) -> Result<(), Fail> {
+    for number in 0..u32::MAX {
+        let Some(key) = plan.key(number) else {
+            break;
+        };
+        push_line(alloc, text, "", key)?;
+    }
+    Ok(())
+}
+
+/// The skipped keys, a line each.
+fn push_skipped(alloc: Global, text: &mut String, plan: &Plan) -> Result<(), Fail> {
+    for key in plan.skipped() {
+        push_line(alloc, text, "skipped ", key)?;
+    }
+    Ok(())
+}
+
+fn listed(alloc: Global, plan: &Plan) -> Result<String, Fail> {
+    let mut text = String::new(alloc);
+    push_planned(alloc, &mut text, plan)?;
+    push_skipped(alloc, &mut text, plan)?;
+    Ok(text)
+}
+
 /// What `gather` answers, as text: the planned keys in their order, then the skipped ones; or the fault.
 fn line(alloc: Global, answer: &Result<Plan, PlanFault>) -> Result<String, Fail> {
     match answer {
@@ -53,75 +86,64 @@ fn line(alloc: Global, answer: &Result<Plan, PlanFault>) -> Result<String, Fail>
     }
 }
 
-fn listed(alloc: Global, plan: &Plan) -> Result<String, Fail> {
-    let mut text = String::new(alloc);
-    for number in 0..u32::MAX {
-        let Some(key) = plan.key(number) else {
-            break;
-        };
-        text.push_str(format!(in alloc; "{key}\n")?.as_str())?;
-    }
-    for key in plan.skipped() {
-        text.push_str(format!(in alloc; "skipped {key}\n")?.as_str())?;
-    }
-    Ok(text)
-}
-
-fn gathered<A: Source, D: Dest>(
-    alloc: Global,
-    source: &A,
-    destination: &D,
-    roots: &[Key],
-    existing: Existing,
-) -> Result<String, Fail> {
-    line(
-        alloc,
-        &gather(alloc, source, destination, roots, 4_194_304, existing),
-    )
-}
-
-/// What is planned from a source into a store of samples, and how many fetches that took.
-fn planned(
-    alloc: Global,
-    source: &MemoryStore,
-    destination: &[Sample],
-    roots: &[Sample],
-    existing: Existing,
-) -> Result<(String, u32), Fail> {
-    let counted = Counted {
-        store: source,
-        fetches: Cell::new(0),
-    };
-    let destination = memory(alloc, destination)?;
-    let roots = keys(alloc, roots)?;
-    let told = gathered(alloc, &counted, &destination, &roots, existing)?;
-    Ok((told, counted.fetches.get()))
-}
-
-/// A plan, and how many fetches it takes.
+/// A plan, and how many fetches it takes, where they are counted.
 #[derive(Clone, Copy)]
 struct Row<'a> {
     source: &'a [Sample],
     destination: &'a [Sample],
     roots: &'a [Sample],
+    limit: u64,
     existing: Existing,
-    want: &'a str,
-    fetches: u32,
+    want: &'a [Part],
+    fetches: Option<u32>,
 }
 
-fn assert_row<R: AllocGlobal + Abort>(rt: &R, row: Row<'_>) -> Result<(), Fail> {
-    let source = memory(rt.alloc(), row.source)?;
-    let (told, fetched) = planned(
-        rt.alloc(),
-        &source,
-        row.destination,
-        row.roots,
-        row.existing,
-    )?;
-    assert_eq!(rt; told.as_str(), row.want);
-    assert_eq!(rt; fetched, row.fetches);
-    Ok(())
+/// What is planned from a source into a destination, as text.
+fn gathered<A: Source, D: Dest>(
+    alloc: Global,
+    source: &A,
+    destination: &D,
+    row: &Row<'_>,
+) -> Result<String, Fail> {
+    let roots = keys(alloc, row.roots)?;
+    line(
+        alloc,
+        &gather(alloc, source, destination, &roots, row.limit, row.existing),
+    )
 }
+
+/// What is planned, as text, and how many fetches that takes.
+fn planned_between(
+    alloc: Global,
+    store: &MemoryStore,
+    destination: &MemoryStore,
+    row: &Row<'_>,
+) -> Result<(String, u32), Fail> {
+    let source = Counted {
+        store,
+        fetches: Cell::new(0),
+    };
+    let told = gathered(alloc, &source, destination, row)?;
+    Ok((told, source.fetches.get()))
+}
+
+/// The same of stores of the row's samples.
+fn planned(alloc: Global, row: &Row<'_>) -> Result<(String, u32), Fail> {
+    let source = memory(alloc, row.source)?;
+    let destination = memory(alloc, row.destination)?;
+    planned_between(alloc, &source, &destination, row)
+}
+
+fn assert_row<R: AllocGlobal + Abort>(rt: &R, row: &Row<'_>) -> Result<(), Fail> {
+    let (told, fetched) = planned(rt.alloc(), row)?;
+    if let Some(fetches) = row.fetches {
+        assert_eq!(rt; fetched, fetches);
+    }
+    assert_text(rt, rt.alloc(), "plan", told.as_str(), row.want)
+}
+
+/// The greatest size of a manifest, where it is not what a test is about.
+const LIMIT: u64 = 4_194_304;
 
 /// What is planned where held keys are passed over.
 fn assert_planned<R: AllocGlobal + Abort>(
@@ -129,18 +151,19 @@ fn assert_planned<R: AllocGlobal + Abort>(
     source: &[Sample],
     destination: &[Sample],
     roots: &[Sample],
-    want: &str,
+    want: &[Part],
     fetches: u32,
 ) -> Result<(), Fail> {
     assert_row(
         rt,
-        Row {
+        &Row {
             source,
             destination,
             roots,
+            limit: LIMIT,
             existing: Existing::Skip,
             want,
-            fetches,
+            fetches: Some(fetches),
         },
     )
 }
@@ -151,18 +174,19 @@ fn assert_descended<R: AllocGlobal + Abort>(
     source: &[Sample],
     destination: &[Sample],
     roots: &[Sample],
-    want: &str,
+    want: &[Part],
     fetches: u32,
 ) -> Result<(), Fail> {
     assert_row(
         rt,
-        Row {
+        &Row {
             source,
             destination,
             roots,
+            limit: LIMIT,
             existing: Existing::Descend,
             want,
-            fetches,
+            fetches: Some(fetches),
         },
     )
 }
@@ -170,124 +194,137 @@ fn assert_descended<R: AllocGlobal + Abort>(
 /// Each manifest is fetched once, and a layer never.
 #[test]
 fn what_the_destination_lacks(rt: HostRuntime) -> Result<(), Fail> {
-    let alloc = rt.alloc();
-    let (index, image_2, image_3) = (Index1.key(alloc)?, Image2.key(alloc)?, Image3.key(alloc)?);
-    let bar = Bar.key(alloc)?;
-    let want = format!(in alloc; "{index}\n{image_2}\n{image_3}\n{bar}\n")?;
-    let source = [Empty, Foo, Bar, Image2, Image3, Index1];
-    assert_planned(&rt, &source, &[Empty, Foo], &[Index1], want.as_str(), 3)
+    assert_planned(
+        &rt,
+        &[Empty, Foo, Bar, Image2, Image3, Index1],
+        &[Empty, Foo],
+        &[Index1],
+        &[LineOf(Index1), LineOf(Image2), LineOf(Image3), LineOf(Bar)],
+        3,
+    )
 }
 
 /// Keys are visited first come, first served, and the first one at fault is told.
 #[test]
 fn what_the_source_lacks(rt: HostRuntime) -> Result<(), Fail> {
-    let alloc = rt.alloc();
-    let foo = Foo.key(alloc)?;
-    let want = format!(in alloc; "53 NotFound {foo}")?;
-    let source = [Empty, Image2, Image3, Index1];
-    assert_planned(&rt, &source, &[], &[Index1], want.as_str(), 3)?;
-    let image_3 = Image3.key(alloc)?;
-    let want = format!(in alloc; "53 NotFound {image_3}")?;
-    let source = [Empty, Bar, Image2, Index1];
-    assert_planned(&rt, &source, &[], &[Index1], want.as_str(), 2)
+    assert_planned(
+        &rt,
+        &[Empty, Image2, Image3, Index1],
+        &[],
+        &[Index1],
+        &[Words("53 NotFound "), KeyOf(Foo)],
+        3,
+    )?;
+    assert_planned(
+        &rt,
+        &[Empty, Bar, Image2, Index1],
+        &[],
+        &[Index1],
+        &[Words("53 NotFound "), KeyOf(Image3)],
+        2,
+    )
 }
 
 #[test]
 fn held_roots(rt: HostRuntime) -> Result<(), Fail> {
-    let foo = Foo.key(rt.alloc())?;
-    let want = format!(in rt.alloc(); "skipped {foo}\n")?;
-    assert_planned(&rt, &[], &[Foo], &[Foo, Foo], want.as_str(), 0)
+    let want = [Words("skipped "), LineOf(Foo)];
+    assert_planned(&rt, &[], &[Foo], &[Foo, Foo], &want, 0)
 }
 
 /// A held manifest that the source has is fetched once as any other, and a layer never, whoever lists it.
 #[test]
 fn fetches_below_held_keys(rt: HostRuntime) -> Result<(), Fail> {
-    let alloc = rt.alloc();
-    let (index, image_2, image_3) = (Index1.key(alloc)?, Image2.key(alloc)?, Image3.key(alloc)?);
-    let (empty, bar) = (Empty.key(alloc)?, Bar.key(alloc)?);
-    let want = format!(in alloc;
-        "{image_3}\n{empty}\n{bar}\nskipped {index}\nskipped {image_2}\n"
-    )?;
-    let source = [Empty, Foo, Bar, Image2, Image3, Index1];
-    let held = [Foo, Image2, Index1];
-    let roots = [Index1, Image2, Index1];
-    assert_descended(&rt, &source, &held, &roots, want.as_str(), 3)
+    assert_descended(
+        &rt,
+        &[Empty, Foo, Bar, Image2, Image3, Index1],
+        &[Foo, Image2, Index1],
+        &[Index1, Image2, Index1],
+        &[
+            LineOf(Image3),
+            LineOf(Empty),
+            LineOf(Bar),
+            Words("skipped "),
+            LineOf(Index1),
+            Words("skipped "),
+            LineOf(Image2),
+        ],
+        3,
+    )
 }
 
 /// What the source has and a held image lists is planned.
 #[test]
 fn below_a_held_image(rt: HostRuntime) -> Result<(), Fail> {
-    let (empty, image) = (Empty.key(rt.alloc())?, Image0.key(rt.alloc())?);
-    let want = format!(in rt.alloc(); "{empty}\nskipped {image}\n")?;
-    assert_descended(
-        &rt,
-        &[Empty, Image0],
-        &[Image0],
-        &[Image0],
-        want.as_str(),
-        1,
-    )
+    let want = [LineOf(Empty), Words("skipped "), LineOf(Image0)];
+    assert_descended(&rt, &[Empty, Image0], &[Image0], &[Image0], &want, 1)
 }
 
 /// Nothing is planned for what is open beside the roots.
 #[test]
 fn beside_an_open_image(rt: HostRuntime) -> Result<(), Fail> {
-    let foo = Foo.key(rt.alloc())?;
-    let want = format!(in rt.alloc(); "{foo}\n")?;
-    assert_descended(&rt, &[Empty, Foo], &[Image0], &[Foo], want.as_str(), 0)
+    assert_descended(&rt, &[Empty, Foo], &[Image0], &[Foo], &[LineOf(Foo)], 0)
 }
 
 /// What only the destination has is not fetched, and lists nothing.
 #[test]
 fn of_an_image_that_the_source_lacks(rt: HostRuntime) -> Result<(), Fail> {
-    let image = Image0.key(rt.alloc())?;
-    let want = format!(in rt.alloc(); "skipped {image}\n")?;
-    assert_descended(&rt, &[Empty], &[Image0], &[Image0], want.as_str(), 0)
+    let want = [Words("skipped "), LineOf(Image0)];
+    assert_descended(&rt, &[Empty], &[Image0], &[Image0], &want, 0)
 }
 
 /// A layer that only the destination has is no fault.
 #[test]
 fn of_a_layer_that_the_source_lacks(rt: HostRuntime) -> Result<(), Fail> {
-    let image = Image2.key(rt.alloc())?;
-    let want = format!(in rt.alloc(); "skipped {image}\n")?;
-    let held = [Empty, Foo, Image2];
-    assert_descended(&rt, &[Empty, Image2], &held, &[Image2], want.as_str(), 1)
+    assert_descended(
+        &rt,
+        &[Empty, Image2],
+        &[Empty, Foo, Image2],
+        &[Image2],
+        &[Words("skipped "), LineOf(Image2)],
+        1,
+    )
 }
 
 /// A layer that neither store has is one.
 #[test]
 fn of_a_layer_that_both_lack(rt: HostRuntime) -> Result<(), Fail> {
-    let foo = Foo.key(rt.alloc())?;
-    let want = format!(in rt.alloc(); "53 NotFound {foo}")?;
     let both = [Empty, Image2];
-    assert_descended(&rt, &both, &both, &[Image2], want.as_str(), 1)
+    let want = [Words("53 NotFound "), KeyOf(Foo)];
+    assert_descended(&rt, &both, &both, &[Image2], &want, 1)
 }
 
 /// What is planned for the image below held keys too, where 240 bytes are the limit. The image has 241.
-fn told_under_limit(alloc: Global, source: &[Sample], held: &[Sample]) -> Result<String, Fail> {
-    let (source, destination) = (memory(alloc, source)?, memory(alloc, held)?);
-    let roots = keys(alloc, &[Image0])?;
-    let answer = gather(alloc, &source, &destination, &roots, 240, Existing::Descend);
-    line(alloc, &answer)
+fn assert_under_limit<R: AllocGlobal + Abort>(
+    rt: &R,
+    source: &[Sample],
+    destination: &[Sample],
+    want: &[Part],
+) -> Result<(), Fail> {
+    assert_row(
+        rt,
+        &Row {
+            source,
+            destination,
+            roots: &[Image0],
+            limit: 240,
+            existing: Existing::Descend,
+            want,
+            fetches: None,
+        },
+    )
 }
 
 /// A manifest over the limit is a fault where the source has it, held or not.
 #[test]
 fn a_held_image_over_the_limit(rt: HostRuntime) -> Result<(), Fail> {
-    let image = Image0.key(rt.alloc())?;
-    let want = format!(in rt.alloc(); "54 TooLarge {image} 240")?;
     let both = [Empty, Image0];
-    let told = told_under_limit(rt.alloc(), &both, &both)?;
-    assert_eq!(&rt; told.as_str(), want.as_str());
-    Ok(())
+    let want = [Words("54 TooLarge "), KeyOf(Image0), Words(" 240")];
+    assert_under_limit(&rt, &both, &both, &want)
 }
 
 /// One over the limit that only the destination has is not asked for, and is no fault.
 #[test]
 fn an_image_over_the_limit_that_the_source_lacks(rt: HostRuntime) -> Result<(), Fail> {
-    let image = Image0.key(rt.alloc())?;
-    let want = format!(in rt.alloc(); "skipped {image}\n")?;
-    let told = told_under_limit(rt.alloc(), &[Empty], &[Empty, Image0])?;
-    assert_eq!(&rt; told.as_str(), want.as_str());
-    Ok(())
+    let want = [Words("skipped "), LineOf(Image0)];
+    assert_under_limit(&rt, &[Empty], &[Empty, Image0], &want)
 }

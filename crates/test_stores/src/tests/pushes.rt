@@ -1,4 +1,5 @@
-use crate::tests::graphs::assert_holds;
+use crate::tests::texts::Part::{self, KeyOf, Words};
+use crate::tests::texts::assert_text;
 use bytes::Bytes;
 use oci_digest::Digest;
 use oci_manifest::Key;
@@ -7,29 +8,73 @@ use std::alloc::Global;
 use std::process::Abort;
 use std::test::Fail;
 use test_support::Sample::{Empty, Foo, FooBySha512, Image0};
-use test_support::{EMPTY, IMAGE, Sample, closed, memory};
+use test_support::{EMPTY, IMAGE, Sample, closed, holds, memory};
 
 /// What a push answers, as text: the place, or the fault.
 fn told(alloc: Global, pushed: &Result<usize, PushFault>) -> Result<String, Fail> {
-    Ok(match pushed {
-        Ok(place) => format!(in alloc; "place {place}")?,
-        Err(fault) => format!(in alloc; "{fault}")?,
-    })
+    match pushed {
+        Ok(place) => Ok(format!(in alloc; "place {place}")?),
+        Err(fault) => Ok(fault.to_string(alloc)?),
+    }
 }
 
-/// Pushes content under a key, which need not be its own.
-fn push(alloc: Global, store: &mut MemoryStore, key: &Key, bytes: Bytes) -> Result<String, Fail> {
-    told(alloc, &store.push(key, bytes))
+/// What a push of a sample under its own key answers.
+fn push_sample(alloc: Global, store: &mut MemoryStore, sample: Sample) -> Result<String, Fail> {
+    let key = sample.key(alloc)?;
+    told(alloc, &store.push(&key, sample.bytes(alloc)?))
 }
 
-/// Pushes content whose successors have to be held.
-fn push_closed<D: Dest>(
-    alloc: Global,
-    store: &mut D,
-    key: &Key,
-    bytes: Bytes,
-) -> Result<String, Fail> {
-    told(alloc, &store.push_closed(key, bytes))
+fn assert_push<R: AllocGlobal + Abort>(
+    rt: &R,
+    store: &mut MemoryStore,
+    sample: Sample,
+    want: &str,
+) -> Result<(), Fail> {
+    let got = push_sample(rt.alloc(), store, sample)?;
+    assert_eq!(rt; got.as_str(), want);
+    Ok(())
+}
+
+fn push_all<R: AllocGlobal + Abort>(
+    rt: &R,
+    store: &mut MemoryStore,
+    pushes: &[(Sample, &str)],
+) -> Result<(), Fail> {
+    for (sample, want) in pushes {
+        assert_push(rt, store, *sample, want)?;
+    }
+    Ok(())
+}
+
+/// What the pushes of these samples answer, one after another, and what is held then.
+fn assert_pushes<R: AllocGlobal + Abort>(
+    rt: &R,
+    pushes: &[(Sample, &str)],
+    held: &[Sample],
+) -> Result<(), Fail> {
+    let mut store = MemoryStore::new(rt.alloc());
+    push_all(rt, &mut store, pushes)?;
+    assert!(rt; holds(rt.alloc(), &store, held)?);
+    Ok(())
+}
+
+#[test]
+fn push_twice(rt: HostRuntime) -> Result<(), Fail> {
+    assert_pushes(
+        &rt,
+        &[(Empty, "place 0"), (Empty, "30 AlreadyExists")],
+        &[Empty],
+    )
+}
+
+/// One content under its digests by two algorithms is two keys.
+#[test]
+fn foo_by_two_algorithms(rt: HostRuntime) -> Result<(), Fail> {
+    assert_pushes(
+        &rt,
+        &[(Foo, "place 0"), (FooBySha512, "place 1")],
+        &[Foo, FooBySha512],
+    )
 }
 
 fn key(alloc: Global, media_type: &str, digest: Digest, size: u64) -> Result<Key, Fail> {
@@ -37,123 +82,132 @@ fn key(alloc: Global, media_type: &str, digest: Digest, size: u64) -> Result<Key
     Ok(Key::new(media_type, digest, size)?)
 }
 
-/// Pushes under the sample's own key, and compares what is told.
-fn assert_push<R: AllocGlobal + Abort>(
+/// Pushes bytes into an empty store under some key, and compares what is told; the store stays empty.
+fn assert_refused<R: AllocGlobal + Abort>(
     rt: &R,
-    store: &mut MemoryStore,
-    sample: Sample,
+    key: &Key,
+    bytes: &'static [u8],
     want: &str,
 ) -> Result<(), Fail> {
-    let alloc = rt.alloc();
-    let got = push(alloc, store, &sample.key(alloc)?, sample.bytes(alloc)?)?;
+    let mut store = MemoryStore::new(rt.alloc());
+    let got = told(rt.alloc(), &store.push(key, Bytes::from_static(bytes)))?;
     assert_eq!(rt; got.as_str(), want);
+    assert!(rt; holds(rt.alloc(), &store, &[])?);
     Ok(())
-}
-
-#[test]
-fn push_twice(rt: HostRuntime) -> Result<(), Fail> {
-    let mut store = memory(rt.alloc(), &[])?;
-    assert_push(&rt, &mut store, Empty, "place 0")?;
-    assert_push(&rt, &mut store, Empty, "30 AlreadyExists")?;
-    assert_holds(&rt, &store, &[Empty])
-}
-
-/// One content under its digests by two algorithms is two keys.
-#[test]
-fn foo_by_two_algorithms(rt: HostRuntime) -> Result<(), Fail> {
-    let mut store = memory(rt.alloc(), &[])?;
-    assert_push(&rt, &mut store, Foo, "place 0")?;
-    assert_push(&rt, &mut store, FooBySha512, "place 1")?;
-    assert_holds(&rt, &store, &[Foo, FooBySha512])
 }
 
 /// A digest by SHA-512 is verified by that algorithm.
 #[test]
 fn other_bytes_by_sha512(rt: HostRuntime) -> Result<(), Fail> {
     let key = FooBySha512.key(rt.alloc())?;
-    let bytes = Bytes::from_vec(b"bar".to_vec(rt.alloc())?)?;
-    assert_refused(&rt, &key, bytes, "32 DigestMismatch")
-}
-
-/// Pushes under some key, and compares what is told; the store stays empty.
-fn assert_refused<R: AllocGlobal + Abort>(
-    rt: &R,
-    key: &Key,
-    bytes: Bytes,
-    want: &str,
-) -> Result<(), Fail> {
-    let mut store = memory(rt.alloc(), &[])?;
-    let got = push(rt.alloc(), &mut store, key, bytes)?;
-    assert_eq!(rt; got.as_str(), want);
-    assert_holds(rt, &store, &[])
+    assert_refused(&rt, &key, b"bar", "32 DigestMismatch")
 }
 
 #[test]
 fn push_refusals(rt: HostRuntime) -> Result<(), Fail> {
-    let alloc = rt.alloc();
-    let of_empty = Digest::of(b"{}");
-    let longer = key(alloc, EMPTY, of_empty, 3)?;
-    assert_refused(&rt, &longer, Empty.bytes(alloc)?, "31 SizeMismatch")?;
-    let other = key(alloc, EMPTY, Digest::of(b"foo"), 2)?;
-    assert_refused(&rt, &other, Empty.bytes(alloc)?, "32 DigestMismatch")?;
-    let list = key(alloc, IMAGE, Digest::of(b"[]"), 2)?;
-    let bytes = Bytes::from_vec(b"[]".to_vec(alloc)?)?;
-    assert_refused(&rt, &list, bytes, "33 BadManifest 11 NotObject")
+    for (media_type, digested, size, bytes, want) in [
+        (
+            EMPTY,
+            b"{}".as_slice(),
+            3,
+            b"{}".as_slice(),
+            "31 SizeMismatch",
+        ),
+        (
+            EMPTY,
+            b"foo".as_slice(),
+            2,
+            b"{}".as_slice(),
+            "32 DigestMismatch",
+        ),
+        (
+            IMAGE,
+            b"[]".as_slice(),
+            2,
+            b"[]".as_slice(),
+            "33 BadManifest 11 NotObject",
+        ),
+    ] {
+        let key = key(rt.alloc(), media_type, Digest::of(digested), size)?;
+        assert_refused(&rt, &key, bytes, want)?;
+    }
+    Ok(())
+}
+
+/// The key of an image with another size.
+fn resized(alloc: Global, size: u64) -> Result<Key, Fail> {
+    let image = Image0.key(alloc)?;
+    key(alloc, IMAGE, *image.digest(), size)
 }
 
 /// Pushes an image under some key into an empty closed store, and compares what is told; the store stays empty.
-fn assert_not_closed<R: AllocGlobal + Abort>(rt: &R, key: &Key, want: &str) -> Result<(), Fail> {
-    let mut store = closed(rt.alloc(), &[])?;
-    let got = push_closed(rt.alloc(), &mut store, key, Image0.bytes(rt.alloc())?)?;
-    assert_eq!(rt; got.as_str(), want);
-    assert_holds(rt, store.memory(), &[])
+fn assert_not_closed<R: AllocGlobal + Abort>(rt: &R, key: &Key, want: &[Part]) -> Result<(), Fail> {
+    let mut store = ClosedStore::new(rt.alloc());
+    let got = told(
+        rt.alloc(),
+        &store.push_closed(key, Image0.bytes(rt.alloc())?),
+    )?;
+    assert_text(rt, rt.alloc(), "push", got.as_str(), want)?;
+    assert!(rt; holds(rt.alloc(), store.memory(), &[])?);
+    Ok(())
 }
 
 /// A manifest does not come before what it lists.
 #[test]
 fn successors_first(rt: HostRuntime) -> Result<(), Fail> {
-    let alloc = rt.alloc();
-    let empty = Empty.key(alloc)?;
-    let want = format!(in alloc; "42 MissingSuccessor {empty}")?;
-    let image = Image0.key(alloc)?;
-    assert_not_closed(&rt, &image, want.as_str())?;
-    let shorter = key(alloc, IMAGE, *image.digest(), 240)?;
-    assert_not_closed(&rt, &shorter, "31 SizeMismatch")
+    let want = [Words("42 MissingSuccessor "), KeyOf(Empty)];
+    assert_not_closed(&rt, &Image0.key(rt.alloc())?, &want)?;
+    let want = [Words("31 SizeMismatch")];
+    assert_not_closed(&rt, &resized(rt.alloc(), 240)?, &want)
+}
+
+/// The size of the key at a place of the store.
+fn size_at(store: &MemoryStore, place: usize) -> Option<u64> {
+    match store.entry(place) {
+        Some((key, _)) => Some(key.size()),
+        None => None,
+    }
 }
 
 /// An entry by its place, and the empty store.
 #[test]
 fn entries(rt: HostRuntime) -> Result<(), Fail> {
-    let alloc = rt.alloc();
-    let store = memory(alloc, &[Empty, Image0])?;
-    let key = store.entry(1).map(|(key, _)| key.size());
-    assert_eq!(rt; key, Some(241));
+    let store = memory(rt.alloc(), &[Empty, Image0])?;
+    assert_eq!(rt; size_at(&store, 1), Some(241));
     assert!(rt; store.entry(2).is_none());
-    assert!(rt; !store.is_empty() && memory(alloc, &[])?.is_empty());
+    assert!(rt; !store.is_empty());
+    assert!(rt; memory(rt.alloc(), &[])?.is_empty());
     Ok(())
 }
 
 /// A store of another's entries, which are copied.
-fn of_copied(store: &MemoryStore) -> Result<MemoryStore, Fail> {
+fn copied(store: &MemoryStore) -> Result<MemoryStore, Fail> {
     Ok(MemoryStore::from_entries(store.entries().try_clone()?))
 }
 
-/// A store of another's entries, which are moved.
-fn of_moved(store: MemoryStore) -> MemoryStore {
-    MemoryStore::from_entries(store.into_entries())
+/// Whether a store of another's entries, which are copied, has what that has.
+fn is_copied(alloc: Global, samples: &[Sample]) -> Result<bool, Fail> {
+    let copied = copied(&memory(alloc, samples)?)?;
+    holds(alloc, &copied, samples)
 }
 
-/// The same, of a closed store.
-fn closed_of_moved(store: ClosedStore) -> ClosedStore {
-    ClosedStore::from_entries(store.into_entries())
+/// The same where the entries are moved.
+fn is_moved(alloc: Global, samples: &[Sample]) -> Result<bool, Fail> {
+    let moved = MemoryStore::from_entries(memory(alloc, samples)?.into_entries());
+    holds(alloc, &moved, samples)
+}
+
+/// The same of a closed store.
+fn is_moved_closed(alloc: Global, samples: &[Sample]) -> Result<bool, Fail> {
+    let moved = ClosedStore::from_entries(closed(alloc, samples)?.into_entries());
+    holds(alloc, moved.memory(), samples)
 }
 
 #[test]
 fn entries_of_stores(rt: HostRuntime) -> Result<(), Fail> {
     let samples = [Empty, Foo, Image0];
-    let store = memory(rt.alloc(), &samples)?;
-    assert_holds(&rt, &of_copied(&store)?, &samples)?;
-    assert_holds(&rt, &of_moved(store), &samples)?;
-    let closed = closed_of_moved(closed(rt.alloc(), &samples)?);
-    assert_holds(&rt, closed.memory(), &samples)
+    assert!(rt; is_copied(rt.alloc(), &samples)?);
+    assert!(rt; is_moved(rt.alloc(), &samples)?);
+    assert!(rt; is_moved_closed(rt.alloc(), &samples)?);
+    Ok(())
 }

@@ -1,3 +1,5 @@
+use crate::tests::texts::Part::{self, DigestOf, KeyOf, LineOf, Words};
+use crate::tests::texts::{assert_text, text};
 use oci_manifest::Key;
 use oci_store::{MemoryStore, Tagger};
 use std::alloc::Global;
@@ -6,148 +8,149 @@ use std::test::Fail;
 use test_support::Sample::{Empty, Foo, Image0, Image0AsLayer};
 use test_support::{Sample, closed, memory};
 
-/// What `tag` answers, as text: nothing, or the fault.
-pub(crate) fn tag<T: Tagger>(
+/// What `tag` answers of a sample's key, as text: nothing, or the fault.
+fn tag<T: Tagger>(
     alloc: Global,
     store: &mut T,
-    key: &Key,
+    sample: Sample,
     name: &str,
 ) -> Result<String, Fail> {
-    match &store.tag(key, name) {
+    let key = sample.key(alloc)?;
+    match &store.tag(&key, name) {
         Ok(()) => Ok(String::new(alloc)),
-        Err(fault) => Ok(format!(in alloc; "{fault}")?),
+        Err(fault) => Ok(fault.to_string(alloc)?),
     }
 }
 
 /// What `resolve` answers, as text: the key, or the fault.
 fn resolve<T: Tagger>(alloc: Global, store: &T, reference: &str) -> Result<String, Fail> {
     match &store.resolve(reference) {
-        Ok(key) => Ok(format!(in alloc; "{key}")?),
-        Err(fault) => Ok(format!(in alloc; "{fault}")?),
+        Ok(key) => Ok(key.to_string(alloc)?),
+        Err(fault) => Ok(fault.to_string(alloc)?),
     }
 }
 
-/// A reference resolves to a sample's key.
+/// A reference resolves to a key, or is refused.
 fn assert_resolves<R: AllocGlobal + Abort, T: Tagger>(
     rt: &R,
     store: &T,
-    reference: &str,
-    sample: Sample,
+    reference: &[Part],
+    want: &[Part],
 ) -> Result<(), Fail> {
-    let want = sample.key(rt.alloc())?.to_string(rt.alloc())?;
-    let got = resolve(rt.alloc(), store, reference)?;
-    assert!(rt; got == want, "{reference}: {got}");
-    Ok(())
+    let reference = text(rt.alloc(), reference)?;
+    let got = resolve(rt.alloc(), store, reference.as_str())?;
+    assert_text(rt, rt.alloc(), reference.as_str(), got.as_str(), want)
 }
 
-/// A reference is refused.
-fn assert_unresolved<R: AllocGlobal + Abort, T: Tagger>(
-    rt: &R,
-    store: &T,
-    reference: &str,
-    want: &str,
-) -> Result<(), Fail> {
-    let got = resolve(rt.alloc(), store, reference)?;
-    assert_eq!(rt; got.as_str(), want);
-    Ok(())
-}
-
-/// The tag of a sample's key is refused.
-fn assert_refused<R: AllocGlobal + Abort, T: Tagger>(
+/// The tag of a sample's key is taken, or refused.
+fn assert_tagged<R: AllocGlobal + Abort, T: Tagger>(
     rt: &R,
     store: &mut T,
     sample: Sample,
-    name: &str,
-    want: &str,
+    name: &[Part],
+    want: &[Part],
 ) -> Result<(), Fail> {
-    let key = sample.key(rt.alloc())?;
-    let got = tag(rt.alloc(), store, &key, name)?;
-    assert_eq!(rt; got.as_str(), want);
-    Ok(())
+    let name = text(rt.alloc(), name)?;
+    let got = tag(rt.alloc(), store, sample, name.as_str())?;
+    assert_text(rt, rt.alloc(), name.as_str(), got.as_str(), want)
 }
 
-/// Tags a sample's key, which is held.
-fn assert_tags<R: AllocGlobal + Abort, T: Tagger>(
-    rt: &R,
-    store: &mut T,
-    sample: Sample,
-    name: &str,
-) -> Result<(), Fail> {
-    let key = sample.key(rt.alloc())?;
-    assert_eq!(rt; tag(rt.alloc(), store, &key, name)?.as_str(), "");
-    assert_resolves(rt, store, name, sample)
+fn push_name(alloc: Global, text: &mut String, name: &str, key: &Key) -> Result<(), Fail> {
+    text.push_str(format!(in alloc; "{name} {key}\n")?.as_str())?;
+    Ok(())
 }
 
 /// The names of the store and their keys, a line each.
 fn listed(alloc: Global, store: &MemoryStore) -> Result<String, Fail> {
     let mut text = String::new(alloc);
     for (name, key) in &store.tags()? {
-        text.push_str(format!(in alloc; "{name} {key}\n")?.as_str())?;
+        push_name(alloc, &mut text, name.as_str(), key)?;
     }
     Ok(text)
 }
 
-/// The store has one name, which is that of the sample's key.
-pub(crate) fn assert_names<R: AllocGlobal + Abort>(
-    rt: &R,
-    store: &MemoryStore,
-    name: &str,
-    sample: Sample,
-) -> Result<(), Fail> {
-    let key = sample.key(rt.alloc())?;
-    let want = format!(in rt.alloc(); "{name} {key}\n")?;
-    let got = listed(rt.alloc(), store)?;
-    assert!(rt; got == want, "{got}");
-    Ok(())
+/// A step of a test.
+#[derive(Clone, Copy)]
+enum Step {
+    /// Tags a sample's key, which is held, with a name that then resolves to it.
+    Tags(Sample, &'static [Part]),
+    /// The tag of a sample's key is refused.
+    Refuses(Sample, &'static str, &'static str),
+    /// The store has these names, in byte order, each with a key.
+    Names(&'static [Part]),
 }
 
-/// The store has two names, in byte order.
-fn assert_both<R: AllocGlobal + Abort>(rt: &R, store: &MemoryStore) -> Result<(), Fail> {
-    let (image, empty) = (Image0.key(rt.alloc())?, Empty.key(rt.alloc())?);
-    let want = format!(in rt.alloc(); "a {image}\nm {empty}\n")?;
-    let got = listed(rt.alloc(), store)?;
-    assert!(rt; got == want, "{got}");
+fn take<R: AllocGlobal + Abort>(rt: &R, store: &mut MemoryStore, step: Step) -> Result<(), Fail> {
+    match step {
+        Step::Tags(sample, name) => {
+            assert_tagged(rt, store, sample, name, &[])?;
+            assert_resolves(rt, store, name, &[KeyOf(sample)])
+        }
+        Step::Refuses(sample, name, want) => {
+            assert_tagged(rt, store, sample, &[Words(name)], &[Words(want)])
+        }
+        Step::Names(want) => {
+            let got = listed(rt.alloc(), store)?;
+            assert_text(rt, rt.alloc(), "names", got.as_str(), want)
+        }
+    }
+}
+
+/// Takes these steps with a store of an image and its config.
+fn assert_steps<R: AllocGlobal + Abort>(rt: &R, steps: &[Step]) -> Result<(), Fail> {
+    let mut store = memory(rt.alloc(), &[Empty, Image0])?;
+    for step in steps {
+        take(rt, &mut store, *step)?;
+    }
     Ok(())
 }
 
 #[test]
 fn references(rt: HostRuntime) -> Result<(), Fail> {
-    let alloc = rt.alloc();
-    let store = memory(alloc, &[Empty, Image0])?;
-    let digest = Empty.key(alloc)?.digest().to_string(alloc)?;
-    assert_resolves(&rt, &store, digest.as_str(), Empty)?;
-    assert_unresolved(&rt, &store, "x", "36 UnknownReference")?;
-    assert_unresolved(&rt, &store, "", "35 EmptyReference")
+    let store = memory(rt.alloc(), &[Empty, Image0])?;
+    for (reference, want) in [
+        (DigestOf(Empty), KeyOf(Empty)),
+        (Words("x"), Words("36 UnknownReference")),
+        (Words(""), Words("35 EmptyReference")),
+    ] {
+        assert_resolves(&rt, &store, &[reference], &[want])?;
+    }
+    Ok(())
 }
 
 /// A digest of two keys resolves to the least, by the bytes of the media type.
 #[test]
 fn least_key_of_a_digest(rt: HostRuntime) -> Result<(), Fail> {
     let samples = [Empty, Image0, Image0AsLayer];
-    let digest = Image0.key(rt.alloc())?.digest().to_string(rt.alloc())?;
-    let open = memory(rt.alloc(), &samples)?;
-    assert_resolves(&rt, &open, digest.as_str(), Image0AsLayer)?;
-    let closed = closed(rt.alloc(), &samples)?;
-    assert_resolves(&rt, &closed, digest.as_str(), Image0AsLayer)
+    let (reference, want) = ([DigestOf(Image0)], [KeyOf(Image0AsLayer)]);
+    assert_resolves(&rt, &memory(rt.alloc(), &samples)?, &reference, &want)?;
+    assert_resolves(&rt, &closed(rt.alloc(), &samples)?, &reference, &want)
 }
 
 /// A name that is there is moved, and a name comes before a digest.
 #[test]
 fn tags(rt: HostRuntime) -> Result<(), Fail> {
-    let mut store = memory(rt.alloc(), &[Empty, Image0])?;
-    assert_tags(&rt, &mut store, Image0, "m")?;
-    assert_tags(&rt, &mut store, Empty, "m")?;
-    let digest = Empty.key(rt.alloc())?.digest().to_string(rt.alloc())?;
-    assert_tags(&rt, &mut store, Image0, digest.as_str())
+    assert_steps(
+        &rt,
+        &[
+            Step::Tags(Image0, &[Words("m")]),
+            Step::Tags(Empty, &[Words("m")]),
+            Step::Tags(Image0, &[DigestOf(Empty)]),
+        ],
+    )
 }
 
 #[test]
 fn refused_tags(rt: HostRuntime) -> Result<(), Fail> {
-    let mut store = memory(rt.alloc(), &[Empty, Image0])?;
-    assert_tags(&rt, &mut store, Empty, "m")?;
-    assert_refused(&rt, &mut store, Foo, "m", "37 NotHeld")?;
-    assert_refused(&rt, &mut store, Empty, "", "35 EmptyReference")?;
-    assert_names(&rt, &store, "m", Empty)?;
-    assert_tags(&rt, &mut store, Image0, "a")?;
-    assert_both(&rt, &store)
+    assert_steps(
+        &rt,
+        &[
+            Step::Tags(Empty, &[Words("m")]),
+            Step::Refuses(Foo, "m", "37 NotHeld"),
+            Step::Refuses(Empty, "", "35 EmptyReference"),
+            Step::Names(&[Words("m "), LineOf(Empty)]),
+            Step::Tags(Image0, &[Words("a")]),
+            Step::Names(&[Words("a "), LineOf(Image0), Words("m "), LineOf(Empty)]),
+        ],
+    )
 }

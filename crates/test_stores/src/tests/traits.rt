@@ -5,141 +5,190 @@ use oci_digest::Digest;
 use oci_manifest::Key;
 use oci_store::{ClosedStore, Dest, GraphSource, MemoryStore, Source, Tagger};
 use std::alloc::Global;
+use std::process::Abort;
 use std::test::Fail;
 use test_support::{Device, DeviceStore, PublishedStore};
 
-/// The key of a content under a media type.
-fn key_of(alloc: Global, media_type: &str, content: &[u8]) -> Result<Key, Fail> {
-    let media_type = String::from_str(alloc, media_type)?;
-    Ok(Key::new(media_type, Digest::of(content), content.len() as u64)?)
+/// A content: its media type, and its bytes.
+type Content = (&'static str, &'static [u8]);
+
+const FOO: Content = ("text/plain", b"foo");
+
+const BAR: Content = ("text/plain", b"bar");
+
+const SAME_BYTES: Content = ("text/html", b"foo");
+
+/// The number of the refusal of a push, or 0; then whether the key is held, how many keys are held, whether none of them lacks
+/// a successor, and how many puts have failed.
+type Pushed = (u8, bool, usize, bool, u64);
+
+/// Whether the key is there, whether its fetch may fail, the number of the fetch's refusal, or 0, and the length of what was
+/// fetched.
+type Fetched = (bool, bool, u8, usize);
+
+/// A call, and its answers.
+#[derive(Clone, Copy)]
+enum Call {
+    Push(Content, Pushed),
+    Fetch(Content, Fetched),
 }
 
-/// Pushes a content, and gives the number of the refusal, or 0; then whether the key is held, how
-/// many keys are held, whether none of them lacks a successor, and how many puts have failed.
-fn calls_dest<D: Dest>(
-    store: &mut D,
-    key: &Key,
-    content: &'static [u8],
-) -> (u8, bool, usize, bool, u64) {
-    let pushed = store.push_closed(key, Bytes::from_static(content));
-    let number = match &pushed {
+/// The key of a content.
+fn key_of(alloc: Global, (media_type, bytes): Content) -> Result<Key, Fail> {
+    let media_type = String::from_str(alloc, media_type)?;
+    Ok(Key::new(media_type, Digest::of(bytes), bytes.len() as u64)?)
+}
+
+/// The number of the refusal of a push, or 0.
+fn push<D: Dest>(store: &mut D, key: &Key, bytes: &'static [u8]) -> u8 {
+    match &store.push_closed(key, Bytes::from_static(bytes)) {
         Ok(_) => 0,
         Err(fault) => fault.number(),
-    };
-    let missing = store.missing();
-    let is_closed = match &missing {
+    }
+}
+
+fn is_closed<D: Dest>(store: &D) -> bool {
+    match &store.missing() {
         Ok(None) => true,
         _ => false,
-    };
+    }
+}
+
+fn pushed<D: Dest>(store: &mut D, key: &Key, bytes: &'static [u8]) -> Pushed {
+    let number = push(store, key, bytes);
     (
         number,
         store.has(key),
         store.count(),
-        is_closed,
+        is_closed(store),
         store.failures(),
     )
 }
 
-/// Whether the key is there, whether its fetch may fail, the number of the fetch's refusal, or 0,
-/// and the length of what was fetched.
-fn calls_source<A: Source>(store: &A, key: &Key) -> (bool, bool, u8, usize) {
-    let fetched = store.fetch(key);
-    let (number, length) = match &fetched {
+fn assert_pushed<R: AllocGlobal + Abort, D: Dest>(
+    rt: &R,
+    store: &mut D,
+    content: Content,
+    want: Pushed,
+) -> Result<(), Fail> {
+    let key = key_of(rt.alloc(), content)?;
+    assert_eq!(rt; pushed(store, &key, content.1), want);
+    Ok(())
+}
+
+fn fetched<A: Source>(store: &A, key: &Key) -> Fetched {
+    let (number, length) = match &store.fetch(key) {
         Ok(content) => (0, content.len()),
         Err(fault) => (fault.number(), 0),
     };
     (store.exists(key), store.may_fail(key), number, length)
 }
 
+fn assert_fetched<R: AllocGlobal + Abort, A: Source>(
+    rt: &R,
+    store: &A,
+    content: Content,
+    want: Fetched,
+) -> Result<(), Fail> {
+    let key = key_of(rt.alloc(), content)?;
+    assert_eq!(rt; fetched(store, &key), want);
+    Ok(())
+}
+
+fn assert_calls<R: AllocGlobal + Abort, D: Source + Dest>(
+    rt: &R,
+    store: &mut D,
+    calls: &[Call],
+) -> Result<(), Fail> {
+    for call in calls {
+        match *call {
+            Call::Push(content, want) => assert_pushed(rt, store, content, want)?,
+            Call::Fetch(content, want) => assert_fetched(rt, store, content, want)?,
+        }
+    }
+    Ok(())
+}
+
 /// How many keys list the key.
-fn calls_graph_source<G: GraphSource>(store: &G, key: &Key) -> Option<usize> {
-    let keys = store.predecessors(key);
-    match &keys {
+fn predecessors<G: GraphSource>(store: &G, key: &Key) -> Option<usize> {
+    match &store.predecessors(key) {
         Ok(keys) => Some(keys.len()),
         Err(_) => None,
     }
 }
 
-/// The numbers of the refusals of a tag and of its resolving, or 0.
-fn calls_tagger<T: Tagger>(store: &mut T, key: &Key, name: &str) -> (u8, u8) {
-    let tagged = store.tag(key, name);
-    let resolved = store.resolve(name);
-    let first = match &tagged {
+/// The number of the refusal of a tag, or 0.
+fn tag<T: Tagger>(store: &mut T, key: &Key, name: &str) -> u8 {
+    match &store.tag(key, name) {
         Ok(()) => 0,
         Err(fault) => fault.number(),
-    };
-    let second = match &resolved {
+    }
+}
+
+/// The number of the refusal of a name's resolving, or 0.
+fn resolve<T: Tagger>(store: &T, name: &str) -> u8 {
+    match &store.resolve(name) {
         Ok(_) => 0,
         Err(fault) => fault.number(),
-    };
-    (first, second)
+    }
+}
+
+/// What `foo` gives in a store that is empty.
+fn assert_foo<R: AllocGlobal + Abort, S: GraphSource + Dest + Tagger>(
+    rt: &R,
+    store: &mut S,
+) -> Result<(), Fail> {
+    assert_pushed(rt, store, FOO, (0, true, 1, true, 0))?;
+    assert_fetched(rt, store, FOO, (true, false, 0, 3))?;
+    let foo = key_of(rt.alloc(), FOO)?;
+    assert_eq!(rt; predecessors(store, &foo), Some(0));
+    assert_eq!(rt; tag(store, &foo, "v1"), 0);
+    assert_eq!(rt; resolve(store, "v1"), 0);
+    Ok(())
 }
 
 #[test]
 fn stores_in_memory(rt: HostRuntime) -> Result<(), Fail> {
-    let alloc = rt.alloc();
-    let foo = key_of(alloc, "text/plain", b"foo")?;
-    let mut open = MemoryStore::new(alloc);
-    assert_eq!(rt; calls_dest(&mut open, &foo, b"foo"), (0, true, 1, true, 0));
-    assert_eq!(rt; calls_source(&open, &foo), (true, false, 0, 3));
-    assert_eq!(rt; calls_graph_source(&open, &foo), Some(0));
-    assert_eq!(rt; calls_tagger(&mut open, &foo, "v1"), (0, 0));
-    let mut closed = ClosedStore::new(alloc);
-    assert_eq!(rt;
-        calls_dest(&mut closed, &foo, b"foo"),
-        (0, true, 1, true, 0)
-    );
-    assert_eq!(rt; calls_source(&closed, &foo), (true, false, 0, 3));
-    assert_eq!(rt; calls_graph_source(&closed, &foo), Some(0));
-    assert_eq!(rt; calls_tagger(&mut closed, &foo, "v1"), (0, 0));
-    Ok(())
+    assert_foo(&rt, &mut MemoryStore::new(rt.alloc()))?;
+    assert_foo(&rt, &mut ClosedStore::new(rt.alloc()))
 }
 
 #[test]
 fn published_store(rt: HostRuntime) -> Result<(), Fail> {
-    let alloc = rt.alloc();
-    let foo = key_of(alloc, "text/plain", b"foo")?;
-    let bar = key_of(alloc, "text/plain", b"bar")?;
-    let mut store = PublishedStore::new(alloc, 1);
-    assert_eq!(rt; calls_dest(&mut store, &foo, b"foo"), (0, true, 1, true, 0));
-    // A publication that is refused, and then each further one.
-    assert_eq!(rt;
-        calls_dest(&mut store, &bar, b"bar"),
-        (34, false, 1, true, 0)
-    );
-    assert_eq!(rt;
-        calls_dest(&mut store, &bar, b"bar"),
-        (44, false, 1, true, 0)
-    );
-    assert_eq!(rt;
-        calls_dest(&mut store, &foo, b"foo"),
-        (30, true, 1, true, 0)
-    );
+    let mut store = PublishedStore::new(rt.alloc(), 1);
+    for (content, want) in [
+        (FOO, (0, true, 1, true, 0)),
+        // A publication that is refused, and then each further one.
+        (BAR, (34, false, 1, true, 0)),
+        (BAR, (44, false, 1, true, 0)),
+        (FOO, (30, true, 1, true, 0)),
+    ] {
+        assert_pushed(&rt, &mut store, content, want)?;
+    }
     Ok(())
 }
 
+/// What a store over a device answers whose second put and whose fourth get fail.
+const DEVICE_CALLS: [Call; 8] = [
+    Call::Push(FOO, (0, true, 1, true, 0)),
+    Call::Fetch(FOO, (true, true, 0, 3)),
+    Call::Fetch(SAME_BYTES, (false, true, 20, 0)),
+    // A put that fails leaves the keys as they were, and half of the bytes in the digest's file.
+    Call::Push(SAME_BYTES, (43, false, 1, true, 1)),
+    Call::Fetch(FOO, (true, true, 21, 0)),
+    Call::Push(SAME_BYTES, (0, true, 2, true, 1)),
+    Call::Fetch(FOO, (true, true, 0, 3)),
+    Call::Fetch(FOO, (true, true, 22, 0)),
+];
+
 #[test]
 fn device_store(rt: HostRuntime) -> Result<(), Fail> {
-    let alloc = rt.alloc();
-    let foo = key_of(alloc, "text/plain", b"foo")?;
-    let same_bytes = key_of(alloc, "text/html", b"foo")?;
     let device = Device::failing(Some(1), Some(3));
-    let mut store = DeviceStore::new(alloc, &device);
-    assert_eq!(rt; calls_dest(&mut store, &foo, b"foo"), (0, true, 1, true, 0));
-    assert_eq!(rt; calls_source(&store, &foo), (true, true, 0, 3));
-    assert_eq!(rt; calls_source(&store, &same_bytes), (false, true, 20, 0));
-    // A put that fails leaves the keys as they were, and half of the bytes in the digest's file.
-    assert_eq!(rt;
-        calls_dest(&mut store, &same_bytes, b"foo"),
-        (43, false, 1, true, 1)
-    );
-    assert_eq!(rt; calls_source(&store, &foo), (true, true, 21, 0));
-    assert_eq!(rt;
-        calls_dest(&mut store, &same_bytes, b"foo"),
-        (0, true, 2, true, 1)
-    );
-    assert_eq!(rt; calls_source(&store, &foo), (true, true, 0, 3));
-    assert_eq!(rt; calls_source(&store, &foo), (true, true, 22, 0));
+    assert_calls(
+        &rt,
+        &mut DeviceStore::new(rt.alloc(), &device),
+        &DEVICE_CALLS,
+    )?;
     assert_eq!(rt; device.puts(), 3);
     Ok(())
 }

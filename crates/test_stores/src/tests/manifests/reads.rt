@@ -1,0 +1,192 @@
+//! Texts of manifests, with what is answered of each, and how they are compared.
+
+use crate::tests::texts::Part::{self, DescriptorOf, Words};
+use crate::tests::texts::{assert_text, text};
+use oci_manifest::{Key, Kind, successors};
+use std::alloc::Global;
+use std::process::Abort;
+use std::test::Fail;
+use test_support::Sample::{Empty, Image0};
+use test_support::{FOREIGN, IMAGE};
+
+fn push_key(alloc: Global, text: &mut String, key: &Key) -> Result<(), Fail> {
+    text.push_str(format!(in alloc; "{key};")?.as_str())?;
+    Ok(())
+}
+
+/// Keys as text, a `;` after each.
+fn line(alloc: Global, keys: &[Key]) -> Result<String, Fail> {
+    let mut text = String::new(alloc);
+    for key in keys {
+        push_key(alloc, &mut text, key)?;
+    }
+    Ok(text)
+}
+
+/// What `successors` answers, as text: the keys, or the fault.
+pub(crate) fn answer(alloc: Global, kind: Kind, bytes: &[u8]) -> Result<String, Fail> {
+    match successors(alloc, kind, bytes) {
+        Ok(keys) => line(alloc, &keys),
+        Err(fault) => Ok(fault.to_string(alloc)?),
+    }
+}
+
+/// The text of these parts is read as a manifest of this kind, and what is answered.
+pub(crate) fn assert_read<R: AllocGlobal + Abort>(
+    rt: &R,
+    kind: Kind,
+    parts: &[Part],
+    want: &[Part],
+) -> Result<(), Fail> {
+    let manifest = text(rt.alloc(), parts)?;
+    let got = answer(rt.alloc(), kind, manifest.as_bytes())?;
+    assert_text(rt, rt.alloc(), manifest.as_str(), got.as_str(), want)
+}
+
+/// The kind of a manifest, the parts of its text, and what is answered.
+pub(crate) type Read = (Kind, &'static [Part], &'static [Part]);
+
+pub(crate) fn assert_reads<R: AllocGlobal + Abort>(rt: &R, rows: &[Read]) -> Result<(), Fail> {
+    for (kind, parts, want) in rows {
+        assert_read(rt, *kind, parts, want)?;
+    }
+    Ok(())
+}
+
+pub(crate) const OF_EMPTY: &str =
+    "44136fa355b3678a1146ad16f7e8649e94fb4fc21fe77e8310c060f61caaff8a";
+
+pub(crate) const OF_FOO: &str = "2c26b46b68ffc68ff99b453c1d30413413422d706483bfa0f98a5e886266e7ae";
+
+pub(crate) const OF_BAR: &str = "fcde2b2edba56bf408601fb721fe9b5c338d10ee429ea04fae5511b68fbf8fb9";
+
+pub(crate) const OF_IMAGE_0: &str =
+    "88028e7a699c392898fd180bf967edbcdb6227a9b7434a3ba0c9efff269e613f";
+
+pub(crate) const OF_IMAGE_2: &str =
+    "7e1df211bc4556d2a9db939a81721c52e5e53c59e3dfb45a57205a794dd412b7";
+
+/// What is answered of the key of `empty`: its line is these words.
+pub(crate) const EMPTY_LINE: Part = Words(
+    "sha256:44136fa355b3678a1146ad16f7e8649e94fb4fc21fe77e8310c060f61caaff8a 2 application/vnd.oci.empty.v1+json;",
+);
+
+pub(crate) const DIGEST: &str =
+    "sha256:e3b0c44298fc1c149afbf4c8996fb92427ae41e4649b934ca495991b7852b855";
+
+pub(crate) const BAD_MANIFEST_0: Part = Words("14 BadDescriptor manifests 0");
+
+/// What each kind of manifest lists.
+pub(crate) const ALL_KINDS: [Read; 9] = [
+    (
+        Kind::Image,
+        &[Words("{\"subject\":7}")],
+        &[Words("14 BadDescriptor subject 0")],
+    ),
+    (
+        Kind::Image,
+        &[Words("{\"config\":null,\"layers\":{}}")],
+        &[Words("12 NoConfig")],
+    ),
+    (
+        Kind::Image,
+        &[
+            Words("{\"config\":"),
+            DescriptorOf(Empty),
+            Words(",\"layers\":7}"),
+        ],
+        &[Words("13 BadList layers")],
+    ),
+    (
+        Kind::DockerImage,
+        &[
+            Words("{\"subject\":7,\"config\":"),
+            DescriptorOf(Empty),
+            Words("}"),
+        ],
+        &[EMPTY_LINE],
+    ),
+    (
+        Kind::Artifact,
+        &[Words("{\"blobs\":null,\"subject\":null}")],
+        &[],
+    ),
+    (
+        Kind::DockerList,
+        &[Words("{\"manifests\":[7]}")],
+        &[Words("14 BadDescriptor manifests 0")],
+    ),
+    (
+        Kind::Index,
+        &[
+            Words("{\"subject\":"),
+            DescriptorOf(Image0),
+            Words(",\"manifests\":["),
+            DescriptorOf(Empty),
+            Words(","),
+            DescriptorOf(Image0),
+            Words("]}"),
+        ],
+        &[
+            Words("sha256:"),
+            Words(OF_IMAGE_0),
+            Words(" 241 "),
+            Words(IMAGE),
+            Words(";"),
+            EMPTY_LINE,
+        ],
+    ),
+    (
+        Kind::Image,
+        &[
+            Words("{\"schemaVersion\":2,\"config\":"),
+            DescriptorOf(Empty),
+            Words(",\"layers\":[{\"mediaType\":\""),
+            Words(FOREIGN),
+            Words("\",\"digest\":\"sha256:aa\",\"size\":3}]}"),
+        ],
+        &[Words("14 BadDescriptor layers 0")],
+    ),
+    (Kind::Leaf, &[Words("{")], &[]),
+];
+
+/// Lists and descriptors that are none.
+pub(crate) const FORMS: [Read; 5] = [
+    (
+        Kind::Index,
+        &[
+            Words("{\"manifests\":[{\"digest\":\""),
+            Words(DIGEST),
+            Words("\",\"size\":1}]}"),
+        ],
+        &[BAD_MANIFEST_0],
+    ),
+    (
+        Kind::Index,
+        &[Words("{\"manifests\":{}}")],
+        &[Words("13 BadList manifests")],
+    ),
+    (
+        Kind::Index,
+        &[Words("{\"manifests\":")],
+        &[Words("10 NotJson")],
+    ),
+    (Kind::Index, &[Words("{}")], &[]),
+    (Kind::Image, &[Words("{}")], &[Words("12 NoConfig")]),
+];
+
+pub(crate) const GOOD: &str =
+    "\"digest\":\"sha256:2c26b46b68ffc68ff99b453c1d30413413422d706483bfa0f98a5e886266e7ae\"";
+
+pub(crate) const BAD: &str = "\"digest\":\"sha256:../../x\"";
+
+/// The empty text is a media type, and other members are not looked at.
+pub(crate) const EMPTY_MEDIA_TYPE: Read = (
+    Kind::Artifact,
+    &[
+        Words("{\"blobs\":[{\"mediaType\":\"\","),
+        Words(GOOD),
+        Words(",\"size\":2,\"data\":7,\"urls\":7,\"x\":null}]}"),
+    ],
+    &[Words("sha256:"), Words(OF_FOO), Words(" 2 ;")],
+);

@@ -1,0 +1,102 @@
+//! Texts that are made of words and of what samples print as.
+
+use std::alloc::Global;
+use std::process::Abort;
+use std::test::Fail;
+use test_support::{Sample, descriptor};
+
+/// A part of a text.
+#[derive(Clone, Copy)]
+pub(crate) enum Part {
+    /// These words.
+    Words(&'static str),
+    /// The key of the sample.
+    KeyOf(Sample),
+    /// The same, and the end of the line.
+    LineOf(Sample),
+    /// The digest of the sample.
+    DigestOf(Sample),
+    /// The bytes of the sample.
+    BytesOf(Sample),
+    /// The descriptor of the sample, as JSON.
+    DescriptorOf(Sample),
+    /// The same under another media type.
+    DescriptorAs(Sample, &'static str),
+    /// So many opening brackets, and then as many closing ones.
+    Brackets(usize),
+}
+
+fn key(alloc: Global, sample: Sample) -> Result<String, Fail> {
+    let key = sample.key(alloc)?;
+    Ok(key.to_string(alloc)?)
+}
+
+fn line(alloc: Global, sample: Sample) -> Result<String, Fail> {
+    let key = sample.key(alloc)?;
+    Ok(format!(in alloc; "{key}\n")?)
+}
+
+fn digest(alloc: Global, sample: Sample) -> Result<String, Fail> {
+    let digest = *sample.key(alloc)?.digest();
+    Ok(digest.to_string(alloc)?)
+}
+
+fn descriptor_as(alloc: Global, sample: Sample, media_type: &str) -> Result<String, Fail> {
+    let key = sample.content(alloc)?.key_as(alloc, media_type)?;
+    descriptor(alloc, &key)
+}
+
+fn push_brackets(text: &mut String, bracket: &str, depth: usize) -> Result<(), Fail> {
+    for _ in 0..depth {
+        text.push_str(bracket)?;
+    }
+    Ok(())
+}
+
+fn brackets(alloc: Global, depth: usize) -> Result<String, Fail> {
+    let mut text = String::new(alloc);
+    push_brackets(&mut text, "[", depth)?;
+    push_brackets(&mut text, "]", depth)?;
+    Ok(text)
+}
+
+/// What a part is as a text.
+fn written(alloc: Global, part: Part) -> Result<String, Fail> {
+    match part {
+        Part::Words(words) => Ok(String::from_str(alloc, words)?),
+        Part::KeyOf(sample) => key(alloc, sample),
+        Part::LineOf(sample) => line(alloc, sample),
+        Part::DigestOf(sample) => digest(alloc, sample),
+        Part::BytesOf(sample) => Ok(sample.content(alloc)?.bytes),
+        Part::DescriptorOf(sample) => sample.content(alloc)?.descriptor(alloc),
+        Part::DescriptorAs(sample, media_type) => descriptor_as(alloc, sample, media_type),
+        Part::Brackets(depth) => brackets(alloc, depth),
+    }
+}
+
+fn push_part(alloc: Global, text: &mut String, part: Part) -> Result<(), Fail> {
+    text.push_str(written(alloc, part)?.as_str())?;
+    Ok(())
+}
+
+/// The text of these parts.
+pub(crate) fn text(alloc: Global, parts: &[Part]) -> Result<String, Fail> {
+    let mut text = String::new(alloc);
+    for part in parts {
+        push_part(alloc, &mut text, *part)?;
+    }
+    Ok(text)
+}
+
+/// What is got is the text of these parts. Where it is not, `what` is told too.
+pub(crate) fn assert_text(
+    rt: &impl Abort,
+    alloc: Global,
+    what: &str,
+    got: &str,
+    want: &[Part],
+) -> Result<(), Fail> {
+    let want = text(alloc, want)?;
+    assert!(rt; got == want.as_str(), "{what}: {got}, not {want}");
+    Ok(())
+}
