@@ -112,26 +112,29 @@ fn plan_fault(alloc: Global, fault: Plan) -> Result<PlanFault, Fail> {
 
 fn assert_push_fault<R: AllocGlobal + Abort>(
     rt: &R,
-    fault: &PushFault,
+    fault: Push,
     rest: &[Part],
 ) -> Result<(), Fail> {
-    assert_printed(rt, fault, fault.number(), rest)
+    let fault = push_fault(rt.alloc(), fault)?;
+    assert_printed(rt, &fault, fault.number(), rest)
 }
 
 fn assert_open_fault<R: AllocGlobal + Abort>(
     rt: &R,
-    fault: &OpenFault,
+    fault: Open,
     rest: &[Part],
 ) -> Result<(), Fail> {
-    assert_printed(rt, fault, fault.number(), rest)
+    let fault = open_fault(rt.alloc(), fault)?;
+    assert_printed(rt, &fault, fault.number(), rest)
 }
 
 fn assert_plan_fault<R: AllocGlobal + Abort>(
     rt: &R,
-    fault: &PlanFault,
+    fault: Plan,
     rest: &[Part],
 ) -> Result<(), Fail> {
-    assert_printed(rt, fault, fault.number(), rest)
+    let fault = plan_fault(rt.alloc(), fault)?;
+    assert_printed(rt, &fault, fault.number(), rest)
 }
 
 fn assert_fault<R: AllocGlobal + Abort>(rt: &R, fault: Fault, rest: &[Part]) -> Result<(), Fail> {
@@ -140,9 +143,9 @@ fn assert_fault<R: AllocGlobal + Abort>(rt: &R, fault: Fault, rest: &[Part]) -> 
         OfManifest(fault) => assert_printed(rt, &fault, fault.number(), rest),
         OfFetch(fault) => assert_printed(rt, &fault, fault.number(), rest),
         OfReference(fault) => assert_printed(rt, &fault, fault.number(), rest),
-        OfPush(fault) => assert_push_fault(rt, &push_fault(rt.alloc(), fault)?, rest),
-        OfOpen(fault) => assert_open_fault(rt, &open_fault(rt.alloc(), fault)?, rest),
-        OfPlan(fault) => assert_plan_fault(rt, &plan_fault(rt.alloc(), fault)?, rest),
+        OfPush(fault) => assert_push_fault(rt, fault, rest),
+        OfOpen(fault) => assert_open_fault(rt, fault, rest),
+        OfPlan(fault) => assert_plan_fault(rt, fault, rest),
     }
 }
 

@@ -72,13 +72,18 @@ fn predecessors_of_a_key_that_is_not_held(rt: HostRuntime) -> Result<(), Fail> {
     assert_listed(&rt, &[Image0], &[(Empty, &[Image0])])
 }
 
-/// What `missing` answers of a store of samples, as text.
-fn missing(alloc: Global, samples: &[Sample]) -> Result<String, Fail> {
-    let store = memory(alloc, samples)?;
-    match &store.missing()? {
+/// A key and one that it lists, as text; nothing where there are none.
+fn pair(alloc: Global, keys: &Option<(Key, Key)>) -> Result<String, Fail> {
+    match keys {
         Some((holder, missing)) => Ok(format!(in alloc; "{holder} {missing}")?),
         None => Ok(String::new(alloc)),
     }
+}
+
+/// What `missing` answers of a store of samples, as text.
+fn missing(alloc: Global, samples: &[Sample]) -> Result<String, Fail> {
+    let store = memory(alloc, samples)?;
+    pair(alloc, &store.missing()?)
 }
 
 /// The store that `close` took, and its fault.
@@ -89,14 +94,19 @@ fn close(store: MemoryStore) -> (MemoryStore, Option<OpenFault>) {
     }
 }
 
+/// A fault as text; nothing where there is none.
+fn line(alloc: Global, fault: &Option<OpenFault>) -> Result<String, Fail> {
+    match fault {
+        Some(fault) => Ok(fault.to_string(alloc)?),
+        None => Ok(String::new(alloc)),
+    }
+}
+
 /// What `close` answers of a store of samples, as text, and whether the store holds them afterwards.
 fn told(alloc: Global, samples: &[Sample]) -> Result<(bool, String), Fail> {
     let (store, fault) = close(memory(alloc, samples)?);
-    let held = holds(alloc, &store, samples)?;
-    match &fault {
-        Some(fault) => Ok((held, fault.to_string(alloc)?)),
-        None => Ok((held, String::new(alloc))),
-    }
+    let told = line(alloc, &fault)?;
+    Ok((holds(alloc, &store, samples)?, told))
 }
 
 /// What `missing` and `close` answer of a store of samples, which holds them afterwards.

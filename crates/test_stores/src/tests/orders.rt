@@ -96,9 +96,8 @@ fn doubled_successor(rt: HostRuntime) -> Result<(), Fail> {
     let order = found(&rt, graph(rt.alloc(), DOUBLED)?);
     assert!(rt; !order.is_empty());
     assert_eq!(rt; order.at(2), None);
-    assert_eq!(rt; width(&order, 0), Some(1));
-    assert_eq!(rt; width(&order, 1), Some(0));
-    assert_eq!(rt; width(&order, 2), None);
+    let widths = (width(&order, 0), width(&order, 1), width(&order, 2));
+    assert_eq!(rt; widths, (Some(1), Some(0), None));
     Ok(())
 }
 
@@ -235,21 +234,29 @@ fn has_order(alloc: Global, lists: &[Vec<u32>]) -> Result<bool, AllocError> {
     Ok(!gone.contains(&false))
 }
 
+/// Marks the number at a place of the order. It has to be unmarked, and its successors marked.
+fn mark_next(order: &Order, place: usize, marks: &mut [bool]) -> bool {
+    let Some(number) = order.at(place) else {
+        return false;
+    };
+    let Some(list) = order.successors(number) else {
+        return false;
+    };
+    if !all_marked(marks, list) || all_marked(marks, &[number]) {
+        return false;
+    }
+    if let Some(mark) = marks.get_mut(number as usize) {
+        *mark = true;
+    }
+    true
+}
+
 /// Whether each number of the order comes once and after its successors.
 fn is_right(alloc: Global, order: &Order, count: usize) -> Result<bool, AllocError> {
     let mut marks = vec![in alloc; false; count]?;
     for place in 0..order.len() {
-        let Some(number) = order.at(place) else {
+        if !mark_next(order, place, &mut marks) {
             return Ok(false);
-        };
-        let Some(list) = order.successors(number) else {
-            return Ok(false);
-        };
-        if !all_marked(&marks, list) || all_marked(&marks, &[number]) {
-            return Ok(false);
-        }
-        if let Some(mark) = marks.get_mut(number as usize) {
-            *mark = true;
         }
     }
     Ok(!marks.contains(&false))

@@ -103,12 +103,12 @@ fn gathered<A: Source, D: Dest>(
     alloc: Global,
     source: &A,
     destination: &D,
+    roots: &[Key],
     row: &Row<'_>,
 ) -> Result<String, Fail> {
-    let roots = keys(alloc, row.roots)?;
     line(
         alloc,
-        &gather(alloc, source, destination, &roots, row.limit, row.existing),
+        &gather(alloc, source, destination, roots, row.limit, row.existing),
     )
 }
 
@@ -123,7 +123,8 @@ fn planned_between(
         store,
         fetches: Cell::new(0),
     };
-    let told = gathered(alloc, &source, destination, row)?;
+    let roots = keys(alloc, row.roots)?;
+    let told = gathered(alloc, &source, destination, &roots, row)?;
     Ok((told, source.fetches.get()))
 }
 

@@ -18,30 +18,34 @@ fn told(alloc: Global, pushed: &Result<usize, PushFault>) -> Result<String, Fail
     }
 }
 
-/// What a push of a sample under its own key answers.
-fn push_sample(alloc: Global, store: &mut MemoryStore, sample: Sample) -> Result<String, Fail> {
-    let key = sample.key(alloc)?;
-    told(alloc, &store.push(&key, sample.bytes(alloc)?))
+/// A push answers with these parts.
+fn assert_told<R: AllocGlobal + Abort>(
+    rt: &R,
+    pushed: &Result<usize, PushFault>,
+    want: &[Part],
+) -> Result<(), Fail> {
+    let got = told(rt.alloc(), pushed)?;
+    assert_text(rt, rt.alloc(), "push", got.as_str(), want)
 }
 
+/// Pushes a sample under its own key.
 fn assert_push<R: AllocGlobal + Abort>(
     rt: &R,
     store: &mut MemoryStore,
     sample: Sample,
-    want: &str,
+    want: &[Part],
 ) -> Result<(), Fail> {
-    let got = push_sample(rt.alloc(), store, sample)?;
-    assert_eq!(rt; got.as_str(), want);
-    Ok(())
+    let key = sample.key(rt.alloc())?;
+    assert_told(rt, &store.push(&key, sample.bytes(rt.alloc())?), want)
 }
 
 fn push_all<R: AllocGlobal + Abort>(
     rt: &R,
     store: &mut MemoryStore,
-    pushes: &[(Sample, &str)],
+    pushes: &[(Sample, &'static str)],
 ) -> Result<(), Fail> {
     for (sample, want) in pushes {
-        assert_push(rt, store, *sample, want)?;
+        assert_push(rt, store, *sample, &[Words(want)])?;
     }
     Ok(())
 }
@@ -49,7 +53,7 @@ fn push_all<R: AllocGlobal + Abort>(
 /// What the pushes of these samples answer, one after another, and what is held then.
 fn assert_pushes<R: AllocGlobal + Abort>(
     rt: &R,
-    pushes: &[(Sample, &str)],
+    pushes: &[(Sample, &'static str)],
     held: &[Sample],
 ) -> Result<(), Fail> {
     let mut store = MemoryStore::new(rt.alloc());
@@ -87,11 +91,14 @@ fn assert_refused<R: AllocGlobal + Abort>(
     rt: &R,
     key: &Key,
     bytes: &'static [u8],
-    want: &str,
+    want: &'static str,
 ) -> Result<(), Fail> {
     let mut store = MemoryStore::new(rt.alloc());
-    let got = told(rt.alloc(), &store.push(key, Bytes::from_static(bytes)))?;
-    assert_eq!(rt; got.as_str(), want);
+    assert_told(
+        rt,
+        &store.push(key, Bytes::from_static(bytes)),
+        &[Words(want)],
+    )?;
     assert!(rt; holds(rt.alloc(), &store, &[])?);
     Ok(())
 }
@@ -140,14 +147,21 @@ fn resized(alloc: Global, size: u64) -> Result<Key, Fail> {
     key(alloc, IMAGE, *image.digest(), size)
 }
 
-/// Pushes an image under some key into an empty closed store, and compares what is told; the store stays empty.
+/// Pushes the bytes of an image under some key, and compares what is told.
+fn assert_push_closed<R: AllocGlobal + Abort>(
+    rt: &R,
+    store: &mut ClosedStore,
+    key: &Key,
+    want: &[Part],
+) -> Result<(), Fail> {
+    let bytes = Image0.bytes(rt.alloc())?;
+    assert_told(rt, &store.push_closed(key, bytes), want)
+}
+
+/// The same with an empty closed store, which stays empty.
 fn assert_not_closed<R: AllocGlobal + Abort>(rt: &R, key: &Key, want: &[Part]) -> Result<(), Fail> {
     let mut store = ClosedStore::new(rt.alloc());
-    let got = told(
-        rt.alloc(),
-        &store.push_closed(key, Image0.bytes(rt.alloc())?),
-    )?;
-    assert_text(rt, rt.alloc(), "push", got.as_str(), want)?;
+    assert_push_closed(rt, &mut store, key, want)?;
     assert!(rt; holds(rt.alloc(), store.memory(), &[])?);
     Ok(())
 }
@@ -161,22 +175,27 @@ fn successors_first(rt: HostRuntime) -> Result<(), Fail> {
     assert_not_closed(&rt, &resized(rt.alloc(), 240)?, &want)
 }
 
-/// The size of the key at a place of the store.
-fn size_at(store: &MemoryStore, place: usize) -> Option<u64> {
+/// The size of the key at a place of a store of samples.
+fn size_at(alloc: Global, samples: &[Sample], place: usize) -> Result<Option<u64>, Fail> {
+    let store = memory(alloc, samples)?;
     match store.entry(place) {
-        Some((key, _)) => Some(key.size()),
-        None => None,
+        Some((key, _)) => Ok(Some(key.size())),
+        None => Ok(None),
     }
+}
+
+fn is_empty(alloc: Global, samples: &[Sample]) -> Result<bool, Fail> {
+    Ok(memory(alloc, samples)?.is_empty())
 }
 
 /// An entry by its place, and the empty store.
 #[test]
 fn entries(rt: HostRuntime) -> Result<(), Fail> {
-    let store = memory(rt.alloc(), &[Empty, Image0])?;
-    assert_eq!(rt; size_at(&store, 1), Some(241));
-    assert!(rt; store.entry(2).is_none());
-    assert!(rt; !store.is_empty());
-    assert!(rt; memory(rt.alloc(), &[])?.is_empty());
+    let samples = [Empty, Image0];
+    assert_eq!(rt; size_at(rt.alloc(), &samples, 1)?, Some(241));
+    assert_eq!(rt; size_at(rt.alloc(), &samples, 2)?, None);
+    assert!(rt; !is_empty(rt.alloc(), &samples)?);
+    assert!(rt; is_empty(rt.alloc(), &[])?);
     Ok(())
 }
 

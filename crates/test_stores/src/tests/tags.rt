@@ -42,6 +42,17 @@ fn assert_resolves<R: AllocGlobal + Abort, T: Tagger>(
     assert_text(rt, rt.alloc(), reference.as_str(), got.as_str(), want)
 }
 
+/// What `tag` answers of a sample's key and a name of these parts.
+fn tagged<T: Tagger>(
+    alloc: Global,
+    store: &mut T,
+    sample: Sample,
+    name: &[Part],
+) -> Result<String, Fail> {
+    let name = text(alloc, name)?;
+    tag(alloc, store, sample, name.as_str())
+}
+
 /// The tag of a sample's key is taken, or refused.
 fn assert_tagged<R: AllocGlobal + Abort, T: Tagger>(
     rt: &R,
@@ -50,9 +61,8 @@ fn assert_tagged<R: AllocGlobal + Abort, T: Tagger>(
     name: &[Part],
     want: &[Part],
 ) -> Result<(), Fail> {
-    let name = text(rt.alloc(), name)?;
-    let got = tag(rt.alloc(), store, sample, name.as_str())?;
-    assert_text(rt, rt.alloc(), name.as_str(), got.as_str(), want)
+    let got = tagged(rt.alloc(), store, sample, name)?;
+    assert_text(rt, rt.alloc(), "tag", got.as_str(), want)
 }
 
 fn push_name(alloc: Global, text: &mut String, name: &str, key: &Key) -> Result<(), Fail> {
@@ -69,6 +79,16 @@ fn listed(alloc: Global, store: &MemoryStore) -> Result<String, Fail> {
     Ok(text)
 }
 
+/// The names of the store and their keys are these.
+fn assert_names<R: AllocGlobal + Abort>(
+    rt: &R,
+    store: &MemoryStore,
+    want: &[Part],
+) -> Result<(), Fail> {
+    let got = listed(rt.alloc(), store)?;
+    assert_text(rt, rt.alloc(), "names", got.as_str(), want)
+}
+
 /// A step of a test.
 #[derive(Clone, Copy)]
 enum Step {
@@ -76,6 +96,8 @@ enum Step {
     Tags(Sample, &'static [Part]),
     /// The tag of a sample's key is refused.
     Refuses(Sample, &'static str, &'static str),
+    /// A reference resolves to a key, or is refused.
+    Resolves(Part, Part),
     /// The store has these names, in byte order, each with a key.
     Names(&'static [Part]),
 }
@@ -89,16 +111,18 @@ fn take<R: AllocGlobal + Abort>(rt: &R, store: &mut MemoryStore, step: Step) -> 
         Step::Refuses(sample, name, want) => {
             assert_tagged(rt, store, sample, &[Words(name)], &[Words(want)])
         }
-        Step::Names(want) => {
-            let got = listed(rt.alloc(), store)?;
-            assert_text(rt, rt.alloc(), "names", got.as_str(), want)
-        }
+        Step::Resolves(reference, want) => assert_resolves(rt, store, &[reference], &[want]),
+        Step::Names(want) => assert_names(rt, store, want),
     }
 }
 
-/// Takes these steps with a store of an image and its config.
-fn assert_steps<R: AllocGlobal + Abort>(rt: &R, steps: &[Step]) -> Result<(), Fail> {
-    let mut store = memory(rt.alloc(), &[Empty, Image0])?;
+/// Takes these steps with a store of these samples.
+fn assert_steps<R: AllocGlobal + Abort>(
+    rt: &R,
+    samples: &[Sample],
+    steps: &[Step],
+) -> Result<(), Fail> {
+    let mut store = memory(rt.alloc(), samples)?;
     for step in steps {
         take(rt, &mut store, *step)?;
     }
@@ -107,24 +131,35 @@ fn assert_steps<R: AllocGlobal + Abort>(rt: &R, steps: &[Step]) -> Result<(), Fa
 
 #[test]
 fn references(rt: HostRuntime) -> Result<(), Fail> {
-    let store = memory(rt.alloc(), &[Empty, Image0])?;
-    for (reference, want) in [
-        (DigestOf(Empty), KeyOf(Empty)),
-        (Words("x"), Words("36 UnknownReference")),
-        (Words(""), Words("35 EmptyReference")),
-    ] {
-        assert_resolves(&rt, &store, &[reference], &[want])?;
-    }
-    Ok(())
+    assert_steps(
+        &rt,
+        &[Empty, Image0],
+        &[
+            Step::Resolves(DigestOf(Empty), KeyOf(Empty)),
+            Step::Resolves(Words("x"), Words("36 UnknownReference")),
+            Step::Resolves(Words(""), Words("35 EmptyReference")),
+        ],
+    )
+}
+
+/// A digest resolves to a key in a closed store of these samples.
+fn assert_closed<R: AllocGlobal + Abort>(
+    rt: &R,
+    samples: &[Sample],
+    reference: Part,
+    want: Part,
+) -> Result<(), Fail> {
+    let store = closed(rt.alloc(), samples)?;
+    assert_resolves(rt, &store, &[reference], &[want])
 }
 
 /// A digest of two keys resolves to the least, by the bytes of the media type.
 #[test]
 fn least_key_of_a_digest(rt: HostRuntime) -> Result<(), Fail> {
     let samples = [Empty, Image0, Image0AsLayer];
-    let (reference, want) = ([DigestOf(Image0)], [KeyOf(Image0AsLayer)]);
-    assert_resolves(&rt, &memory(rt.alloc(), &samples)?, &reference, &want)?;
-    assert_resolves(&rt, &closed(rt.alloc(), &samples)?, &reference, &want)
+    let (reference, want) = (DigestOf(Image0), KeyOf(Image0AsLayer));
+    assert_steps(&rt, &samples, &[Step::Resolves(reference, want)])?;
+    assert_closed(&rt, &samples, reference, want)
 }
 
 /// A name that is there is moved, and a name comes before a digest.
@@ -132,6 +167,7 @@ fn least_key_of_a_digest(rt: HostRuntime) -> Result<(), Fail> {
 fn tags(rt: HostRuntime) -> Result<(), Fail> {
     assert_steps(
         &rt,
+        &[Empty, Image0],
         &[
             Step::Tags(Image0, &[Words("m")]),
             Step::Tags(Empty, &[Words("m")]),
@@ -144,6 +180,7 @@ fn tags(rt: HostRuntime) -> Result<(), Fail> {
 fn refused_tags(rt: HostRuntime) -> Result<(), Fail> {
     assert_steps(
         &rt,
+        &[Empty, Image0],
         &[
             Step::Tags(Empty, &[Words("m")]),
             Step::Refuses(Foo, "m", "37 NotHeld"),

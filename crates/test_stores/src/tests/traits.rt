@@ -133,6 +133,11 @@ fn resolve<T: Tagger>(store: &T, name: &str) -> u8 {
     }
 }
 
+/// The numbers of the refusals of a tag and of its resolving, or 0.
+fn tagged<T: Tagger>(store: &mut T, key: &Key, name: &str) -> (u8, u8) {
+    (tag(store, key, name), resolve(store, name))
+}
+
 /// What `foo` gives in a store that is empty.
 fn assert_foo<R: AllocGlobal + Abort, S: GraphSource + Dest + Tagger>(
     rt: &R,
@@ -140,10 +145,17 @@ fn assert_foo<R: AllocGlobal + Abort, S: GraphSource + Dest + Tagger>(
 ) -> Result<(), Fail> {
     assert_pushed(rt, store, FOO, (0, true, 1, true, 0))?;
     assert_fetched(rt, store, FOO, (true, false, 0, 3))?;
+    assert_names(rt, store)
+}
+
+/// Nothing lists `foo`, which is held and is tagged.
+fn assert_names<R: AllocGlobal + Abort, S: GraphSource + Tagger>(
+    rt: &R,
+    store: &mut S,
+) -> Result<(), Fail> {
     let foo = key_of(rt.alloc(), FOO)?;
     assert_eq!(rt; predecessors(store, &foo), Some(0));
-    assert_eq!(rt; tag(store, &foo, "v1"), 0);
-    assert_eq!(rt; resolve(store, "v1"), 0);
+    assert_eq!(rt; tagged(store, &foo, "v1"), (0, 0));
     Ok(())
 }
 
