@@ -7,8 +7,8 @@
 //! `tests` has `graphs` (small graphs, on one thread and with each number of workers), `references` (copies by a reference),
 //! `referrers` (extended copies, of a key and of a reference), `refusals` (limits and open destinations), `faults` (how each refusal
 //! prints), `hooks` (when they are called), `meetings` (two workers at work at once), `failing` (stores that fail once), `large`
-//! (many layers and long chains), and `descending` and `descending_graphs` (copies that look below what is held); `copies` has the
-//! copies that they share.
+//! (many layers and long chains), and `descending` and `descending_graphs` (copies that look below what is held). Most of these
+//! are rows of data for `copies`, which runs each row and asserts what it tells and leaves; `calls` has the calls that copy.
 #![tactic(auto)]
 
 mod plain;

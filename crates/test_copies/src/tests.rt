@@ -1,3 +1,4 @@
+mod calls;
 mod copies;
 mod descending;
 mod descending_graphs;

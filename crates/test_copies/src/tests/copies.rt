@@ -1,25 +1,160 @@
-//! Copies between stores, and what they tell.
+//! Copies of samples between stores in memory, as rows of data: what a copy begins with, what it tells and what it leaves.
 
-use oci_copy::{CopyFault, Options, Report, copy_graph, copy_one};
+use crate::tests::calls::{EACH, Workers, copied_case, copied_in_memory, options, repaired};
+use bytes::Bytes;
+use oci_digest::Digest;
 use oci_manifest::Key;
 use oci_plan::Existing;
-use oci_pool::{Hooks, NoHooks};
-use oci_store::{Dest, MemoryStore, Source};
+use oci_store::{ClosedStore, Dest, MemoryStore, Source, Tagger};
 use std::alloc::Global;
+use std::fmt::Display;
 use std::process::Abort;
 use std::sync::Wait;
 use std::test::Fail;
 use std::thread::Threads;
-use test_support::{Sample, holds, keys};
+use test_support::{IMAGE, Sample, closed, holds, is_closed, memory};
 
-/// The store holds these samples, and nothing else.
+/// A word of a text.
+#[derive(Clone, Copy)]
+pub(crate) enum Word<'a> {
+    Text(&'a str),
+    KeyOf(Sample),
+    DigestOf(Sample),
+    /// The key of an image of this size that has the digest of the empty object.
+    Sized(u64),
+}
+
+/// A sample that a store has under a name.
+#[derive(Clone, Copy)]
+pub(crate) struct Tag<'a> {
+    pub sample: Sample,
+    pub name: Word<'a>,
+}
+
+/// What is copied, and by which call.
+#[derive(Clone, Copy)]
+pub(crate) enum Call<'a> {
+    /// `copy_graph` of these roots, and `copy_one` on the calling thread.
+    Graph(&'a [Sample]),
+    /// The same of the key of an image of this size that has the digest of the empty object.
+    Sized(u64),
+    /// The calls between stores in memory: into a closed store `copy_memory_by_workers`, and `copy_memory` on the calling thread;
+    /// into another `repair_memory_by_workers` and `repair_memory`.
+    InMemory(&'a [Sample]),
+    /// `copy` of the first reference to the second.
+    Reference(Word<'a>, &'a str),
+    /// `extended_copy_graph` of a key, with the depth.
+    Extended(Sample, u32),
+    /// `extended_copy` of a reference to the same, with depth 1.
+    ExtendedReference(&'a str),
+}
+
+/// A copy, and what comes of it.
+#[derive(Clone, Copy)]
+pub(crate) struct Case<'a> {
+    pub call: Call<'a>,
+    pub workers: &'a [Workers],
+    pub existing: Existing,
+    /// How many bytes a manifest may have; 0 is for the usual limit.
+    pub max_metadata_bytes: u64,
+    pub source: &'a [Sample],
+    pub source_tag: Option<Tag<'a>>,
+    /// What the destination has before.
+    pub destination: &'a [Sample],
+    pub destination_tag: Option<Tag<'a>>,
+    /// Whether the destination is a store whose type keeps it closed.
+    pub into_closed: bool,
+    /// The report or the fault, as it prints.
+    pub told: &'a [Word<'a>],
+    /// What the destination then has, and whether its entries are in this order.
+    pub copied: &'a [Sample],
+    pub is_in_order: bool,
+    pub is_closed: bool,
+    /// The one tag that the destination then has, if any.
+    pub copied_tag: Option<Tag<'a>>,
+}
+
+/// A copy of nothing into an empty closed store.
+pub(crate) const NOTHING: Case<'static> = Case {
+    call: Call::Graph(&[]),
+    workers: &EACH,
+    existing: Existing::Skip,
+    max_metadata_bytes: 0,
+    source: &[],
+    source_tag: None,
+    destination: &[],
+    destination_tag: None,
+    into_closed: true,
+    told: &[],
+    copied: &[],
+    is_in_order: false,
+    is_closed: true,
+    copied_tag: None,
+};
+
+/// The key of an image of this size that has the digest of the empty object.
+pub(crate) fn sized(alloc: Global, size: u64) -> Result<Key, Fail> {
+    let media_type = String::from_str(alloc, IMAGE)?;
+    Ok(Key::new(media_type, Digest::of(b"{}"), size)?)
+}
+
+/// A value as it prints.
+pub(crate) fn printed<T: Display>(alloc: Global, value: &T) -> Result<String, Fail> {
+    Ok(value.to_string(alloc)?)
+}
+
+/// The text of a word.
+pub(crate) fn text_of(alloc: Global, word: Word<'_>) -> Result<String, Fail> {
+    match word {
+        Word::Text(text) => Ok(String::from_str(alloc, text)?),
+        Word::KeyOf(sample) => printed(alloc, &sample.key(alloc)?),
+        Word::DigestOf(sample) => printed(alloc, sample.key(alloc)?.digest()),
+        Word::Sized(size) => printed(alloc, &sized(alloc, size)?),
+    }
+}
+
+/// The text of these words.
+pub(crate) fn text(alloc: Global, words: &[Word<'_>]) -> Result<String, Fail> {
+    let mut text = String::new(alloc);
+    for part in words {
+        text.push_str(text_of(alloc, *part)?.as_str())?;
+    }
+    Ok(text)
+}
+
+/// Whether the text is that of these words.
+pub(crate) fn is_text(alloc: Global, found: &str, words: &[Word<'_>]) -> Result<bool, Fail> {
+    Ok(found == text(alloc, words)?.as_str())
+}
+
+/// The text is that of these words.
+fn assert_text<R: AllocGlobal + Abort>(
+    rt: &R,
+    found: &str,
+    words: &[Word<'_>],
+) -> Result<(), Fail> {
+    let want = text(rt.alloc(), words)?;
+    assert_eq!(rt; found, want.as_str());
+    Ok(())
+}
+
+/// The store holds these samples, and nothing else, after a copy that told this.
 pub(crate) fn assert_holds<R: AllocGlobal + Abort, A: Source + Dest>(
     rt: &R,
     store: &A,
     samples: &[Sample],
+    told: &str,
 ) -> Result<(), Fail> {
-    assert!(rt; holds(rt.alloc(), store, samples)?);
+    assert!(rt; holds(rt.alloc(), store, samples)?, "{told}");
     Ok(())
+}
+
+fn is_key(alloc: Global, key: &Key, sample: Sample) -> Result<bool, Fail> {
+    Ok(*key == sample.key(alloc)?)
+}
+
+fn is_content(alloc: Global, bytes: &Bytes, sample: Sample) -> Result<bool, Fail> {
+    Ok(*bytes == sample.bytes(alloc)?)
 }
 
 /// The entry at a place is the sample.
@@ -29,15 +164,16 @@ fn is_entry(
     place: usize,
     sample: Sample,
 ) -> Result<bool, Fail> {
-    let (key, bytes) = (sample.key(alloc)?, sample.bytes(alloc)?);
-    Ok(match store.entry(place) {
-        Some((found, content)) => *found == key && *content == bytes,
-        None => false,
-    })
+    match store.entry(place) {
+        Some((key, bytes)) => {
+            Ok(is_key(alloc, key, sample)? && is_content(alloc, bytes, sample)?)
+        }
+        None => Ok(false),
+    }
 }
 
 /// The entries of the store are these samples, in this order.
-pub(crate) fn assert_entries<R: AllocGlobal + Abort>(
+fn assert_entries<R: AllocGlobal + Abort>(
     rt: &R,
     store: &MemoryStore,
     samples: &[Sample],
@@ -49,131 +185,171 @@ pub(crate) fn assert_entries<R: AllocGlobal + Abort>(
     Ok(())
 }
 
-/// The options of a copy by so many workers.
-pub(crate) fn by(workers: u32) -> Options {
-    Options {
-        workers,
-        ..Options::default()
+/// The tag is of this key, which has this name.
+fn is_tag(alloc: Global, name: &str, key: &Key, tag: Option<Tag<'_>>) -> Result<bool, Fail> {
+    match tag {
+        Some(tag) => Ok(is_text(alloc, name, &[tag.name])? && is_key(alloc, key, tag.sample)?),
+        None => Ok(false),
     }
 }
 
-/// The options of a copy by so many workers that descends.
-pub(crate) fn descending_by(workers: u32) -> Options {
-    Options {
-        workers,
-        existing: Existing::Descend,
-        ..Options::default()
+/// The store has this one tag, or none.
+fn assert_tag<R: AllocGlobal + Abort>(
+    rt: &R,
+    store: &MemoryStore,
+    tag: Option<Tag<'_>>,
+) -> Result<(), Fail> {
+    let tags = store.tags()?;
+    assert_eq!(rt; tags.len(), usize::from(tag.is_some()));
+    for (name, key) in &tags {
+        assert!(rt;
+            is_tag(rt.alloc(), name.as_str(), key, tag)?,
+            "{name} {key}"
+        );
+    }
+    Ok(())
+}
+
+/// The order of the entries, the tag, and whether the store is closed, are those of the case.
+fn assert_left<R: AllocGlobal + Abort>(
+    rt: &R,
+    store: &MemoryStore,
+    case: &Case<'_>,
+) -> Result<(), Fail> {
+    if case.is_in_order {
+        assert_entries(rt, store, case.copied)?;
+    }
+    assert_eq!(rt; is_closed(store)?, case.is_closed);
+    assert_tag(rt, store, case.copied_tag)
+}
+
+/// What the copy told, and what the destination holds, is that of the case.
+fn assert_told<R: AllocGlobal + Abort, D: Source + Dest>(
+    rt: &R,
+    destination: &D,
+    told: &str,
+    case: &Case<'_>,
+) -> Result<(), Fail> {
+    assert_text(rt, told, case.told)?;
+    assert_holds(rt, destination, case.copied, told)
+}
+
+/// Names a sample that the store has.
+fn put_tag<T: Tagger>(alloc: Global, store: &mut T, tag: Tag<'_>, name: &str) -> Result<(), Fail> {
+    let _ = store.tag(&tag.sample.key(alloc)?, name);
+    Ok(())
+}
+
+/// The store with a tag.
+fn with_tag<T: Tagger + Drop>(
+    alloc: Global,
+    mut store: T,
+    tag: Option<Tag<'_>>,
+) -> Result<T, Fail> {
+    if let Some(tag) = tag {
+        put_tag(alloc, &mut store, tag, text_of(alloc, tag.name)?.as_str())?;
+    }
+    Ok(store)
+}
+
+/// A store in memory of these samples, with a tag.
+fn memory_with(
+    alloc: Global,
+    samples: &[Sample],
+    tag: Option<Tag<'_>>,
+) -> Result<MemoryStore, Fail> {
+    with_tag(alloc, memory(alloc, samples)?, tag)
+}
+
+/// Copies into a closed store.
+fn copied_into_closed<R: AllocGlobal + Threads + Wait + Sync>(
+    rt: &R,
+    source: &MemoryStore,
+    case: &Case<'_>,
+    workers: Workers,
+) -> Result<(ClosedStore, String), Fail> {
+    let destination = with_tag(
+        rt.alloc(),
+        closed(rt.alloc(), case.destination)?,
+        case.destination_tag,
+    )?;
+    let options = options(workers, case.existing, case.max_metadata_bytes);
+    match case.call {
+        Call::InMemory(roots) => {
+            copied_in_memory(rt, source, destination, roots, workers, &options)
+        }
+        call => copied_case(rt, source, destination, call, workers, &options),
     }
 }
 
-/// What a copy answers, as text.
-pub(crate) fn line(alloc: Global, answer: &Result<Report, CopyFault>) -> Result<String, Fail> {
-    Ok(match answer {
-        Ok(report) => format!(in alloc; "{report}")?,
-        Err(fault) => format!(in alloc; "{fault}")?,
-    })
-}
-
-/// Copies by workers.
-fn copied_by<
-    R: AllocGlobal + Threads + Wait + Sync,
-    A: Source + Sync,
-    D: Dest + Drop + Send,
-    H: Hooks + Sync,
->(
+/// Copies into a store that may be open.
+fn copied_into_memory<R: AllocGlobal + Threads + Wait + Sync>(
     rt: &R,
-    source: &A,
-    destination: D,
-    roots: &[Key],
-    workers: u32,
-    hooks: &H,
-) -> (D, Result<Report, CopyFault>)
-where
-    D::Draft: Send,
-{
-    let options = by(workers);
-    copy_graph(rt, rt.alloc(), source, destination, roots, &options, hooks)
+    source: &MemoryStore,
+    case: &Case<'_>,
+    workers: Workers,
+) -> Result<(MemoryStore, String), Fail> {
+    let destination = memory_with(rt.alloc(), case.destination, case.destination_tag)?;
+    let options = options(workers, case.existing, case.max_metadata_bytes);
+    match case.call {
+        Call::InMemory(roots) => repaired(rt, source, destination, roots, workers, &options),
+        call => copied_case(rt, source, destination, call, workers, &options),
+    }
 }
 
-/// The same, with the answer as text.
-pub(crate) fn copied<
-    R: AllocGlobal + Threads + Wait + Sync,
-    A: Source + Sync,
-    D: Dest + Drop + Send,
-    H: Hooks + Sync,
->(
+fn assert_into_closed<R: AllocGlobal + Threads + Wait + Sync + Abort>(
     rt: &R,
-    source: &A,
-    destination: D,
-    roots: &[Key],
-    workers: u32,
-    hooks: &H,
-) -> Result<(D, String), Fail>
-where
-    D::Draft: Send,
-{
-    let (destination, answer) = copied_by(rt, source, destination, roots, workers, hooks);
-    let told = line(rt.alloc(), &answer)?;
-    Ok((destination, told))
+    source: &MemoryStore,
+    case: &Case<'_>,
+    workers: Workers,
+) -> Result<(), Fail> {
+    let (destination, told) = copied_into_closed(rt, source, case, workers)?;
+    assert_told(rt, &destination, told.as_str(), case)?;
+    assert_left(rt, destination.memory(), case)
 }
 
-/// The same of samples.
-pub(crate) fn copied_samples_with<
-    R: AllocGlobal + Threads + Wait + Sync,
-    A: Source + Sync,
-    D: Dest + Drop + Send,
-    H: Hooks + Sync,
->(
+fn assert_into_memory<R: AllocGlobal + Threads + Wait + Sync + Abort>(
     rt: &R,
-    source: &A,
-    destination: D,
-    roots: &[Sample],
-    workers: u32,
-    hooks: &H,
-) -> Result<(D, String), Fail>
-where
-    D::Draft: Send,
-{
-    let roots = keys(rt.alloc(), roots)?;
-    copied(rt, source, destination, &roots, workers, hooks)
+    source: &MemoryStore,
+    case: &Case<'_>,
+    workers: Workers,
+) -> Result<(), Fail> {
+    let (destination, told) = copied_into_memory(rt, source, case, workers)?;
+    assert_told(rt, &destination, told.as_str(), case)?;
+    assert_left(rt, &destination, case)
 }
 
-/// The same with no hooks.
-pub(crate) fn copied_samples<
-    R: AllocGlobal + Threads + Wait + Sync,
-    A: Source + Sync,
-    D: Dest + Drop + Send,
->(rt: &R, source: &A, destination: D, roots: &[Sample], workers: u32) -> Result<(D, String), Fail>
-where
-    D::Draft: Send,
-{
-    copied_samples_with(rt, source, destination, roots, workers, &NoHooks)
+/// The copy of a case by so many workers.
+pub(crate) fn assert_copied_by<R: AllocGlobal + Threads + Wait + Sync + Abort>(
+    rt: &R,
+    case: &Case<'_>,
+    workers: Workers,
+) -> Result<(), Fail> {
+    let source = memory_with(rt.alloc(), case.source, case.source_tag)?;
+    match case.into_closed {
+        true => assert_into_closed(rt, &source, case, workers),
+        false => assert_into_memory(rt, &source, case, workers),
+    }
 }
 
-/// Copies on the calling thread, with a limit of what is read; 0 is the usual one.
-pub(crate) fn copied_one<A: Source, D: Dest + Drop>(
-    alloc: Global,
-    source: &A,
-    destination: D,
-    roots: &[Key],
-    max_metadata_bytes: u64,
-) -> (D, Result<Report, CopyFault>) {
-    let options = Options {
-        max_metadata_bytes,
-        ..Options::default()
-    };
-    copy_one(alloc, source, destination, roots, &options)
+/// The copy of a case by each of its numbers of workers.
+fn assert_copied<R: AllocGlobal + Threads + Wait + Sync + Abort>(
+    rt: &R,
+    case: &Case<'_>,
+) -> Result<(), Fail> {
+    for workers in case.workers {
+        assert_copied_by(rt, case, *workers)?;
+    }
+    Ok(())
 }
 
-/// The same of samples, with the answer as text.
-pub(crate) fn copied_samples_on_one_thread<A: Source, D: Dest + Drop>(
-    alloc: Global,
-    source: &A,
-    destination: D,
-    roots: &[Sample],
-) -> Result<(D, String), Fail> {
-    let roots = keys(alloc, roots)?;
-    let (destination, answer) = copied_one(alloc, source, destination, &roots, 0);
-    let told = line(alloc, &answer)?;
-    Ok((destination, told))
+/// The copies of these cases.
+pub(crate) fn assert_cases<R: AllocGlobal + Threads + Wait + Sync + Abort>(
+    rt: &R,
+    cases: &[Case<'_>],
+) -> Result<(), Fail> {
+    for case in cases {
+        assert_copied(rt, case)?;
+    }
+    Ok(())
 }

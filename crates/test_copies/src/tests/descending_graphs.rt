@@ -1,14 +1,12 @@
 //! Repairs of large graphs with holes, and of random ones, beside what a plain program says of them that is proved to find what a
 //! copy has to bring.
 
-use super::copies::line;
-use super::large::has_all;
 use crate::plain::lacking;
+use crate::tests::calls::{EACH, Workers, copied, left, options};
+use crate::tests::large::{has_all, numbered, push_descriptor};
 use bytes::Bytes;
-use oci_copy::{CopyFault, Options, Report, copy_graph, copy_one};
 use oci_manifest::Key;
 use oci_plan::Existing;
-use oci_pool::NoHooks;
 use oci_store::{Dest, MemoryStore, Source};
 use std::alloc::{AllocError, Global};
 use std::process::Abort;
@@ -16,27 +14,11 @@ use std::sync::Wait;
 use std::test::Fail;
 use std::thread::Threads;
 use test_support::Sample::Empty;
-use test_support::{Content, INDEX, LAYER, descriptor, is_closed, memory, put_chain};
+use test_support::{Content, INDEX, is_closed, memory, put_chain};
 
-/// Copies with `Existing::Descend` by so many workers; 0 is on the calling thread.
-fn descended<R: AllocGlobal + Threads + Wait + Sync>(
-    rt: &R,
-    source: &MemoryStore,
-    destination: MemoryStore,
-    root: &Key,
-    workers: u32,
-) -> (MemoryStore, Result<Report, CopyFault>) {
-    let alloc = rt.alloc();
-    let roots = std::slice::from_ref(root);
-    let options = Options {
-        workers,
-        existing: Existing::Descend,
-        ..Options::default()
-    };
-    if workers == 0 {
-        return copy_one(alloc, source, destination, roots, &options);
-    }
-    copy_graph(rt, alloc, source, destination, roots, &options, &NoHooks)
+/// Puts bytes into a store. What is there stays.
+fn put_bytes(store: &mut MemoryStore, key: &Key, bytes: Bytes) {
+    let _ = store.push(key, bytes);
 }
 
 /// Puts the entry at a place of a store into another.
@@ -44,7 +26,7 @@ fn put_entry(from: &MemoryStore, place: usize, to: &mut MemoryStore) -> Result<(
     let Some((key, bytes)) = from.entry(place) else {
         return Ok(());
     };
-    let _ = to.push(key, bytes.clone()?);
+    put_bytes(to, key, bytes.clone()?);
     Ok(())
 }
 
@@ -59,19 +41,6 @@ fn without_every_third(alloc: Global, store: &MemoryStore) -> Result<MemoryStore
     Ok(damaged)
 }
 
-/// The copy that descends, with its answer as text.
-fn told_of_descended<R: AllocGlobal + Threads + Wait + Sync>(
-    rt: &R,
-    source: &MemoryStore,
-    opening: MemoryStore,
-    root: &Key,
-    workers: u32,
-) -> Result<(MemoryStore, String), Fail> {
-    let (destination, answer) = descended(rt, source, opening, root, workers);
-    let told = line(rt.alloc(), &answer)?;
-    Ok((destination, told))
-}
-
 /// The store has what the source has, and is closed.
 fn assert_whole<R: AllocGlobal + Abort>(
     rt: &R,
@@ -84,28 +53,51 @@ fn assert_whole<R: AllocGlobal + Abort>(
     Ok(())
 }
 
+/// What the repair of a chain leaves where every third content is missing.
+fn repaired_chain<R: AllocGlobal + Threads + Wait + Sync + Abort>(
+    rt: &R,
+    source: &MemoryStore,
+    root: &Key,
+    workers: Workers,
+) -> Result<MemoryStore, Fail> {
+    let damaged = without_every_third(rt.alloc(), source)?;
+    assert_eq!(rt; damaged.len(), 2_000);
+    let want = "planned 1001 pushed 1001 skipped 0";
+    left(
+        rt,
+        source,
+        damaged,
+        root,
+        (workers, Existing::Descend),
+        want,
+    )
+}
+
+/// The repair on the calling thread, and by one worker, by three and by 64.
 fn assert_repaired<R: AllocGlobal + Threads + Wait + Sync + Abort>(
     rt: &R,
     source: &MemoryStore,
     root: &Key,
-    workers: u32,
 ) -> Result<(), Fail> {
-    let damaged = without_every_third(rt.alloc(), source)?;
-    assert_eq!(rt; damaged.len(), 2_000);
-    let (repaired, told) = told_of_descended(rt, source, damaged, root, workers)?;
-    assert_eq!(rt; told.as_str(), "planned 1001 pushed 1001 skipped 0");
-    assert_whole(rt, &repaired, source)
+    for workers in EACH {
+        assert_whole(rt, &repaired_chain(rt, source, root, workers)?, source)?;
+    }
+    Ok(())
+}
+
+/// The repairs of a chain that is put into the source.
+fn assert_chain<R: AllocGlobal + Threads + Wait + Sync + Abort>(
+    rt: &R,
+    source: &mut MemoryStore,
+) -> Result<(), Fail> {
+    let root = put_chain(rt.alloc(), source, 3_000)?;
+    assert_repaired(rt, source, &root)
 }
 
 /// A chain of images of which every third content is missing is whole again. The last image is one of those.
 #[test]
 fn long_chain(rt: HostRuntime) -> Result<(), Fail> {
-    let mut source = memory(rt.alloc(), &[Empty])?;
-    let root = put_chain(rt.alloc(), &mut source, 3_000)?;
-    for workers in [0, 1, 3, 64] {
-        assert_repaired(&rt, &source, &root, workers)?;
-    }
-    Ok(())
+    assert_chain(&rt, &mut memory(rt.alloc(), &[Empty])?)
 }
 
 /// The next of a fixed row of numbers, below a bound.
@@ -127,6 +119,27 @@ struct Graph {
     in_destination: Vec<bool>,
 }
 
+/// The descriptors of the contents that are listed.
+fn descriptors(alloc: Global, contents: &[Content], list: &[u32]) -> Result<String, Fail> {
+    let mut text = String::new(alloc);
+    for listed in list {
+        if let Some(content) = contents.get(*listed as usize) {
+            push_descriptor(alloc, &mut text, content)?;
+        }
+    }
+    Ok(text)
+}
+
+/// The index of a number with these descriptors.
+fn numbered_index(alloc: Global, number: u32, list: &str) -> Result<Content, Fail> {
+    Ok(Content {
+        media_type: INDEX,
+        bytes: format!(in alloc;
+            "{{\"annotations\":{{\"number\":\"{number}\"}},\"manifests\":[{list}]}}"
+        )?,
+    })
+}
+
 /// The content of a number: a layer, or an index of what it lists.
 fn content(
     alloc: Global,
@@ -134,28 +147,11 @@ fn content(
     number: u32,
     list: &[u32],
 ) -> Result<Content, Fail> {
-    let mut text = String::new(alloc);
-    for listed in list {
-        let Some(content) = contents.get(*listed as usize) else {
-            continue;
-        };
-        if !text.is_empty() {
-            text.push_str(",")?;
-        }
-        text.push_str(content.descriptor(alloc)?.as_str())?;
-    }
     if list.is_empty() {
-        return Ok(Content {
-            media_type: LAYER,
-            bytes: format!(in alloc; "{number}")?,
-        });
+        return numbered(alloc, number);
     }
-    Ok(Content {
-        media_type: INDEX,
-        bytes: format!(in alloc;
-            "{{\"annotations\":{{\"number\":\"{number}\"}},\"manifests\":[{text}]}}"
-        )?,
-    })
+    let text = descriptors(alloc, contents, list)?;
+    numbered_index(alloc, number, text.as_str())
 }
 
 /// What a number lists: up to three lesser ones.
@@ -169,6 +165,26 @@ fn random_list(alloc: Global, state: &mut u64, number: u32) -> Result<Vec<u32>, 
     Ok(list)
 }
 
+/// Puts the content of the next number into a graph.
+fn push_content(
+    alloc: Global,
+    state: &mut u64,
+    contents: &mut Vec<Content>,
+    number: u32,
+) -> Result<(), Fail> {
+    let list = random_list(alloc, state, number)?;
+    let content = content(alloc, contents, number, &list)?;
+    contents.push(content)?;
+    Ok(())
+}
+
+/// Marks whether the source has the next content, and whether the destination has it.
+fn push_marks(state: &mut u64, graph: &mut Graph, holes: u32) -> Result<(), Fail> {
+    graph.in_source.push(below(state, 8) >= holes)?;
+    graph.in_destination.push(below(state, 3) > 0)?;
+    Ok(())
+}
+
 /// A random graph with so many numbers, of which the source lacks some, and the destination more.
 fn random_graph(alloc: Global, state: &mut u64, count: u32) -> Result<Graph, Fail> {
     let mut graph = Graph {
@@ -178,13 +194,26 @@ fn random_graph(alloc: Global, state: &mut u64, count: u32) -> Result<Graph, Fai
     };
     let holes = below(state, 3);
     for number in 0..count {
-        let list = random_list(alloc, state, number)?;
-        let content = content(alloc, &graph.contents, number, &list)?;
-        graph.contents.push(content)?;
-        graph.in_source.push(below(state, 8) >= holes)?;
-        graph.in_destination.push(below(state, 3) > 0)?;
+        push_content(alloc, state, &mut graph.contents, number)?;
+        push_marks(state, &mut graph, holes)?;
     }
     Ok(graph)
+}
+
+/// Puts a content into a store under a key.
+fn put_as(
+    alloc: Global,
+    store: &mut MemoryStore,
+    key: &Key,
+    content: &Content,
+) -> Result<(), Fail> {
+    let bytes = Bytes::copy_from_slice(alloc, content.bytes.as_bytes())?;
+    put_bytes(store, key, bytes);
+    Ok(())
+}
+
+fn put(alloc: Global, store: &mut MemoryStore, content: &Content) -> Result<(), Fail> {
+    put_as(alloc, store, &content.key(alloc)?, content)
 }
 
 /// The contents that are marked, as a store.
@@ -192,8 +221,7 @@ fn marked_store(alloc: Global, contents: &[Content], marks: &[bool]) -> Result<M
     let mut store = MemoryStore::new(alloc);
     for (content, is_marked) in contents.iter().zip(marks.iter()) {
         if *is_marked {
-            let bytes = Bytes::copy_from_slice(alloc, content.bytes.as_bytes())?;
-            let _ = store.push(&content.key(alloc)?, bytes);
+            put(alloc, &mut store, content)?;
         }
     }
     Ok(store)
@@ -202,73 +230,149 @@ fn marked_store(alloc: Global, contents: &[Content], marks: &[bool]) -> Result<M
 /// The key of the last number of a graph.
 fn last_key(alloc: Global, graph: &Graph) -> Result<Key, Fail> {
     match graph.contents.last() {
-        Some(last) => Ok(last.key(alloc)?),
+        Some(last) => last.key(alloc),
         None => Err(Fail::from("the graph is empty")),
     }
 }
 
 /// A copy of the last content of a random graph: its two stores, its root, and what it has to bring.
-#[derive(Drop)]
-struct Repair {
-    source: MemoryStore,
-    destination: MemoryStore,
-    root: Key,
-    lacking: Vec<Key>,
+#[derive(Clone, Copy)]
+struct Repair<'a> {
+    graph: &'a Graph,
+    source: &'a MemoryStore,
+    destination: &'a MemoryStore,
+    root: &'a Key,
+    lacking: &'a [Key],
 }
 
-fn repair_of(alloc: Global, graph: &Graph) -> Result<Repair, Fail> {
-    let root = last_key(alloc, graph)?;
-    let source = marked_store(alloc, &graph.contents, &graph.in_source)?;
-    let destination = marked_store(alloc, &graph.contents, &graph.in_destination)?;
-    let lacking = lacking(alloc, &source, &destination, &root)?;
-    Ok(Repair {
-        source,
-        destination,
-        root,
-        lacking,
-    })
+fn has_keys(store: &MemoryStore, keys: &[Key]) -> bool {
+    for key in keys {
+        if !store.exists(key) {
+            return false;
+        }
+    }
+    true
 }
 
 /// Whether a key that the copy has to bring is in neither store.
-fn is_refused(repair: &Repair) -> bool {
-    repair.lacking.iter().any(|key| !repair.source.exists(key))
+fn is_refused(repair: &Repair<'_>) -> bool {
+    !has_keys(repair.source, repair.lacking)
 }
 
 /// How what is told of the copy begins.
-fn beginning(alloc: Global, repair: &Repair) -> Result<String, Fail> {
+fn beginning(alloc: Global, repair: &Repair<'_>) -> Result<String, Fail> {
     if is_refused(repair) {
         return Ok(String::from_str(alloc, "81 Plan 53 NotFound ")?);
     }
     let lacking = repair.lacking.len();
-    let skipped = u32::from(repair.destination.exists(&repair.root));
+    let skipped = u32::from(repair.destination.exists(repair.root));
     Ok(format!(in alloc; "planned {lacking} pushed {lacking} skipped {skipped}")?)
 }
 
 /// The store has exactly what the destination had, and what the copy had to bring unless it was refused.
-fn is_repaired(store: &MemoryStore, repair: &Repair) -> bool {
+fn is_repaired(store: &MemoryStore, repair: &Repair<'_>) -> bool {
     let came = if is_refused(repair) {
         &[]
     } else {
-        repair.lacking.as_slice()
+        repair.lacking
     };
     store.len() == repair.destination.len().saturating_add(came.len())
-        && has_all(store, &repair.destination)
-        && came.iter().all(|key| store.exists(key))
+        && has_all(store, repair.destination)
+        && has_keys(store, came)
+}
+
+/// What was told begins as the plain program says.
+fn assert_begins<R: AllocGlobal + Abort>(
+    rt: &R,
+    repair: &Repair<'_>,
+    told: &str,
+) -> Result<(), Fail> {
+    let begins = beginning(rt.alloc(), repair)?;
+    assert!(rt; told.starts_with(begins.as_str()), "{told}");
+    Ok(())
+}
+
+/// The copy into a store as the destination is.
+fn copied_repair<R: AllocGlobal + Threads + Wait + Sync>(
+    rt: &R,
+    repair: &Repair<'_>,
+    workers: Workers,
+) -> Result<(MemoryStore, String), Fail> {
+    let graph = repair.graph;
+    let opening = marked_store(rt.alloc(), &graph.contents, &graph.in_destination)?;
+    let options = options(workers, Existing::Descend, 0);
+    let roots = std::slice::from_ref(repair.root);
+    copied(rt, repair.source, opening, roots, workers, &options)
 }
 
 /// The copy by so many workers leaves, and tells, what the plain program says of it.
+fn assert_wanted_by<R: AllocGlobal + Threads + Wait + Sync + Abort>(
+    rt: &R,
+    repair: &Repair<'_>,
+    workers: Workers,
+) -> Result<(), Fail> {
+    let (store, told) = copied_repair(rt, repair, workers)?;
+    assert_begins(rt, repair, told.as_str())?;
+    assert!(rt; is_repaired(&store, repair), "{told}");
+    Ok(())
+}
+
+/// The same on the calling thread, and by one worker, by three and by 64: whether it is refused.
 fn assert_wanted<R: AllocGlobal + Threads + Wait + Sync + Abort>(
     rt: &R,
-    graph: &Graph,
-    workers: u32,
+    repair: &Repair<'_>,
 ) -> Result<bool, Fail> {
-    let repair = repair_of(rt.alloc(), graph)?;
-    let opening = marked_store(rt.alloc(), &graph.contents, &graph.in_destination)?;
-    let (store, told) = told_of_descended(rt, &repair.source, opening, &repair.root, workers)?;
-    let begins = beginning(rt.alloc(), &repair)?;
-    assert!(rt; told.as_str().starts_with(begins.as_str()));
-    assert!(rt; is_repaired(&store, &repair));
-    Ok(is_refused(&repair))
+    for workers in EACH {
+        assert_wanted_by(rt, repair, workers)?;
+    }
+    Ok(is_refused(repair))
+}
+
+/// The same of a graph and its two stores.
+fn assert_between<R: AllocGlobal + Threads + Wait + Sync + Abort>(
+    rt: &R,
+    graph: &Graph,
+    source: &MemoryStore,
+    destination: &MemoryStore,
+) -> Result<bool, Fail> {
+    let root = last_key(rt.alloc(), graph)?;
+    let lacking = lacking(rt.alloc(), source, destination, &root)?;
+    let repair = Repair {
+        graph,
+        source,
+        destination,
+        root: &root,
+        lacking: &lacking,
+    };
+    assert_wanted(rt, &repair)
+}
+
+/// The same of a graph and its source.
+fn assert_from<R: AllocGlobal + Threads + Wait + Sync + Abort>(
+    rt: &R,
+    graph: &Graph,
+    source: &MemoryStore,
+) -> Result<bool, Fail> {
+    let destination = marked_store(rt.alloc(), &graph.contents, &graph.in_destination)?;
+    assert_between(rt, graph, source, &destination)
+}
+
+/// The same of a graph.
+fn assert_graph<R: AllocGlobal + Threads + Wait + Sync + Abort>(
+    rt: &R,
+    graph: &Graph,
+) -> Result<bool, Fail> {
+    let source = marked_store(rt.alloc(), &graph.contents, &graph.in_source)?;
+    assert_from(rt, graph, &source)
+}
+
+/// The same of the next random graph.
+fn assert_random<R: AllocGlobal + Threads + Wait + Sync + Abort>(
+    rt: &R,
+    state: &mut u64,
+) -> Result<bool, Fail> {
+    let count = below(state, 40).max(1);
+    assert_graph(rt, &random_graph(rt.alloc(), state, count)?)
 }
 
 /// Random graphs into destinations with random holes, some of them from sources with holes of their own.
@@ -277,12 +381,8 @@ fn random_graphs(rt: HostRuntime) -> Result<(), Fail> {
     let mut state = 2026;
     let mut refused = 0u32;
     for _ in 0..40 {
-        let count = below(&mut state, 40).max(1);
-        let graph = random_graph(rt.alloc(), &mut state, count)?;
-        for workers in [0, 1, 3, 64] {
-            refused = refused.saturating_add(u32::from(assert_wanted(&rt, &graph, workers)?));
-        }
+        refused = refused.saturating_add(u32::from(assert_random(&rt, &mut state)?));
     }
-    assert!(&rt; refused > 0 && refused < 160);
+    assert!(&rt; refused > 0 && refused < 40);
     Ok(())
 }

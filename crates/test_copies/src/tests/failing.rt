@@ -1,4 +1,9 @@
-use crate::tests::copies::{assert_holds, copied_samples, copied_samples_on_one_thread};
+//! Copies from and into stores that fail once: what is told and left, and that the same copy again brings the rest.
+
+use crate::tests::calls::{Workers, copied_samples, options};
+use crate::tests::copies::Word::{KeyOf, Text};
+use crate::tests::copies::{assert_holds, is_text};
+use oci_plan::Existing;
 use oci_store::{ClosedStore, Dest, Source};
 use std::alloc::Global;
 use std::process::Abort;
@@ -10,27 +15,25 @@ use test_support::{Device, DeviceStore, FailingClosedStore, Sample, closed, is_c
 
 const ALL: [Sample; 6] = [Empty, Foo, Bar, Image2, Image3, Index1];
 
-/// Copies the index by so many workers, or on the calling thread.
+/// Copies the index.
 fn copied<A: Source + Sync, D: Dest + Drop + Send, R: AllocGlobal + Threads + Wait + Sync>(
     rt: &R,
     source: &A,
     destination: D,
-    workers: Option<u32>,
+    workers: Workers,
 ) -> Result<(D, String), Fail>
 where
     D::Draft: Send,
 {
-    match workers {
-        Some(workers) => copied_samples(rt, source, destination, &[Index1], workers),
-        None => copied_samples_on_one_thread(rt.alloc(), source, destination, &[Index1]),
-    }
+    let options = options(workers, Existing::Skip, 0);
+    copied_samples(rt, source, destination, &[Index1], workers, &options)
 }
 
 /// Copies it from a store in memory into a store that fails.
 fn copied_into<D: Dest + Drop + Send, R: AllocGlobal + Threads + Wait + Sync>(
     rt: &R,
     destination: D,
-    workers: Option<u32>,
+    workers: Workers,
 ) -> Result<(D, String), Fail>
 where
     D::Draft: Send,
@@ -39,13 +42,19 @@ where
     copied(rt, &source, destination, workers)
 }
 
+fn lacks<D: Dest>(alloc: Global, destination: &D, sample: Sample) -> Result<bool, Fail> {
+    Ok(!destination.has(&sample.key(alloc)?))
+}
+
 /// Whether this tells that the push of one of the samples failed, which the destination then does not hold.
 fn names_missing<D: Dest>(alloc: Global, destination: &D, told: &str) -> Result<bool, Fail> {
     for sample in ALL {
-        let key = sample.key(alloc)?;
-        let line = format!(in alloc; "82 Push {key} 43 Device")?;
-        if told == line.as_str() {
-            return Ok(!destination.has(&key));
+        if is_text(
+            alloc,
+            told,
+            &[Text("82 Push "), KeyOf(sample), Text(" 43 Device")],
+        )? {
+            return lacks(alloc, destination, sample);
         }
     }
     Ok(false)
@@ -67,7 +76,7 @@ fn assert_failed<R: AllocGlobal + Abort, D: Dest>(
 fn left_by_refused<D: Dest + Drop + Send, R: AllocGlobal + Threads + Wait + Sync + Abort>(
     rt: &R,
     destination: D,
-    workers: Option<u32>,
+    workers: Workers,
 ) -> Result<D, Fail>
 where
     D::Draft: Send,
@@ -77,20 +86,41 @@ where
     Ok(destination)
 }
 
+/// The copy brought so many keys.
+fn assert_brought<R: AllocGlobal + Abort>(rt: &R, told: &str, count: usize) -> Result<(), Fail> {
+    let want = format!(in rt.alloc(); "planned {count} pushed {count} skipped 0")?;
+    assert_eq!(rt; told, want.as_str());
+    Ok(())
+}
+
 /// The same copy again brings the rest.
 fn assert_finished<A: Dest + Source + Drop + Send, R: AllocGlobal + Threads + Wait + Sync + Abort>(
     rt: &R,
     destination: A,
-    workers: Option<u32>,
+    workers: Workers,
 ) -> Result<(), Fail>
 where
     A::Draft: Send,
 {
-    let rest = 6u64.saturating_sub(destination.count() as u64);
+    let rest = ALL.len().saturating_sub(destination.count());
     let (destination, told) = copied_into(rt, destination, workers)?;
-    let want = format!(in rt.alloc(); "planned {rest} pushed {rest} skipped 0")?;
-    assert_eq!(rt; told.as_str(), want.as_str());
-    assert_holds(rt, &destination, &ALL)
+    assert_brought(rt, told.as_str(), rest)?;
+    assert_holds(rt, &destination, &ALL, told.as_str())
+}
+
+/// A copy into a store of which a push fails, and the same copy again: how many contents the first one left.
+fn left_by_failed<A: Dest + Source + Drop + Send, R: AllocGlobal + Threads + Wait + Sync + Abort>(
+    rt: &R,
+    destination: A,
+    workers: Workers,
+) -> Result<u64, Fail>
+where
+    A::Draft: Send,
+{
+    let destination = left_by_refused(rt, destination, workers)?;
+    let left = destination.count() as u64;
+    assert_finished(rt, destination, workers)?;
+    Ok(left)
 }
 
 /// The third push into a closed store fails. The plan leaves the order of the pushes open, so any key that is not held may be the
@@ -98,22 +128,30 @@ where
 #[test]
 fn failing_push(rt: HostRuntime) -> Result<(), Fail> {
     let failing = FailingClosedStore::after(closed(rt.alloc(), &[])?, 2);
-    let destination = left_by_refused(&rt, failing, None)?;
-    assert_eq!(&rt; destination.count(), 2);
-    assert_finished(&rt, destination, None)
+    assert_eq!(&rt; left_by_failed(&rt, failing, None)?, 2);
+    Ok(())
 }
 
-/// A copy into a device that fails the put after so many, and the same copy again: how many contents the first one left.
-fn left_by_failed<R: AllocGlobal + Threads + Wait + Sync + Abort>(
+/// The copy into a device that fails the put after so many.
+fn left_on_device<R: AllocGlobal + Threads + Wait + Sync + Abort>(
+    rt: &R,
+    device: &Device,
+    workers: Workers,
+) -> Result<u64, Fail> {
+    left_by_failed(rt, on_device(rt.alloc(), device, &[])?, workers)
+}
+
+/// The put after so many fails. On one thread what was pushed before is there; workers may have gone on with what was begun.
+fn assert_put<R: AllocGlobal + Threads + Wait + Sync + Abort>(
     rt: &R,
     passing: u64,
-    workers: Option<u32>,
-) -> Result<u64, Fail> {
+    workers: Workers,
+) -> Result<(), Fail> {
     let device = Device::failing(Some(passing), None);
-    let destination = left_by_refused(rt, on_device(rt.alloc(), &device, &[])?, workers)?;
-    let left = destination.count() as u64;
-    assert_finished(rt, destination, workers)?;
-    Ok(left)
+    let left = left_on_device(rt, &device, workers)?;
+    let most = if workers.is_none() { passing } else { 5 };
+    assert!(rt; left >= passing && left <= most, "{left} after {passing}");
+    Ok(())
 }
 
 /// One put fails, and the copy is refused; the same copy into what came back brings the rest. On one thread what was pushed before
@@ -121,10 +159,8 @@ fn left_by_failed<R: AllocGlobal + Threads + Wait + Sync + Abort>(
 #[test]
 fn failing_puts(rt: HostRuntime) -> Result<(), Fail> {
     for passing in 0..6u64 {
-        let left = left_by_failed(&rt, passing, None)?;
-        assert_eq!(rt; left, passing);
-        let left = left_by_failed(&rt, passing, Some(3))?;
-        assert!(rt; left >= passing && left <= 5, "{left} after {passing}");
+        assert_put(&rt, passing, None)?;
+        assert_put(&rt, passing, Some(3))?;
     }
     Ok(())
 }
@@ -142,32 +178,66 @@ fn assert_not_fetched<R: AllocGlobal + Abort>(
     Ok(())
 }
 
+/// Whether the copy was refused for a fetch.
+fn is_refused<R: AllocGlobal + Abort>(
+    rt: &R,
+    destination: &ClosedStore,
+    told: &str,
+) -> Result<bool, Fail> {
+    let refused = told.ends_with(" 22 Device");
+    if refused {
+        assert_not_fetched(rt, destination, told)?;
+    }
+    Ok(refused)
+}
+
 /// What a copy leaves in an empty store, and whether it was refused for a fetch.
 fn copied_once<R: AllocGlobal + Threads + Wait + Sync + Abort>(
     rt: &R,
     source: &DeviceStore<'_>,
-    workers: Option<u32>,
+    workers: Workers,
 ) -> Result<(ClosedStore, bool), Fail> {
     let (destination, told) = copied(rt, source, closed(rt.alloc(), &[])?, workers)?;
-    let refused = told.ends_with(" 22 Device");
-    if refused {
-        assert_not_fetched(rt, &destination, told.as_str())?;
-    }
+    let refused = is_refused(rt, &destination, told.as_str())?;
     Ok((destination, refused))
 }
 
+/// The copy again brings all.
+fn assert_whole<R: AllocGlobal + Threads + Wait + Sync + Abort>(
+    rt: &R,
+    source: &DeviceStore<'_>,
+    destination: ClosedStore,
+    workers: Workers,
+) -> Result<(), Fail> {
+    let (destination, told) = copied(rt, source, destination, workers)?;
+    assert_holds(rt, &destination, &ALL, told.as_str())
+}
+
 /// A copy from a device that fails the get after so many, and the same copy again: whether the first was refused.
-fn is_refused<R: AllocGlobal + Threads + Wait + Sync + Abort>(
+fn is_refused_once<R: AllocGlobal + Threads + Wait + Sync + Abort>(
+    rt: &R,
+    device: &Device,
+    workers: Workers,
+) -> Result<bool, Fail> {
+    let source = on_device(rt.alloc(), device, &ALL)?;
+    let (destination, refused) = copied_once(rt, &source, workers)?;
+    assert_whole(rt, &source, destination, workers)?;
+    Ok(refused)
+}
+
+/// The get after so many fails, on one thread or for workers.
+fn assert_get<R: AllocGlobal + Threads + Wait + Sync + Abort>(
     rt: &R,
     passing: u64,
-    workers: Option<u32>,
-) -> Result<bool, Fail> {
+    workers: Workers,
+) -> Result<(), Fail> {
     let device = Device::failing(None, Some(passing));
-    let source = on_device(rt.alloc(), &device, &ALL)?;
-    let (destination, refused) = copied_once(rt, &source, workers)?;
-    let (destination, _) = copied(rt, &source, destination, workers)?;
-    assert_holds(rt, &destination, &ALL)?;
-    Ok(refused)
+    assert_eq!(rt;
+        is_refused_once(rt, &device, workers)?,
+        passing < 9,
+        "{passing}"
+    );
+    Ok(())
 }
 
 /// One fetch fails, at each place in turn, until a copy meets no failure: that is after the three manifests for the plan and the
@@ -175,10 +245,8 @@ fn is_refused<R: AllocGlobal + Threads + Wait + Sync + Abort>(
 #[test]
 fn failing_fetch(rt: HostRuntime) -> Result<(), Fail> {
     for passing in 0..10u64 {
-        for workers in [None, Some(3)] {
-            let refused = is_refused(&rt, passing, workers)?;
-            assert_eq!(rt; refused, passing < 9, "{passing}");
-        }
+        assert_get(&rt, passing, None)?;
+        assert_get(&rt, passing, Some(3))?;
     }
     Ok(())
 }

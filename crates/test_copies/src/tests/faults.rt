@@ -1,51 +1,100 @@
 //! How each refusal of a copy prints: its number, its name, and what it carries.
 
+use crate::tests::copies::Word::{KeyOf, Text};
+use crate::tests::copies::{Word, text};
 use oci_copy::CopyFault;
 use oci_plan::PlanFault;
 use oci_store::{FetchFault, PushFault, RefFault};
+use std::alloc::Global;
 use std::process::Abort;
 use std::test::Fail;
 use test_support::Sample::{Bar, Foo};
 
+/// A refusal, with the key of `foo` and that of `bar` where it carries two.
+#[derive(Clone, Copy)]
+enum Refusal {
+    DestinationOpen,
+    Push,
+    Fetch,
+    Stuck,
+    Incomplete,
+    Plan,
+    BadWorkers,
+    Memory,
+    Reference,
+}
+
+fn fault_of(alloc: Global, refusal: Refusal) -> Result<CopyFault, Fail> {
+    let key = Foo.key(alloc)?;
+    Ok(match refusal {
+        Refusal::DestinationOpen => CopyFault::DestinationOpen(key, Bar.key(alloc)?),
+        Refusal::Push => CopyFault::Push(key, PushFault::Device),
+        Refusal::Fetch => CopyFault::Fetch(key, FetchFault::Device),
+        Refusal::Stuck => CopyFault::Stuck(key),
+        Refusal::Incomplete => CopyFault::Incomplete(key),
+        Refusal::Plan => CopyFault::Plan(PlanFault::TooMany),
+        Refusal::BadWorkers => CopyFault::BadWorkers,
+        Refusal::Memory => CopyFault::Memory,
+        Refusal::Reference => CopyFault::Reference(RefFault::NotHeld),
+    })
+}
+
+/// The number of a fault, and these words.
+fn line_of(alloc: Global, fault: &CopyFault, words: &[Word<'_>]) -> Result<String, Fail> {
+    let words = text(alloc, words)?;
+    Ok(format!(in alloc; "{} {words}", fault.number())?)
+}
+
 /// A fault prints as its number and these words.
-fn assert_line<R: AllocGlobal + Abort>(rt: &R, fault: CopyFault, words: &str) -> Result<(), Fail> {
-    let want = format!(in rt.alloc(); "{} {words}", fault.number())?;
+fn assert_line<R: AllocGlobal + Abort>(
+    rt: &R,
+    fault: &CopyFault,
+    words: &[Word<'_>],
+) -> Result<(), Fail> {
+    let want = line_of(rt.alloc(), fault, words)?;
     assert_eq!(rt; fault.to_string(rt.alloc())?.as_str(), want.as_str());
     Ok(())
 }
 
-/// A fault prints as its number, this name, the key of `foo`, and the rest.
-fn assert_keyed<R: AllocGlobal + Abort>(
+/// Each refusal prints as its number and these words.
+fn assert_lines<R: AllocGlobal + Abort>(
     rt: &R,
-    fault: CopyFault,
-    name: &str,
-    rest: &str,
+    rows: &[(Refusal, &[Word<'_>])],
 ) -> Result<(), Fail> {
-    let key = Foo.key(rt.alloc())?;
-    let words = format!(in rt.alloc(); "{name} {key}{rest}")?;
-    assert_line(rt, fault, words.as_str())
+    for (refusal, words) in rows {
+        assert_line(rt, &fault_of(rt.alloc(), *refusal)?, words)?;
+    }
+    Ok(())
 }
 
 #[test]
 fn copy_faults(rt: HostRuntime) -> Result<(), Fail> {
-    let alloc = rt.alloc();
-    let fault = CopyFault::DestinationOpen(Foo.key(alloc)?, Bar.key(alloc)?);
-    let bar = format!(in alloc; " {}", Bar.key(alloc)?)?;
-    assert_keyed(&rt, fault, "DestinationOpen", bar.as_str())?;
-    let fault = CopyFault::Push(Foo.key(alloc)?, PushFault::Device);
-    assert_keyed(&rt, fault, "Push", " 43 Device")?;
-    let fault = CopyFault::Fetch(Foo.key(alloc)?, FetchFault::Device);
-    assert_keyed(&rt, fault, "Fetch", " 22 Device")?;
-    assert_keyed(&rt, CopyFault::Stuck(Foo.key(alloc)?), "Stuck", "")?;
-    let fault = CopyFault::Incomplete(Foo.key(alloc)?);
-    assert_keyed(&rt, fault, "Incomplete", "")
+    static ROWS: [(Refusal, &[Word<'static>]); 5] = [
+        (
+            Refusal::DestinationOpen,
+            &[Text("DestinationOpen "), KeyOf(Foo), Text(" "), KeyOf(Bar)],
+        ),
+        (
+            Refusal::Push,
+            &[Text("Push "), KeyOf(Foo), Text(" 43 Device")],
+        ),
+        (
+            Refusal::Fetch,
+            &[Text("Fetch "), KeyOf(Foo), Text(" 22 Device")],
+        ),
+        (Refusal::Stuck, &[Text("Stuck "), KeyOf(Foo)]),
+        (Refusal::Incomplete, &[Text("Incomplete "), KeyOf(Foo)]),
+    ];
+    assert_lines(&rt, &ROWS)
 }
 
 #[test]
 fn copy_faults_without_a_key(rt: HostRuntime) -> Result<(), Fail> {
-    assert_line(&rt, CopyFault::Plan(PlanFault::TooMany), "Plan 59 TooMany")?;
-    assert_line(&rt, CopyFault::BadWorkers, "BadWorkers")?;
-    assert_line(&rt, CopyFault::Memory, "Memory")?;
-    let fault = CopyFault::Reference(RefFault::NotHeld);
-    assert_line(&rt, fault, "Reference 37 NotHeld")
+    static ROWS: [(Refusal, &[Word<'static>]); 4] = [
+        (Refusal::Plan, &[Text("Plan 59 TooMany")]),
+        (Refusal::BadWorkers, &[Text("BadWorkers")]),
+        (Refusal::Memory, &[Text("Memory")]),
+        (Refusal::Reference, &[Text("Reference 37 NotHeld")]),
+    ];
+    assert_lines(&rt, &ROWS)
 }

@@ -1,8 +1,9 @@
-use crate::tests::copies::{copied_samples_with, descending_by, line};
-use oci_copy::copy_graph;
+use crate::tests::calls::{options, told_by_workers};
 use oci_manifest::Key;
+use oci_plan::Existing;
 use oci_pool::Hooks;
-use std::alloc::Global;
+use oci_store::MemoryStore;
+use std::process::Abort;
 use std::sync::Wait;
 use std::sync::atomic::{AtomicU64, Ordering};
 use std::test::Fail;
@@ -74,24 +75,35 @@ fn copied_images<R: AllocGlobal + Threads + Wait + Sync>(
 ) -> Result<String, Fail> {
     let source = memory(rt.alloc(), &[Empty, Foo, Bar, Image2, Image3, Index1])?;
     let roots = [Foo, Index1, Bar, Foo];
-    let (_, told) = copied_samples_with(rt, &source, destination, &roots, 3, hooks)?;
-    Ok(told)
+    let options = options(Some(3), Existing::Skip, 0);
+    told_by_workers(rt, &source, destination, &roots, &options, hooks)
 }
 
-/// Each held root is told once and first; each key that is brought is told before it is pushed, and once it is.
-#[test]
-fn calls_of_hooks(rt: HostRuntime) -> Result<(), Fail> {
-    let device = Device::failing(None, None);
-    let destination = on_device(rt.alloc(), &device, &[Empty, Foo, Bar])?;
-    let hooks = Counting::new(&device);
-    let told = copied_images(&rt, destination, &hooks)?;
-    assert_eq!(rt; told.as_str(), "planned 3 pushed 3 skipped 2");
+/// Two roots were held, and three keys were brought, with each call in its place.
+fn assert_counted<R: AllocGlobal + Abort>(rt: &R, hooks: &Counting<'_>) -> Result<(), Fail> {
     assert_eq!(rt; hooks.skipped.load(Ordering::SeqCst), 2);
     assert_eq!(rt; hooks.began.load(Ordering::SeqCst), 3);
     assert_eq!(rt; hooks.pushed(), 3);
     assert_eq!(rt; hooks.ended.load(Ordering::SeqCst), 3);
     assert_eq!(rt; hooks.late.load(Ordering::SeqCst), 0);
     Ok(())
+}
+
+fn assert_calls<R: AllocGlobal + Threads + Wait + Sync + Abort>(
+    rt: &R,
+    device: &Device,
+) -> Result<(), Fail> {
+    let destination = on_device(rt.alloc(), device, &[Empty, Foo, Bar])?;
+    let hooks = Counting::new(device);
+    let told = copied_images(rt, destination, &hooks)?;
+    assert_eq!(rt; told.as_str(), "planned 3 pushed 3 skipped 2");
+    assert_counted(rt, &hooks)
+}
+
+/// Each held root is told once and first; each key that is brought is told before it is pushed, and once it is.
+#[test]
+fn calls_of_hooks(rt: HostRuntime) -> Result<(), Fail> {
+    assert_calls(&rt, &Device::failing(None, None))
 }
 
 /// Hooks that know which roots they are to be told as held, in their order.
@@ -141,33 +153,42 @@ impl Hooks for Naming {
 /// Copies two images and a layer, of which the layer and an image without its config are held, by so many workers that descend.
 fn copied_below<R: AllocGlobal + Threads + Wait + Sync>(
     rt: &R,
+    source: &MemoryStore,
     workers: u32,
     hooks: &Naming,
 ) -> Result<String, Fail> {
-    let alloc = rt.alloc();
-    let source = memory(alloc, &[Empty, Foo, Image0, Image2])?;
-    let open = memory(alloc, &[Image0, Foo])?;
-    let roots = keys(alloc, &[Foo, Image2, Image0, Foo])?;
-    let options = descending_by(workers);
-    let (_, answer) = copy_graph(rt, alloc, &source, open, &roots, &options, hooks);
-    line(alloc, &answer)
+    let open = memory(rt.alloc(), &[Image0, Foo])?;
+    let roots = [Foo, Image2, Image0, Foo];
+    let options = options(Some(workers), Existing::Descend, 0);
+    told_by_workers(rt, source, open, &roots, &options, hooks)
 }
 
-/// The hooks for held roots, which are a layer and an image in the order of the roots.
-fn for_held_roots(alloc: Global) -> Result<Naming, Fail> {
-    Ok(Naming::new(keys(alloc, &[Foo, Image0])?))
+/// Two roots were held, which were told in their order, and two keys were brought.
+fn assert_named<R: AllocGlobal + Abort>(rt: &R, hooks: &Naming) -> Result<(), Fail> {
+    assert_eq!(rt; hooks.skipped.load(Ordering::SeqCst), 2);
+    assert_eq!(rt; hooks.began.load(Ordering::SeqCst), 2);
+    assert_eq!(rt; hooks.wrong.load(Ordering::SeqCst), 0);
+    Ok(())
+}
+
+/// The held roots are a layer and an image, in the order of the roots.
+fn assert_calls_below<R: AllocGlobal + Threads + Wait + Sync + Abort>(
+    rt: &R,
+    source: &MemoryStore,
+    workers: u32,
+) -> Result<(), Fail> {
+    let hooks = Naming::new(keys(rt.alloc(), &[Foo, Image0])?);
+    let told = copied_below(rt, source, workers, &hooks)?;
+    assert_eq!(rt; told.as_str(), "planned 2 pushed 2 skipped 2");
+    assert_named(rt, &hooks)
 }
 
 /// A copy that descends tells held roots as one that skips them: each once, in their order, and first.
 #[test]
 fn calls_of_hooks_below_held_keys(rt: HostRuntime) -> Result<(), Fail> {
+    let source = memory(rt.alloc(), &[Empty, Foo, Image0, Image2])?;
     for workers in [1, 3] {
-        let hooks = for_held_roots(rt.alloc())?;
-        let told = copied_below(&rt, workers, &hooks)?;
-        assert_eq!(&rt; told.as_str(), "planned 2 pushed 2 skipped 2");
-        assert_eq!(&rt; hooks.skipped.load(Ordering::SeqCst), 2);
-        assert_eq!(&rt; hooks.began.load(Ordering::SeqCst), 2);
-        assert_eq!(&rt; hooks.wrong.load(Ordering::SeqCst), 0);
+        assert_calls_below(&rt, &source, workers)?;
     }
     Ok(())
 }

@@ -1,6 +1,8 @@
-use crate::tests::copies::{copied, copied_one, line};
+//! Copies of many layers and of long chains, on one thread and by workers.
+
+use crate::tests::calls::{Workers, left};
 use oci_manifest::Key;
-use oci_pool::NoHooks;
+use oci_plan::Existing;
 use oci_store::{ClosedStore, Dest, MemoryStore};
 use std::alloc::Global;
 use std::process::Abort;
@@ -23,59 +25,87 @@ pub(crate) fn has_all(store: &MemoryStore, other: &MemoryStore) -> bool {
     true
 }
 
-/// What a copy on the calling thread leaves in an empty store.
-fn on_one_thread<R: AllocGlobal + Abort>(
+/// What a copy leaves in an empty store, which tells this.
+fn copied_into_empty<R: AllocGlobal + Threads + Wait + Sync + Abort>(
     rt: &R,
     source: &MemoryStore,
-    roots: &[Key],
+    root: &Key,
+    workers: Workers,
     want: &str,
 ) -> Result<ClosedStore, Fail> {
     let empty = closed(rt.alloc(), &[])?;
-    let (destination, answer) = copied_one(rt.alloc(), source, empty, roots, 0);
-    let told = line(rt.alloc(), &answer)?;
-    assert_eq!(rt; told.as_str(), want);
-    Ok(destination)
+    left(rt, source, empty, root, (workers, Existing::Skip), want)
 }
 
-/// What a copy by so many workers leaves in an empty store.
-fn by_workers<R: AllocGlobal + Threads + Wait + Sync + Abort>(
+fn assert_alike<R: AllocGlobal + Abort>(
     rt: &R,
-    source: &MemoryStore,
-    roots: &[Key],
+    copied: &ClosedStore,
+    single: &ClosedStore,
     workers: u32,
-    want: &str,
-) -> Result<ClosedStore, Fail> {
-    let destination = closed(rt.alloc(), &[])?;
-    let (destination, told) = copied(rt, source, destination, roots, workers, &NoHooks)?;
-    assert_eq!(rt; told.as_str(), want);
-    Ok(destination)
+) -> Result<(), Fail> {
+    assert_eq!(rt; copied.count(), single.count(), "by {workers}");
+    assert!(rt; has_all(copied.memory(), single.memory()), "by {workers}");
+    Ok(())
 }
 
 /// A copy by so many workers brings what a copy on one thread brought.
-fn assert_same<R: AllocGlobal + Threads + Wait + Sync + Abort>(
+fn assert_same_by<R: AllocGlobal + Threads + Wait + Sync + Abort>(
     rt: &R,
     source: &MemoryStore,
-    roots: &[Key],
+    root: &Key,
+    single: &ClosedStore,
     workers: u32,
     want: &str,
 ) -> Result<(), Fail> {
-    let single = on_one_thread(rt, source, roots, want)?;
-    let copied = by_workers(rt, source, roots, workers, want)?;
-    assert_eq!(rt; copied.count(), single.count());
-    assert!(rt; has_all(copied.memory(), single.memory()));
+    let copied = copied_into_empty(rt, source, root, Some(workers), want)?;
+    assert_alike(rt, &copied, single, workers)
+}
+
+/// A copy by each of these numbers of workers brings what a copy on one thread brings.
+fn assert_same<R: AllocGlobal + Threads + Wait + Sync + Abort>(
+    rt: &R,
+    source: &MemoryStore,
+    root: &Key,
+    each: &[u32],
+    want: &str,
+) -> Result<(), Fail> {
+    let single = copied_into_empty(rt, source, root, None, want)?;
+    for workers in each {
+        assert_same_by(rt, source, root, &single, *workers, want)?;
+    }
     Ok(())
+}
+
+/// The same of a chain that is put into the store.
+fn assert_chain<R: AllocGlobal + Threads + Wait + Sync + Abort>(
+    rt: &R,
+    store: &mut MemoryStore,
+) -> Result<(), Fail> {
+    let root = put_chain(rt.alloc(), store, 3_000)?;
+    assert_same(rt, store, &root, &[3], "planned 3001 pushed 3001 skipped 0")
 }
 
 /// A chain, of which one key at a time can be pushed.
 #[test]
 fn long_chain(rt: HostRuntime) -> Result<(), Fail> {
-    let mut store = memory(rt.alloc(), &[Empty])?;
-    let roots = [put_chain(rt.alloc(), &mut store, 3_000)?];
-    assert_same(&rt, &store, &roots, 3, "planned 3001 pushed 3001 skipped 0")
+    assert_chain(&rt, &mut memory(rt.alloc(), &[Empty])?)
+}
+
+/// Puts the descriptor of a content at the end of a list.
+pub(crate) fn push_descriptor(
+    alloc: Global,
+    list: &mut String,
+    content: &Content,
+) -> Result<(), Fail> {
+    if !list.is_empty() {
+        list.push_str(",")?;
+    }
+    list.push_str(content.descriptor(alloc)?.as_str())?;
+    Ok(())
 }
 
 /// The layer whose bytes are a number in decimal.
-fn numbered(alloc: Global, number: u32) -> Result<Content, Fail> {
+pub(crate) fn numbered(alloc: Global, number: u32) -> Result<Content, Fail> {
     Ok(Content {
         media_type: LAYER,
         bytes: format!(in alloc; "{number}")?,
@@ -90,36 +120,43 @@ fn put_layer(
     number: u32,
 ) -> Result<(), Fail> {
     let layer = numbered(alloc, number)?;
-    if number > 0 {
-        list.push_str(",")?;
-    }
-    list.push_str(layer.descriptor(alloc)?.as_str())?;
+    push_descriptor(alloc, list, &layer)?;
     put_content(alloc, store, layer)?;
     Ok(())
 }
 
-/// Puts so many layers and their index into the store, and gives the key of the index.
-fn put_index(alloc: Global, store: &mut MemoryStore, length: u32) -> Result<Key, Fail> {
+/// Puts so many layers into the store, and gives the list of their descriptors.
+fn put_layers(alloc: Global, store: &mut MemoryStore, length: u32) -> Result<String, Fail> {
     let mut list = String::new(alloc);
     for number in 0..length {
         put_layer(alloc, store, &mut list, number)?;
     }
+    Ok(list)
+}
+
+/// Puts so many layers and their index into the store, and gives the key of the index.
+fn put_index(alloc: Global, store: &mut MemoryStore, length: u32) -> Result<Key, Fail> {
+    let list = put_layers(alloc, store, length)?;
     put_content(alloc, store, index(alloc, list.as_str())?)
+}
+
+/// The copies of an index that is put into the store.
+fn assert_index<R: AllocGlobal + Threads + Wait + Sync + Abort>(
+    rt: &R,
+    store: &mut MemoryStore,
+) -> Result<(), Fail> {
+    let root = put_index(rt.alloc(), store, 5_000)?;
+    assert_same(
+        rt,
+        store,
+        &root,
+        &[1, 64],
+        "planned 5001 pushed 5001 skipped 0",
+    )
 }
 
 /// An index, of which all keys but one can be pushed at once.
 #[test]
 fn wide_index(rt: HostRuntime) -> Result<(), Fail> {
-    let mut store = memory(rt.alloc(), &[])?;
-    let roots = [put_index(rt.alloc(), &mut store, 5_000)?];
-    for workers in [1, 64] {
-        assert_same(
-            &rt,
-            &store,
-            &roots,
-            workers,
-            "planned 5001 pushed 5001 skipped 0",
-        )?;
-    }
-    Ok(())
+    assert_index(&rt, &mut memory(rt.alloc(), &[])?)
 }

@@ -1,14 +1,19 @@
-use crate::tests::copies::copied_samples_with;
+use crate::tests::calls::{options, told_by_workers};
 use bytes::Bytes;
 use oci_manifest::Key;
+use oci_plan::Existing;
 use oci_pool::{Hooks, NoHooks};
 use oci_store::{FetchFault, MemoryStore, Source, Store};
+use std::process::Abort;
 use std::sync::Wait;
 use std::sync::atomic::{AtomicU64, Ordering};
 use std::test::Fail;
 use std::thread::Threads;
 use test_support::Sample::{Bar, Foo};
 use test_support::{closed, memory};
+
+/// How often to look where nobody is to give up for some seconds.
+const LOOKS: u64 = 1_000_000_000;
 
 /// A place that two workers are to be at together: whoever comes looks for the other so often, and then gives up.
 #[derive(Drop)]
@@ -19,11 +24,6 @@ struct MeetingPlace {
 }
 
 impl MeetingPlace {
-    /// One at which nobody gives up for some seconds.
-    fn new() -> MeetingPlace {
-        MeetingPlace::looking(1_000_000_000)
-    }
-
     fn looking(looks: u64) -> MeetingPlace {
         MeetingPlace {
             looks,
@@ -147,49 +147,46 @@ impl Source for PartsMeet {
     }
 }
 
-/// Copies two layers by so many workers.
-fn copied_two_by<R: AllocGlobal + Threads + Wait + Sync, A: Source + Sync, H: Hooks + Sync>(
+/// Two layers are copied by so many workers.
+fn assert_two<R: AllocGlobal + Threads + Wait + Sync + Abort, A: Source + Sync, H: Hooks + Sync>(
     rt: &R,
     source: &A,
     workers: u32,
     hooks: &H,
-) -> Result<String, Fail> {
-    let destination = closed(rt.alloc(), &[])?;
-    let (_, told) = copied_samples_with(rt, source, destination, &[Foo, Bar], workers, hooks)?;
-    Ok(told)
+) -> Result<(), Fail> {
+    let empty = closed(rt.alloc(), &[])?;
+    let options = options(Some(workers), Existing::Skip, 0);
+    let told = told_by_workers(rt, source, empty, &[Foo, Bar], &options, hooks)?;
+    assert_eq!(rt; told.as_str(), "planned 2 pushed 2 skipped 0");
+    Ok(())
 }
 
-/// Copies two layers by two workers.
-fn copied_two<R: AllocGlobal + Threads + Wait + Sync, A: Source + Sync, H: Hooks + Sync>(
+/// So many workers look so often for each other before they fetch, and so many of them meet.
+fn assert_met<R: AllocGlobal + Threads + Wait + Sync + Abort>(
     rt: &R,
-    source: &A,
-    hooks: &H,
-) -> Result<String, Fail> {
-    copied_two_by(rt, source, 2, hooks)
+    workers: u32,
+    looks: u64,
+    met: u64,
+) -> Result<(), Fail> {
+    let hooks = MeetingHooks {
+        meeting: MeetingPlace::looking(looks),
+    };
+    let source = memory(rt.alloc(), &[Foo, Bar])?;
+    assert_two(rt, &source, workers, &hooks)?;
+    assert_eq!(rt; hooks.meeting.met(), met);
+    Ok(())
 }
 
 /// Two workers are at work at once: each of two keys waits for the other to have begun.
 #[test]
 fn meeting(rt: HostRuntime) -> Result<(), Fail> {
-    let hooks = MeetingHooks {
-        meeting: MeetingPlace::new(),
-    };
-    let told = copied_two(&rt, &memory(rt.alloc(), &[Foo, Bar])?, &hooks)?;
-    assert_eq!(rt; told.as_str(), "planned 2 pushed 2 skipped 0");
-    assert_eq!(rt; hooks.meeting.met(), 2);
-    Ok(())
+    assert_met(&rt, 2, LOOKS, 2)
 }
 
 /// One worker begins with a key and gives up, since the other key has not begun; with the other it finds that the first has.
 #[test]
 fn meeting_of_one_worker(rt: HostRuntime) -> Result<(), Fail> {
-    let hooks = MeetingHooks {
-        meeting: MeetingPlace::looking(1_000),
-    };
-    let told = copied_two_by(&rt, &memory(rt.alloc(), &[Foo, Bar])?, 1, &hooks)?;
-    assert_eq!(rt; told.as_str(), "planned 2 pushed 2 skipped 0");
-    assert_eq!(rt; hooks.meeting.met(), 1);
-    Ok(())
+    assert_met(&rt, 1, 1_000, 1)
 }
 
 /// Two workers fetch at once, so none of them has the destination's lock meanwhile.
@@ -197,10 +194,9 @@ fn meeting_of_one_worker(rt: HostRuntime) -> Result<(), Fail> {
 fn fetches_meet(rt: HostRuntime) -> Result<(), Fail> {
     let source = MeetingStore {
         store: memory(rt.alloc(), &[Foo, Bar])?,
-        meeting: MeetingPlace::new(),
+        meeting: MeetingPlace::looking(LOOKS),
     };
-    let told = copied_two(&rt, &source, &NoHooks)?;
-    assert_eq!(rt; told.as_str(), "planned 2 pushed 2 skipped 0");
+    assert_two(&rt, &source, 2, &NoHooks)?;
     assert!(rt; source.meeting.met() >= 2);
     Ok(())
 }
@@ -210,10 +206,9 @@ fn fetches_meet(rt: HostRuntime) -> Result<(), Fail> {
 fn parts_meet(rt: HostRuntime) -> Result<(), Fail> {
     let source = PartsMeet {
         store: memory(rt.alloc(), &[Foo, Bar])?,
-        meeting: MeetingPlace::new(),
+        meeting: MeetingPlace::looking(LOOKS),
     };
-    let told = copied_two(&rt, &source, &NoHooks)?;
-    assert_eq!(rt; told.as_str(), "planned 2 pushed 2 skipped 0");
+    assert_two(&rt, &source, 2, &NoHooks)?;
     assert_eq!(rt; source.meeting.met(), 2);
     Ok(())
 }

@@ -1,0 +1,376 @@
+//! The calls that copy, on the calling thread and by workers, with their answers as text.
+
+use crate::tests::copies::{Call, printed, sized, text_of};
+use oci_copy::{
+    CopyFault, Options, Report, copy, copy_graph, copy_memory, copy_memory_by_workers, copy_one,
+    extended_copy, extended_copy_graph, repair_memory, repair_memory_by_workers,
+};
+use oci_manifest::Key;
+use oci_plan::Existing;
+use oci_pool::{Hooks, NoHooks};
+use oci_store::{ClosedStore, Dest, MemoryStore, Source, Tagger};
+use std::alloc::Global;
+use std::process::Abort;
+use std::sync::Wait;
+use std::test::Fail;
+use std::thread::Threads;
+use test_support::{Sample, keys};
+
+/// How many workers copy; `None` is for the calling thread.
+pub(crate) type Workers = Option<u32>;
+
+/// On the calling thread, and by one worker, by three and by 64.
+pub(crate) const EACH: [Workers; 4] = [None, Some(1), Some(3), Some(64)];
+
+/// The options of a copy.
+pub(crate) fn options(workers: Workers, existing: Existing, max_metadata_bytes: u64) -> Options {
+    Options {
+        workers: workers.unwrap_or(0),
+        max_metadata_bytes,
+        existing,
+    }
+}
+
+fn line(alloc: Global, answer: &Result<Report, CopyFault>) -> Result<String, Fail> {
+    match answer {
+        Ok(report) => printed(alloc, report),
+        Err(fault) => printed(alloc, fault),
+    }
+}
+
+fn line_of_key(alloc: Global, key: &Key, report: &Report) -> Result<String, Fail> {
+    Ok(format!(in alloc; "{key} {report}")?)
+}
+
+fn line_of_reference(
+    alloc: Global,
+    answer: &Result<(Key, Report), CopyFault>,
+) -> Result<String, Fail> {
+    match answer {
+        Ok((key, report)) => line_of_key(alloc, key, report),
+        Err(fault) => printed(alloc, fault),
+    }
+}
+
+/// What a copy answers, as text.
+fn told<D: Drop>(
+    alloc: Global,
+    copied: (D, Result<Report, CopyFault>),
+) -> Result<(D, String), Fail> {
+    let (destination, answer) = copied;
+    let told = line(alloc, &answer)?;
+    Ok((destination, told))
+}
+
+/// What a copy by reference answers, as text.
+fn told_of_reference<D: Drop>(
+    alloc: Global,
+    copied: (D, Result<(Key, Report), CopyFault>),
+) -> Result<(D, String), Fail> {
+    let (destination, answer) = copied;
+    let told = line_of_reference(alloc, &answer)?;
+    Ok((destination, told))
+}
+
+/// Copies keys by workers.
+pub(crate) fn copied_by_workers<
+    R: AllocGlobal + Threads + Wait + Sync,
+    A: Source + Sync,
+    D: Dest + Drop + Send,
+    H: Hooks + Sync,
+>(
+    rt: &R,
+    source: &A,
+    destination: D,
+    roots: &[Key],
+    options: &Options,
+    hooks: &H,
+) -> Result<(D, String), Fail>
+where
+    D::Draft: Send,
+{
+    let alloc = rt.alloc();
+    told(
+        alloc,
+        copy_graph(rt, alloc, source, destination, roots, options, hooks),
+    )
+}
+
+/// What is told of a copy of samples by workers.
+pub(crate) fn told_by_workers<
+    R: AllocGlobal + Threads + Wait + Sync,
+    A: Source + Sync,
+    D: Dest + Drop + Send,
+    H: Hooks + Sync,
+>(
+    rt: &R,
+    source: &A,
+    destination: D,
+    roots: &[Sample],
+    options: &Options,
+    hooks: &H,
+) -> Result<String, Fail>
+where
+    D::Draft: Send,
+{
+    let roots = keys(rt.alloc(), roots)?;
+    let (_, told) = copied_by_workers(rt, source, destination, &roots, options, hooks)?;
+    Ok(told)
+}
+
+/// Copies keys with no hooks.
+pub(crate) fn copied<
+    R: AllocGlobal + Threads + Wait + Sync,
+    A: Source + Sync,
+    D: Dest + Drop + Send,
+>(
+    rt: &R,
+    source: &A,
+    destination: D,
+    roots: &[Key],
+    workers: Workers,
+    options: &Options,
+) -> Result<(D, String), Fail>
+where
+    D::Draft: Send,
+{
+    let alloc = rt.alloc();
+    match workers {
+        Some(_) => copied_by_workers(rt, source, destination, roots, options, &NoHooks),
+        None => told(alloc, copy_one(alloc, source, destination, roots, options)),
+    }
+}
+
+/// What the copy of a key leaves, which tells this.
+pub(crate) fn left<
+    R: AllocGlobal + Threads + Wait + Sync + Abort,
+    A: Source + Sync,
+    D: Dest + Drop + Send,
+>(
+    rt: &R,
+    source: &A,
+    destination: D,
+    root: &Key,
+    by: (Workers, Existing),
+    want: &str,
+) -> Result<D, Fail>
+where
+    D::Draft: Send,
+{
+    let (workers, existing) = by;
+    let options = options(workers, existing, 0);
+    let roots = std::slice::from_ref(root);
+    let (destination, told) = copied(rt, source, destination, roots, workers, &options)?;
+    assert_eq!(rt; told.as_str(), want, "{workers:?}");
+    Ok(destination)
+}
+
+/// Copies samples with no hooks.
+pub(crate) fn copied_samples<
+    R: AllocGlobal + Threads + Wait + Sync,
+    A: Source + Sync,
+    D: Dest + Drop + Send,
+>(
+    rt: &R,
+    source: &A,
+    destination: D,
+    roots: &[Sample],
+    workers: Workers,
+    options: &Options,
+) -> Result<(D, String), Fail>
+where
+    D::Draft: Send,
+{
+    let roots = keys(rt.alloc(), roots)?;
+    copied(rt, source, destination, &roots, workers, options)
+}
+
+/// Copies the key of an image that is no sample.
+fn copied_sized<R: AllocGlobal + Threads + Wait + Sync, D: Dest + Drop + Send>(
+    rt: &R,
+    source: &MemoryStore,
+    destination: D,
+    size: u64,
+    workers: Workers,
+    options: &Options,
+) -> Result<(D, String), Fail>
+where
+    D::Draft: Send,
+{
+    let root = sized(rt.alloc(), size)?;
+    let roots = std::slice::from_ref(&root);
+    copied(rt, source, destination, roots, workers, options)
+}
+
+/// Copies by reference.
+fn copied_reference<R: AllocGlobal + Threads + Wait + Sync, D: Dest + Tagger + Drop + Send>(
+    rt: &R,
+    source: &MemoryStore,
+    destination: D,
+    from: &str,
+    to: &str,
+    options: &Options,
+) -> Result<(D, String), Fail>
+where
+    D::Draft: Send,
+{
+    let alloc = rt.alloc();
+    let copied = copy(rt, alloc, source, from, destination, to, options, &NoHooks);
+    told_of_reference(alloc, copied)
+}
+
+/// Copies what leads to a key.
+fn extended<R: AllocGlobal + Threads + Wait + Sync, D: Dest + Drop + Send>(
+    rt: &R,
+    source: &MemoryStore,
+    destination: D,
+    key: &Key,
+    depth: u32,
+    options: &Options,
+) -> Result<(D, String), Fail>
+where
+    D::Draft: Send,
+{
+    let alloc = rt.alloc();
+    told(
+        alloc,
+        extended_copy_graph(
+            rt,
+            alloc,
+            source,
+            key,
+            depth,
+            destination,
+            options,
+            &NoHooks,
+        ),
+    )
+}
+
+/// Copies what leads to a reference within one step.
+fn extended_reference<R: AllocGlobal + Threads + Wait + Sync, D: Dest + Tagger + Drop + Send>(
+    rt: &R,
+    source: &MemoryStore,
+    destination: D,
+    from: &str,
+    options: &Options,
+) -> Result<(D, String), Fail>
+where
+    D::Draft: Send,
+{
+    let alloc = rt.alloc();
+    let copied = extended_copy(
+        rt,
+        alloc,
+        source,
+        from,
+        1,
+        destination,
+        "",
+        options,
+        &NoHooks,
+    );
+    told_of_reference(alloc, copied)
+}
+
+/// Copies by the call that is named.
+pub(crate) fn copied_case<R: AllocGlobal + Threads + Wait + Sync, D: Dest + Tagger + Drop + Send>(
+    rt: &R,
+    source: &MemoryStore,
+    destination: D,
+    call: Call<'_>,
+    workers: Workers,
+    options: &Options,
+) -> Result<(D, String), Fail>
+where
+    D::Draft: Send,
+{
+    let alloc = rt.alloc();
+    match call {
+        Call::Graph(roots) | Call::InMemory(roots) => {
+            copied_samples(rt, source, destination, roots, workers, options)
+        }
+        Call::Sized(size) => copied_sized(rt, source, destination, size, workers, options),
+        Call::Reference(from, to) => {
+            let from = text_of(alloc, from)?;
+            copied_reference(rt, source, destination, from.as_str(), to, options)
+        }
+        Call::Extended(sample, depth) => {
+            let key = sample.key(alloc)?;
+            extended(rt, source, destination, &key, depth, options)
+        }
+        Call::ExtendedReference(from) => {
+            extended_reference(rt, source, destination, from, options)
+        }
+    }
+}
+
+/// Copies keys by the calls between stores in memory into a closed one.
+fn copied_keys_in_memory<R: AllocGlobal + Threads + Wait + Sync>(
+    rt: &R,
+    source: &MemoryStore,
+    destination: ClosedStore,
+    roots: &[Key],
+    workers: Workers,
+    options: &Options,
+) -> (ClosedStore, Result<Report, CopyFault>) {
+    let alloc = rt.alloc();
+    match workers {
+        Some(_) => {
+            copy_memory_by_workers(rt, alloc, source, destination, roots, options, &NoHooks)
+        }
+        None => copy_memory(alloc, source, destination, roots, options),
+    }
+}
+
+/// The same of samples.
+pub(crate) fn copied_in_memory<R: AllocGlobal + Threads + Wait + Sync>(
+    rt: &R,
+    source: &MemoryStore,
+    destination: ClosedStore,
+    roots: &[Sample],
+    workers: Workers,
+    options: &Options,
+) -> Result<(ClosedStore, String), Fail> {
+    let alloc = rt.alloc();
+    let roots = keys(alloc, roots)?;
+    told(
+        alloc,
+        copied_keys_in_memory(rt, source, destination, &roots, workers, options),
+    )
+}
+
+/// Repairs below keys by the calls between stores in memory.
+fn repaired_keys<R: AllocGlobal + Threads + Wait + Sync>(
+    rt: &R,
+    source: &MemoryStore,
+    destination: MemoryStore,
+    roots: &[Key],
+    workers: Workers,
+    options: &Options,
+) -> (MemoryStore, Result<Report, CopyFault>) {
+    let alloc = rt.alloc();
+    match workers {
+        Some(_) => {
+            repair_memory_by_workers(rt, alloc, source, destination, roots, options, &NoHooks)
+        }
+        None => repair_memory(alloc, source, destination, roots, options),
+    }
+}
+
+/// The same of samples.
+pub(crate) fn repaired<R: AllocGlobal + Threads + Wait + Sync>(
+    rt: &R,
+    source: &MemoryStore,
+    destination: MemoryStore,
+    roots: &[Sample],
+    workers: Workers,
+    options: &Options,
+) -> Result<(MemoryStore, String), Fail> {
+    let alloc = rt.alloc();
+    let roots = keys(alloc, roots)?;
+    told(
+        alloc,
+        repaired_keys(rt, source, destination, &roots, workers, options),
+    )
+}
