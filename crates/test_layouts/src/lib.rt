@@ -9,7 +9,11 @@
 //! and indexes as other tools write them), `pushes` (old files, and files that changed), `unreadable` (files that cannot be read),
 //! `changing` (a source whose files change while it is read), `failing` (a read or a put that fails once, and the copy again),
 //! `parts` (contents read in parts), `drafts` (files that are written part by part) and `large` (contents over one part, by
-//! workers); `layouts` and `copies` have what these share.
+//! workers).
+//!
+//! Most of them are lists of steps, each with what it tells. `steps` takes them, with `layouts` (steps with a layout), `files` (steps
+//! with files) and `copies` (copies into a layout); `texts` says which marks may stand in a text in place of a sample's key, digest,
+//! path, bytes or descriptor.
 #![tactic(auto)]
 
 #[cfg(test)]

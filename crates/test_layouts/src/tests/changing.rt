@@ -1,5 +1,8 @@
-use crate::tests::copies::copied_samples_by;
-use crate::tests::layouts::{assert_text, blob, created, push_sample, saved, tag};
+//! A source whose files change while it is read.
+
+use crate::tests::copies::copied_samples;
+use crate::tests::layouts::saved;
+use crate::tests::texts::{assert_told, blob};
 use bytes::Bytes;
 use oci_digest::NoMemory;
 use oci_layout::{Dir, DirFault, Layout, MemDir};
@@ -83,79 +86,58 @@ impl<D: Dir> Dir for ChangingDir<D> {
     }
 }
 
-/// The files of a layout of one image.
-fn saved_image(alloc: Global) -> Result<MemDir, Fail> {
-    let mut layout = created(alloc, MemDir::new(alloc))?;
-    push_sample(alloc, &mut layout, Empty)?;
-    push_sample(alloc, &mut layout, Image0)?;
-    tag(alloc, &mut layout, Image0, "v1")?;
-    saved(layout)
-}
-
-/// The same, the manifest of which changes after so many reads.
+/// The directory of a layout of one image, the manifest of which changes after so many reads.
 fn changing(alloc: Global, right: u64) -> Result<ChangingDir<MemDir>, Fail> {
+    let dir = saved(alloc, MemDir::new(alloc), &[Empty, Image0], Image0)?;
+    let path = blob(alloc, &Image0.key(alloc)?)?;
     let other = Bytes::copy_from_slice(alloc, b"{}")?;
-    let path = blob(alloc, Image0)?;
-    Ok(ChangingDir::new(saved_image(alloc)?, path, other, right))
+    Ok(ChangingDir::new(dir, path, other, right))
 }
 
 /// Copies the image of a layout by so many workers, or on the calling thread: what is told, and whether the destination is closed.
-fn copied<D: Dir + Sync, R: AllocGlobal + Threads + Wait + Sync>(
+fn told_of_copy<R: AllocGlobal + Threads + Wait + Sync>(
     rt: &R,
-    source: &Layout<D>,
+    source: &Layout<ChangingDir<MemDir>>,
     workers: Option<u32>,
-) -> Result<(String, bool), Fail>
-where
-    D::Draft: Send,
-{
+) -> Result<(String, bool), Fail> {
     let destination = closed(rt.alloc(), &[])?;
-    let (destination, told) = copied_samples_by(rt, source, destination, &[Image0], workers)?;
+    let (destination, told) = copied_samples(rt, source, destination, &[Image0], workers)?;
     Ok((told, is_closed(&destination)?))
 }
 
 /// Opens the layout and copies its image.
-fn run<R: AllocGlobal + Threads + Wait + Sync>(
+fn told_of_run<R: AllocGlobal + Threads + Wait + Sync>(
     rt: &R,
     right: u64,
     workers: Option<u32>,
 ) -> Result<(String, bool), Fail> {
     match Layout::open(rt.alloc(), changing(rt.alloc(), right)?) {
-        Ok(layout) => copied(rt, &layout, workers),
+        Ok(layout) => told_of_copy(rt, &layout, workers),
         Err((_, fault)) => Ok((format!(in rt.alloc(); "{fault}")?, true)),
     }
 }
 
-/// The text with the image's key at its first `KEY`.
-fn with_key(alloc: Global, text: &str) -> Result<String, Fail> {
-    let Some((before, after)) = text.split_once("KEY") else {
-        return Ok(String::from_str(alloc, text)?);
-    };
-    let key = Image0.key(alloc)?;
-    Ok(format!(in alloc; "{before}{key}{after}")?)
-}
-
 /// With so many reads answered right this is told, and the destination is closed.
-fn assert_run<R: AllocGlobal + Threads + Wait + Sync + Abort>(
+fn assert_changing<R: AllocGlobal + Threads + Wait + Sync + Abort>(
     rt: &R,
-    right: u64,
+    right: usize,
     workers: Option<u32>,
     want: &str,
 ) -> Result<(), Fail> {
-    let (told, closed) = run(rt, right, workers)?;
-    assert!(rt; closed);
-    let want = with_key(rt.alloc(), want)?;
-    assert_text(rt, told, want.as_str())
+    let (told, is_closed) = told_of_run(rt, right as u64, workers)?;
+    assert!(rt; is_closed);
+    assert_told(rt, right, told.as_str(), want)
 }
 
 /// What is told for each number of reads that are answered right, up to the first run without a fault: `open` reads three files; the
 /// copy reads the manifest for its plan, and then the config and the manifest again.
 const TOLD: [&str; 7] = [
-    "75 Corrupt KEY",
-    "75 Corrupt KEY",
-    "75 Corrupt KEY",
-    "81 Plan 57 Fetch KEY 21 Corrupt",
-    "88 Fetch KEY 21 Corrupt",
-    "88 Fetch KEY 21 Corrupt",
+    "75 Corrupt <key Image0>",
+    "75 Corrupt <key Image0>",
+    "75 Corrupt <key Image0>",
+    "81 Plan 57 Fetch <key Image0> 21 Corrupt",
+    "88 Fetch <key Image0> 21 Corrupt",
+    "88 Fetch <key Image0> 21 Corrupt",
     "planned 2 pushed 2 skipped 0",
 ];
 
@@ -163,7 +145,7 @@ const TOLD: [&str; 7] = [
 fn changing_source(rt: HostRuntime) -> Result<(), Fail> {
     for workers in [None, Some(3)] {
         for (right, want) in TOLD.iter().enumerate() {
-            assert_run(&rt, right as u64, workers, want)?;
+            assert_changing(&rt, right, workers, want)?;
         }
     }
     Ok(())

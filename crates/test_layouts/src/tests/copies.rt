@@ -1,17 +1,45 @@
 //! Copies on the calling thread and by workers, and what they tell.
 
-use oci_copy::{CopyFault, Options, Report, copy_graph, copy_one};
+use crate::tests::layouts::filled;
+use oci_copy::{CopyFault, Options, Report, copy, copy_graph, copy_one, extended_copy_graph};
+use oci_layout::MemDir;
 use oci_manifest::Key;
 use oci_pool::NoHooks;
-use oci_store::{Dest, Source};
+use oci_store::{Dest, MemoryStore, Source, Tagger};
 use std::alloc::Global;
+use std::fmt::Display;
 use std::sync::Wait;
 use std::test::Fail;
 use std::thread::Threads;
-use test_support::{Sample, keys};
+use test_support::{Sample, keys, memory};
 
-/// Copies some keys.
-fn copied_keys<A: Source, D: Dest + Drop>(
+/// A copy into a layout.
+#[derive(Clone, Copy)]
+pub(crate) enum Copying<'a> {
+    /// From a store in memory that has these samples, so many of them.
+    Memory(&'a [Sample], &'a [Sample]),
+    /// From a layout that has the one sample.
+    Layout(Sample),
+    /// From a store in memory that has these samples, and calls this one `m`, as `v1`.
+    Named(&'a [Sample], Sample),
+    /// From a store in memory that has these samples, this one and what lists it.
+    Extended(&'a [Sample], Sample),
+}
+
+fn printed<T: Display>(alloc: Global, value: &T) -> Result<String, Fail> {
+    Ok(format!(in alloc; "{value}")?)
+}
+
+/// What a copy answers, as text.
+fn line(alloc: Global, answer: &Result<Report, CopyFault>) -> Result<String, Fail> {
+    match answer {
+        Ok(report) => printed(alloc, report),
+        Err(fault) => printed(alloc, fault),
+    }
+}
+
+/// Copies some keys on the calling thread.
+fn answered<A: Source, D: Dest + Drop>(
     alloc: Global,
     source: &A,
     destination: D,
@@ -20,54 +48,14 @@ fn copied_keys<A: Source, D: Dest + Drop>(
     copy_one(alloc, source, destination, roots, &Options::default())
 }
 
-/// What a copy answers, as text.
-fn line(alloc: Global, answer: &Result<Report, CopyFault>) -> Result<String, Fail> {
-    Ok(match answer {
-        Ok(report) => format!(in alloc; "{report}")?,
-        Err(fault) => format!(in alloc; "{fault}")?,
-    })
-}
-
-/// Copies some keys, and gives the destination and what is told.
-fn told<A: Source, D: Dest + Drop>(
-    alloc: Global,
+/// Copies some keys by so many workers.
+fn answered_by<A: Source + Sync, D: Dest + Drop + Send, R: AllocGlobal + Threads + Wait + Sync>(
+    rt: &R,
     source: &A,
     destination: D,
     roots: &[Key],
-) -> Result<(D, String), Fail> {
-    let (destination, answer) = copied_keys(alloc, source, destination, roots);
-    let told = line(alloc, &answer)?;
-    Ok((destination, told))
-}
-
-/// Copies some samples, and gives the destination and what is told.
-pub(crate) fn copied_samples<A: Source, D: Dest + Drop>(
-    alloc: Global,
-    source: &A,
-    destination: D,
-    roots: &[Sample],
-) -> Result<(D, String), Fail> {
-    told(alloc, source, destination, &keys(alloc, roots)?)
-}
-
-/// Copies one key, and gives the destination and what is told.
-pub(crate) fn copied_key<A: Source, D: Dest + Drop>(
-    alloc: Global,
-    source: &A,
-    destination: D,
-    root: &Key,
-) -> Result<(D, String), Fail> {
-    let mut roots = Vec::new(alloc);
-    roots.push(root.try_clone()?)?;
-    told(alloc, source, destination, &roots)
-}
-
-/// Copies some keys by so many workers, and gives the destination and what is told.
-pub(crate) fn copied_keys_by<
-    R: AllocGlobal + Threads + Wait + Sync,
-    A: Source + Sync,
-    D: Dest + Drop + Send,
->(rt: &R, source: &A, destination: D, roots: &[Key], workers: u32) -> Result<(D, String), Fail>
+    workers: u32,
+) -> (D, Result<Report, CopyFault>)
 where
     D::Draft: Send,
 {
@@ -75,7 +63,7 @@ where
         workers,
         ..Options::default()
     };
-    let (destination, answer) = copy_graph(
+    copy_graph(
         rt,
         rt.alloc(),
         source,
@@ -83,16 +71,46 @@ where
         roots,
         &options,
         &NoHooks,
-    );
-    let told = line(rt.alloc(), &answer)?;
+    )
+}
+
+/// The destination, and what is told.
+fn told_of<D: Dest + Drop>(
+    alloc: Global,
+    answered: (D, Result<Report, CopyFault>),
+) -> Result<(D, String), Fail> {
+    let (destination, answer) = answered;
+    let told = line(alloc, &answer)?;
     Ok((destination, told))
 }
 
-/// Copies some samples by so many workers, or on the calling thread, and gives the destination and what is told.
-pub(crate) fn copied_samples_by<
-    R: AllocGlobal + Threads + Wait + Sync,
+/// Copies some keys by so many workers, or on the calling thread, and gives the destination and what is told.
+pub(crate) fn copied_keys<
     A: Source + Sync,
     D: Dest + Drop + Send,
+    R: AllocGlobal + Threads + Wait + Sync,
+>(
+    rt: &R,
+    source: &A,
+    destination: D,
+    roots: &[Key],
+    workers: Option<u32>,
+) -> Result<(D, String), Fail>
+where
+    D::Draft: Send,
+{
+    let alloc = rt.alloc();
+    match workers {
+        Some(workers) => told_of(alloc, answered_by(rt, source, destination, roots, workers)),
+        None => told_of(alloc, answered(alloc, source, destination, roots)),
+    }
+}
+
+/// The same of some samples.
+pub(crate) fn copied_samples<
+    A: Source + Sync,
+    D: Dest + Drop + Send,
+    R: AllocGlobal + Threads + Wait + Sync,
 >(
     rt: &R,
     source: &A,
@@ -104,8 +122,136 @@ where
     D::Draft: Send,
 {
     let roots = keys(rt.alloc(), roots)?;
-    match workers {
-        Some(workers) => copied_keys_by(rt, source, destination, &roots, workers),
-        None => told(rt.alloc(), source, destination, &roots),
+    copied_keys(rt, source, destination, &roots, workers)
+}
+
+/// Copies one sample from a layout of its own.
+fn copied_from_layout<D: Dest + Drop + Send, R: AllocGlobal + Threads + Wait + Sync>(
+    rt: &R,
+    destination: D,
+    sample: Sample,
+) -> Result<(D, String), Fail>
+where
+    D::Draft: Send,
+{
+    let source = filled(rt.alloc(), MemDir::new(rt.alloc()), &[sample])?;
+    copied_samples(rt, &source, destination, &[sample], None)
+}
+
+/// Copies by reference.
+fn answered_named<D: Dest + Tagger + Drop + Send, R: AllocGlobal + Threads + Wait + Sync>(
+    rt: &R,
+    source: &MemoryStore,
+    destination: D,
+) -> (D, Result<(Key, Report), CopyFault>)
+where
+    D::Draft: Send,
+{
+    let options = Options::default();
+    copy(
+        rt,
+        rt.alloc(),
+        source,
+        "m",
+        destination,
+        "v1",
+        &options,
+        &NoHooks,
+    )
+}
+
+fn named_report(alloc: Global, key: &Key, report: &Report) -> Result<String, Fail> {
+    Ok(format!(in alloc; "{key} {report}")?)
+}
+
+/// What a copy by reference answers, as text.
+fn named_line(alloc: Global, answer: &Result<(Key, Report), CopyFault>) -> Result<String, Fail> {
+    match answer {
+        Ok(answer) => named_report(alloc, &answer.0, &answer.1),
+        Err(fault) => printed(alloc, fault),
     }
+}
+
+/// Copies by reference, and tells the key and the report.
+fn copied_named<D: Dest + Tagger + Drop + Send, R: AllocGlobal + Threads + Wait + Sync>(
+    rt: &R,
+    source: &MemoryStore,
+    destination: D,
+) -> Result<(D, String), Fail>
+where
+    D::Draft: Send,
+{
+    let (destination, answer) = answered_named(rt, source, destination);
+    let told = named_line(rt.alloc(), &answer)?;
+    Ok((destination, told))
+}
+
+/// A store in memory of these samples, which calls one of them `m`.
+fn named(alloc: Global, samples: &[Sample], sample: Sample) -> Result<MemoryStore, Fail> {
+    let mut store = memory(alloc, samples)?;
+    store.tag(&sample.key(alloc)?, "m")?;
+    Ok(store)
+}
+
+/// Copies a key and what lists it.
+fn answered_extended<D: Dest + Drop + Send, R: AllocGlobal + Threads + Wait + Sync>(
+    rt: &R,
+    source: &MemoryStore,
+    destination: D,
+    key: &Key,
+) -> (D, Result<Report, CopyFault>)
+where
+    D::Draft: Send,
+{
+    let options = Options::default();
+    extended_copy_graph(
+        rt,
+        rt.alloc(),
+        source,
+        key,
+        1,
+        destination,
+        &options,
+        &NoHooks,
+    )
+}
+
+/// Copies into a layout, and gives it and what is told.
+pub(crate) fn copied<D: Dest + Tagger + Drop + Send, R: AllocGlobal + Threads + Wait + Sync>(
+    rt: &R,
+    destination: D,
+    copying: Copying<'_>,
+) -> Result<(D, String), Fail>
+where
+    D::Draft: Send,
+{
+    let alloc = rt.alloc();
+    match copying {
+        Copying::Memory(samples, roots) => {
+            copied_samples(rt, &memory(alloc, samples)?, destination, roots, None)
+        }
+        Copying::Layout(sample) => copied_from_layout(rt, destination, sample),
+        Copying::Named(samples, sample) => {
+            copied_named(rt, &named(alloc, samples, sample)?, destination)
+        }
+        Copying::Extended(samples, sample) => { copied_extended(rt, destination, samples, sample) }
+    }
+}
+
+/// Copies a sample and what lists it from a store in memory of these samples.
+fn copied_extended<D: Dest + Drop + Send, R: AllocGlobal + Threads + Wait + Sync>(
+    rt: &R,
+    destination: D,
+    samples: &[Sample],
+    sample: Sample,
+) -> Result<(D, String), Fail>
+where
+    D::Draft: Send,
+{
+    let source = memory(rt.alloc(), samples)?;
+    let key = sample.key(rt.alloc())?;
+    told_of(
+        rt.alloc(),
+        answered_extended(rt, &source, destination, &key),
+    )
 }

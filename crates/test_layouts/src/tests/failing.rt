@@ -1,13 +1,16 @@
 //! Copies between layouts of which a directory fails one read or one put.
 
-use crate::tests::copies::copied_samples_by;
-use crate::tests::layouts::{assert_text, created, opened, opening, push_sample, saved, tag};
+use crate::tests::copies::copied_samples;
+use crate::tests::layouts::{created, opened, saved};
+use crate::tests::steps::Step::Open;
+use crate::tests::steps::{Row, assert_steps};
 use bytes::Bytes;
 use oci_digest::NoMemory;
 use oci_layout::{Dir, DirFault, Layout, MemDir};
 use oci_store::Dest;
 use std::alloc::Global;
 use std::process::Abort;
+use std::rt::Files;
 use std::sync::Wait;
 use std::sync::atomic::{AtomicU64, Ordering};
 use std::test::Fail;
@@ -127,32 +130,23 @@ const OPENED: u64 = 5;
 /// What is told of a copy that brings all.
 const BROUGHT: &str = "planned 6 pushed 6 skipped 0";
 
-/// The files of a layout of the two images.
+/// The directory of a layout of the two images.
 fn saved_images(alloc: Global) -> Result<MemDir, Fail> {
-    let mut layout = created(alloc, MemDir::new(alloc))?;
-    for sample in ALL {
-        push_sample(alloc, &mut layout, sample)?;
-    }
-    tag(alloc, &mut layout, Index1, "images")?;
-    saved(layout)
+    saved(alloc, MemDir::new(alloc), &ALL, Index1)
 }
 
 /// A layout in a directory that fails the put after those of `create` and so many more.
 fn destination(alloc: Global, passing: u64) -> Result<Layout<FailingDir<MemDir>>, Fail> {
     let failing = CREATED.saturating_add(passing);
-    created(
-        alloc,
-        FailingDir::new(MemDir::new(alloc), None, Some(failing)),
-    )
+    let dir = FailingDir::new(MemDir::new(alloc), None, Some(failing));
+    created(alloc, dir)
 }
 
 /// The layout of the two images, in a directory that fails the read after those of `open` and so many more.
 fn source(alloc: Global, passing: u64) -> Result<Layout<FailingDir<MemDir>>, Fail> {
     let failing = OPENED.saturating_add(passing);
-    opened(
-        alloc,
-        FailingDir::new(saved_images(alloc)?, Some(failing), None),
-    )
+    let dir = FailingDir::new(saved_images(alloc)?, Some(failing), None);
+    opened(alloc, dir)
 }
 
 /// Copies the index of a layout into another one.
@@ -166,10 +160,24 @@ where
     A::Draft: Send,
     D::Draft: Send,
 {
-    copied_samples_by(rt, source, destination, &[Index1], workers)
+    copied_samples(rt, source, destination, &[Index1], workers)
 }
 
-/// Whether this tells the fault of the key of one of the samples, which the layout then does not hold.
+/// Whether this tells the fault of the key of a sample, which the layout then does not hold.
+fn names_sample<D: Dir>(
+    alloc: Global,
+    layout: &Layout<D>,
+    sample: Sample,
+    told: &str,
+    before: &str,
+    after: &str,
+) -> Result<bool, Fail> {
+    let key = sample.key(alloc)?;
+    let line = format!(in alloc; "{before} {key} {after}")?;
+    Ok(told == line.as_str() && !layout.has(&key))
+}
+
+/// The same of one of the samples.
 fn names_missing<D: Dir>(
     alloc: Global,
     layout: &Layout<D>,
@@ -178,13 +186,25 @@ fn names_missing<D: Dir>(
     after: &str,
 ) -> Result<bool, Fail> {
     for sample in ALL {
-        let key = sample.key(alloc)?;
-        let line = format!(in alloc; "{before} {key} {after}")?;
-        if told == line.as_str() {
-            return Ok(!layout.has(&key));
+        if names_sample(alloc, layout, sample, told, before, after)? {
+            return Ok(true);
         }
     }
     Ok(false)
+}
+
+/// The layout lacks a key of which this tells the fault, and what it holds is closed.
+fn assert_names_missing<D: Dir, R: AllocGlobal + Abort>(
+    rt: &R,
+    layout: &Layout<D>,
+    told: &str,
+    before: &str,
+    after: &str,
+) -> Result<(), Fail> {
+    let is_told = names_missing(rt.alloc(), layout, told, before, after)?;
+    assert!(rt; is_told, "{told}");
+    assert!(rt; is_closed(layout)?);
+    Ok(())
 }
 
 /// The same copy again brings what is not there, and then the layout holds all.
@@ -199,23 +219,16 @@ where
 {
     let rest = 6usize.saturating_sub(destination.count());
     let (destination, told) = copied(rt, source, destination, workers)?;
-    let skipped = if rest == 0 { 1 } else { 0 };
-    let want = format!(in rt.alloc(); "planned {rest} pushed {rest} skipped {skipped}")?;
-    assert_text(rt, told, want.as_str())?;
+    assert_brought(rt, told.as_str(), rest)?;
     assert!(rt; holds(rt.alloc(), &destination, &ALL)?);
     Ok(())
 }
 
-/// A put failed, and what was pushed is closed.
-fn assert_not_put<R: AllocGlobal + Abort>(
-    rt: &R,
-    destination: &Layout<FailingDir<MemDir>>,
-    told: &str,
-) -> Result<(), Fail> {
-    let is_told = names_missing(rt.alloc(), destination, told, "82 Push", "43 Device")?;
-    assert!(rt; is_told, "{told}");
-    assert_eq!(rt; destination.failures(), 1);
-    assert!(rt; is_closed(destination)?);
+/// This is told of a copy that brings so many contents.
+fn assert_brought<R: AllocGlobal + Abort>(rt: &R, told: &str, rest: usize) -> Result<(), Fail> {
+    let skipped = if rest == 0 { 1 } else { 0 };
+    let want = format!(in rt.alloc(); "planned {rest} pushed {rest} skipped {skipped}")?;
+    assert_eq!(rt; told, want.as_str());
     Ok(())
 }
 
@@ -228,7 +241,8 @@ fn left_by_failed<R: AllocGlobal + Threads + Wait + Sync + Abort>(
     let source = opened(rt.alloc(), saved_images(rt.alloc())?)?;
     let destination = destination(rt.alloc(), passing)?;
     let (destination, told) = copied(rt, &source, destination, workers)?;
-    assert_not_put(rt, &destination, told.as_str())?;
+    assert_names_missing(rt, &destination, told.as_str(), "82 Push", "43 Device")?;
+    assert_eq!(rt; destination.failures(), 1);
     let left = destination.count() as u64;
     assert_brings_rest(rt, &source, destination, workers)?;
     Ok(left)
@@ -247,25 +261,25 @@ fn failing_put(rt: HostRuntime) -> Result<(), Fail> {
     Ok(())
 }
 
-/// What is told of a copy into a directory that passes so many puts, and how many of them failed.
-fn told_of_puts<R: AllocGlobal + Threads + Wait + Sync>(
+/// A copy into a directory that passes so many puts brings all, and no put fails.
+fn assert_puts<R: AllocGlobal + Threads + Wait + Sync + Abort>(
     rt: &R,
     passing: u64,
     workers: Option<u32>,
-) -> Result<(String, u64), Fail> {
+) -> Result<(), Fail> {
     let source = opened(rt.alloc(), saved_images(rt.alloc())?)?;
     let destination = destination(rt.alloc(), passing)?;
     let (destination, told) = copied(rt, &source, destination, workers)?;
-    Ok((told, destination.failures()))
+    assert_eq!(rt; told.as_str(), BROUGHT);
+    assert_eq!(rt; destination.failures(), 0);
+    Ok(())
 }
 
 /// A copy puts each of the six contents once: the next put would fail.
 #[test]
 fn puts_of_a_copy(rt: HostRuntime) -> Result<(), Fail> {
     for workers in [None, Some(3)] {
-        let (told, failures) = told_of_puts(&rt, 6, workers)?;
-        assert_text(&rt, told, BROUGHT)?;
-        assert_eq!(rt; failures, 0);
+        assert_puts(&rt, 6, workers)?;
     }
     Ok(())
 }
@@ -276,22 +290,11 @@ fn assert_not_read<R: AllocGlobal + Abort>(
     destination: &Layout<MemDir>,
     told: &str,
 ) -> Result<(), Fail> {
-    if told.starts_with("81") {
-        let is_told = names_missing(
-            rt.alloc(),
-            destination,
-            told,
-            "81 Plan 57 Fetch",
-            "22 Device",
-        )?;
-        assert!(rt; is_told, "{told}");
-        assert_eq!(rt; destination.count(), 0);
-        return Ok(());
+    if !told.starts_with("81") {
+        return assert_names_missing(rt, destination, told, "88 Fetch", "22 Device");
     }
-    let is_told = names_missing(rt.alloc(), destination, told, "88 Fetch", "22 Device")?;
-    assert!(rt; is_told, "{told}");
-    assert!(rt; is_closed(destination)?);
-    Ok(())
+    assert_eq!(rt; destination.count(), 0);
+    assert_names_missing(rt, destination, told, "81 Plan 57 Fetch", "22 Device")
 }
 
 /// A copy from a directory that fails the read after so many, and the same copy again: whether the first was refused.
@@ -324,12 +327,21 @@ fn failing_read(rt: HostRuntime) -> Result<(), Fail> {
     Ok(())
 }
 
+/// What is told where the read of this number fails while the layout is opened.
+fn assert_not_opened<R: Files + AllocGlobal + Clone + Threads + Wait + Sync + Abort>(
+    rt: &R,
+    read: u64,
+) -> Result<(), Fail> {
+    let dir = FailingDir::new(saved_images(rt.alloc())?, Some(read), None);
+    let _dir = assert_steps(rt, dir, &[Row(Open, "74 Device")])?;
+    Ok(())
+}
+
 /// A read that fails while the layout is opened is told.
 #[test]
 fn failing_read_of_open(rt: HostRuntime) -> Result<(), Fail> {
     for read in 0..OPENED {
-        let dir = FailingDir::new(saved_images(rt.alloc())?, Some(read), None);
-        assert_text(&rt, opening(rt.alloc(), dir)?, "74 Device")?;
+        assert_not_opened(&rt, read)?;
     }
     Ok(())
 }

@@ -1,16 +1,62 @@
-//! Layouts of samples, their files, and what they then hold.
+//! Steps with a layout, and layouts of samples.
 
+use crate::tests::texts::expanded;
 use bytes::Bytes;
-use oci_layout::{Dir, Layout, LayoutFault, MemDir};
+use oci_layout::{Dir, Layout, LayoutFault};
 use oci_manifest::Key;
-use oci_store::{Dest, Source, Tagger};
+use oci_store::{Dest, GraphSource, Source, Tagger};
 use std::alloc::Global;
-use std::process::Abort;
 use std::test::Fail;
-use test_support::Sample;
+use test_support::{Sample, is_closed};
 
-/// `oci-layout` as this crate makes it.
-pub(crate) const LAYOUT: &str = "{\"imageLayoutVersion\":\"1.0.0\"}";
+/// A step with a layout.
+#[derive(Clone, Copy)]
+pub(crate) enum LayoutStep<'a> {
+    /// What is held.
+    Held,
+    /// Whether nothing that is held lists what is not: `true` or `false`.
+    IsClosed,
+    /// Saves it: `saved`, or the fault.
+    Save,
+    /// A push of a sample: its place, or the fault.
+    Push(Sample),
+    /// A push of a sample's bytes under another media type.
+    PushAs(Sample, &'a str),
+    /// A push of a sample's bytes under another one's key.
+    PushUnder(Sample, Sample),
+    /// Names a sample's key: `tagged`.
+    Tag(Sample, &'a str),
+    /// A fetch of a sample's key: the bytes, which are text, or the fault.
+    Fetch(Sample),
+    /// What a reference, in which marks may stand, resolves to: the key, or the fault.
+    Resolve(&'a str),
+    /// The keys that list a sample's key, each and a `;`.
+    Holders(Sample),
+}
+
+/// Takes a step with a layout, and gives what it tells.
+pub(crate) fn with_layout<D: Dir>(
+    alloc: Global,
+    layout: &mut Layout<D>,
+    step: LayoutStep<'_>,
+) -> Result<String, Fail> {
+    match step {
+        LayoutStep::Held => summary(alloc, layout),
+        LayoutStep::IsClosed => closedness(alloc, layout),
+        LayoutStep::Save => save(alloc, layout),
+        LayoutStep::Push(sample) => push_sample(alloc, layout, sample),
+        LayoutStep::PushAs(sample, media_type) => push_as(alloc, layout, sample, media_type),
+        LayoutStep::PushUnder(sample, other) => {
+            push(alloc, layout, &other.key(alloc)?, sample.bytes(alloc)?)
+        }
+        LayoutStep::Tag(sample, name) => tag(alloc, layout, sample, name),
+        LayoutStep::Fetch(sample) => fetch(alloc, layout, &sample.key(alloc)?),
+        LayoutStep::Resolve(reference) => {
+            resolve(alloc, layout, expanded(alloc, reference)?.as_str())
+        }
+        LayoutStep::Holders(sample) => holders(alloc, layout, &sample.key(alloc)?),
+    }
+}
 
 fn made<D: Dir + Drop>(answer: Result<Layout<D>, (D, LayoutFault)>) -> Result<Layout<D>, Fail> {
     match answer {
@@ -29,31 +75,30 @@ pub(crate) fn opened<D: Dir + Drop>(alloc: Global, dir: D) -> Result<Layout<D>, 
     made(Layout::open(alloc, dir))
 }
 
-/// Saves a layout, and gives its directory.
-pub(crate) fn saved<D: Dir + Drop>(mut layout: Layout<D>) -> Result<D, Fail> {
+/// A layout that was just made, with these samples.
+pub(crate) fn filled<D: Dir + Drop>(
+    alloc: Global,
+    dir: D,
+    samples: &[Sample],
+) -> Result<Layout<D>, Fail> {
+    let mut layout = created(alloc, dir)?;
+    for sample in samples {
+        push_sample(alloc, &mut layout, *sample)?;
+    }
+    Ok(layout)
+}
+
+/// The directory of a layout of these samples, which is saved with a name for the last one.
+pub(crate) fn saved<D: Dir + Drop>(
+    alloc: Global,
+    dir: D,
+    samples: &[Sample],
+    named: Sample,
+) -> Result<D, Fail> {
+    let mut layout = filled(alloc, dir, samples)?;
+    layout.tag(&named.key(alloc)?, "v1")?;
     layout.save()?;
     Ok(layout.into_dir())
-}
-
-/// The directory of a layout.
-pub(crate) fn dir_of_layout<D: Dir + Drop>(layout: Layout<D>) -> D {
-    layout.into_dir()
-}
-
-/// What `create` answers, as text.
-pub(crate) fn creating<D: Dir + Drop>(alloc: Global, dir: D) -> Result<(D, String), Fail> {
-    match Layout::create(alloc, dir) {
-        Ok(layout) => Ok((layout.into_dir(), String::from_str(alloc, "made")?)),
-        Err((dir, fault)) => Ok((dir, format!(in alloc; "{fault}")?)),
-    }
-}
-
-/// What `open` answers, as text: the fault, or how many keys are held, and the names.
-pub(crate) fn opening<D: Dir + Drop>(alloc: Global, dir: D) -> Result<String, Fail> {
-    match Layout::open(alloc, dir) {
-        Ok(layout) => summary(alloc, &layout),
-        Err((_, fault)) => Ok(format!(in alloc; "{fault}")?),
-    }
 }
 
 /// How many keys a layout holds, and the names.
@@ -65,6 +110,18 @@ pub(crate) fn summary<D: Dir>(alloc: Global, layout: &Layout<D>) -> Result<Strin
         told.push_str(tag.0.as_str())?;
     }
     Ok(told)
+}
+
+fn closedness<D: Dest>(alloc: Global, layout: &D) -> Result<String, Fail> {
+    let is_closed = is_closed(layout)?;
+    Ok(format!(in alloc; "{is_closed}")?)
+}
+
+fn save<D: Dir>(alloc: Global, layout: &mut Layout<D>) -> Result<String, Fail> {
+    match layout.save() {
+        Ok(()) => Ok(String::from_str(alloc, "saved")?),
+        Err(fault) => Ok(format!(in alloc; "{fault}")?),
+    }
 }
 
 /// What a push answers, as text: the place, or the fault.
@@ -80,17 +137,11 @@ pub(crate) fn push<D: Dest>(
     }
 }
 
-/// What a push of a sample answers, as text.
-pub(crate) fn push_sample<D: Dest>(
-    alloc: Global,
-    layout: &mut D,
-    sample: Sample,
-) -> Result<String, Fail> {
+fn push_sample<D: Dest>(alloc: Global, layout: &mut D, sample: Sample) -> Result<String, Fail> {
     push(alloc, layout, &sample.key(alloc)?, sample.bytes(alloc)?)
 }
 
-/// What a push of a sample's bytes under another media type answers, as text.
-pub(crate) fn push_as<D: Dest>(
+fn push_as<D: Dest>(
     alloc: Global,
     layout: &mut D,
     sample: Sample,
@@ -100,99 +151,35 @@ pub(crate) fn push_as<D: Dest>(
     push(alloc, layout, &key, sample.bytes(alloc)?)
 }
 
-/// What `fetch` of a sample's key answers, as text: the bytes, which are text, or the fault.
-pub(crate) fn fetch<A: Source>(alloc: Global, layout: &A, sample: Sample) -> Result<String, Fail> {
-    let key = sample.key(alloc)?;
-    match layout.fetch(&key) {
+fn tag<T: Tagger>(
+    alloc: Global,
+    layout: &mut T,
+    sample: Sample,
+    name: &str,
+) -> Result<String, Fail> {
+    layout.tag(&sample.key(alloc)?, name)?;
+    Ok(String::from_str(alloc, "tagged")?)
+}
+
+fn fetch<A: Source>(alloc: Global, layout: &A, key: &Key) -> Result<String, Fail> {
+    match layout.fetch(key) {
         Ok(bytes) => Ok(String::from_str(alloc, str::from_utf8(bytes.as_slice())?)?),
         Err(fault) => Ok(format!(in alloc; "{fault}")?),
     }
 }
 
-/// What `resolve` answers, as text: the key, or the fault.
-pub(crate) fn resolve<T: Tagger>(
-    alloc: Global,
-    layout: &T,
-    reference: &str,
-) -> Result<String, Fail> {
+fn resolve<T: Tagger>(alloc: Global, layout: &T, reference: &str) -> Result<String, Fail> {
     match layout.resolve(reference) {
         Ok(key) => Ok(format!(in alloc; "{key}")?),
         Err(fault) => Ok(format!(in alloc; "{fault}")?),
     }
 }
 
-/// A reference resolves to a sample's key.
-pub(crate) fn assert_resolves<R: AllocGlobal + Abort, T: Tagger>(
-    rt: &R,
-    layout: &T,
-    reference: &str,
-    sample: Sample,
-) -> Result<(), Fail> {
-    let want = sample.key(rt.alloc())?.to_string(rt.alloc())?;
-    assert_text(rt, resolve(rt.alloc(), layout, reference)?, want.as_str())
-}
-
-/// A reference is refused.
-pub(crate) fn assert_unresolved<R: AllocGlobal + Abort, T: Tagger>(
-    rt: &R,
-    layout: &T,
-    reference: &str,
-    want: &str,
-) -> Result<(), Fail> {
-    assert_text(rt, resolve(rt.alloc(), layout, reference)?, want)
-}
-
-/// Names a sample's key.
-pub(crate) fn tag<T: Tagger>(
-    alloc: Global,
-    layout: &mut T,
-    sample: Sample,
-    name: &str,
-) -> Result<(), Fail> {
-    layout.tag(&sample.key(alloc)?, name)?;
-    Ok(())
-}
-
-/// The text of a file; `none` where there is none.
-pub(crate) fn text<D: Dir>(alloc: Global, dir: &D, path: &str) -> Result<String, Fail> {
-    match dir.read(path)? {
-        Some(bytes) => Ok(String::from_str(alloc, str::from_utf8(bytes.as_slice())?)?),
-        None => Ok(String::from_str(alloc, "none")?),
+fn holders<A: GraphSource>(alloc: Global, layout: &A, key: &Key) -> Result<String, Fail> {
+    let mut told = String::new(alloc);
+    let keys = layout.predecessors(key)?;
+    for key in &keys {
+        told.push_str(format!(in alloc; "{key};")?.as_str())?;
     }
-}
-
-/// Where the blob of a sample lies.
-pub(crate) fn blob(alloc: Global, sample: Sample) -> Result<String, Fail> {
-    let digest = sample.key(alloc)?.digest().to_string(alloc)?;
-    let Some((algorithm, digits)) = digest.as_str().split_once(':') else {
-        return Err(Fail::from("a digest has a colon"));
-    };
-    Ok(format!(in alloc; "blobs/{algorithm}/{digits}")?)
-}
-
-/// A directory in memory with these files, and the blobs of these samples.
-pub(crate) fn dir_of(
-    alloc: Global,
-    files: &[(&str, &str)],
-    samples: &[Sample],
-) -> Result<MemDir, Fail> {
-    let mut dir = MemDir::new(alloc);
-    for file in files {
-        dir.put(file.0, file.1.as_bytes())?;
-    }
-    for sample in samples {
-        let path = blob(alloc, *sample)?;
-        dir.put(path.as_str(), sample.bytes(alloc)?.as_slice())?;
-    }
-    Ok(dir)
-}
-
-/// The text is the wanted one.
-pub(crate) fn assert_text<R: AllocGlobal + Abort>(
-    rt: &R,
-    told: String,
-    want: &str,
-) -> Result<(), Fail> {
-    assert_eq!(rt; told.as_str(), want);
-    Ok(())
+    Ok(told)
 }

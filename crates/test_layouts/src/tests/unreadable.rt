@@ -1,17 +1,20 @@
-use crate::tests::layouts::{
-    assert_text, created, creating, fetch, opening, push_sample, saved, tag,
-};
+//! Files that cannot be read.
+
+use crate::tests::layouts::LayoutStep::{Fetch, Push, Save, Tag};
+use crate::tests::steps::Step::{Create, Open, With};
+use crate::tests::steps::{Ground, Row, assert_run};
 use bytes::Bytes;
 use oci_digest::NoMemory;
-use oci_layout::{Dir, DirFault, Layout, LayoutFault, MemDir};
-use std::alloc::Global;
+use oci_layout::{Dir, DirFault, LayoutFault};
 use std::cell::Cell;
+use std::fmt::Display;
+use std::process::Abort;
 use std::test::Fail;
 use test_support::Sample::{Empty, Foo, Image0};
 
 /// A directory that answers so many reads, and fails each later one.
 #[derive(Drop)]
-struct UnreadableDir<D: Dir> {
+pub(crate) struct UnreadableDir<D: Dir> {
     dir: D,
     /// How many reads still pass.
     passing: Cell<u64>,
@@ -74,59 +77,69 @@ impl<D: Dir> Dir for UnreadableDir<D> {
 }
 
 /// A directory that passes so many reads.
-fn unreadable<D: Dir>(dir: D, passing: u64) -> UnreadableDir<D> {
+pub(crate) fn unreadable<D: Dir>(dir: D, passing: u64) -> UnreadableDir<D> {
     UnreadableDir {
         dir,
         passing: Cell::new(passing),
     }
 }
 
-/// A layout that was just made, none of whose files can be read any more.
-fn unreadable_layout(alloc: Global) -> Result<Layout<UnreadableDir<MemDir>>, Fail> {
-    created(alloc, unreadable(MemDir::new(alloc), 1))
-}
+/// A layout is made, none of whose files can be read any more.
+const BLOB: &[Row] = &[
+    Row(Create, "made"),
+    Row(With(Push(Foo)), "place 0"),
+    Row(With(Fetch(Foo)), "22 Device"),
+];
 
 /// A push goes on without the look at an old file, and a fetch is refused.
 #[test]
 fn unreadable_blob(rt: HostRuntime) -> Result<(), Fail> {
-    let mut layout = unreadable_layout(rt.alloc())?;
-    let told = push_sample(rt.alloc(), &mut layout, Foo)?;
-    assert_text(&rt, told, "place 0")?;
-    assert_text(&rt, fetch(rt.alloc(), &layout, Foo)?, "22 Device")
+    assert_run(&rt, Ground::Unreadable(&[], 1), BLOB)
 }
+
+/// The layout file cannot be read.
+const LAYOUT_FILE: &[Row] = &[Row(Create, "74 Device"), Row(Open, "74 Device")];
+
+/// The index of a layout that was just made cannot be read.
+const NEW_LAYOUT: &[Row] = &[Row(Create, "made")];
+
+const REFUSED: &[Row] = &[Row(Open, "74 Device")];
 
 /// No layout is made or opened where the layout file, or then the index, cannot be read.
 #[test]
 fn unreadable_directory(rt: HostRuntime) -> Result<(), Fail> {
-    let alloc = rt.alloc();
-    let (dir, told) = creating(alloc, unreadable(MemDir::new(alloc), 0))?;
-    assert_text(&rt, told, "74 Device")?;
-    assert_text(&rt, opening(alloc, dir)?, "74 Device")?;
-    let dir = created(alloc, MemDir::new(alloc))?.into_dir();
-    assert_text(&rt, opening(alloc, unreadable(dir, 1))?, "74 Device")
+    assert_run(&rt, Ground::Unreadable(&[], 0), LAYOUT_FILE)?;
+    assert_run(&rt, Ground::Unreadable(NEW_LAYOUT, 1), REFUSED)
 }
 
-/// The directory of a layout with one image.
-fn image_dir(alloc: Global) -> Result<MemDir, Fail> {
-    let mut layout = created(alloc, MemDir::new(alloc))?;
-    push_sample(alloc, &mut layout, Empty)?;
-    push_sample(alloc, &mut layout, Image0)?;
-    tag(alloc, &mut layout, Image0, "v1")?;
-    saved(layout)
-}
+/// A layout with one image.
+const IMAGE: &[Row] = &[
+    Row(Create, "made"),
+    Row(With(Push(Empty)), "place 0"),
+    Row(With(Push(Image0)), "place 1"),
+    Row(With(Tag(Image0, "v1")), "tagged"),
+    Row(With(Save), "saved"),
+];
 
 /// Nor where both can, and the manifest that the index lists cannot.
 #[test]
 fn unreadable_manifest(rt: HostRuntime) -> Result<(), Fail> {
-    let alloc = rt.alloc();
-    let dir = image_dir(alloc)?;
-    assert_text(&rt, opening(alloc, unreadable(dir, 2))?, "74 Device")
+    assert_run(&rt, Ground::Unreadable(IMAGE, 2), REFUSED)
+}
+
+/// What a fault prints.
+fn assert_printed<T: Display, R: AllocGlobal + Abort>(
+    rt: &R,
+    fault: &T,
+    want: &str,
+) -> Result<(), Fail> {
+    let told = format!(in rt.alloc(); "{fault}")?;
+    assert_eq!(rt; told.as_str(), want);
+    Ok(())
 }
 
 #[test]
 fn texts_of_wanting_memory(rt: HostRuntime) -> Result<(), Fail> {
-    let told = format!(in rt.alloc(); "{}", LayoutFault::Memory)?;
-    assert_text(&rt, told, "76 Memory")?;
-    let told = format!(in rt.alloc(); "{}", DirFault::Memory)?;
-    assert_text(&rt, told, "91 Memory")
+    assert_printed(&rt, &LayoutFault::Memory, "76 Memory")?;
+    assert_printed(&rt, &DirFault::Memory, "91 Memory")
 }
