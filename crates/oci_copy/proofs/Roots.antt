@@ -7,9 +7,6 @@ use Rattle.oci_store.specs.Graph.{Node}
 use Rattle.oci_store.specs.Keyed.{has_key, HasAll}
 use Rattle.oci_store.specs.State.{State}
 use Rattle.oci_plan.specs.Up.{IsUp}
-use Rattle.oci_plan.specs.declared.existing.Existing.{Existing}
-use Rattle.oci_copy.specs.Cause.{IsNotClosedCause}
-use Rattle.oci_copy.specs.Destination.{IsNotClosedWhenSkipping}
 use Rattle.oci_copy.specs.Extended.{AreRootsOf, AreRootsOfReference, RefusedExtended}
 use Rattle.oci_copy.specs.Tagged.{ResolvesIn}
 use Rattle.oci_copy.specs.declared.fault.CopyFault.{CopyFault}
@@ -40,10 +37,3 @@ module _ (source : State) (k : Descriptor) (depth : ℕ) (cause : List Descripto
   refused_from_roots roots fault.Memory up workers opened h = tt
   refused_from_roots roots (fault.Reference r) up workers opened h = (roots, up, h)
   refused_from_roots roots (fault.Fetch at f) up workers opened h = (roots, up, h)
-
-  -- a destination that is refused before the climb
-  pub refused_before_roots : (existing : Existing) (opening : State) (e : CopyFault) → ((holder missing : Descriptor) → IsNotClosedWhenSkipping existing opening.nodes holder missing → cause [] (fault.DestinationOpen holder missing))
-      → IsNotClosedCause existing opening e → RefusedExtended source k depth cause e
-  refused_before_roots existing opening (fault.DestinationOpen holder missing) opened h = opened holder missing h
-  refused_before_roots existing opening fault.Memory opened h = tt
-  refused_before_roots existing opening other opened h = absurd h

@@ -24,7 +24,7 @@ use Rattle.oci_plan.specs.Plan.{Planned}
 use Rattle.oci_copy.specs.declared.options.Options.{Options}
 use Rattle.oci_copy.specs.declared.fault.CopyFault.{CopyFault}
 use Rattle.oci_copy.specs.declared.fault.CopyFault.TheVariants as fault
-use Rattle.oci_copy.specs.Cause.{IsFetchCause, IsContentCause, IsReadCause, IsPushCauseIf, IsNotClosedCause, IsStartCause}
+use Rattle.oci_copy.specs.Cause.{IsFetchCause, IsContentCause, IsReadCause, IsPushCauseIf, IsStartCause}
 use Rattle.oci_copy.specs.Fault.{ReportsPush, IsStuck, IsOtherPush}
 use Rattle.oci_copy.specs.Destination.{IsClosedWhenSkipping}
 use Rattle.oci_copy.specs.Kept.{Keeps}
@@ -176,13 +176,6 @@ refused_without_plan failed options source opening roots workers (fault.Destinat
 refused_without_plan failed options source opening roots workers (fault.Plan e) cause = cause
 refused_without_plan failed options source opening roots workers fault.Memory cause = tt
 refused_without_plan failed options source opening roots workers other cause = absurd cause
-
--- why a copy by workers is refused whose destination is not closed
-pub refused_when_not_closed : (failed : Type 0) (options : Options) (source opening : State) (roots : List Descriptor) (workers : ℕ) (told : CopyFault)
-    → IsNotClosedCause options.existing opening told → IsRefusalToWorkers failed options source opening roots workers told
-refused_when_not_closed failed options source opening roots workers (fault.DestinationOpen holder missing) cause = cause
-refused_when_not_closed failed options source opening roots workers fault.Memory cause = tt
-refused_when_not_closed failed options source opening roots workers other cause = absurd cause
 
 -- why a copy by workers is refused where neither store fails
 module _ (failed : Type 0) (source opening : State) (not_failed : failed → ⊥) (options : Options) (unfailing : IsUnfailing options.existing source opening opening) where

@@ -12,9 +12,8 @@ ghost use Rattle.oci_copy.specs.Tagged.{name_of, ResolvesIn, RefusedByReference}
 
 use crate::by_reference::{resolve_root, tag_copied};
 use crate::fault::CopyFault;
-use crate::graph::copy_to_checked;
+use crate::graph::copy_graph;
 use crate::options::Options;
-use crate::planning::check_destination;
 use crate::report::Report;
 use oci_manifest::Key;
 use oci_plan::climb;
@@ -31,9 +30,8 @@ use std::thread::Threads;
 /// from which a path of at most `depth` edges leads to it; depth 0 sets no limit. So an image comes
 /// with its signatures and with the indexes that list it, and each of these with all that it lists.
 ///
-/// Refused, in this order, with `BadWorkers`; with `DestinationOpen`; and then, once the roots are
-/// known, with `Plan`, `Fetch` or `Push`: each as by `copy_graph`, and with what it leaves.
-/// `Memory` may come at any point, in the climb too.
+/// Refused as by `copy_graph` of these roots, in its order and with what it leaves. `Memory` may come
+/// at any point, in the climb too.
 ///
 /// It takes a lock and joins its workers; no clause says that it returns.
 pub fn extended_copy_graph<
@@ -77,13 +75,10 @@ where
     if options.workers > MAX_WORKERS {
         return (destination, Err(CopyFault::BadWorkers));
     }
-    if let Err(fault) = check_destination(&destination, options) {
-        return (destination, Err(fault));
-    }
     let Ok(roots) = climb(alloc, source, key, depth) else {
         return (destination, Err(CopyFault::Memory));
     };
-    copy_to_checked(rt, alloc, source, destination, &roots, options, hooks)
+    copy_graph(rt, alloc, source, destination, &roots, options, hooks)
 }
 
 /// Copies what a reference of the source resolves to with what leads to it, and tags it in the

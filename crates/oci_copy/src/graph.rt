@@ -1,14 +1,13 @@
-ghost use Rattle.std.specs.Prelude.{◌≡◌, ◌↔◌, ◌<◌, OnOk, IfOk, IfErr, IsErrOf, ◌≤◌};
+ghost use Rattle.std.specs.Prelude.{◌≡◌, ◌↔◌, ◌<◌, OnOk, IfOk, IfErr, IsErrOf};
 ghost use Rattle.oci_copy.specs.Copy.{IsCopy, OnlyGrows};
 ghost use Rattle.oci_copy.specs.Fault.{IsEarly};
 ghost use Rattle.oci_copy.specs.Plain.{NeitherFails};
 ghost use Rattle.oci_copy.specs.Report.{IsReport};
 ghost use Rattle.oci_copy.specs.Work.{CanFail, IsRefusalToWorkers, RefusedForPlanOrWorkers};
-ghost use Rattle.oci_copy.specs.Destination.{IsClosedWhenSkipping};
 
 use crate::fault::CopyFault;
 use crate::options::Options;
-use crate::planning::{check_destination, plan_to_checked};
+use crate::planning::plan_copy;
 use crate::report::{Report, report_of};
 use crate::running::workers::copy_planned;
 use oci_manifest::Key;
@@ -78,49 +77,7 @@ where
     if options.workers > MAX_WORKERS {
         return (destination, Err(CopyFault::BadWorkers));
     }
-    if let Err(fault) = check_destination(&destination, options) {
-        return (destination, Err(fault));
-    }
-    copy_to_checked(rt, alloc, source, destination, roots, options, hooks)
-}
-
-/// Plans a copy to a destination that was looked at, and lets workers make it.
-pub(crate) fn copy_to_checked<
-    A: Source + Sync,
-    D: Dest + Drop + Send,
-    R: Threads + Wait + Sync,
-    H: Hooks + Sync,
->(
-    rt: &R,
-    alloc: Global,
-    source: &A,
-    destination: D,
-    roots: &[Key],
-    options: &Options,
-    hooks: &H,
-) -> (D, Result<Report, CopyFault>)
-where
-    D::Draft: Send,
-    requires closed { IsClosedWhenSkipping options.now.existing (D.state destination).nodes }
-    requires workers { options.now.workers ≤ 64 }
-    ensures copied { OnOk result.1 (IsCopy D.shares options.now (A.state source.now)
-        (D.state destination) roots.now (D.state result.0)) }
-    ensures report { IfOk result.1 (IsReport options.now.existing (A.state source.now)
-        (D.state destination) roots.now (D.state result.0)) }
-    ensures grows { OnlyGrows D.shares (A.state source.now) (D.state destination) roots.now
-        (D.state result.0) }
-    ensures tags { (D.state result.0).tags ≡ (D.state destination).tags }
-    ensures few { IsErrOf result.1 CopyFault.BadWorkers → ⊥ }
-    ensures refused { IfErr result.1 (IsRefusalToWorkers (CanFail D.state (D.state destination))
-        options.now
-        (A.state source.now) (D.state destination) roots.now options.now.workers) }
-    ensures plain { IfErr result.1 (λ fault. NeitherFails options.now.existing D.state
-        (A.state source.now) (D.state destination)
-        → RefusedForPlanOrWorkers (A.state source.now).entries options.now
-        (D.state destination).nodes roots.now options.now.workers fault) }
-    ensures unchanged { IfErr result.1 (λ fault. IsEarly fault → result.0 ≡ destination) }
-{
-    let plan = match plan_to_checked(alloc, source, &destination, roots, options) {
+    let plan = match plan_copy(alloc, source, &destination, roots, options) {
         Ok(plan) => plan,
         Err(fault) => return (destination, Err(fault)),
     };

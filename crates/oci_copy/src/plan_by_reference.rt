@@ -9,7 +9,7 @@ ghost use Rattle.oci_copy.specs.Tagged.{RefusedByReference, ResolvesIn};
 use crate::by_reference::resolve_root;
 use crate::fault::CopyFault;
 use crate::options::Options;
-use crate::planning::{check_destination, plan_copy, plan_to_checked};
+use crate::planning::plan_copy;
 use oci_plan::{Plan, climb};
 use oci_pool::MAX_WORKERS;
 use oci_store::{Dest, GraphSource, Source, Tagger};
@@ -76,9 +76,8 @@ pub fn plan_extended<A: GraphSource + Tagger, D: Dest>(
     if options.workers > MAX_WORKERS {
         return Err(CopyFault::BadWorkers);
     }
-    check_destination(destination, options)?;
     let Ok(roots) = climb(alloc, source, &root, depth) else {
         return Err(CopyFault::Memory);
     };
-    plan_to_checked(alloc, source, destination, &roots, options)
+    plan_copy(alloc, source, destination, &roots, options)
 }

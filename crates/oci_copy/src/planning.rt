@@ -31,23 +31,6 @@ pub fn plan_copy<A: Source, D: Dest>(
         (D.state destination.now) roots.now) }
 {
     check_destination(destination, options)?;
-    plan_to_checked(alloc, source, destination, roots, options)
-}
-
-/// The plan of a copy to a destination that was looked at.
-pub(crate) fn plan_to_checked<A: Source, D: Dest>(
-    alloc: Global,
-    source: &A,
-    destination: &D,
-    roots: &[Key],
-    options: &Options,
-) -> Result<Plan, CopyFault>
-    requires closed { IsClosedWhenSkipping options.now.existing (D.state destination.now).nodes }
-    ensures plan { IfOk result (IsPlanOf (A.state source.now) options.now (D.state destination.now)
-        roots.now) }
-    ensures cause { IfErr result (IsStartCause options.now (A.state source.now)
-        (D.state destination.now) roots.now) }
-{
     let limit = options.metadata_limit();
     match gather(alloc, source, destination, roots, limit, options.existing) {
         Ok(plan) => Ok(plan),
@@ -56,7 +39,7 @@ pub(crate) fn plan_to_checked<A: Source, D: Dest>(
 }
 
 /// Looks at the destination of a copy: it has to be closed where the copy skips what it has.
-pub(crate) fn check_destination<D: Dest>(
+fn check_destination<D: Dest>(
     destination: &D,
     options: &Options,
 ) -> Result<(), CopyFault>
