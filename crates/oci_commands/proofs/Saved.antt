@@ -14,7 +14,7 @@ use Rattle.oci_layout.specs.Blobs.{blob_at, stored}
 use Rattle.oci_layout.specs.Refusal.{IsPutFault}
 use Rattle.oci_copy.specs.Copy.{IsCopy, OnlyGrows}
 use Rattle.oci_copy.specs.Destination.{IsClosedWhenSkipping}
-use Rattle.oci_copy.specs.Grown.{IsTold, SameByDigest}
+use Rattle.oci_copy.specs.Grown.{HasKnownBytes, SameByDigest}
 use Rattle.oci_copy.specs.declared.options.Options.{Options}
 use Rattle.oci_copy.specs.declared.fault.CopyFault.{CopyFault}
 use Rattle.oci_copy.specs.declared.report.Report.{Report}
@@ -86,8 +86,8 @@ refused_after copied (Err fault.Memory) cause opening between now before refused
 -- a destination that only grew, and then was saved
 module _ {source old copied new : State} {grown : List Descriptor} (alike : SameByDigest source.entries source.entries) (grows : OnlyGrows ⊤ source old grown copied) (saved : IsSaved copied new) where
   -- what is known of its bytes after the save was known before it
-  told_before : IsTrusted source old new → IsTold ⊤ source old copied
-  told_before trusted =
+  known_before : IsTrusted source old new → HasKnownBytes ⊤ source old copied
+  known_before trusted =
       let calm = trusted.is_calm in
       let grew = grows.failures in
       let rose = saved.failures in
@@ -96,14 +96,14 @@ module _ {source old copied new : State} {grown : List Descriptor} (alike : Same
       record { is_honest = trusted.is_honest; is_sound = trusted.is_sound; is_calm = (same, less); same_old = λ _. trusted.same; same_source = λ _. alike }
 
   sound_before : IsTrusted source old new → copied.is_sound
-  sound_before trusted = grows.sound (told_before trusted)
+  sound_before trusted = grows.sound (known_before trusted)
 
   pub sound_after : IsTrusted source old new → new.is_sound
   sound_after trusted = saved.sound (sound_before trusted)
 
   copied_after : {options : Options} {roots : List Descriptor} → IsCopy ⊤ options source old roots copied → IsCopiedBetween source old roots new
   copied_after copy trusted =
-      rw (saved.entries (sound_before trusted)) (copy.content (told_before trusted) (λ k x y at_source at_old. sym (trusted.same k k x y at_source at_old refl)))
+      rw (saved.entries (sound_before trusted)) (copy.content (known_before trusted) (λ k x y at_source at_old. sym (trusted.same k k x y at_source at_old refl)))
 
   pub files_after : {X E : Type 0} (answer : Result X E) (files : List Entry → Type 0) → OnOk answer (copied.is_sound → files copied.entries) → OnOk answer (IsTrusted source old new → files new.entries)
   files_after answer files there =

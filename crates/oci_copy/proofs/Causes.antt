@@ -89,17 +89,17 @@ module _ (source before now : State) (k : Descriptor) (bytes : List ℕ) (listed
   stuck_cause other refused stuck = absurd stuck
 
   -- what a refused push is reported as has its cause
-  pub step_cause : (e : PushFault) (told : CopyFault) → Refused e (closed_check before.nodes k bytes) → (e ≡ push.Device → HasFailed before now) → (e ≡ push.Halted → before.is_halted)
-      → ReportsPush k e told → IsStepCause source before now k told
+  pub step_cause : (e : PushFault) (reported : CopyFault) → Refused e (closed_check before.nodes k bytes) → (e ≡ push.Device → HasFailed before now) → (e ≡ push.Halted → before.is_halted)
+      → ReportsPush k e reported → IsStepCause source before now k reported
   step_cause e (fault.Push named t) refused device halt tells = (tells.0, subst (IsPushCause source before now k) (sym tells.1) (push_cause e refused device halt tells.2))
   step_cause e (fault.Stuck named) refused device halt tells = (tells.0, stuck_cause e refused tells.1)
   step_cause e fault.Memory refused device halt tells = tt
   step_cause e other refused device halt tells = absurd tells
 
 -- a cause at one key's turn is a cause since an earlier opening
-pub step_earlier : (source opening before now : State) (k : Descriptor) (told : CopyFault) → (before.is_halted → opening.is_halted) → opening.failures ≤ before.failures
-    → IsStepCause source before now k told → IsStepCause source opening now k told
-step_earlier source opening before now k told halts earlier cause = go told cause
+pub step_earlier : (source opening before now : State) (k : Descriptor) (reported : CopyFault) → (before.is_halted → opening.is_halted) → opening.failures ≤ before.failures
+    → IsStepCause source before now k reported → IsStepCause source opening now k reported
+step_earlier source opening before now k reported halts earlier cause = go reported cause
   where
     weaker : (e : PushFault) → IsPushCause source before now k e → IsPushCause source opening now k e
     weaker (push.BadManifest m) h = h
@@ -115,9 +115,9 @@ step_earlier source opening before now k told halts earlier cause = go told caus
     go other h = absurd h
 
 -- why a copy is refused once it has a plan
-pub refused_in_run : {source : State} {options : Options} {opening : State} {roots : List Descriptor} {p : Planned} (now : State) (told : CopyFault) → IsPlanOf source options opening roots p
-    → IsClosedWhenSkipping options.existing opening.nodes → IsRunCause source opening now p.keys told → IsRefusal options source opening roots now told
-refused_in_run {source} {options} {opening} {roots} {p} now told plan closed cause = go told cause.3
+pub refused_in_run : {source : State} {options : Options} {opening : State} {roots : List Descriptor} {p : Planned} (now : State) (reported : CopyFault) → IsPlanOf source options opening roots p
+    → IsClosedWhenSkipping options.existing opening.nodes → IsRunCause source opening now p.keys reported → IsRefusal options source opening roots now reported
+refused_in_run {source} {options} {opening} {roots} {p} now reported plan closed cause = go reported cause.3
   where
     wanted : (named : Descriptor) → named ≡ cause.0 → IsStillWanted options.existing source opening roots now named
     wanted named same = (
@@ -133,7 +133,7 @@ refused_in_run {source} {options} {opening} {roots} {p} now told plan closed cau
     go other h = absurd h
 
 -- why a copy is refused that has none
-pub refused_at_start : (options : Options) (source opening : State) (roots : List Descriptor) (now : State) (told : CopyFault) → IsStartCause options source opening roots told → IsRefusal options source opening roots now told
+pub refused_at_start : (options : Options) (source opening : State) (roots : List Descriptor) (now : State) (reported : CopyFault) → IsStartCause options source opening roots reported → IsRefusal options source opening roots now reported
 refused_at_start options source opening roots now (fault.DestinationOpen holder missing) cause = cause
 refused_at_start options source opening roots now (fault.Plan e) cause = cause
 refused_at_start options source opening roots now fault.Memory cause = tt

@@ -12,7 +12,7 @@ use Rattle.oci_store.specs.declared.fault.PushFault.{PushFault}
 use Rattle.oci_store.specs.State.{State}
 use Rattle.oci_store.proofs.Lookups.{All-value_at, value_at-append_cases, has_key-append_left}
 use Rattle.oci_plan.proofs.Items.{value_at-nodes_of}
-use Rattle.oci_copy.specs.Grown.{graph_of, IsTold}
+use Rattle.oci_copy.specs.Grown.{graph_of, HasKnownBytes}
 use Rattle.oci_copy.specs.Kept.{Keeps, IsOpeningAnd}
 use Rattle.oci_copy.proofs.Checks.{held-from_check}
 
@@ -28,7 +28,7 @@ keeps_start shares source planned opening = record {
   planned_keys = All-nil (λ (n : Node). Contains planned n.0);
   supported = All-nil (λ (n : Node). HasAll opening.nodes n.1);
   own = λ h. All-nil (λ (n : Node). value_at (graph_of source) n.0 ≡ Some n.1);
-  told = λ t. (t.is_sound, record { added = []; is = sym (append-nil opening.entries); each = All-nil (λ (e : Entry). Contains planned e.0 × (value_at source.entries e.0 ≡ Some e.1)) });
+  known = λ t. (t.is_sound, record { added = []; is = sym (append-nil opening.entries); each = All-nil (λ (e : Entry). Contains planned e.0 × (value_at source.entries e.0 ≡ Some e.1)) });
   rising = omega arith;
   tags = refl;
   name = refl;
@@ -36,31 +36,31 @@ keeps_start shares source planned opening = record {
 
 module _ {shares : Type 0} {source : State} {planned : List Descriptor} {opening before after : State} {e : Entry} {pushed : Result ℕ PushFault}
     (did : IsPush shares before after e pushed) (own : source.is_honest → value_at source.entries e.0 ≡ Some e.1) (keeps : Keeps shares source planned opening before) where
-  -- what could be told after a push could be told before it, and nothing disturbed it
-  told_before : IsTold shares source opening after → IsTold shares source opening before × IsCalm before.failures after.failures
-  told_before told =
-      let calm = told.is_calm in
+  -- bytes that are known after a push were known before it, and nothing disturbed it
+  known_before : HasKnownBytes shares source opening after → HasKnownBytes shares source opening before × IsCalm before.failures after.failures
+  known_before known =
+      let calm = known.is_calm in
       let up = keeps.rising in
       let rises = did.failures in
       let same : before.failures ≡ opening.failures = (let e = calm.0 in omega arith) in
       let less : before.failures < 2 ^ 64 - 1 = (let e = calm.0 in let l = calm.1 in omega arith) in
       let now : after.failures ≡ before.failures = (let e = calm.0 in omega arith) in
-      (record { is_honest = told.is_honest; is_sound = told.is_sound; is_calm = (same, less); same_old = told.same_old; same_source = told.same_source }, (now, calm.1))
+      (record { is_honest = known.is_honest; is_sound = known.is_sound; is_calm = (same, less); same_old = known.same_old; same_source = known.same_source }, (now, calm.1))
 
   -- the pairs of the pushed key's digest have its bytes
-  agrees_at : IsTold shares source opening before → IsOpeningAnd source.entries planned opening.entries before.entries → shares → AgreesAt before.entries e.0 e.1
-  agrees_at told grown shared other found there same =
+  agrees_at : HasKnownBytes shares source opening before → IsOpeningAnd source.entries planned opening.entries before.entries → shares → AgreesAt before.entries e.0 e.1
+  agrees_at known grown shared other found there same =
       elim (value_at-append_cases opening.entries grown.added other found (subst (λ (l : List Entry). value_at l other ≡ Some found) grown.is there)) [
-        | inl old ↦ told.same_old shared e.0 other e.1 found (own told.is_honest) old same
+        | inl old ↦ known.same_old shared e.0 other e.1 found (own known.is_honest) old same
         | inr added ↦
-            told.same_source shared e.0 other e.1 found (own told.is_honest)
+            known.same_source shared e.0 other e.1 found (own known.is_honest)
             (All-value_at (λ (p : Entry). Contains planned p.0 × (value_at source.entries p.0 ≡ Some p.1)) grown.added other found grown.each added).1 same
       ]
 
-  undisturbed : IsTold shares source opening after → IsUndisturbed shares before after e
-  undisturbed told =
-      let b = told_before told in
-      let was = keeps.told b.0 in
+  undisturbed : HasKnownBytes shares source opening after → IsUndisturbed shares before after e
+  undisturbed known =
+      let b = known_before known in
+      let was = keeps.known b.0 in
       record { is_sound = was.0; is_calm = b.1; agrees = agrees_at b.0 was.1 }
 
   -- a push keeps it where it is done
@@ -79,9 +79,9 @@ module _ {shares : Type 0} {source : State} {planned : List Descriptor} {opening
             (HasAll-append before.nodes (node ∷ []) node.1 held));
         own = λ h. All-push (λ (n : Node). value_at (graph_of source) n.0 ≡ Some n.1) keeps.added node (keeps.own h)
             (value_at-nodes_of source.entries e.0 ∙ ap (option_map (successors_in e.0)) (own h));
-        told = λ t.
+        known = λ t.
             let calm = undisturbed t in
-            let was = (keeps.told (told_before t).0).1 in (
+            let was = (keeps.known (known_before t).0).1 in (
               did.bytes.sound calm,
               record {
                 added = was.added ++ e ∷ [];
@@ -102,9 +102,9 @@ module _ {shares : Type 0} {source : State} {planned : List Descriptor} {opening
     planned_keys = keeps.planned_keys;
     supported = subst (λ (graph : List Node). All (λ (n : Node). HasAll graph n.1) keeps.added) (sym same) keeps.supported;
     own = keeps.own;
-    told = λ t.
+    known = λ t.
         let calm = undisturbed t in
-        let was = (keeps.told (told_before t).0).1 in
+        let was = (keeps.known (known_before t).0).1 in
         (did.bytes.sound calm, record { added = was.added; is = bytes_are calm ∙ was.is; each = was.each });
     rising = (let u = keeps.rising in let rises = did.failures in omega arith);
     tags = did.tags ∙ keeps.tags;

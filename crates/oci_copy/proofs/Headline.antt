@@ -24,7 +24,7 @@ use Rattle.oci_store.specs.State.{State}
 use Rattle.oci_copy.specs.declared.options.Options.{Options}
 use Rattle.oci_copy.specs.Destination.{IsClosedWhenSkipping}
 use Rattle.oci_copy.specs.Copy.{IsCopy, OnlyGrows}
-use Rattle.oci_copy.specs.Grown.{graph_of, IsGrown, IsTold}
+use Rattle.oci_copy.specs.Grown.{graph_of, IsGrown, HasKnownBytes}
 use Rattle.oci_copy.specs.Kept.{Keeps}
 use Rattle.oci_copy.specs.Planned.{IsPlanOf}
 use Rattle.oci_copy.specs.Report.{IsReport}
@@ -88,10 +88,10 @@ module _ {shares : Type 0} {source : State} {options : Options} {opening now : S
   each : source.is_honest → AreReached (graph_of source) (graph_of source) roots keeps.added
   each h = λ i d lt. (keeps.own h i d lt, reached h _ (keeps.planned_keys i d lt))
 
-  grown_content : IsTold shares source opening now → IsGrown (graph_of source) source.entries roots opening.entries now.entries
-  grown_content told =
-      let was = (keeps.told told).1 in
-      (was.added, was.is, λ i d lt. let e = was.each i d lt in (e.1, reached told.is_honest _ e.0))
+  grown_content : HasKnownBytes shares source opening now → IsGrown (graph_of source) source.entries roots opening.entries now.entries
+  grown_content known =
+      let was = (keeps.known known).1 in
+      (was.added, was.is, λ i d lt. let e = was.each i d lt in (e.1, reached known.is_honest _ e.0))
 
   -- a run that kept what it owes only grew
   pub only_grows : OnlyGrows shares source opening roots now
@@ -99,7 +99,7 @@ module _ {shares : Type 0} {source : State} {options : Options} {opening now : S
     begins = (keeps.added, keeps.is);
     grown = λ h. (keeps.added, keeps.is, each h);
     grown_content = grown_content;
-    sound = λ told. (keeps.told told).0;
+    sound = λ known. (keeps.known known).0;
     whole = (keeps.added, keeps.is, keeps.supported);
     closed = closed_kept keeps;
     failures = keeps.rising;
@@ -139,16 +139,16 @@ module _ {shares : Type 0} {source : State} {options : Options} {opening now : S
         (grows_to_copy (List Descriptor) (graph_of source) (graph_of source) opening.nodes keeps.added roots (agrees h agree) (each h)
         (λ k r. subst (λ (l : List Node). has_key l k ≡ true) keeps.is (reached_held h agree k r)))
 
-    copied_content : (opening.is_sound → opening.nodes ≡ graph_of opening) → keys_of now.nodes ≡ keys_of now.entries → IsTold shares source opening now → Agree source.entries opening.entries
+    copied_content : (opening.is_sound → opening.nodes ≡ graph_of opening) → keys_of now.nodes ≡ keys_of now.entries → HasKnownBytes shares source opening now → Agree source.entries opening.entries
         → IsCopied (graph_of source) source.entries roots opening.entries now.entries
-    copied_content listed same told agree_entries =
-        let was = (keeps.told told).1 in
+    copied_content listed same known agree_entries =
+        let was = (keeps.known known).1 in
         let own : All (λ (e : Entry). value_at source.entries e.0 ≡ Some e.1) was.added = λ i d lt. (was.each i d lt).1 in
-        let agree : Agree (graph_of source) opening.nodes = subst (Agree (graph_of source)) (sym (listed told.is_sound)) (Agree-nodes_of source.entries opening.entries agree_entries) in
-        let holds : (k : Descriptor) → Reaches (graph_of source) roots k → has_key now.entries k ≡ true = λ k r. has_key-same_keys now.nodes now.entries k same (reached_held told.is_honest agree k r) in
+        let agree : Agree (graph_of source) opening.nodes = subst (Agree (graph_of source)) (sym (listed known.is_sound)) (Agree-nodes_of source.entries opening.entries agree_entries) in
+        let holds : (k : Descriptor) → Reaches (graph_of source) roots k → has_key now.entries k ≡ true = λ k r. has_key-same_keys now.nodes now.entries k same (reached_held known.is_honest agree k r) in
         subst (λ (l : List Entry). IsCopied (graph_of source) source.entries roots opening.entries l) (sym was.is)
         (grows_to_copy (List ℕ) (graph_of source) source.entries opening.entries was.added roots (Agree-grown source.entries opening.entries was.added agree_entries own)
-        (λ i d lt. let e = was.each i d lt in (e.1, reached told.is_honest _ e.0))
+        (λ i d lt. let e = was.each i d lt in (e.1, reached known.is_honest _ e.0))
         (λ k r. subst (λ (l : List Entry). has_key l k ≡ true) was.is (holds k r)))
 
     -- a run that holds all that is planned made a copy
@@ -178,8 +178,8 @@ pub unchanged_grows : (shares : Type 0) (source opening : State) (roots : List D
 unchanged_grows shares source opening roots = record {
   begins = ([], sym (append-nil opening.nodes));
   grown = λ h. ([], sym (append-nil opening.nodes), All-nil (λ (e : Node). (value_at (graph_of source) e.0 ≡ Some e.1) × Reaches (graph_of source) roots e.0));
-  grown_content = λ told. ([], sym (append-nil opening.entries), All-nil (λ (e : Entry). (value_at source.entries e.0 ≡ Some e.1) × Reaches (graph_of source) roots e.0));
-  sound = λ told. told.is_sound;
+  grown_content = λ known. ([], sym (append-nil opening.entries), All-nil (λ (e : Entry). (value_at source.entries e.0 ≡ Some e.1) × Reaches (graph_of source) roots e.0));
+  sound = λ known. known.is_sound;
   whole = ([], sym (append-nil opening.nodes), All-nil (λ (n : Node). HasAll opening.nodes n.1));
   closed = λ was. was;
   failures = omega arith;

@@ -16,7 +16,7 @@ use Rattle.oci_copy.specs.declared.options.Options.{Options}
 use Rattle.oci_copy.specs.declared.fault.CopyFault.{CopyFault}
 use Rattle.oci_copy.specs.declared.report.Report.{Report}
 use Rattle.oci_copy.proofs.Headline.{Agree-nodes_of}
-use Rattle.oci_copy.proofs.Unfailing.{told_in_memory}
+use Rattle.oci_copy.proofs.Unfailing.{known_in_memory}
 
 -- the state of a store in memory
 abbrev state : Contents → State
@@ -25,27 +25,27 @@ state c = in_memory c.entries c.tags
 -- a copy between them that succeeded
 is_copy : (options : Options) (source opening now : Contents) (roots : List Descriptor) (report : Report) → IsCopy ⊥ options (state source) (state opening) roots (state now)
     → IsReport options.existing (state source) (state opening) roots (state now) report → IsMemoryCopy options.existing source roots opening now report
-is_copy options source opening now roots report copy told = record {
-  copied = copy.content (told_in_memory source opening now);
+is_copy options source opening now roots report copy reported = record {
+  copied = copy.content (known_in_memory source opening now);
   reached = λ agree k there. has_key-same_keys (nodes_of now.entries) now.entries k (keys_of-nodes_of now.entries) (copy.reached tt (Agree-nodes_of source.entries opening.entries agree) k there);
-  planned = told.planned tt;
-  pushed = told.pushed;
-  gained = sym (length-map now.entries node_of) ∙ told.gained ∙ ap (λ (n : ℕ). n + report.pushed) (length-map opening.entries node_of);
-  skipped = told.skipped;
+  planned = reported.planned tt;
+  pushed = reported.pushed;
+  gained = sym (length-map now.entries node_of) ∙ reported.gained ∙ ap (λ (n : ℕ). n + report.pushed) (length-map opening.entries node_of);
+  skipped = reported.skipped;
 }
 
 pub copied : (options : Options) (source opening now : Contents) (roots : List Descriptor) (result : Result Report CopyFault)
     → OnOk result (IsCopy ⊥ options (state source) (state opening) roots (state now))
     → IfOk result (IsReport options.existing (state source) (state opening) roots (state now))
     → IfOk result (IsMemoryCopy options.existing source roots opening now)
-copied options source opening now roots (Ok report) copy told = is_copy options source opening now roots report copy told
-copied options source opening now roots (Err fault) copy told = tt
+copied options source opening now roots (Ok report) copy reported = is_copy options source opening now roots report copy reported
+copied options source opening now roots (Err fault) copy reported = tt
 
 -- what it gained, also after a refusal
 pub grows : (source opening now : Contents) (roots : List Descriptor) → OnlyGrows ⊥ (state source) (state opening) roots (state now)
     → IsContent now.entries → now.tags ≡ opening.tags → OnlyGrowsInMemory source roots opening now
 grows source opening now roots growth content tags =
-    let grown = growth.grown_content (told_in_memory source opening now) in
+    let grown = growth.grown_content (known_in_memory source opening now) in
     record {
       begins = (grown.0, grown.1);
       grown = grown;

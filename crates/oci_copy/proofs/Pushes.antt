@@ -25,11 +25,11 @@ module _ {X : Type 0} {shares : Type 0} {source old new : State} {k : Descriptor
     running = λ halted. elim (did.running halted) [ inl was ↦ was | inr memory ↦ cc memory ];
   }
 
-  pub refused : {e : PushFault} {told : CopyFault} → IsPush shares old new (k, bytes) (Err e) → ReportsPush k e told → IsBrought {X = X} source old new k (Err told)
-  refused {e = e} {told = told} did tells = record {
+  pub refused : {e : PushFault} {reported : CopyFault} → IsPush shares old new (k, bytes) (Err e) → ReportsPush k e reported → IsBrought {X = X} source old new k (Err reported)
+  refused {e = e} {reported = reported} did tells = record {
     pushed = tt;
     refused = did.keys.refused;
-    cause = step_cause source old new k bytes listed can.fresh checked own can.ready did.keys.refused e told did.keys.checked
+    cause = step_cause source old new k bytes listed can.fresh checked own can.ready did.keys.refused e reported did.keys.checked
         (λ same. HasFailed-raised old new (did.device (cc))) (λ same. did.halted (cc)) tells;
     running = tt;
   }

@@ -46,8 +46,8 @@ named source (b ∷ destination) not_empty same =
     ]
 
 -- a tag of a held key under a name is refused for a memory error alone
-pub tag_wants_memory : (source destination name : List ℕ) (held : Bool) (e : RefFault) (told : CopyFault) → name ≡ name_of source destination → (source ≡ [] → ⊥)
-    → (e ≡ reference.EmptyReference → name ≡ []) → (e ≡ reference.NotHeld → held ≡ false) → held ≡ true → (e ≡ reference.UnknownReference → ⊥) → ReportsReference e told → told ≡ fault.Memory
+pub tag_wants_memory : (source destination name : List ℕ) (held : Bool) (e : RefFault) (reported : CopyFault) → name ≡ name_of source destination → (source ≡ [] → ⊥)
+    → (e ≡ reference.EmptyReference → name ≡ []) → (e ≡ reference.NotHeld → held ≡ false) → held ≡ true → (e ≡ reference.UnknownReference → ⊥) → ReportsReference e reported → reported ≡ fault.Memory
 tag_wants_memory source destination name held e fault.Memory is not_empty empty absent there unknown tells = refl
 tag_wants_memory source destination name held e (fault.Reference r) is not_empty empty absent there unknown tells = go e tells.1 empty absent unknown
   where

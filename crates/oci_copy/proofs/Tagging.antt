@@ -5,7 +5,7 @@ use Rattle.oci_manifest.specs.Descriptor.{Descriptor}
 use Rattle.oci_store.specs.State.{State}
 use Rattle.oci_plan.specs.declared.existing.Existing.{Existing}
 use Rattle.oci_copy.specs.Copy.{IsCopy, OnlyGrows}
-use Rattle.oci_copy.specs.Grown.{IsTold}
+use Rattle.oci_copy.specs.Grown.{HasKnownBytes}
 use Rattle.oci_copy.specs.Report.{IsReport}
 use Rattle.oci_copy.specs.Tagged.{IsRetagged}
 use Rattle.oci_copy.specs.declared.options.Options.{Options}
@@ -24,9 +24,9 @@ pub refused_tag : {X A B : Type 0} (r : Result X CopyFault) (P : CopyFault → T
 refused_tag (Ok x) P a b memory wants = wants
 refused_tag (Err e) P a b memory wants = rw (wants a b) memory
 
--- what can be told once it is tagged could be told before
-told : {shares : Type 0} {source opening : State} (now tagged : State) → tagged.failures ≡ now.failures → IsTold shares source opening tagged → IsTold shares source opening now
-told now tagged failures t = record { is_honest = t.is_honest; is_sound = t.is_sound; is_calm = rw failures at t.is_calm; same_old = t.same_old; same_source = t.same_source }
+-- bytes that are known once it is tagged were known before
+known : {shares : Type 0} {source opening : State} (now tagged : State) → tagged.failures ≡ now.failures → HasKnownBytes shares source opening tagged → HasKnownBytes shares source opening now
+known now tagged failures t = record { is_honest = t.is_honest; is_sound = t.is_sound; is_calm = rw failures at t.is_calm; same_old = t.same_old; same_source = t.same_source }
 
 pub report_tagged : {existing : Existing} {source opening : State} {roots : List Descriptor} {now tagged : State} → IsRetagged now tagged → (report : Report)
     → IsReport existing source opening roots now report → IsReport existing source opening roots tagged report
@@ -37,7 +37,7 @@ module _ {shares : Type 0} {source opening now tagged : State} {roots : List Des
   copy_tagged copy = record {
     graph = λ h agree. rw stays.nodes (copy.graph h agree);
     reached = λ h agree. rw stays.nodes (copy.reached h agree);
-    content = λ t agree. rw stays.entries (copy.content (told now tagged stays.failures t) agree);
+    content = λ t agree. rw stays.entries (copy.content (known now tagged stays.failures t) agree);
     roots_held = rw stays.nodes copy.roots_held;
     was_closed = copy.was_closed;
     was_sound = copy.was_sound;
@@ -47,8 +47,8 @@ module _ {shares : Type 0} {source opening now tagged : State} {roots : List Des
   growth_tagged grows = record {
     begins = rw stays.nodes grows.begins;
     grown = λ h. rw stays.nodes (grows.grown h);
-    grown_content = λ t. rw stays.entries (grows.grown_content (told now tagged stays.failures t));
-    sound = λ t. stays.sound (grows.sound (told now tagged stays.failures t));
+    grown_content = λ t. rw stays.entries (grows.grown_content (known now tagged stays.failures t));
+    sound = λ t. stays.sound (grows.sound (known now tagged stays.failures t));
     whole = rw stays.nodes grows.whole;
     closed = λ was. rw stays.nodes (grows.closed was);
     failures = rw stays.failures grows.failures;

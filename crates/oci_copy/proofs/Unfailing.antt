@@ -19,7 +19,7 @@ use Rattle.oci_copy.specs.declared.fault.CopyFault.{CopyFault}
 use Rattle.oci_copy.specs.declared.fault.CopyFault.TheVariants as fault
 use Rattle.oci_copy.specs.Cause.{IsPlanCause, IsPushCause, IsRefusal}
 use Rattle.oci_copy.specs.Destination.{IsClosedWhenSkipping}
-use Rattle.oci_copy.specs.Grown.{IsTold}
+use Rattle.oci_copy.specs.Grown.{HasKnownBytes}
 use Rattle.oci_copy.proofs.Causes.{not_err}
 use Rattle.oci_copy.proofs.Destinations.{closed_not_refused}
 use Rattle.oci_copy.specs.Plain.{IsUnfailing, NotPlanned, RefusedForPlan}
@@ -43,7 +43,7 @@ module _ (options : Options) {source opening now : State} (unfailing : IsUnfaili
   not_refused k push.Halted cause = unfailing.takes cause
   not_refused k other cause = cause
 
-  pub refused_for_plan : (roots : List Descriptor) (told : CopyFault) → IsRefusal options source opening roots now told → RefusedForPlan source.entries options opening.nodes roots told
+  pub refused_for_plan : (roots : List Descriptor) (reported : CopyFault) → IsRefusal options source opening roots now reported → RefusedForPlan source.entries options opening.nodes roots reported
   refused_for_plan roots (fault.DestinationOpen holder missing) cause = absurd (closed_not_refused options.existing opening.nodes holder missing unfailing.closed cause)
   refused_for_plan roots (fault.Plan e) cause = not_planned roots e cause.1
   refused_for_plan roots (fault.Fetch k e) cause = absurd (false≢true (sym (unfailing.gives k) ∙ cause.2.0))
@@ -64,9 +64,9 @@ unfailing_in_memory existing source opening now content closed = record {
   no_failures = refl;
 }
 
--- what is supposed so that bytes can be told holds of stores in memory
-pub told_in_memory : (source opening now : Contents) → IsTold ⊥ (in_memory source.entries source.tags) (in_memory opening.entries opening.tags) (in_memory now.entries now.tags)
-told_in_memory source opening now = record {
+-- what is supposed so that bytes are known holds of stores in memory
+pub known_in_memory : (source opening now : Contents) → HasKnownBytes ⊥ (in_memory source.entries source.tags) (in_memory opening.entries opening.tags) (in_memory now.entries now.tags)
+known_in_memory source opening now = record {
   is_honest = tt;
   is_sound = tt;
   is_calm = (refl, omega arith);

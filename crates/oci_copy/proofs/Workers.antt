@@ -86,8 +86,8 @@ as_many_pushed {planned = planned} {opening = opening} {now = now} keeps distinc
         ]
 
 -- a memory error is reported as it is
-pub reported_memory : (pushed told : Result ℕ PushFault) (ran_out : Bool) → IsReportedHalt pushed ran_out told → IsErrOf pushed push.Memory → IsErrOf told push.Memory
-reported_memory pushed told ran_out tells memory = let it : IsReportedHalt (Err push.Memory) ran_out told = subst (λ (r : Result ℕ PushFault). IsReportedHalt r ran_out told) memory tells in it
+pub reported_memory : (pushed reported : Result ℕ PushFault) (ran_out : Bool) → IsReportedHalt pushed ran_out reported → IsErrOf pushed push.Memory → IsErrOf reported push.Memory
+reported_memory pushed reported ran_out tells memory = let it : IsReportedHalt (Err push.Memory) ran_out reported = subst (λ (r : Result ℕ PushFault). IsReportedHalt r ran_out reported) memory tells in it
 
 module _ (failed : Type 0) (source opening : State) (graph : List Node) (k : Descriptor) (bytes : List ℕ) (listed : List Descriptor)
     (fresh : has_key graph k ≡ false) (checked : IsChecked k bytes listed) (held : HasAll graph (successors_in k bytes)) where
@@ -116,16 +116,16 @@ module _ (failed : Type 0) (source opening : State) (graph : List Node) (k : Des
   lock_cause push.Halted refused device halt other = halt refl
 
   -- why a push under the lock is refused, once all that the content lists is held
-  pub work_from_push : (e : PushFault) (told : CopyFault) → Refused e (closed_check graph k bytes) → (e ≡ push.Device → failed) → (e ≡ push.Halted → opening.is_halted) → ReportsPush k e told
-      → IsWorkCause failed source opening k told
+  pub work_from_push : (e : PushFault) (reported : CopyFault) → Refused e (closed_check graph k bytes) → (e ≡ push.Device → failed) → (e ≡ push.Halted → opening.is_halted) → ReportsPush k e reported
+      → IsWorkCause failed source opening k reported
   work_from_push e (fault.Push named t) refused device halt tells = (tells.0, subst (IsPushCauseIf failed source opening k) (sym tells.1) (lock_cause e refused device halt tells.2))
   work_from_push e (fault.Stuck named) refused device halt tells = absurd (stuck e refused tells.1)
   work_from_push e fault.Memory refused device halt tells = tt
   work_from_push e other refused device halt tells = absurd tells
 
 -- a key whose content is not to be had is a worker's cause, of what was noted of the source
-pub work_from_content : (failed : Type 0) (noted now opening : State) (k : Descriptor) (told : CopyFault) → IsNoted noted now → IsContentCause now k told → IsWorkCause failed noted opening k told
-work_from_content failed noted now opening k told same cause = go told cause
+pub work_from_content : (failed : Type 0) (noted now opening : State) (k : Descriptor) (reported : CopyFault) → IsNoted noted now → IsContentCause now k reported → IsWorkCause failed noted opening k reported
+work_from_content failed noted now opening k reported same cause = go reported cause
   where
     read : (e : ManifestFault) → IsReadCause now k e → IsReadCause noted k e
     read e it = (
@@ -147,9 +147,9 @@ work_from_content failed noted now opening k told same cause = go told cause
     go other h = absurd h
 
 -- a job that fails is why the run stops
-pub stop_from_job : (failed : Type 0) (source opening : State) (planned : List Descriptor) (n : ℕ) (told : CopyFault) → IsJobCause failed source opening planned n told
-    → IsStopCause failed source opening planned told
-stop_from_job failed source opening planned n told cause = at (slice_get planned n) refl cause
+pub stop_from_job : (failed : Type 0) (source opening : State) (planned : List Descriptor) (n : ℕ) (reported : CopyFault) → IsJobCause failed source opening planned n reported
+    → IsStopCause failed source opening planned reported
+stop_from_job failed source opening planned n reported cause = at (slice_get planned n) refl cause
   where
     cause_at : (k : Descriptor) → Contains planned k → (e : CopyFault) → IsWorkCause failed source opening k e → IsStopCause failed source opening planned e
     cause_at k there (fault.Fetch m e) h = (subst (Contains planned) (sym h.0) there, subst (λ (d : Descriptor). IsFetchCause source d e) (sym h.0) h.1)
@@ -157,21 +157,21 @@ stop_from_job failed source opening planned n told cause = at (slice_get planned
     cause_at k there fault.Memory h = tt
     cause_at k there other h = absurd h
 
-    at : (o : Option Descriptor) → slice_get planned n ≡ o → IsSomeAnd o (λ k. IsWorkCause failed source opening k told) → IsStopCause failed source opening planned told
+    at : (o : Option Descriptor) → slice_get planned n ≡ o → IsSomeAnd o (λ k. IsWorkCause failed source opening k reported) → IsStopCause failed source opening planned reported
     at None is h = absurd h
-    at (Some k) is h = cause_at k (Contains-from_slice_get planned n k is) told h
+    at (Some k) is h = cause_at k (Contains-from_slice_get planned n k is) reported h
 
 -- why a copy by workers is refused once it has a plan
-pub refused_in_work : {source : State} {options : Options} {opening : State} {roots : List Descriptor} {p : Planned} (failed : Type 0) (workers : ℕ) (told : CopyFault) → IsPlanOf source options opening roots p
-    → IsClosedWhenSkipping options.existing opening.nodes → IsStopCause failed source opening p.keys told → IsRefusalToWorkers failed options source opening roots workers told
+pub refused_in_work : {source : State} {options : Options} {opening : State} {roots : List Descriptor} {p : Planned} (failed : Type 0) (workers : ℕ) (reported : CopyFault) → IsPlanOf source options opening roots p
+    → IsClosedWhenSkipping options.existing opening.nodes → IsStopCause failed source opening p.keys reported → IsRefusalToWorkers failed options source opening roots workers reported
 refused_in_work failed workers (fault.Fetch k e) plan closed cause = (closed, λ h. (plan.outside h k).0 cause.0, cause.1)
 refused_in_work failed workers (fault.Push k e) plan closed cause = (closed, λ h. (plan.outside h k).0 cause.0, cause.1)
 refused_in_work failed workers fault.Memory plan closed cause = tt
 refused_in_work failed workers other plan closed cause = absurd cause
 
 -- why a copy by workers is refused that has no plan
-pub refused_without_plan : (failed : Type 0) (options : Options) (source opening : State) (roots : List Descriptor) (workers : ℕ) (told : CopyFault)
-    → IsStartCause options source opening roots told → IsRefusalToWorkers failed options source opening roots workers told
+pub refused_without_plan : (failed : Type 0) (options : Options) (source opening : State) (roots : List Descriptor) (workers : ℕ) (reported : CopyFault)
+    → IsStartCause options source opening roots reported → IsRefusalToWorkers failed options source opening roots workers reported
 refused_without_plan failed options source opening roots workers (fault.DestinationOpen holder missing) cause = cause
 refused_without_plan failed options source opening roots workers (fault.Plan e) cause = cause
 refused_without_plan failed options source opening roots workers fault.Memory cause = tt
@@ -185,8 +185,8 @@ module _ (failed : Type 0) (source opening : State) (not_failed : failed → ⊥
   not_locked k push.Halted cause = unfailing.takes cause
   not_locked k other cause = cause
 
-  pub refused_for_plan_or_workers : (roots : List Descriptor) (workers : ℕ) (told : CopyFault) → IsRefusalToWorkers failed options source opening roots workers told
-      → RefusedForPlanOrWorkers source.entries options opening.nodes roots workers told
+  pub refused_for_plan_or_workers : (roots : List Descriptor) (workers : ℕ) (reported : CopyFault) → IsRefusalToWorkers failed options source opening roots workers reported
+      → RefusedForPlanOrWorkers source.entries options opening.nodes roots workers reported
   refused_for_plan_or_workers roots workers fault.BadWorkers cause = cause
   refused_for_plan_or_workers roots workers (fault.DestinationOpen holder missing) cause = absurd (closed_not_refused options.existing opening.nodes holder missing unfailing.closed cause)
   refused_for_plan_or_workers roots workers (fault.Plan e) cause = not_planned options unfailing roots e cause.1

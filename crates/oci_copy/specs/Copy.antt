@@ -12,7 +12,7 @@ use Rattle.oci_plan.specs.Visiting.{IsSoundVisit}
 use Rattle.oci_copy.specs.declared.options.Options.{Options}
 use Rattle.oci_copy.specs.Options.{limit_of}
 use Rattle.oci_copy.specs.Destination.{IsClosedWhenSkipping}
-use Rattle.oci_copy.specs.Grown.{graph_of, BeginsWith, IsGrown, IsTold}
+use Rattle.oci_copy.specs.Grown.{graph_of, BeginsWith, IsGrown, HasKnownBytes}
 
 -- the destination is a copy: it has what it had, and what the source reaches from the roots, and nothing else
 pub record IsCopy (shares : Type 0) (options : Options) (source opening : State) (roots : List Descriptor) (now : State) : Type 0 where
@@ -22,8 +22,8 @@ pub record IsCopy (shares : Type 0) (options : Options) (source opening : State)
   -- there too, every key that the source reaches is held
   pub reached : source.is_honest → Agree (graph_of source) opening.nodes
       → (k : Descriptor) → Reaches (graph_of source) roots k → has_key now.nodes k ≡ true
-  -- so of bytes, where they can be told and the two contents agree
-  pub content : IsTold shares source opening now → Agree source.entries opening.entries
+  -- so of bytes, where they are known and the two contents agree
+  pub content : HasKnownBytes shares source opening now → Agree source.entries opening.entries
       → IsCopied (graph_of source) source.entries roots opening.entries now.entries
   -- the roots are held
   pub roots_held : HasAll now.nodes roots
@@ -40,9 +40,9 @@ pub record OnlyGrows (shares : Type 0) (source opening : State) (roots : List De
   pub begins : BeginsWith opening.nodes now.nodes
   -- what an honest source brought are its keys that the roots reach, and what each lists is what the source's bytes list
   pub grown : source.is_honest → IsGrown (graph_of source) (graph_of source) roots opening.nodes now.nodes
-  -- so of bytes, where they can be told; and there the destination stays sound
-  pub grown_content : IsTold shares source opening now → IsGrown (graph_of source) source.entries roots opening.entries now.entries
-  pub sound : IsTold shares source opening now → now.is_sound
+  -- so of bytes, where they are known; and there the destination stays sound
+  pub grown_content : HasKnownBytes shares source opening now → IsGrown (graph_of source) source.entries roots opening.entries now.entries
+  pub sound : HasKnownBytes shares source opening now → now.is_sound
   -- it has all that the new keys list
   pub whole : (added : List Node) × (now.nodes ≡ opening.nodes ++ added) × All (λ (n : Node). HasAll now.nodes n.1) added
   -- where it was closed it is closed

@@ -1,4 +1,4 @@
--- How a destination grows by what a source has, and when its bytes can be told.
+-- How a destination grows by what a source has, and when its bytes are known.
 use Rattle.std.specs.Prelude.{◌≡◌, ℕ, List, ◌++◌, Some}
 use Rattle.oci_manifest.specs.Descriptor.{Descriptor}
 use Rattle.oci_store.specs.Keyed.{value_at}
@@ -26,10 +26,10 @@ abbrev pub SameByDigest : List Entry → List Entry → Type 0
 SameByDigest a b = (k other : Descriptor) (x y : List ℕ) → value_at a k ≡ Some x → value_at b other ≡ Some y
     → other.digest ≡ k.digest → y ≡ x
 
--- The bytes of a copy can be told: the source is honest, the destination was sound, none of its puts failed from its opening
+-- The bytes of a copy are known: the source is honest, the destination was sound, none of its puts failed from its opening
 -- until now and none could fail uncounted, and where the destination keeps one file per digest, keys of one digest have the
 -- same bytes.
-pub record IsTold (shares : Type 0) (source opening now : State) : Type 0 where
+pub record HasKnownBytes (shares : Type 0) (source opening now : State) : Type 0 where
   pub is_honest : source.is_honest
   pub is_sound : opening.is_sound
   pub is_calm : IsCalm opening.failures now.failures

@@ -39,10 +39,7 @@ pub fn plan_copy<A: Source, D: Dest>(
 }
 
 /// Looks at the destination of a copy: it has to be closed where the copy skips what it has.
-fn check_destination<D: Dest>(
-    destination: &D,
-    options: &Options,
-) -> Result<(), CopyFault>
+fn check_destination<D: Dest>(destination: &D, options: &Options) -> Result<(), CopyFault>
     ensures closed { OnOk result (IsClosedWhenSkipping options.now.existing
         (D.state destination.now).nodes) }
     ensures not_closed { IfErr result (IsNotClosedCause options.now.existing

@@ -6,7 +6,7 @@ ghost use Rattle.oci_store.specs.Graph.{Node};
 ghost use Rattle.oci_store.specs.Keyed.{has_key, value_at, HasAll};
 ghost use Rattle.oci_store.specs.Parts.{IsLeaf, IsDraftOf};
 ghost use Rattle.oci_store.specs.Push.{PushesKey};
-ghost use Rattle.oci_copy.specs.Grown.{graph_of, IsTold};
+ghost use Rattle.oci_copy.specs.Grown.{graph_of, HasKnownBytes};
 ghost use Rattle.oci_copy.specs.Kept.{Keeps, IsOpeningAnd};
 ghost use Rattle.oci_copy.specs.Work.{IsReportedHalt, CanFail};
 
@@ -73,7 +73,7 @@ impl<D: Dest, T: CopyStart> LockedDestination<D, T> {
         ensures later { T.source.is_honest
             → IsOpeningAnd (graph_of T.source) T.planned T.opening.nodes
             (D.state result.now).nodes }
-        ensures later_content { IsTold D.shares T.source T.opening (D.state result.now)
+        ensures later_content { HasKnownBytes D.shares T.source T.opening (D.state result.now)
             → IsOpeningAnd T.source.entries T.planned T.opening.entries
             (D.state result.now).entries }
         ensures tags { (D.state result.now).tags ≡ T.opening.tags }

@@ -15,7 +15,7 @@ pub returns-in-Err-clause-brought : goal.returns-in-Err-clause-brought
 returns-in-Err-clause-brought g c =
     let it = c.in_ok-content.ensures in
     subst (λ (k : Descriptor). IsBrought (g.A.Store.state c.args.source.now) (g.D.Store.state c.args.destination.now) (g.D.Store.state c.push_checked.new.self) k (Err c.push_fault.result)) it.key
-    (refused {listed = it.checked.0} (rw it.key c.requires.can) (rw it.key it.checked.1) (rw it.key it.own) {told = c.push_fault.result} c.in-Err.ensures.pushed (rw it.key c.push_fault.ensures))
+    (refused {listed = it.checked.0} (rw it.key c.requires.can) (rw it.key it.checked.1) (rw it.key it.own) {reported = c.push_fault.result} c.in-Err.ensures.pushed (rw it.key c.push_fault.ensures))
 
 pub returns-in-Ok-clause-keeps : goal.returns-in-Ok-clause-keeps
 returns-in-Ok-clause-keeps g c planned opening plan keeps =

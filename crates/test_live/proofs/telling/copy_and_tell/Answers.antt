@@ -11,7 +11,7 @@ use Rattle.oci_store.specs.State.{in_memory}
 use Rattle.oci_store.proofs.Lookups.{value_at-append_left, has_key-append_left, has_key-same_keys}
 use Rattle.oci_live.specs.Live.{state_of}
 use Rattle.oci_copy.specs.Copy.{IsCopy}
-use Rattle.oci_copy.specs.Grown.{IsTold}
+use Rattle.oci_copy.specs.Grown.{HasKnownBytes}
 use Rattle.oci_copy.specs.declared.report.Report.{Report}
 use Rattle.oci_copy.proofs.Headline.{Agree-nodes_of}
 use Rattle.test_live.proofs.telling.copy_and_tell.Goals as goal
@@ -23,11 +23,11 @@ returns-clause-copied g c =
     let n = c.copy_graph-live.result.0 in
     let shown = c.learn-2.new.self.entries in
     let told : IsPrefix n.entries shown = subst (λ (es : List Entry). IsPrefix es shown) c.note.ensures.entries c.learn-2.ensures.told in
-    let is_told : IsTold ⊥ (in_memory s.entries s.tags) (state_of d) (state_of n) = record { is_honest = tt; is_sound = tt; is_calm = (refl, omega arith); same_old = λ shared. absurd shared; same_source = λ shared. absurd shared } in
+    let known : HasKnownBytes ⊥ (in_memory s.entries s.tags) (state_of d) (state_of n) = record { is_honest = tt; is_sound = tt; is_calm = (refl, omega arith); same_old = λ shared. absurd shared; same_source = λ shared. absurd shared } in
     IfOk-weaker c.copy_graph-live.result.1
     (λ (r : Report). IsCopy ⊥ c.args.options.now (in_memory s.entries s.tags) (state_of d) c.args.roots.now (state_of n))
     (λ (r : Report). Agree s.entries d.entries → (k : Descriptor) (bytes : List ℕ) → (value_at d.entries k ≡ Some bytes) ⊎ ((value_at s.entries k ≡ Some bytes) × Reaches (nodes_of s.entries) c.args.roots.now k) → value_at shown k ≡ Some bytes)
-    (λ r copy agree k bytes either. subst (λ (es : List Entry). value_at es k ≡ Some bytes) told.1 (value_at-append_left n.entries told.0 k bytes ((copy.content is_told agree k bytes).1 either)))
+    (λ r copy agree k bytes either. subst (λ (es : List Entry). value_at es k ≡ Some bytes) told.1 (value_at-append_left n.entries told.0 k bytes ((copy.content known agree k bytes).1 either)))
     c.copy_graph-live.ensures.copied
 
 pub returns-clause-reached : goal.returns-clause-reached

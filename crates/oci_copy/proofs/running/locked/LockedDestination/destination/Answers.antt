@@ -13,4 +13,4 @@ returns-clause-later g c honest =
     record { added = keeps.added; is = keeps.is; each = λ i d lt. (keeps.planned_keys i d lt, keeps.own honest i d lt) }
 
 pub returns-clause-later_content : goal.returns-clause-later_content
-returns-clause-later_content g c told = (c.self.invariant.0.told told).1
+returns-clause-later_content g c known = (c.self.invariant.0.known known).1
