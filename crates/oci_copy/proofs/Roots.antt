@@ -25,7 +25,7 @@ roots_of_reference source name k depth roots (inl none) found = inl none
 roots_of_reference source name k depth roots (inr up) found = inr (k, found, up)
 
 module _ (source : State) (k : Descriptor) (depth : ℕ) (cause : List Descriptor → CopyFault → Type 0) where
-  -- a refused copy from the roots, where the causes before the climb do not ask for roots
+  -- a refused copy from the roots, where two of the causes do not ask for roots
   pub refused_from_roots : (roots : List Descriptor) (e : CopyFault) → IsUp source.nodes k depth roots → (cause roots fault.BadWorkers → cause [] fault.BadWorkers)
       → ((holder missing : Descriptor) → cause roots (fault.DestinationOpen holder missing) → cause [] (fault.DestinationOpen holder missing)) → cause roots e → RefusedExtended source k depth cause e
   refused_from_roots roots (fault.DestinationOpen holder missing) up workers opened h = opened holder missing h

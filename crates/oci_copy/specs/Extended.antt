@@ -19,9 +19,8 @@ AreRootsOf source k depth roots = (roots ≡ []) ⊎ IsUp source.nodes k depth r
 abbrev pub AreRootsOfReference : State → List ℕ → ℕ → List Descriptor → Type 0
 AreRootsOfReference source name depth roots = (roots ≡ []) ⊎ ((k : Descriptor) × ResolvesIn source name k × IsUp source.nodes k depth roots)
 
--- Why an extended copy is refused. The causes are looked at in the order of a copy. Of those that come before the climb, too
--- many workers and a destination that is not closed, none asks for roots. A memory error may come at any point, in the climb
--- too.
+-- Why an extended copy is refused. The causes are looked at in the order of a copy. Two of them, too many workers and a
+-- destination that is not closed, do not ask for roots. A memory error may come at any point, in the climb too.
 abbrev pub RefusedExtended : State → Descriptor → ℕ → (List Descriptor → CopyFault → Type 0) → CopyFault → Type 0
 RefusedExtended source k depth cause fault.BadWorkers = cause [] fault.BadWorkers
 RefusedExtended source k depth cause (fault.DestinationOpen holder missing) = cause [] (fault.DestinationOpen holder missing)
