@@ -46,8 +46,16 @@ where
         &options_of(words),
         hooks,
     );
+    with_key_listed(rt.alloc(), answer)
+}
+
+/// The same answer, with its key as a list of one.
+fn with_key_listed(
+    alloc: Global,
+    answer: Result<(Key, Report), ProgramFault>,
+) -> Result<(Vec<Key>, Report), ProgramFault> {
     let (key, report) = answer?;
-    let mut keys = Vec::new(rt.alloc());
+    let mut keys = Vec::new(alloc);
     keys.push(key)?;
     Ok((keys, report))
 }
@@ -70,20 +78,52 @@ where
     S::Draft: Send,
     D::Draft: Send,
 {
-    let (alloc, options) = (rt.alloc(), options_of(words));
     let tags = source.tags()?;
-    let roots = roots_of_tags(alloc, source, &tags, words.referrers)?;
+    let roots = roots_of_tags(rt.alloc(), source, &tags, words.referrers)?;
+    copied_roots(rt, source, destination, &roots, tags, words, hooks)
+}
+
+/// Copies what the source reaches from these roots, sets these tags in the destination, and saves that. Gives the tags' keys.
+fn copied_roots<
+    R: AllocGlobal + Threads + Wait + Sync,
+    S: Dir + Sync,
+    D: Dir + Drop + Send,
+    H: Hooks + Sync,
+>(
+    rt: &R,
+    source: &Layout<S>,
+    destination: Layout<D>,
+    roots: &[Key],
+    tags: Vec<(String, Key)>,
+    words: &CopyWords<'_>,
+    hooks: &H,
+) -> Result<(Vec<Key>, Report), ProgramFault>
+where
+    S::Draft: Send,
+    D::Draft: Send,
+{
+    let alloc = rt.alloc();
     let (mut destination, answer) = copy_graph(
         rt,
         alloc,
         source,
         destination,
-        &roots,
-        &options,
+        roots,
+        &options_of(words),
         hooks,
     );
+    tag_and_save(alloc, &mut destination, answer, tags)
+}
+
+/// Sets these tags and saves the destination, unless the copy into it was refused. Gives the tags' keys.
+fn tag_and_save<D: Dir>(
+    alloc: Global,
+    destination: &mut Layout<D>,
+    answer: Result<Report, CopyFault>,
+    tags: Vec<(String, Key)>,
+) -> Result<(Vec<Key>, Report), ProgramFault> {
     let report = answer?;
-    let keys = tag_all(alloc, &mut destination, tags)?;
+    let keys = tag_all(alloc, destination, tags)?;
     destination.save()?;
     Ok((keys, report))
 }

@@ -61,14 +61,79 @@ where
 {
     let source = opened(rt.alloc(), source)?;
     check_selection(&source, words.selection)?;
+    copy_alone(rt, &source, destination, words, out, err)
+}
+
+/// Copies from an open layout, tags, saves and prints, while no other process copies into the folder of the destination.
+fn copy_alone<
+    R: Files + AllocGlobal + Clock + Threads + Wait + Sync,
+    S: Dir + Sync,
+    D: Dir + Drop + Send,
+    W: Write,
+    X: Write + Send,
+>(
+    rt: &R,
+    source: &Layout<S>,
+    destination: D,
+    words: &CopyWords<'_>,
+    out: &mut W,
+    err: &mut X,
+) -> Result<Outcome, ProgramFault>
+where
+    R::File: Lockable,
+    S::Draft: Send,
+    D::Draft: Send,
+{
     let _lock = alone_in(rt, words.destination, err)?;
+    copy_into(rt, source, destination, words, out, err)
+}
+
+/// Copies from an open layout into a directory, tags, saves and prints.
+fn copy_into<
+    R: AllocGlobal + Clock + Threads + Wait + Sync,
+    S: Dir + Sync,
+    D: Dir + Drop + Send,
+    W: Write,
+    X: Write + Send,
+>(
+    rt: &R,
+    source: &Layout<S>,
+    destination: D,
+    words: &CopyWords<'_>,
+    out: &mut W,
+    err: &mut X,
+) -> Result<Outcome, ProgramFault>
+where
+    S::Draft: Send,
+    D::Draft: Send,
+{
     let destination = opened_or_made(rt.alloc(), destination)?;
-    let (keys, report) = match words.shown {
-        Shown::Nothing => copied(rt, &source, destination, words, &NoHooks)?,
-        Shown::EachBlob => { copied(rt, &source, destination, words, &Progress::new(rt, err))? }
-        Shown::Line => copied_with_line(rt, &source, destination, words, err)?,
-    };
+    let (keys, report) = copied_and_shown(rt, source, destination, words, err)?;
     print_copied(&keys, report, out)
+}
+
+/// Copies from an open layout into one, tags and saves, and shows on `err` meanwhile what the words ask for.
+fn copied_and_shown<
+    R: AllocGlobal + Clock + Threads + Wait + Sync,
+    S: Dir + Sync,
+    D: Dir + Drop + Send,
+    X: Write + Send,
+>(
+    rt: &R,
+    source: &Layout<S>,
+    destination: Layout<D>,
+    words: &CopyWords<'_>,
+    err: &mut X,
+) -> Result<(Vec<Key>, Report), ProgramFault>
+where
+    S::Draft: Send,
+    D::Draft: Send,
+{
+    match words.shown {
+        Shown::Nothing => copied(rt, source, destination, words, &NoHooks),
+        Shown::EachBlob => copied(rt, source, destination, words, &Progress::new(rt, err)),
+        Shown::Line => copied_with_line(rt, source, destination, words, err),
+    }
 }
 
 /// Whether the source has what is to be copied.

@@ -22,8 +22,19 @@ pub(crate) fn dry_run<S: Dir + Drop, D: Dir + Drop, W: Write>(
     out: &mut W,
 ) -> Result<Outcome, ProgramFault> {
     let source = opened(alloc, source)?;
-    check_selection(&source, words.selection)?;
-    let plan = plan_from(alloc, &source, destination, words)?;
+    print_plan_from(alloc, &source, destination, words, out)
+}
+
+/// Prints the plan of a copy from an open layout.
+fn print_plan_from<S: Dir, D: Dir + Drop, W: Write>(
+    alloc: Global,
+    source: &Layout<S>,
+    destination: D,
+    words: &CopyWords<'_>,
+    out: &mut W,
+) -> Result<Outcome, ProgramFault> {
+    check_selection(source, words.selection)?;
+    let plan = plan_from(alloc, source, destination, words)?;
     print_plan(&plan, out)
 }
 
@@ -36,8 +47,17 @@ fn plan_from<S: Dir, D: Dir + Drop>(
 ) -> Result<Plan, ProgramFault> {
     match opened_if_there(alloc, destination)? {
         Some(destination) => plan_of(alloc, source, &destination, words),
-        None => plan_of(alloc, source, &ClosedStore::new(alloc), words),
+        None => plan_into_nothing(alloc, source, words),
     }
+}
+
+/// The plan of a copy from an open layout to a store that holds nothing.
+fn plan_into_nothing<S: Dir>(
+    alloc: Global,
+    source: &Layout<S>,
+    words: &CopyWords<'_>,
+) -> Result<Plan, ProgramFault> {
+    plan_of(alloc, source, &ClosedStore::new(alloc), words)
 }
 
 /// The plan of a copy from an open layout to a store.
@@ -74,7 +94,16 @@ fn plan_of_reference<S: Dir, D: Dest>(
     }
 }
 
+/// Prints a plan: its keys, and then how many, how many bytes they have, and how many roots are there.
 fn print_plan<W: Write>(plan: &Plan, out: &mut W) -> Result<Outcome, ProgramFault> {
+    let bytes = print_planned(plan, out)?;
+    let (planned, skipped) = (plan.len(), plan.skipped().len());
+    writeln!(out, "planned {planned} bytes {bytes} skipped {skipped}").map_err(output_fault)?;
+    Ok(Outcome::Good)
+}
+
+/// Prints the keys of a plan, and gives how many bytes they have.
+fn print_planned<W: Write>(plan: &Plan, out: &mut W) -> Result<u128, ProgramFault> {
     let mut bytes = 0u128;
     for place in 0..plan.len() {
         if let Some(key) = plan.order().at(place).and_then(|number| plan.key(number)) {
@@ -82,7 +111,5 @@ fn print_plan<W: Write>(plan: &Plan, out: &mut W) -> Result<Outcome, ProgramFaul
             bytes = bytes.saturating_add(key.size() as u128);
         }
     }
-    let (planned, skipped) = (plan.len(), plan.skipped().len());
-    writeln!(out, "planned {planned} bytes {bytes} skipped {skipped}").map_err(output_fault)?;
-    Ok(Outcome::Good)
+    Ok(bytes)
 }
