@@ -1,6 +1,7 @@
 use crate::alone::{Lockable, alone_in};
 use crate::copied::copied;
 use crate::dry_run::plan_of;
+use crate::lines::print_line;
 use crate::opened::{opened, opened_or_made};
 use crate::output::output_fault;
 use crate::progress::Progress;
@@ -60,11 +61,11 @@ where
     D::Draft: Send,
 {
     let source = opened(rt.alloc(), source)?;
-    check_selection(&source, words.selection)?;
     copy_alone(rt, &source, destination, words, out, err)
 }
 
-/// Copies from an open layout, tags, saves and prints, while no other process copies into the folder of the destination.
+/// Copies from an open layout what is selected, tags, saves and prints. If the source has that, no other process copies meanwhile
+/// into the folder of the destination.
 fn copy_alone<
     R: Files + AllocGlobal + Clock + Threads + Wait + Sync,
     S: Dir + Sync,
@@ -84,6 +85,7 @@ where
     S::Draft: Send,
     D::Draft: Send,
 {
+    check_selection(source, words.selection)?;
     let _lock = alone_in(rt, words.destination, err)?;
     copy_into(rt, source, destination, words, out, err)
 }
@@ -184,6 +186,6 @@ fn print_copied<W: Write>(
     for key in keys {
         writeln!(out, "copied {key}").map_err(output_fault)?;
     }
-    writeln!(out, "{report}").map_err(output_fault)?;
+    print_line(&report, out)?;
     Ok(Outcome::Good)
 }

@@ -1,4 +1,5 @@
 use crate::copy::{check_selection, options_of};
+use crate::lines::print_line;
 use crate::opened::{opened, opened_if_there};
 use crate::output::output_fault;
 use crate::roots::roots_of_tags;
@@ -107,7 +108,7 @@ fn print_planned<W: Write>(plan: &Plan, out: &mut W) -> Result<u128, ProgramFaul
     let mut bytes = 0u128;
     for place in 0..plan.len() {
         if let Some(key) = plan.order().at(place).and_then(|number| plan.key(number)) {
-            writeln!(out, "{key}").map_err(output_fault)?;
+            print_line(key, out)?;
             bytes = bytes.saturating_add(key.size() as u128);
         }
     }

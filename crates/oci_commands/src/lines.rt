@@ -9,7 +9,12 @@ pub(crate) fn print_lines<T: Display, W: Write>(
     out: &mut W,
 ) -> Result<(), ProgramFault> {
     for line in lines {
-        writeln!(out, "{line}").map_err(output_fault)?;
+        print_line(line, out)?;
     }
     Ok(())
+}
+
+/// Prints one on a line of its own.
+pub(crate) fn print_line<T: Display, W: Write>(line: &T, out: &mut W) -> Result<(), ProgramFault> {
+    writeln!(out, "{line}").map_err(output_fault)
 }

@@ -1,6 +1,5 @@
 use crate::item::Item;
-use crate::lines::print_lines;
-use crate::output::output_fault;
+use crate::lines::{print_line, print_lines};
 use oci_command_line::{Algorithm, MemWords};
 use oci_copy::{CopyFault, Options, Report, copy_memory, copy_memory_by_workers};
 use oci_exit::{Outcome, ProgramFault};
@@ -22,7 +21,18 @@ pub(crate) fn mem<R: Files + AllocGlobal + Threads + Wait + Sync, W: Write>(
 ) -> Result<Outcome, ProgramFault> {
     let mut source = MemoryStore::new(rt.alloc());
     let roots = push_items(rt, &mut source, words)?;
-    let (copied, report) = copy_roots(rt, &source, &roots, words.workers);
+    copy_and_print(rt, &source, &roots, words.workers, out)
+}
+
+/// Copies from these roots into an empty store, and prints what arrived there and the report.
+fn copy_and_print<R: AllocGlobal + Threads + Wait + Sync, W: Write>(
+    rt: &R,
+    source: &MemoryStore,
+    roots: &[Key],
+    workers: Option<u32>,
+    out: &mut W,
+) -> Result<Outcome, ProgramFault> {
+    let (copied, report) = copy_roots(rt, source, roots, workers);
     print_copied(rt.alloc(), copied.memory(), report, out)
 }
 
@@ -81,7 +91,7 @@ fn print_copied<W: Write>(
 ) -> Result<Outcome, ProgramFault> {
     let report = report?;
     print_keys(alloc, copied, out)?;
-    writeln!(out, "{report}").map_err(output_fault)?;
+    print_line(&report, out)?;
     Ok(Outcome::Good)
 }
 
@@ -91,6 +101,11 @@ fn print_keys<W: Write>(
     store: &MemoryStore,
     out: &mut W,
 ) -> Result<(), ProgramFault> {
+    print_lines(&sorted_keys(alloc, store)?, out)
+}
+
+/// The key of each entry, in key order.
+fn sorted_keys(alloc: Global, store: &MemoryStore) -> Result<Vec<&Key>, ProgramFault> {
     let mut keys: Vec<&Key> = Vec::new(alloc);
     for place in 0..store.len() {
         if let Some((key, _)) = store.entry(place) {
@@ -98,5 +113,5 @@ fn print_keys<W: Write>(
         }
     }
     keys.sort()?;
-    print_lines(&keys, out)
+    Ok(keys)
 }

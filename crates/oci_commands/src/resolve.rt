@@ -1,4 +1,4 @@
-use crate::output::output_fault;
+use crate::lines::print_line;
 use oci_exit::{Outcome, ProgramFault};
 use oci_store::Tagger;
 use std::io::Write;
@@ -10,6 +10,6 @@ pub(crate) fn resolve<T: Tagger, W: Write>(
     out: &mut W,
 ) -> Result<Outcome, ProgramFault> {
     let key = store.resolve(reference)?;
-    writeln!(out, "{key}").map_err(output_fault)?;
+    print_line(&key, out)?;
     Ok(Outcome::Good)
 }

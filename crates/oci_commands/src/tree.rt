@@ -49,16 +49,32 @@ pub(crate) fn tree<D: Dir, W: Write>(
         labels: Labels::of(alloc, layout)?,
         shown: BTreeSet::new(alloc),
     };
-    let mut roots = Vec::new(alloc);
-    roots.push(root.try_clone()?)?;
-    walk.show(roots, 0, Below::Successors, out)?;
-    if shows_referrers {
-        walk.show_referrers(&root, out)?;
-    }
+    walk.show_tree(&root, shows_referrers, out)?;
     Ok(Outcome::Good)
 }
 
 impl<'t, A: GraphSource> Walk<'t, A> {
+    /// Shows what a blob reaches, and then what refers to it where that is asked for.
+    fn show_tree<W: Write>(
+        &mut self,
+        root: &Key,
+        shows_referrers: bool,
+        out: &mut W,
+    ) -> Result<(), ProgramFault> {
+        self.show_root(root, out)?;
+        if shows_referrers {
+            self.show_referrers(root, out)?;
+        }
+        Ok(())
+    }
+
+    /// Shows what a blob reaches.
+    fn show_root<W: Write>(&mut self, root: &Key, out: &mut W) -> Result<(), ProgramFault> {
+        let mut roots = Vec::new(self.alloc);
+        roots.push(root.try_clone()?)?;
+        self.show(roots, 0, Below::Successors, out)
+    }
+
     /// Shows what refers to a blob, under a line of its own.
     fn show_referrers<W: Write>(&mut self, key: &Key, out: &mut W) -> Result<(), ProgramFault> {
         let referrers = self.source.predecessors(key)?;
@@ -99,15 +115,27 @@ impl<'t, A: GraphSource> Walk<'t, A> {
         out: &mut W,
     ) -> Result<Vec<Key>, ProgramFault> {
         let Line { key, level } = line;
-        if !self.source.exists(&key) {
-            self.print(&key, level, " (absent)", out)?;
-            return Ok(Vec::new(self.alloc));
+        let mark = self.mark(&key);
+        self.print(&key, level, mark.unwrap_or(""), out)?;
+        match mark {
+            Some(_) => Ok(Vec::new(self.alloc)),
+            None => self.show_first(key, below),
         }
-        if self.shown.contains(&key) {
-            self.print(&key, level, " (shown above)", out)?;
-            return Ok(Vec::new(self.alloc));
+    }
+
+    /// What the line of a blob says at its end where nothing is shown below it.
+    fn mark(&self, key: &Key) -> Option<&'static str> {
+        if !self.source.exists(key) {
+            return Some(" (absent)");
         }
-        self.print(&key, level, "", out)?;
+        if self.shown.contains(key) {
+            return Some(" (shown above)");
+        }
+        None
+    }
+
+    /// Gives what is to be shown below the first line of a blob, which is then taken as shown.
+    fn show_first(&mut self, key: Key, below: Below) -> Result<Vec<Key>, ProgramFault> {
         let below = self.below(&key, below)?;
         self.shown.insert(key)?;
         Ok(below)

@@ -27,12 +27,22 @@ fn print_corrupt<D: Dir, W: Write>(
 ) -> Result<Outcome, ProgramFault> {
     let mut outcome = Outcome::Good;
     for key in &sorted_keys(alloc, layout)? {
-        if is_corrupt(layout, key)? {
-            outcome = Outcome::Faulty;
-            writeln!(out, "corrupt {key}").map_err(output_fault)?;
-        }
+        outcome = outcome.and(print_if_corrupt(layout, key, out)?);
     }
     Ok(outcome)
+}
+
+/// Prints a key if its file does not match it.
+fn print_if_corrupt<A: Source, W: Write>(
+    source: &A,
+    key: &Key,
+    out: &mut W,
+) -> Result<Outcome, ProgramFault> {
+    if !is_corrupt(source, key)? {
+        return Ok(Outcome::Good);
+    }
+    writeln!(out, "corrupt {key}").map_err(output_fault)?;
+    Ok(Outcome::Faulty)
 }
 
 /// The keys that the layout holds, in key order.

@@ -96,13 +96,18 @@ fn bracketed_tags<D: Dir>(
 ) -> Result<BTreeMap<Key, String>, NoMemory> {
     let mut tags: BTreeMap<Key, String> = BTreeMap::new(alloc);
     for (name, key) in layout.tags()? {
-        let tag = format!(in alloc; " [{name}]")?;
-        match tags.get_mut(&key) {
-            Some(text) => text.push_str(&tag)?,
-            None => {
-                tags.insert(key, tag)?;
-            }
-        }
+        add_tag(&mut tags, key, format!(in alloc; " [{name}]")?)?;
     }
     Ok(tags)
+}
+
+/// Adds a tag in brackets to what stands beside a key.
+fn add_tag(tags: &mut BTreeMap<Key, String>, key: Key, tag: String) -> Result<(), NoMemory> {
+    match tags.get_mut(&key) {
+        Some(text) => text.push_str(&tag)?,
+        None => {
+            tags.insert(key, tag)?;
+        }
+    }
+    Ok(())
 }
