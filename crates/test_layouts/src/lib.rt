@@ -14,6 +14,9 @@
 //! Most of them are lists of steps, each with what it tells. `steps` takes them, with `layouts` (steps with a layout), `files` (steps
 //! with files) and `copies` (copies into a layout); `texts` says which marks may stand in a text in place of a sample's key, digest,
 //! path, bytes or descriptor.
+//!
+//! `faulty` has the directory that `unreadable`, `changing`, `failing` and `parts` are about: one of which a read or a put fails, or
+//! a file changes.
 #![tactic(auto)]
 
 #[cfg(test)]

@@ -3,6 +3,7 @@ mod changing;
 mod copies;
 mod drafts;
 mod failing;
+mod faulty;
 mod files;
 mod fuses;
 mod large;

@@ -1,103 +1,37 @@
 //! A source whose files change while it is read.
 
 use crate::tests::copies::copied_samples;
+use crate::tests::faulty::{Change, FaultyDir};
 use crate::tests::layouts::saved;
 use crate::tests::texts::{assert_told, blob};
 use bytes::Bytes;
-use oci_digest::NoMemory;
-use oci_layout::{Dir, DirFault, Layout, MemDir};
+use oci_layout::Layout;
 use std::alloc::Global;
 use std::process::Abort;
 use std::sync::Wait;
-use std::sync::atomic::{AtomicU64, Ordering};
 use std::test::Fail;
 use std::thread::Threads;
 use test_support::Sample::{Empty, Image0};
 use test_support::{closed, is_closed};
 
-/// A directory that answers the right bytes for so many reads, and other bytes for each later read of one file.
-#[derive(Drop)]
-pub(crate) struct ChangingDir<D: Dir> {
-    dir: D,
-    path: String,
-    other: Bytes,
-    /// How many reads were asked for.
-    reads: AtomicU64,
-    /// How many reads are answered right.
-    right: u64,
-}
-
-impl<D: Dir> ChangingDir<D> {
-    /// One whose file of this path has other bytes after so many reads.
-    pub(crate) fn new(dir: D, path: String, other: Bytes, right: u64) -> ChangingDir<D> {
-        ChangingDir {
-            dir,
-            path,
-            other,
-            reads: AtomicU64::new(0),
-            right,
-        }
-    }
-}
-
-impl<D: Dir> Dir for ChangingDir<D> {
-    ghost use Rattle.std.specs.Prelude.{None};
-
-    ghost file = { λ d path. None };
-
-    ghost is_honest = { λ d. ⊥ };
-
-    ghost fails_reads = { λ d. D.fails_reads d.dir };
-
-    ghost failure_count = { λ d. D.failure_count d.dir };
-
-    fn read(&self, path: &str) -> Result<Option<Bytes>, DirFault> {
-        let before = self.reads.fetch_add(1, Ordering::SeqCst);
-        if before >= self.right && path == self.path.as_str() {
-            return Ok(Some(self.other.clone()?));
-        }
-        self.dir.read(path)
-    }
-
-    fn exists(&self, path: &str) -> Result<bool, DirFault> {
-        self.dir.exists(path)
-    }
-
-    fn put(&mut self, path: &str, bytes: &[u8]) -> Result<(), DirFault> {
-        self.dir.put(path, bytes)
-    }
-
-    type Draft = D::Draft;
-
-    fn draft(&self, path: &str) -> Result<D::Draft, NoMemory> {
-        self.dir.draft(path)
-    }
-
-    fn keep(&mut self, path: &str, draft: D::Draft) -> Result<(), DirFault> {
-        self.dir.keep(path, draft)
-    }
-
-    fn may_fail_reads(&self) -> bool {
-        self.dir.may_fail_reads()
-    }
-
-    fn failures(&self) -> u64 {
-        self.dir.failures()
-    }
+/// The manifest of the image has other bytes after so many reads.
+fn change(alloc: Global, right: u64) -> Result<Change, Fail> {
+    let path = blob(alloc, &Image0.key(alloc)?)?;
+    let other = Bytes::copy_from_slice(alloc, b"{}")?;
+    Ok(Change { path, other, right })
 }
 
 /// The directory of a layout of one image, the manifest of which changes after so many reads.
-fn changing(alloc: Global, right: u64) -> Result<ChangingDir<MemDir>, Fail> {
-    let dir = saved(alloc, MemDir::new(alloc), &[Empty, Image0], Image0)?;
-    let path = blob(alloc, &Image0.key(alloc)?)?;
-    let other = Bytes::copy_from_slice(alloc, b"{}")?;
-    Ok(ChangingDir::new(dir, path, other, right))
+fn changing(alloc: Global, right: u64) -> Result<FaultyDir, Fail> {
+    let change = change(alloc, right)?;
+    let dir = saved(alloc, &[Empty, Image0], Image0)?;
+    Ok(FaultyDir::changing(dir, change))
 }
 
 /// Copies the image of a layout by so many workers, or on the calling thread: what is told, and whether the destination is closed.
 fn told_of_copy<R: AllocGlobal + Threads + Wait + Sync>(
     rt: &R,
-    source: &Layout<ChangingDir<MemDir>>,
+    source: &Layout<FaultyDir>,
     workers: Option<u32>,
 ) -> Result<(String, bool), Fail> {
     let destination = closed(rt.alloc(), &[])?;

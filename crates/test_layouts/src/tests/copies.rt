@@ -2,7 +2,6 @@
 
 use crate::tests::layouts::filled;
 use oci_copy::{CopyFault, Options, Report, copy, copy_graph, copy_one, extended_copy_graph};
-use oci_layout::MemDir;
 use oci_manifest::Key;
 use oci_pool::NoHooks;
 use oci_store::{Dest, MemoryStore, Source, Tagger};
@@ -31,10 +30,10 @@ fn printed<T: Display>(alloc: Global, value: &T) -> Result<String, Fail> {
 }
 
 /// What a copy answers, as text.
-fn line(alloc: Global, answer: &Result<Report, CopyFault>) -> Result<String, Fail> {
+fn line(alloc: Global, answer: Result<Report, CopyFault>) -> Result<String, Fail> {
     match answer {
-        Ok(report) => printed(alloc, report),
-        Err(fault) => printed(alloc, fault),
+        Ok(report) => printed(alloc, &report),
+        Err(fault) => printed(alloc, &fault),
     }
 }
 
@@ -80,7 +79,7 @@ fn told_of<D: Dest + Drop>(
     answered: (D, Result<Report, CopyFault>),
 ) -> Result<(D, String), Fail> {
     let (destination, answer) = answered;
-    let told = line(alloc, &answer)?;
+    let told = line(alloc, answer)?;
     Ok((destination, told))
 }
 
@@ -125,6 +124,20 @@ where
     copied_keys(rt, source, destination, &roots, workers)
 }
 
+/// Copies some samples from a store in memory of these samples.
+fn copied_from_memory<D: Dest + Drop + Send, R: AllocGlobal + Threads + Wait + Sync>(
+    rt: &R,
+    destination: D,
+    samples: &[Sample],
+    roots: &[Sample],
+) -> Result<(D, String), Fail>
+where
+    D::Draft: Send,
+{
+    let source = memory(rt.alloc(), samples)?;
+    copied_samples(rt, &source, destination, roots, None)
+}
+
 /// Copies one sample from a layout of its own.
 fn copied_from_layout<D: Dest + Drop + Send, R: AllocGlobal + Threads + Wait + Sync>(
     rt: &R,
@@ -134,7 +147,7 @@ fn copied_from_layout<D: Dest + Drop + Send, R: AllocGlobal + Threads + Wait + S
 where
     D::Draft: Send,
 {
-    let source = filled(rt.alloc(), MemDir::new(rt.alloc()), &[sample])?;
+    let source = filled(rt.alloc(), &[sample])?;
     copied_samples(rt, &source, destination, &[sample], None)
 }
 
@@ -165,11 +178,18 @@ fn named_report(alloc: Global, key: &Key, report: &Report) -> Result<String, Fai
 }
 
 /// What a copy by reference answers, as text.
-fn named_line(alloc: Global, answer: &Result<(Key, Report), CopyFault>) -> Result<String, Fail> {
+fn named_line(alloc: Global, answer: Result<(Key, Report), CopyFault>) -> Result<String, Fail> {
     match answer {
-        Ok(answer) => named_report(alloc, &answer.0, &answer.1),
-        Err(fault) => printed(alloc, fault),
+        Ok((key, report)) => named_report(alloc, &key, &report),
+        Err(fault) => printed(alloc, &fault),
     }
+}
+
+/// A store in memory of these samples, which calls one of them `m`.
+fn named(alloc: Global, samples: &[Sample], sample: Sample) -> Result<MemoryStore, Fail> {
+    let mut store = memory(alloc, samples)?;
+    store.tag(&sample.key(alloc)?, "m")?;
+    Ok(store)
 }
 
 /// Copies by reference, and tells the key and the report.
@@ -182,15 +202,22 @@ where
     D::Draft: Send,
 {
     let (destination, answer) = answered_named(rt, source, destination);
-    let told = named_line(rt.alloc(), &answer)?;
+    let told = named_line(rt.alloc(), answer)?;
     Ok((destination, told))
 }
 
-/// A store in memory of these samples, which calls one of them `m`.
-fn named(alloc: Global, samples: &[Sample], sample: Sample) -> Result<MemoryStore, Fail> {
-    let mut store = memory(alloc, samples)?;
-    store.tag(&sample.key(alloc)?, "m")?;
-    Ok(store)
+/// Copies one sample by reference from a store in memory of these samples.
+fn copied_from_named<D: Dest + Tagger + Drop + Send, R: AllocGlobal + Threads + Wait + Sync>(
+    rt: &R,
+    destination: D,
+    samples: &[Sample],
+    sample: Sample,
+) -> Result<(D, String), Fail>
+where
+    D::Draft: Send,
+{
+    let source = named(rt.alloc(), samples, sample)?;
+    copied_named(rt, &source, destination)
 }
 
 /// Copies a key and what lists it.
@@ -216,28 +243,6 @@ where
     )
 }
 
-/// Copies into a layout, and gives it and what is told.
-pub(crate) fn copied<D: Dest + Tagger + Drop + Send, R: AllocGlobal + Threads + Wait + Sync>(
-    rt: &R,
-    destination: D,
-    copying: Copying<'_>,
-) -> Result<(D, String), Fail>
-where
-    D::Draft: Send,
-{
-    let alloc = rt.alloc();
-    match copying {
-        Copying::Memory(samples, roots) => {
-            copied_samples(rt, &memory(alloc, samples)?, destination, roots, None)
-        }
-        Copying::Layout(sample) => copied_from_layout(rt, destination, sample),
-        Copying::Named(samples, sample) => {
-            copied_named(rt, &named(alloc, samples, sample)?, destination)
-        }
-        Copying::Extended(samples, sample) => { copied_extended(rt, destination, samples, sample) }
-    }
-}
-
 /// Copies a sample and what lists it from a store in memory of these samples.
 fn copied_extended<D: Dest + Drop + Send, R: AllocGlobal + Threads + Wait + Sync>(
     rt: &R,
@@ -248,10 +253,27 @@ fn copied_extended<D: Dest + Drop + Send, R: AllocGlobal + Threads + Wait + Sync
 where
     D::Draft: Send,
 {
-    let source = memory(rt.alloc(), samples)?;
     let key = sample.key(rt.alloc())?;
+    let source = memory(rt.alloc(), samples)?;
     told_of(
         rt.alloc(),
         answered_extended(rt, &source, destination, &key),
     )
+}
+
+/// Copies into a layout, and gives it and what is told.
+pub(crate) fn copied<D: Dest + Tagger + Drop + Send, R: AllocGlobal + Threads + Wait + Sync>(
+    rt: &R,
+    destination: D,
+    copying: Copying<'_>,
+) -> Result<(D, String), Fail>
+where
+    D::Draft: Send,
+{
+    match copying {
+        Copying::Memory(samples, roots) => copied_from_memory(rt, destination, samples, roots),
+        Copying::Layout(sample) => copied_from_layout(rt, destination, sample),
+        Copying::Named(samples, sample) => copied_from_named(rt, destination, samples, sample),
+        Copying::Extended(samples, sample) => copied_extended(rt, destination, samples, sample),
+    }
 }

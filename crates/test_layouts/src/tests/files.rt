@@ -75,7 +75,7 @@ fn in_file<D: Dir, R: Files + AllocGlobal + Clone>(
         FileStep::Length => length(rt.alloc(), dir, path),
         FileStep::Read => read(rt.alloc(), dir, path),
         FileStep::Exists => exists(rt.alloc(), dir, path),
-        FileStep::Failures => Ok(format!(in rt.alloc(); "{}", dir.failures())?),
+        FileStep::Failures => failures(rt.alloc(), dir),
         FileStep::Keep(parts) => keep(rt.alloc(), dir, path, parts),
         FileStep::KeepBoth(parts) => keep_both(rt.alloc(), dir, path, parts),
         FileStep::DropDraft(parts, folder) => drop_draft(rt, dir, path, parts, folder),
@@ -128,6 +128,10 @@ fn read<D: Dir>(alloc: Global, dir: &D, path: &str) -> Result<String, Fail> {
 fn exists<D: Dir>(alloc: Global, dir: &D, path: &str) -> Result<String, Fail> {
     let exists = dir.exists(path)?;
     Ok(format!(in alloc; "{exists}")?)
+}
+
+fn failures<D: Dir>(alloc: Global, dir: &D) -> Result<String, Fail> {
+    Ok(format!(in alloc; "{}", dir.failures())?)
 }
 
 /// A draft of these parts.

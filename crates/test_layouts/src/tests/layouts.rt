@@ -2,7 +2,7 @@
 
 use crate::tests::texts::expanded;
 use bytes::Bytes;
-use oci_layout::{Dir, Layout, LayoutFault};
+use oci_layout::{Dir, Layout, LayoutFault, MemDir};
 use oci_manifest::Key;
 use oci_store::{Dest, GraphSource, Source, Tagger};
 use std::alloc::Global;
@@ -46,15 +46,11 @@ pub(crate) fn with_layout<D: Dir>(
         LayoutStep::Save => save(alloc, layout),
         LayoutStep::Push(sample) => push_sample(alloc, layout, sample),
         LayoutStep::PushAs(sample, media_type) => push_as(alloc, layout, sample, media_type),
-        LayoutStep::PushUnder(sample, other) => {
-            push(alloc, layout, &other.key(alloc)?, sample.bytes(alloc)?)
-        }
+        LayoutStep::PushUnder(sample, other) => push_under(alloc, layout, sample, other),
         LayoutStep::Tag(sample, name) => tag(alloc, layout, sample, name),
-        LayoutStep::Fetch(sample) => fetch(alloc, layout, &sample.key(alloc)?),
-        LayoutStep::Resolve(reference) => {
-            resolve(alloc, layout, expanded(alloc, reference)?.as_str())
-        }
-        LayoutStep::Holders(sample) => holders(alloc, layout, &sample.key(alloc)?),
+        LayoutStep::Fetch(sample) => fetch(alloc, layout, sample),
+        LayoutStep::Resolve(reference) => resolve(alloc, layout, reference),
+        LayoutStep::Holders(sample) => holders(alloc, layout, sample),
     }
 }
 
@@ -75,29 +71,36 @@ pub(crate) fn opened<D: Dir + Drop>(alloc: Global, dir: D) -> Result<Layout<D>, 
     made(Layout::open(alloc, dir))
 }
 
-/// A layout that was just made, with these samples.
-pub(crate) fn filled<D: Dir + Drop>(
-    alloc: Global,
-    dir: D,
-    samples: &[Sample],
-) -> Result<Layout<D>, Fail> {
-    let mut layout = created(alloc, dir)?;
+fn push_samples<D: Dest>(alloc: Global, layout: &mut D, samples: &[Sample]) -> Result<(), Fail> {
     for sample in samples {
-        push_sample(alloc, &mut layout, *sample)?;
+        push_sample(alloc, layout, *sample)?;
     }
+    Ok(())
+}
+
+/// A layout in memory that was just made, with these samples.
+pub(crate) fn filled(alloc: Global, samples: &[Sample]) -> Result<Layout<MemDir>, Fail> {
+    let mut layout = created(alloc, MemDir::new(alloc))?;
+    push_samples(alloc, &mut layout, samples)?;
     Ok(layout)
 }
 
-/// The directory of a layout of these samples, which is saved with a name for the last one.
-pub(crate) fn saved<D: Dir + Drop>(
-    alloc: Global,
-    dir: D,
-    samples: &[Sample],
-    named: Sample,
-) -> Result<D, Fail> {
-    let mut layout = filled(alloc, dir, samples)?;
-    layout.tag(&named.key(alloc)?, "v1")?;
+/// Saves a layout with a name for a key.
+pub(crate) fn save_named<D: Dir>(
+    layout: &mut Layout<D>,
+    key: &Key,
+    name: &str,
+) -> Result<(), Fail> {
+    layout.tag(key, name)?;
     layout.save()?;
+    Ok(())
+}
+
+/// The directory in memory of a layout of these samples, which is saved with a name for one of them.
+pub(crate) fn saved(alloc: Global, samples: &[Sample], named: Sample) -> Result<MemDir, Fail> {
+    let key = named.key(alloc)?;
+    let mut layout = filled(alloc, samples)?;
+    save_named(&mut layout, &key, "v1")?;
     Ok(layout.into_dir())
 }
 
@@ -141,6 +144,15 @@ fn push_sample<D: Dest>(alloc: Global, layout: &mut D, sample: Sample) -> Result
     push(alloc, layout, &sample.key(alloc)?, sample.bytes(alloc)?)
 }
 
+fn push_under<D: Dest>(
+    alloc: Global,
+    layout: &mut D,
+    sample: Sample,
+    other: Sample,
+) -> Result<String, Fail> {
+    push(alloc, layout, &other.key(alloc)?, sample.bytes(alloc)?)
+}
+
 fn push_as<D: Dest>(
     alloc: Global,
     layout: &mut D,
@@ -161,25 +173,30 @@ fn tag<T: Tagger>(
     Ok(String::from_str(alloc, "tagged")?)
 }
 
-fn fetch<A: Source>(alloc: Global, layout: &A, key: &Key) -> Result<String, Fail> {
-    match layout.fetch(key) {
+fn fetch<A: Source>(alloc: Global, layout: &A, sample: Sample) -> Result<String, Fail> {
+    match layout.fetch(&sample.key(alloc)?) {
         Ok(bytes) => Ok(String::from_str(alloc, str::from_utf8(bytes.as_slice())?)?),
         Err(fault) => Ok(format!(in alloc; "{fault}")?),
     }
 }
 
 fn resolve<T: Tagger>(alloc: Global, layout: &T, reference: &str) -> Result<String, Fail> {
-    match layout.resolve(reference) {
+    match layout.resolve(expanded(alloc, reference)?.as_str()) {
         Ok(key) => Ok(format!(in alloc; "{key}")?),
         Err(fault) => Ok(format!(in alloc; "{fault}")?),
     }
 }
 
-fn holders<A: GraphSource>(alloc: Global, layout: &A, key: &Key) -> Result<String, Fail> {
+/// The keys, each and a `;`.
+fn listed(alloc: Global, keys: &[Key]) -> Result<String, Fail> {
     let mut told = String::new(alloc);
-    let keys = layout.predecessors(key)?;
-    for key in &keys {
+    for key in keys {
         told.push_str(format!(in alloc; "{key};")?.as_str())?;
     }
     Ok(told)
+}
+
+fn holders<A: GraphSource>(alloc: Global, layout: &A, sample: Sample) -> Result<String, Fail> {
+    let keys = layout.predecessors(&sample.key(alloc)?)?;
+    listed(alloc, &keys)
 }

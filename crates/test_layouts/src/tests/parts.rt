@@ -1,11 +1,11 @@
 //! Blobs of sizes at which the reading in parts ends in different ways, copied between layouts.
 
-use crate::tests::changing::ChangingDir;
 use crate::tests::copies::copied_keys;
+use crate::tests::faulty::{Change, FaultyDir};
 use crate::tests::files::FileStep::{Exists, Put};
 use crate::tests::files::FolderStep::RemoveLeftovers;
 use crate::tests::files::files_in;
-use crate::tests::layouts::{created, opened, push, summary};
+use crate::tests::layouts::{created, opened, push, save_named, summary};
 use crate::tests::steps::Step::{At, In};
 use crate::tests::steps::{Ground, Row, assert_run};
 use crate::tests::texts::blob;
@@ -13,7 +13,6 @@ use bytes::Bytes;
 use oci_digest::Digest;
 use oci_layout::{Dir, FsDir, Layout, MemDir};
 use oci_manifest::Key;
-use oci_store::Tagger;
 use std::alloc::Global;
 use std::fs;
 use std::process::Abort;
@@ -82,6 +81,13 @@ fn key_of(alloc: Global, layer: Layer, bytes: &[u8]) -> Result<Key, Fail> {
     Ok(Key::new(media_type, digest, layer.size as u64)?)
 }
 
+fn first_key(keys: &[Key]) -> Result<&Key, Fail> {
+    match keys.first() {
+        Some(key) => Ok(key),
+        None => Err(Fail::from("there is no key")),
+    }
+}
+
 /// A layout, and the keys of its layers.
 #[derive(Drop)]
 struct Layers {
@@ -101,10 +107,7 @@ impl Layers {
     /// Names the first layer, saves the layout, and opens it again.
     fn reopened(self, alloc: Global) -> Result<Layers, Fail> {
         let Layers { mut layout, keys } = self;
-        if let Some(key) = keys.first() {
-            layout.tag(key, "layer")?;
-        }
-        layout.save()?;
+        save_named(&mut layout, first_key(&keys)?, "layer")?;
         let layout = opened(alloc, layout.into_dir())?;
         Ok(Layers { layout, keys })
     }
@@ -149,17 +152,32 @@ fn assert_all_there<D: Dir, R: AllocGlobal + Abort>(
     Ok(())
 }
 
-/// The copy told that so many layers came, and they are held.
-fn assert_held<D: Dir, R: AllocGlobal + Abort>(
+/// What a copy told, and what the layout then holds.
+fn told_and_held<D: Dir>(alloc: Global, layout: &Layout<D>, told: &str) -> Result<String, Fail> {
+    let held = summary(alloc, layout)?;
+    Ok(format!(in alloc; "{told}, {held}")?)
+}
+
+/// Copies the layers of a layout into one that is made in a directory, and gives the directory, and what is told and then held.
+fn copied<D: Dir + Drop + Send, R: AllocGlobal + Threads + Wait + Sync>(
     rt: &R,
-    layout: &Layout<D>,
-    told: &str,
-    count: usize,
-) -> Result<(), Fail> {
+    source: &Layers,
+    dir: D,
+    workers: Option<u32>,
+) -> Result<(D, String), Fail>
+where
+    D::Draft: Send,
+{
+    let layout = created(rt.alloc(), dir)?;
+    let (layout, told) = copied_keys(rt, &source.layout, layout, &source.keys, workers)?;
+    let told = told_and_held(rt.alloc(), &layout, told.as_str())?;
+    Ok((layout.into_dir(), told))
+}
+
+/// So many layers came, and are held.
+fn assert_held<R: AllocGlobal + Abort>(rt: &R, told: &str, count: usize) -> Result<(), Fail> {
     let want = format!(in rt.alloc(); "planned {count} pushed {count} skipped 0, held {count}")?;
-    let held = summary(rt.alloc(), layout)?;
-    let told = format!(in rt.alloc(); "{told}, {held}")?;
-    assert_eq!(rt; told.as_str(), want.as_str());
+    assert_eq!(rt; told, want.as_str());
     Ok(())
 }
 
@@ -173,10 +191,9 @@ fn assert_copied<D: Dir + Drop + Send, R: AllocGlobal + Threads + Wait + Sync + 
 where
     D::Draft: Send,
 {
-    let layout = created(rt.alloc(), dir)?;
-    let (layout, told) = copied_keys(rt, &source.layout, layout, &source.keys, workers)?;
-    assert_held(rt, &layout, told.as_str(), source.keys.len())?;
-    assert_all_there(rt, &layout.into_dir(), &source.keys)
+    let (dir, told) = copied(rt, source, dir, workers)?;
+    assert_held(rt, told.as_str(), source.keys.len())?;
+    assert_all_there(rt, &dir, &source.keys)
 }
 
 /// The same into a folder, where an old file of so many right bytes and a wrong one may stand in place of the first layer. `below` is then
@@ -189,12 +206,31 @@ pub(crate) struct Folder {
     pub(crate) files: usize,
 }
 
-/// Puts an old file where a layer belongs: so many of its bytes, and one that it does not have.
-fn put_old<D: Dir>(alloc: Global, dir: &mut D, key: &Key, size: usize) -> Result<(), Fail> {
+/// So many bytes of a layer, and one that it does not have.
+fn old_bytes(alloc: Global, size: usize) -> Result<Vec<u8>, Fail> {
     let mut old = bytes_of(alloc, size, 0)?;
     old.push(255)?;
-    dir.put(&blob(alloc, key)?, &old)?;
+    Ok(old)
+}
+
+/// Puts an old file where a layer belongs.
+fn put_old<D: Dir>(alloc: Global, dir: &mut D, key: &Key, size: usize) -> Result<(), Fail> {
+    let path = blob(alloc, key)?;
+    dir.put(&path, &old_bytes(alloc, size)?)?;
     Ok(())
+}
+
+/// Puts the old file where there is to be one.
+fn prepare<D: Dir>(
+    alloc: Global,
+    dir: &mut D,
+    keys: &[Key],
+    old: Option<usize>,
+) -> Result<(), Fail> {
+    match old {
+        Some(size) => put_old(alloc, dir, first_key(keys)?, size),
+        None => Ok(()),
+    }
 }
 
 fn folder_of<'r, R: Files + AllocGlobal>(
@@ -203,9 +239,7 @@ fn folder_of<'r, R: Files + AllocGlobal>(
     folder: Folder,
 ) -> Result<FsDir<'r, R>, Fail> {
     let mut dir = FsDir::new(rt, folder.folder)?;
-    if let (Some(size), Some(key)) = (folder.old, source.keys.first()) {
-        put_old(rt.alloc(), &mut dir, key, size)?;
-    }
+    prepare(rt.alloc(), &mut dir, &source.keys, folder.old)?;
     Ok(dir)
 }
 
@@ -272,46 +306,43 @@ fn layers_of_parts(rt: HostRuntime) -> Result<(), Fail> {
     Ok(())
 }
 
-/// The copy told this fault of the first key.
+/// The copy told this fault of a key.
 fn assert_fault<R: AllocGlobal + Abort>(
     rt: &R,
     told: &str,
     before: &str,
-    key: Option<&Key>,
+    key: &Key,
     after: &str,
 ) -> Result<(), Fail> {
-    let Some(key) = key else {
-        return Err(Fail::from("there is no key"));
-    };
     let want = format!(in rt.alloc(); "{before} {key} {after}")?;
     assert_eq!(rt; told, want.as_str());
     Ok(())
 }
 
-/// The layout holds nothing, and nothing is opened of its directory.
-fn assert_empty<R: AllocGlobal + Abort>(rt: &R, layout: Layout<MemDir>) -> Result<(), Fail> {
+/// Nothing is held by the layout that a directory is.
+fn assert_empty<R: AllocGlobal + Abort>(rt: &R, dir: MemDir) -> Result<(), Fail> {
+    let layout = opened(rt.alloc(), dir)?;
     let held = summary(rt.alloc(), &layout)?;
     assert_eq!(rt; held.as_str(), "held 0");
-    let held = summary(rt.alloc(), &opened(rt.alloc(), layout.into_dir())?)?;
-    assert_eq!(rt; held.as_str(), "held 0");
     Ok(())
+}
+
+/// The blob is not put: the layout holds nothing, and nothing is opened of its directory.
+fn assert_refused<R: AllocGlobal + Threads + Wait + Sync + Abort>(
+    rt: &R,
+    source: &Layers,
+) -> Result<(), Fail> {
+    let key = first_key(&source.keys)?;
+    let (dir, told) = copied(rt, source, MemDir::with_fuse(rt.alloc(), 2), None)?;
+    assert_fault(rt, told.as_str(), "82 Push", key, "43 Device, held 0")?;
+    assert_empty(rt, dir)
 }
 
 fn assert_not_put<R: AllocGlobal + Threads + Wait + Sync + Abort>(
     rt: &R,
     size: usize,
 ) -> Result<(), Fail> {
-    let source = layer_of(rt.alloc(), size)?;
-    let layout = created(rt.alloc(), MemDir::with_fuse(rt.alloc(), 2))?;
-    let (layout, told) = copied_keys(rt, &source.layout, layout, &source.keys, None)?;
-    assert_fault(
-        rt,
-        told.as_str(),
-        "82 Push",
-        source.keys.first(),
-        "43 Device",
-    )?;
-    assert_empty(rt, layout)
+    assert_refused(rt, &layer_of(rt.alloc(), size)?)
 }
 
 /// The same where the fuse does not pass the blob: it is told as a push that the device failed, and nothing is held.
@@ -323,30 +354,33 @@ fn fuse_at_a_layer_of_parts(rt: HostRuntime) -> Result<(), Fail> {
     Ok(())
 }
 
-/// The directory of a layer of a part and one byte, whose bytes change after so many reads.
-fn changing(
-    alloc: Global,
-    dir: MemDir,
-    key: &Key,
-    right: u64,
-) -> Result<ChangingDir<MemDir>, Fail> {
+/// The blob of a layer of a part and one byte has other bytes after so many reads.
+fn change(alloc: Global, key: &Key, right: u64) -> Result<Change, Fail> {
+    let path = blob(alloc, key)?;
     let other = Bytes::from_vec(bytes_of(alloc, PART + 1, 1)?)?;
-    Ok(ChangingDir::new(dir, blob(alloc, key)?, other, right))
+    Ok(Change { path, other, right })
 }
 
-/// What a copy tells of the first of these keys in a directory whose bytes change after so many reads.
+/// What a copy of these keys into memory tells.
+fn told_of_copy<R: AllocGlobal + Threads + Wait + Sync>(
+    rt: &R,
+    source: &Layout<FaultyDir>,
+    keys: &[Key],
+) -> Result<String, Fail> {
+    let (_, told) = copied_keys(rt, source, closed(rt.alloc(), &[])?, keys, None)?;
+    Ok(told)
+}
+
+/// What a copy of these keys tells where the file of the first one changes after so many reads of the directory.
 fn told_of_changing<R: AllocGlobal + Threads + Wait + Sync>(
     rt: &R,
     dir: MemDir,
     keys: &[Key],
     right: u64,
 ) -> Result<String, Fail> {
-    let Some(key) = keys.first() else {
-        return Err(Fail::from("there is no key"));
-    };
-    let source = opened(rt.alloc(), changing(rt.alloc(), dir, key, right)?)?;
-    let (_, told) = copied_keys(rt, &source, closed(rt.alloc(), &[])?, keys, None)?;
-    Ok(told)
+    let change = change(rt.alloc(), first_key(keys)?, right)?;
+    let source = opened(rt.alloc(), FaultyDir::changing(dir, change))?;
+    told_of_copy(rt, &source, keys)
 }
 
 fn assert_changing<R: AllocGlobal + Threads + Wait + Sync + Abort>(
@@ -355,7 +389,13 @@ fn assert_changing<R: AllocGlobal + Threads + Wait + Sync + Abort>(
 ) -> Result<(), Fail> {
     let Layers { layout, keys } = layer_of(rt.alloc(), PART + 1)?;
     let told = told_of_changing(rt, layout.into_dir(), &keys, right)?;
-    assert_fault(rt, told.as_str(), "88 Fetch", keys.first(), "21 Corrupt")
+    assert_fault(
+        rt,
+        told.as_str(),
+        "88 Fetch",
+        first_key(&keys)?,
+        "21 Corrupt",
+    )
 }
 
 /// The bytes of a source change between its first part and its second one: `open` reads the layout file and the index, and the
@@ -381,84 +421,41 @@ fn layers_in_a_folder(rt: HostRuntime) -> Result<(), Fail> {
     Ok(())
 }
 
-/// Files beside a blob, whose digest is by `sha256sum` of a zero byte, and beside other files.
+/// A blob, whose digest is by `sha256sum` of a zero byte.
+const BLOB: &str = "blobs/sha256/6e340b9cffb37a989ca544e6bb780a2c78901d3fb33738768511a30617afa01d";
+
+/// Drafts of it.
+const FIRST_DRAFT: &str =
+    "blobs/sha256/6e340b9cffb37a989ca544e6bb780a2c78901d3fb33738768511a30617afa01d.0.new";
+
+const LATER_DRAFT: &str =
+    "blobs/sha256/6e340b9cffb37a989ca544e6bb780a2c78901d3fb33738768511a30617afa01d.17.new";
+
+/// What no draft of it is called.
+const WITHOUT_NUMBER: &str =
+    "blobs/sha256/6e340b9cffb37a989ca544e6bb780a2c78901d3fb33738768511a30617afa01d.new";
+
+const WITH_A_LETTER: &str =
+    "blobs/sha256/6e340b9cffb37a989ca544e6bb780a2c78901d3fb33738768511a30617afa01d.x.new";
+
+/// Files beside the blob, and beside other files.
 const LEFTOVERS: &[Row] = &[
     Row(At("leftovers", RemoveLeftovers), "removed"),
-    Row(
-        In(
-            "blobs/sha256/6e340b9cffb37a989ca544e6bb780a2c78901d3fb33738768511a30617afa01d",
-            Put("a"),
-        ),
-        "put",
-    ),
+    Row(In(BLOB, Put("a")), "put"),
     Row(At("leftovers", RemoveLeftovers), "removed"),
-    Row(
-        In(
-            "blobs/sha256/6e340b9cffb37a989ca544e6bb780a2c78901d3fb33738768511a30617afa01d",
-            Exists,
-        ),
-        "true",
-    ),
-    Row(
-        In(
-            "blobs/sha256/6e340b9cffb37a989ca544e6bb780a2c78901d3fb33738768511a30617afa01d.0.new",
-            Put("a"),
-        ),
-        "put",
-    ),
+    Row(In(BLOB, Exists), "true"),
+    Row(In(FIRST_DRAFT, Put("a")), "put"),
     Row(At("leftovers", RemoveLeftovers), "removed"),
-    Row(
-        In(
-            "blobs/sha256/6e340b9cffb37a989ca544e6bb780a2c78901d3fb33738768511a30617afa01d.0.new",
-            Exists,
-        ),
-        "false",
-    ),
-    Row(
-        In(
-            "blobs/sha256/6e340b9cffb37a989ca544e6bb780a2c78901d3fb33738768511a30617afa01d.17.new",
-            Put("a"),
-        ),
-        "put",
-    ),
+    Row(In(FIRST_DRAFT, Exists), "false"),
+    Row(In(LATER_DRAFT, Put("a")), "put"),
     Row(At("leftovers", RemoveLeftovers), "removed"),
-    Row(
-        In(
-            "blobs/sha256/6e340b9cffb37a989ca544e6bb780a2c78901d3fb33738768511a30617afa01d.17.new",
-            Exists,
-        ),
-        "false",
-    ),
-    Row(
-        In(
-            "blobs/sha256/6e340b9cffb37a989ca544e6bb780a2c78901d3fb33738768511a30617afa01d.new",
-            Put("a"),
-        ),
-        "put",
-    ),
+    Row(In(LATER_DRAFT, Exists), "false"),
+    Row(In(WITHOUT_NUMBER, Put("a")), "put"),
     Row(At("leftovers", RemoveLeftovers), "removed"),
-    Row(
-        In(
-            "blobs/sha256/6e340b9cffb37a989ca544e6bb780a2c78901d3fb33738768511a30617afa01d.new",
-            Exists,
-        ),
-        "true",
-    ),
-    Row(
-        In(
-            "blobs/sha256/6e340b9cffb37a989ca544e6bb780a2c78901d3fb33738768511a30617afa01d.x.new",
-            Put("a"),
-        ),
-        "put",
-    ),
+    Row(In(WITHOUT_NUMBER, Exists), "true"),
+    Row(In(WITH_A_LETTER, Put("a")), "put"),
     Row(At("leftovers", RemoveLeftovers), "removed"),
-    Row(
-        In(
-            "blobs/sha256/6e340b9cffb37a989ca544e6bb780a2c78901d3fb33738768511a30617afa01d.x.new",
-            Exists,
-        ),
-        "true",
-    ),
+    Row(In(WITH_A_LETTER, Exists), "true"),
     Row(In("index.json.3.new", Put("a")), "put"),
     Row(In("a.0.new", Put("a")), "put"),
     Row(At("leftovers", RemoveLeftovers), "removed"),

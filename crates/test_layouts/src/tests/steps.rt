@@ -1,11 +1,11 @@
 //! Steps that are taken with a directory and the layout that it is, and what each of them tells.
 
 use crate::tests::copies::{Copying, copied};
+use crate::tests::faulty::{Failing, FaultyDir};
 use crate::tests::files::{FileStep, FolderStep, in_dir, in_folder};
 use crate::tests::layouts::{LayoutStep, summary, with_layout};
 use crate::tests::texts::assert_told;
-use crate::tests::unreadable::unreadable;
-use oci_layout::{Dir, FsDir, Layout, MemDir};
+use oci_layout::{Dir, FsDir, Layout, LayoutFault, MemDir};
 use std::alloc::Global;
 use std::fs;
 use std::process::Abort;
@@ -50,129 +50,178 @@ pub(crate) enum Ground<'a> {
 
 /// A directory, or the layout that it is.
 #[derive(Drop)]
-enum Place<D: Dir> {
-    Files(D),
-    Held(Layout<D>),
+struct Place<D: Dir> {
+    files: Option<D>,
+    held: Option<Layout<D>>,
 }
 
-fn dir_of_place<D: Dir + Drop>(place: Place<D>) -> D {
-    match place {
-        Place::Files(dir) => dir,
-        Place::Held(layout) => layout.into_dir(),
-    }
-}
-
-fn create<D: Dir + Drop>(alloc: Global, dir: D) -> Result<(Place<D>, String), Fail> {
-    match Layout::create(alloc, dir) {
-        Ok(layout) => Ok((Place::Held(layout), String::from_str(alloc, "made")?)),
-        Err((dir, fault)) => Ok((Place::Files(dir), format!(in alloc; "{fault}")?)),
-    }
-}
-
-fn open<D: Dir + Drop>(alloc: Global, dir: D) -> Result<(Place<D>, String), Fail> {
-    match Layout::open(alloc, dir) {
-        Ok(layout) => {
-            let told = summary(alloc, &layout)?;
-            Ok((Place::Held(layout), told))
+impl<D: Dir + Drop> Place<D> {
+    /// Takes the directory out, which ends the layout.
+    fn take_dir(&mut self) -> Result<D, Fail> {
+        if let Some(layout) = self.held.take() {
+            return Ok(layout.into_dir());
         }
-        Err((dir, fault)) => Ok((Place::Files(dir), format!(in alloc; "{fault}")?)),
+        match self.files.take() {
+            Some(dir) => Ok(dir),
+            None => Err(Fail::from("there is no directory")),
+        }
+    }
+
+    fn take_layout(&mut self) -> Result<Layout<D>, Fail> {
+        match self.held.take() {
+            Some(layout) => Ok(layout),
+            None => Err(Fail::from("there is no layout")),
+        }
     }
 }
 
-fn layout_of_place<D: Dir + Drop>(place: Place<D>) -> Result<Layout<D>, Fail> {
-    match place {
-        Place::Files(_) => Err(Fail::from("there is no layout")),
-        Place::Held(layout) => Ok(layout),
+/// Puts what a making or an opening answers in its place, and gives the fault.
+fn settle<D: Dir + Drop>(
+    place: &mut Place<D>,
+    answer: Result<Layout<D>, (D, LayoutFault)>,
+) -> Option<LayoutFault> {
+    match answer {
+        Ok(layout) => {
+            place.held = Some(layout);
+            None
+        }
+        Err((dir, fault)) => {
+            place.files = Some(dir);
+            Some(fault)
+        }
+    }
+}
+
+fn create<D: Dir + Drop>(alloc: Global, place: &mut Place<D>) -> Result<String, Fail> {
+    let answer = Layout::create(alloc, place.take_dir()?);
+    match settle(place, answer) {
+        None => Ok(String::from_str(alloc, "made")?),
+        Some(fault) => Ok(format!(in alloc; "{fault}")?),
+    }
+}
+
+fn open<D: Dir + Drop>(alloc: Global, place: &mut Place<D>) -> Result<String, Fail> {
+    let answer = Layout::open(alloc, place.take_dir()?);
+    match settle(place, answer) {
+        None => held(alloc, place),
+        Some(fault) => Ok(format!(in alloc; "{fault}")?),
+    }
+}
+
+/// What the layout holds.
+fn held<D: Dir>(alloc: Global, place: &Place<D>) -> Result<String, Fail> {
+    match &place.held {
+        Some(layout) => summary(alloc, layout),
+        None => Err(Fail::from("there is no layout")),
     }
 }
 
 fn copied_into<D: Dir + Drop + Send, R: AllocGlobal + Threads + Wait + Sync>(
     rt: &R,
-    place: Place<D>,
+    place: &mut Place<D>,
     copying: Copying<'_>,
-) -> Result<(Place<D>, String), Fail>
+) -> Result<String, Fail>
 where
     D::Draft: Send,
 {
-    let (layout, told) = copied(rt, layout_of_place(place)?, copying)?;
-    Ok((Place::Held(layout), told))
+    let (layout, told) = copied(rt, place.take_layout()?, copying)?;
+    place.held = Some(layout);
+    Ok(told)
 }
 
 fn with_place<D: Dir + Drop>(
     alloc: Global,
-    place: Place<D>,
+    place: &mut Place<D>,
     step: LayoutStep<'_>,
-) -> Result<(Place<D>, String), Fail> {
-    let mut layout = layout_of_place(place)?;
-    let told = with_layout(alloc, &mut layout, step)?;
-    Ok((Place::Held(layout), told))
+) -> Result<String, Fail> {
+    match &mut place.held {
+        Some(layout) => with_layout(alloc, layout, step),
+        None => Err(Fail::from("there is no layout")),
+    }
 }
 
 fn in_place<D: Dir + Drop, R: Files + AllocGlobal + Clone>(
     rt: &R,
-    place: Place<D>,
+    place: &mut Place<D>,
     path: &str,
     step: FileStep<'_>,
-) -> Result<(Place<D>, String), Fail> {
-    let mut dir = dir_of_place(place);
-    let told = in_dir(rt, &mut dir, path, step)?;
-    Ok((Place::Files(dir), told))
-}
-
-fn beside_place<D: Dir + Drop, R: Files + AllocGlobal + Clone>(
-    rt: &R,
-    place: Place<D>,
-    path: &str,
-    step: FolderStep<'_>,
-) -> Result<(Place<D>, String), Fail> {
-    let told = in_folder(rt, path, step)?;
-    Ok((place, told))
+) -> Result<String, Fail> {
+    let mut dir = place.take_dir()?;
+    let told = in_dir(rt, &mut dir, path, step);
+    place.files = Some(dir);
+    told
 }
 
 /// Takes a step, and gives what it tells.
 fn taken<D: Dir + Drop + Send, R: Files + AllocGlobal + Clone + Threads + Wait + Sync + Abort>(
     rt: &R,
-    place: Place<D>,
+    place: &mut Place<D>,
     step: Step<'_>,
-) -> Result<(Place<D>, String), Fail>
+) -> Result<String, Fail>
 where
     D::Draft: Send,
 {
     match step {
-        Step::Create => create(rt.alloc(), dir_of_place(place)),
-        Step::Open => open(rt.alloc(), dir_of_place(place)),
+        Step::Create => create(rt.alloc(), place),
+        Step::Open => open(rt.alloc(), place),
         Step::Copy(copying) => copied_into(rt, place, copying),
         Step::With(step) => with_place(rt.alloc(), place, step),
         Step::In(path, step) => in_place(rt, place, path, step),
-        Step::At(path, step) => beside_place(rt, place, path, step),
+        Step::At(path, step) => in_folder(rt, path, step),
     }
 }
 
 fn assert_step<
     D: Dir + Drop + Send,
     R: Files + AllocGlobal + Clone + Threads + Wait + Sync + Abort,
->(rt: &R, place: Place<D>, number: usize, row: Row<'_>) -> Result<Place<D>, Fail>
+>(rt: &R, place: &mut Place<D>, number: usize, row: Row<'_>) -> Result<(), Fail>
 where
     D::Draft: Send,
 {
-    let (place, told) = taken(rt, place, row.0)?;
-    assert_told(rt, number, told.as_str(), row.1)?;
-    Ok(place)
+    let told = taken(rt, place, row.0)?;
+    assert_told(rt, number, told.as_str(), row.1)
+}
+
+fn assert_rows<
+    D: Dir + Drop + Send,
+    R: Files + AllocGlobal + Clone + Threads + Wait + Sync + Abort,
+>(rt: &R, place: &mut Place<D>, rows: &[Row<'_>]) -> Result<(), Fail>
+where
+    D::Draft: Send,
+{
+    for (number, row) in rows.iter().enumerate() {
+        assert_step(rt, place, number, *row)?;
+    }
+    Ok(())
 }
 
 /// Takes these steps with a directory, of which each tells what stands beside it, and gives the directory.
-pub(crate) fn assert_steps<
-    D: Dir + Drop + Send,
-    R: Files + AllocGlobal + Clone + Threads + Wait + Sync + Abort,
->(rt: &R, dir: D, rows: &[Row<'_>]) -> Result<D, Fail>
+fn dir_after<D: Dir + Drop + Send, R: Files + AllocGlobal + Clone + Threads + Wait + Sync + Abort>(
+    rt: &R,
+    dir: D,
+    rows: &[Row<'_>],
+) -> Result<D, Fail>
 where
     D::Draft: Send,
 {
-    let mut place = Place::Files(dir);
-    for (number, row) in rows.iter().enumerate() {
-        place = assert_step(rt, place, number, *row)?;
-    }
-    Ok(dir_of_place(place))
+    let mut place = Place {
+        files: Some(dir),
+        held: None,
+    };
+    assert_rows(rt, &mut place, rows)?;
+    place.take_dir()
+}
+
+/// Takes these steps with a directory, of which each tells what stands beside it.
+pub(crate) fn assert_steps<
+    D: Dir + Drop + Send,
+    R: Files + AllocGlobal + Clone + Threads + Wait + Sync + Abort,
+>(rt: &R, dir: D, rows: &[Row<'_>]) -> Result<(), Fail>
+where
+    D::Draft: Send,
+{
+    let _dir = dir_after(rt, dir, rows)?;
+    Ok(())
 }
 
 fn assert_steps_in_folder<R: Files + AllocGlobal + Clone + Threads + Wait + Sync + Abort>(
@@ -185,7 +234,7 @@ where
     R::Dir: Send,
 {
     let _ = fs::remove_dir_all(rt, folder);
-    let _dir = assert_steps(rt, FsDir::new(rt, folder)?, rows)?;
+    assert_steps(rt, FsDir::new(rt, folder)?, rows)?;
     Ok(fs::remove_dir_all(rt, folder)?)
 }
 
@@ -195,18 +244,9 @@ fn assert_steps_unreadable<R: Files + AllocGlobal + Clone + Threads + Wait + Syn
     passing: u64,
     rows: &[Row<'_>],
 ) -> Result<(), Fail> {
-    let dir = assert_steps(rt, MemDir::new(rt.alloc()), before)?;
-    let _dir = assert_steps(rt, unreadable(dir, passing), rows)?;
-    Ok(())
-}
-
-fn assert_steps_in_memory<R: Files + AllocGlobal + Clone + Threads + Wait + Sync + Abort>(
-    rt: &R,
-    dir: MemDir,
-    rows: &[Row<'_>],
-) -> Result<(), Fail> {
-    let _dir = assert_steps(rt, dir, rows)?;
-    Ok(())
+    let dir = dir_after(rt, MemDir::new(rt.alloc()), before)?;
+    let dir = FaultyDir::failing(dir, Failing::LaterReads(passing));
+    assert_steps(rt, dir, rows)
 }
 
 /// Takes these steps somewhere: each tells what stands beside it.
@@ -220,8 +260,8 @@ where
     R::Dir: Send,
 {
     match ground {
-        Ground::Memory => assert_steps_in_memory(rt, MemDir::new(rt.alloc()), rows),
-        Ground::Fuse(puts) => assert_steps_in_memory(rt, MemDir::with_fuse(rt.alloc(), puts), rows),
+        Ground::Memory => assert_steps(rt, MemDir::new(rt.alloc()), rows),
+        Ground::Fuse(puts) => assert_steps(rt, MemDir::with_fuse(rt.alloc(), puts), rows),
         Ground::Folder(folder) => assert_steps_in_folder(rt, folder, rows),
         Ground::Unreadable(before, passing) => assert_steps_unreadable(rt, before, passing, rows),
     }

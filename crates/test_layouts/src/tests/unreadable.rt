@@ -3,86 +3,11 @@
 use crate::tests::layouts::LayoutStep::{Fetch, Push, Save, Tag};
 use crate::tests::steps::Step::{Create, Open, With};
 use crate::tests::steps::{Ground, Row, assert_run};
-use bytes::Bytes;
-use oci_digest::NoMemory;
-use oci_layout::{Dir, DirFault, LayoutFault};
-use std::cell::Cell;
+use oci_layout::{DirFault, LayoutFault};
 use std::fmt::Display;
 use std::process::Abort;
 use std::test::Fail;
 use test_support::Sample::{Empty, Foo, Image0};
-
-/// A directory that answers so many reads, and fails each later one.
-#[derive(Drop)]
-pub(crate) struct UnreadableDir<D: Dir> {
-    dir: D,
-    /// How many reads still pass.
-    passing: Cell<u64>,
-}
-
-impl<D: Dir> UnreadableDir<D> {
-    /// Counts a read.
-    fn pass(&self) -> Result<(), DirFault> {
-        let passing = self.passing.get();
-        self.passing.set(passing.saturating_sub(1));
-        if passing == 0 {
-            return Err(DirFault::Failed);
-        }
-        Ok(())
-    }
-}
-
-impl<D: Dir> Dir for UnreadableDir<D> {
-    ghost use Rattle.std.specs.Prelude.{true};
-
-    ghost file = { λ d. D.file d.dir };
-
-    ghost is_honest = { λ d. D.is_honest d.dir };
-
-    ghost fails_reads = { λ d. true };
-
-    ghost failure_count = { λ d. D.failure_count d.dir };
-
-    fn read(&self, path: &str) -> Result<Option<Bytes>, DirFault> {
-        self.pass()?;
-        self.dir.read(path)
-    }
-
-    fn exists(&self, path: &str) -> Result<bool, DirFault> {
-        self.pass()?;
-        self.dir.exists(path)
-    }
-
-    fn put(&mut self, path: &str, bytes: &[u8]) -> Result<(), DirFault> {
-        self.dir.put(path, bytes)
-    }
-
-    type Draft = D::Draft;
-
-    fn draft(&self, path: &str) -> Result<D::Draft, NoMemory> {
-        self.dir.draft(path)
-    }
-
-    fn keep(&mut self, path: &str, draft: D::Draft) -> Result<(), DirFault> {
-        self.dir.keep(path, draft)
-    }
-
-    fn may_fail_reads(&self) -> bool {
-        true
-    }
-
-    fn failures(&self) -> u64 {
-        self.dir.failures()
-    }
-}
-
-/// A directory that passes so many reads.
-pub(crate) fn unreadable<D: Dir>(dir: D, passing: u64) -> UnreadableDir<D> {
-    UnreadableDir {
-        dir,
-        passing: Cell::new(passing),
-    }
-}
 
 /// A layout is made, none of whose files can be read any more.
 const BLOB: &[Row] = &[

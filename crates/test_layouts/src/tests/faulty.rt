@@ -1,0 +1,187 @@
+//! A directory in memory that does something wrong.
+
+use bytes::Bytes;
+use oci_digest::NoMemory;
+use oci_layout::{Dir, DirFault, MemDir};
+use oci_store::MemoryDraft;
+use std::sync::atomic::{AtomicU64, Ordering};
+
+/// What fails. Reads and puts are counted from 0.
+#[derive(Clone, Copy)]
+pub(crate) enum Failing {
+    /// Nothing.
+    Nothing,
+    /// The read of this number.
+    Read(u64),
+    /// Each read after so many. Here a look whether there is a file is counted, and fails, as a read.
+    LaterReads(u64),
+    /// The put of this number, which leaves other bytes.
+    Put(u64),
+}
+
+/// A file that has other bytes after so many reads of the directory.
+#[derive(Drop)]
+pub(crate) struct Change {
+    pub(crate) path: String,
+    pub(crate) other: Bytes,
+    /// How many reads are answered right.
+    pub(crate) right: u64,
+}
+
+/// A directory of which something fails, or a file changes while it is read.
+#[derive(Drop)]
+pub(crate) struct FaultyDir {
+    dir: MemDir,
+    failing: Failing,
+    change: Option<Change>,
+    /// How many reads were asked for.
+    reads: AtomicU64,
+    /// How many puts were asked for.
+    puts: u64,
+    failures: u64,
+}
+
+impl FaultyDir {
+    /// One of which this fails.
+    pub(crate) fn failing(dir: MemDir, failing: Failing) -> FaultyDir {
+        FaultyDir {
+            dir,
+            failing,
+            change: None,
+            reads: AtomicU64::new(0),
+            puts: 0,
+            failures: 0,
+        }
+    }
+
+    /// One a file of which changes.
+    pub(crate) fn changing(dir: MemDir, change: Change) -> FaultyDir {
+        FaultyDir {
+            dir,
+            failing: Failing::Nothing,
+            change: Some(change),
+            reads: AtomicU64::new(0),
+            puts: 0,
+            failures: 0,
+        }
+    }
+
+    /// Counts a read, and gives its number.
+    fn next_read(&self) -> u64 {
+        self.reads.fetch_add(1, Ordering::SeqCst)
+    }
+
+    fn fails_read(&self, number: u64) -> bool {
+        match self.failing {
+            Failing::Read(failing) => number == failing,
+            Failing::LaterReads(passing) => number >= passing,
+            _ => false,
+        }
+    }
+
+    fn fails_look(&self) -> bool {
+        match self.failing {
+            Failing::LaterReads(passing) => self.next_read() >= passing,
+            _ => false,
+        }
+    }
+
+    /// The other bytes that the read of this number finds.
+    fn other(&self, path: &str, number: u64) -> Option<&Bytes> {
+        match &self.change {
+            Some(change) if number >= change.right && path == change.path.as_str() => {
+                Some(&change.other)
+            }
+            _ => None,
+        }
+    }
+
+    fn fails_put(&self) -> bool {
+        match self.failing {
+            Failing::Put(failing) => self.puts == failing,
+            _ => false,
+        }
+    }
+}
+
+impl Dir for FaultyDir {
+    ghost use Rattle.std.specs.Prelude.{true, None};
+
+    ghost file = { λ d path. None };
+
+    ghost is_honest = { λ d. ⊥ };
+
+    ghost fails_reads = { λ d. true };
+
+    ghost failure_count = { λ d. d.failures };
+
+    fn read(&self, path: &str) -> Result<Option<Bytes>, DirFault> {
+        let number = self.next_read();
+        if self.fails_read(number) {
+            return Err(DirFault::Failed);
+        }
+        match self.other(path, number) {
+            Some(bytes) => Ok(Some(bytes.clone()?)),
+            None => self.dir.read(path),
+        }
+    }
+
+    fn exists(&self, path: &str) -> Result<bool, DirFault> {
+        if self.fails_look() {
+            return Err(DirFault::Failed);
+        }
+        self.dir.exists(path)
+    }
+
+    /// Leaves the first half of the bytes where it fails.
+    fn put(&mut self, path: &str, bytes: &[u8]) -> Result<(), DirFault> {
+        let fails = self.fails_put();
+        self.puts = self.puts.saturating_add(1);
+        if fails {
+            let _ = self.dir.put(path, &bytes[..bytes.len() / 2]);
+            self.failures = self.failures.saturating_add(1);
+            return Err(DirFault::Failed);
+        }
+        match self.dir.put(path, bytes) {
+            Ok(()) => Ok(()),
+            Err(DirFault::Memory) => Err(DirFault::Memory),
+            Err(DirFault::Failed) => {
+                self.failures = self.failures.saturating_add(1);
+                Err(DirFault::Failed)
+            }
+        }
+    }
+
+    type Draft = MemoryDraft;
+
+    fn draft(&self, path: &str) -> Result<MemoryDraft, NoMemory> {
+        self.dir.draft(path)
+    }
+
+    /// Leaves one byte where it fails.
+    fn keep(&mut self, path: &str, draft: MemoryDraft) -> Result<(), DirFault> {
+        let fails = self.fails_put();
+        self.puts = self.puts.saturating_add(1);
+        if fails {
+            let _ = self.dir.put(path, b"f");
+            self.failures = self.failures.saturating_add(1);
+            return Err(DirFault::Failed);
+        }
+        match self.dir.keep(path, draft) {
+            Ok(()) => Ok(()),
+            Err(DirFault::Memory) => Err(DirFault::Memory),
+            Err(DirFault::Failed) => {
+                self.failures = self.failures.saturating_add(1);
+                Err(DirFault::Failed)
+            }
+        }
+    }
+
+    fn may_fail_reads(&self) -> bool {
+        true
+    }
+
+    fn failures(&self) -> u64 {
+        self.failures
+    }
+}
