@@ -1,5 +1,7 @@
 //! A directory in memory that does something wrong.
 
+ghost use Rattle.std.specs.Prelude.{◌≡◌, None};
+
 use bytes::Bytes;
 use oci_digest::NoMemory;
 use oci_layout::{Dir, DirFault, MemDir};
@@ -28,7 +30,7 @@ pub(crate) struct Change {
     pub(crate) right: u64,
 }
 
-/// A directory of which something fails, or a file changes while it is read.
+/// A directory of which something fails, or a file changes while it is read. It is honest where no file changes.
 #[derive(Drop)]
 pub(crate) struct FaultyDir {
     dir: MemDir,
@@ -87,7 +89,9 @@ impl FaultyDir {
     }
 
     /// The other bytes that the read of this number finds.
-    fn other(&self, path: &str, number: u64) -> Option<&Bytes> {
+    fn other(&self, path: &str, number: u64) -> Option<&Bytes>
+        ensures { self.now.change ≡ None → result ≡ None }
+    {
         match &self.change {
             Some(change) if number >= change.right && path == change.path.as_str() => {
                 Some(&change.other)
@@ -105,11 +109,12 @@ impl FaultyDir {
 }
 
 impl Dir for FaultyDir {
-    ghost use Rattle.std.specs.Prelude.{true, None};
+    ghost use Rattle.std.specs.Prelude.{true};
+    ghost use Rattle.oci_layout.specs.Memory.{files_of};
 
-    ghost file = { λ d path. None };
+    ghost file = { λ d. files_of d.dir.files };
 
-    ghost is_honest = { λ d. ⊥ };
+    ghost is_honest = { λ d. d.change ≡ None };
 
     ghost fails_reads = { λ d. true };
 
