@@ -1,6 +1,6 @@
 //! The calls that copy, on the calling thread and by workers, with their answers as text.
 
-use crate::tests::copies::{Call, printed, sized, text_of};
+use crate::tests::copies::{Call, Word, printed, sized, text_of};
 use oci_copy::{
     CopyFault, Options, Report, copy, copy_graph, copy_memory, copy_memory_by_workers, copy_one,
     extended_copy, extended_copy_graph, repair_memory, repair_memory_by_workers,
@@ -18,6 +18,9 @@ use test_support::{Sample, keys};
 
 /// How many workers copy; `None` is for the calling thread.
 pub(crate) type Workers = Option<u32>;
+
+/// The destination that a copy gives back, and what is told of the copy.
+pub(crate) type Copied<D> = (D, Result<String, Fail>);
 
 /// On the calling thread, and by one worker, by three and by 64.
 pub(crate) const EACH: [Workers; 4] = [None, Some(1), Some(3), Some(64)];
@@ -53,23 +56,15 @@ fn line_of_reference(
 }
 
 /// What a copy answers, as text.
-fn told<D: Drop>(
-    alloc: Global,
-    copied: (D, Result<Report, CopyFault>),
-) -> Result<(D, String), Fail> {
+fn told<D>(alloc: Global, copied: (D, Result<Report, CopyFault>)) -> Copied<D> {
     let (destination, answer) = copied;
-    let told = line(alloc, &answer)?;
-    Ok((destination, told))
+    (destination, line(alloc, &answer))
 }
 
 /// What a copy by reference answers, as text.
-fn told_of_reference<D: Drop>(
-    alloc: Global,
-    copied: (D, Result<(Key, Report), CopyFault>),
-) -> Result<(D, String), Fail> {
+fn told_of_reference<D>(alloc: Global, copied: (D, Result<(Key, Report), CopyFault>)) -> Copied<D> {
     let (destination, answer) = copied;
-    let told = line_of_reference(alloc, &answer)?;
-    Ok((destination, told))
+    (destination, line_of_reference(alloc, &answer))
 }
 
 /// Copies keys by workers.
@@ -78,14 +73,7 @@ pub(crate) fn copied_by_workers<
     A: Source + Sync,
     D: Dest + Drop + Send,
     H: Hooks + Sync,
->(
-    rt: &R,
-    source: &A,
-    destination: D,
-    roots: &[Key],
-    options: &Options,
-    hooks: &H,
-) -> Result<(D, String), Fail>
+>(rt: &R, source: &A, destination: D, roots: &[Key], options: &Options, hooks: &H) -> Copied<D>
 where
     D::Draft: Send,
 {
@@ -114,8 +102,8 @@ where
     D::Draft: Send,
 {
     let roots = keys(rt.alloc(), roots)?;
-    let (_, told) = copied_by_workers(rt, source, destination, &roots, options, hooks)?;
-    Ok(told)
+    let (_, told) = copied_by_workers(rt, source, destination, &roots, options, hooks);
+    told
 }
 
 /// Copies keys with no hooks.
@@ -130,7 +118,7 @@ pub(crate) fn copied<
     roots: &[Key],
     workers: Workers,
     options: &Options,
-) -> Result<(D, String), Fail>
+) -> Copied<D>
 where
     D::Draft: Send,
 {
@@ -139,6 +127,29 @@ where
         Some(_) => copied_by_workers(rt, source, destination, roots, options, &NoHooks),
         None => told(alloc, copy_one(alloc, source, destination, roots, options)),
     }
+}
+
+/// The copy told this.
+pub(crate) fn assert_told(
+    rt: &impl Abort,
+    told: Result<String, Fail>,
+    want: &str,
+) -> Result<(), Fail> {
+    let told = told?;
+    assert_eq!(rt; told.as_str(), want);
+    Ok(())
+}
+
+/// The copy by so many workers told this.
+fn assert_told_by(
+    rt: &impl Abort,
+    told: Result<String, Fail>,
+    want: &str,
+    workers: Workers,
+) -> Result<(), Fail> {
+    let told = told?;
+    assert_eq!(rt; told.as_str(), want, "{workers:?}");
+    Ok(())
 }
 
 /// What the copy of a key leaves, which tells this.
@@ -160,8 +171,8 @@ where
     let (workers, existing) = by;
     let options = options(workers, existing, 0);
     let roots = std::slice::from_ref(root);
-    let (destination, told) = copied(rt, source, destination, roots, workers, &options)?;
-    assert_eq!(rt; told.as_str(), want, "{workers:?}");
+    let (destination, told) = copied(rt, source, destination, roots, workers, &options);
+    assert_told_by(rt, told, want, workers)?;
     Ok(destination)
 }
 
@@ -177,12 +188,14 @@ pub(crate) fn copied_samples<
     roots: &[Sample],
     workers: Workers,
     options: &Options,
-) -> Result<(D, String), Fail>
+) -> Copied<D>
 where
     D::Draft: Send,
 {
-    let roots = keys(rt.alloc(), roots)?;
-    copied(rt, source, destination, &roots, workers, options)
+    match keys(rt.alloc(), roots) {
+        Ok(roots) => copied(rt, source, destination, &roots, workers, options),
+        Err(fault) => (destination, Err(fault)),
+    }
 }
 
 /// Copies the key of an image that is no sample.
@@ -193,13 +206,17 @@ fn copied_sized<R: AllocGlobal + Threads + Wait + Sync, D: Dest + Drop + Send>(
     size: u64,
     workers: Workers,
     options: &Options,
-) -> Result<(D, String), Fail>
+) -> Copied<D>
 where
     D::Draft: Send,
 {
-    let root = sized(rt.alloc(), size)?;
-    let roots = std::slice::from_ref(&root);
-    copied(rt, source, destination, roots, workers, options)
+    match sized(rt.alloc(), size) {
+        Ok(root) => {
+            let roots = std::slice::from_ref(&root);
+            copied(rt, source, destination, roots, workers, options)
+        }
+        Err(fault) => (destination, Err(fault)),
+    }
 }
 
 /// Copies by reference.
@@ -210,7 +227,7 @@ fn copied_reference<R: AllocGlobal + Threads + Wait + Sync, D: Dest + Tagger + D
     from: &str,
     to: &str,
     options: &Options,
-) -> Result<(D, String), Fail>
+) -> Copied<D>
 where
     D::Draft: Send,
 {
@@ -219,15 +236,33 @@ where
     told_of_reference(alloc, copied)
 }
 
+/// Copies by a reference that is the text of a word.
+fn copied_word<R: AllocGlobal + Threads + Wait + Sync, D: Dest + Tagger + Drop + Send>(
+    rt: &R,
+    source: &MemoryStore,
+    destination: D,
+    from: Word<'_>,
+    to: &str,
+    options: &Options,
+) -> Copied<D>
+where
+    D::Draft: Send,
+{
+    match text_of(rt.alloc(), from) {
+        Ok(from) => copied_reference(rt, source, destination, from.as_str(), to, options),
+        Err(fault) => (destination, Err(fault)),
+    }
+}
+
 /// Copies what leads to a key.
-fn extended<R: AllocGlobal + Threads + Wait + Sync, D: Dest + Drop + Send>(
+fn extended_key<R: AllocGlobal + Threads + Wait + Sync, D: Dest + Drop + Send>(
     rt: &R,
     source: &MemoryStore,
     destination: D,
     key: &Key,
     depth: u32,
     options: &Options,
-) -> Result<(D, String), Fail>
+) -> Copied<D>
 where
     D::Draft: Send,
 {
@@ -247,6 +282,24 @@ where
     )
 }
 
+/// Copies what leads to the key of a sample.
+fn extended<R: AllocGlobal + Threads + Wait + Sync, D: Dest + Drop + Send>(
+    rt: &R,
+    source: &MemoryStore,
+    destination: D,
+    sample: Sample,
+    depth: u32,
+    options: &Options,
+) -> Copied<D>
+where
+    D::Draft: Send,
+{
+    match sample.key(rt.alloc()) {
+        Ok(key) => extended_key(rt, source, destination, &key, depth, options),
+        Err(fault) => (destination, Err(fault)),
+    }
+}
+
 /// Copies what leads to a reference within one step.
 fn extended_reference<R: AllocGlobal + Threads + Wait + Sync, D: Dest + Tagger + Drop + Send>(
     rt: &R,
@@ -254,7 +307,7 @@ fn extended_reference<R: AllocGlobal + Threads + Wait + Sync, D: Dest + Tagger +
     destination: D,
     from: &str,
     options: &Options,
-) -> Result<(D, String), Fail>
+) -> Copied<D>
 where
     D::Draft: Send,
 {
@@ -281,24 +334,17 @@ pub(crate) fn copied_case<R: AllocGlobal + Threads + Wait + Sync, D: Dest + Tagg
     call: Call<'_>,
     workers: Workers,
     options: &Options,
-) -> Result<(D, String), Fail>
+) -> Copied<D>
 where
     D::Draft: Send,
 {
-    let alloc = rt.alloc();
     match call {
         Call::Graph(roots) | Call::InMemory(roots) => {
             copied_samples(rt, source, destination, roots, workers, options)
         }
         Call::Sized(size) => copied_sized(rt, source, destination, size, workers, options),
-        Call::Reference(from, to) => {
-            let from = text_of(alloc, from)?;
-            copied_reference(rt, source, destination, from.as_str(), to, options)
-        }
-        Call::Extended(sample, depth) => {
-            let key = sample.key(alloc)?;
-            extended(rt, source, destination, &key, depth, options)
-        }
+        Call::Reference(from, to) => copied_word(rt, source, destination, from, to, options),
+        Call::Extended(sample, depth) => extended(rt, source, destination, sample, depth, options),
         Call::ExtendedReference(from) => {
             extended_reference(rt, source, destination, from, options)
         }
@@ -331,13 +377,15 @@ pub(crate) fn copied_in_memory<R: AllocGlobal + Threads + Wait + Sync>(
     roots: &[Sample],
     workers: Workers,
     options: &Options,
-) -> Result<(ClosedStore, String), Fail> {
+) -> Copied<ClosedStore> {
     let alloc = rt.alloc();
-    let roots = keys(alloc, roots)?;
-    told(
-        alloc,
-        copied_keys_in_memory(rt, source, destination, &roots, workers, options),
-    )
+    match keys(alloc, roots) {
+        Ok(roots) => told(
+            alloc,
+            copied_keys_in_memory(rt, source, destination, &roots, workers, options),
+        ),
+        Err(fault) => (destination, Err(fault)),
+    }
 }
 
 /// Repairs below keys by the calls between stores in memory.
@@ -366,11 +414,13 @@ pub(crate) fn repaired<R: AllocGlobal + Threads + Wait + Sync>(
     roots: &[Sample],
     workers: Workers,
     options: &Options,
-) -> Result<(MemoryStore, String), Fail> {
+) -> Copied<MemoryStore> {
     let alloc = rt.alloc();
-    let roots = keys(alloc, roots)?;
-    told(
-        alloc,
-        repaired_keys(rt, source, destination, &roots, workers, options),
-    )
+    match keys(alloc, roots) {
+        Ok(roots) => told(
+            alloc,
+            repaired_keys(rt, source, destination, &roots, workers, options),
+        ),
+        Err(fault) => (destination, Err(fault)),
+    }
 }

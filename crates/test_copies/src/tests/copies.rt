@@ -1,6 +1,8 @@
 //! Copies of samples between stores in memory, as rows of data: what a copy begins with, what it tells and what it leaves.
 
-use crate::tests::calls::{EACH, Workers, copied_case, copied_in_memory, options, repaired};
+use crate::tests::calls::{
+    Copied, EACH, Workers, copied_case, copied_in_memory, options, repaired,
+};
 use bytes::Bytes;
 use oci_digest::Digest;
 use oci_manifest::Key;
@@ -103,21 +105,41 @@ pub(crate) fn printed<T: Display>(alloc: Global, value: &T) -> Result<String, Fa
     Ok(value.to_string(alloc)?)
 }
 
+fn key_of(alloc: Global, sample: Sample) -> Result<String, Fail> {
+    let key = sample.key(alloc)?;
+    printed(alloc, &key)
+}
+
+fn digest_of(alloc: Global, sample: Sample) -> Result<String, Fail> {
+    let key = sample.key(alloc)?;
+    printed(alloc, key.digest())
+}
+
+fn sized_key(alloc: Global, size: u64) -> Result<String, Fail> {
+    let key = sized(alloc, size)?;
+    printed(alloc, &key)
+}
+
 /// The text of a word.
 pub(crate) fn text_of(alloc: Global, word: Word<'_>) -> Result<String, Fail> {
     match word {
         Word::Text(text) => Ok(String::from_str(alloc, text)?),
-        Word::KeyOf(sample) => printed(alloc, &sample.key(alloc)?),
-        Word::DigestOf(sample) => printed(alloc, sample.key(alloc)?.digest()),
-        Word::Sized(size) => printed(alloc, &sized(alloc, size)?),
+        Word::KeyOf(sample) => key_of(alloc, sample),
+        Word::DigestOf(sample) => digest_of(alloc, sample),
+        Word::Sized(size) => sized_key(alloc, size),
     }
+}
+
+fn push_word(alloc: Global, text: &mut String, word: Word<'_>) -> Result<(), Fail> {
+    text.push_str(text_of(alloc, word)?.as_str())?;
+    Ok(())
 }
 
 /// The text of these words.
 pub(crate) fn text(alloc: Global, words: &[Word<'_>]) -> Result<String, Fail> {
     let mut text = String::new(alloc);
-    for part in words {
-        text.push_str(text_of(alloc, *part)?.as_str())?;
+    for word in words {
+        push_word(alloc, &mut text, *word)?;
     }
     Ok(text)
 }
@@ -157,6 +179,14 @@ fn is_content(alloc: Global, bytes: &Bytes, sample: Sample) -> Result<bool, Fail
     Ok(*bytes == sample.bytes(alloc)?)
 }
 
+/// The key and the bytes are those of the sample.
+fn is_sample(alloc: Global, key: &Key, bytes: &Bytes, sample: Sample) -> Result<bool, Fail> {
+    match is_key(alloc, key, sample)? {
+        true => is_content(alloc, bytes, sample),
+        false => Ok(false),
+    }
+}
+
 /// The entry at a place is the sample.
 fn is_entry(
     alloc: Global,
@@ -165,9 +195,7 @@ fn is_entry(
     sample: Sample,
 ) -> Result<bool, Fail> {
     match store.entry(place) {
-        Some((key, bytes)) => {
-            Ok(is_key(alloc, key, sample)? && is_content(alloc, bytes, sample)?)
-        }
+        Some((key, bytes)) => is_sample(alloc, key, bytes, sample),
         None => Ok(false),
     }
 }
@@ -193,20 +221,60 @@ fn is_tag(alloc: Global, name: &str, key: &Key, tag: Option<Tag<'_>>) -> Result<
     }
 }
 
+/// This key has this name by the tag.
+fn assert_named<R: AllocGlobal + Abort>(
+    rt: &R,
+    name: &str,
+    key: &Key,
+    tag: Option<Tag<'_>>,
+) -> Result<(), Fail> {
+    let is_tag = is_tag(rt.alloc(), name, key, tag)?;
+    assert!(rt; is_tag, "{name} {key}");
+    Ok(())
+}
+
+/// These are the one tag, or none.
+fn assert_tags<R: AllocGlobal + Abort>(
+    rt: &R,
+    tags: &[(String, Key)],
+    tag: Option<Tag<'_>>,
+) -> Result<(), Fail> {
+    assert_eq!(rt; tags.len(), usize::from(tag.is_some()));
+    for (name, key) in tags {
+        assert_named(rt, name.as_str(), key, tag)?;
+    }
+    Ok(())
+}
+
 /// The store has this one tag, or none.
 fn assert_tag<R: AllocGlobal + Abort>(
     rt: &R,
     store: &MemoryStore,
     tag: Option<Tag<'_>>,
 ) -> Result<(), Fail> {
-    let tags = store.tags()?;
-    assert_eq!(rt; tags.len(), usize::from(tag.is_some()));
-    for (name, key) in &tags {
-        assert!(rt;
-            is_tag(rt.alloc(), name.as_str(), key, tag)?,
-            "{name} {key}"
-        );
+    assert_tags(rt, &store.tags()?, tag)
+}
+
+/// The entries are in the order of the case, where it has one.
+fn assert_order<R: AllocGlobal + Abort>(
+    rt: &R,
+    store: &MemoryStore,
+    case: &Case<'_>,
+) -> Result<(), Fail> {
+    match case.is_in_order {
+        true => assert_entries(rt, store, case.copied),
+        false => Ok(()),
     }
+}
+
+/// The store is closed, or it is not.
+fn assert_closed<R: AllocGlobal + Abort>(
+    rt: &R,
+    store: &MemoryStore,
+    want: bool,
+) -> Result<(), Fail> {
+    let is_closed = is_closed(store)?;
+    assert_eq!(rt; is_closed, want);
     Ok(())
 }
 
@@ -216,10 +284,8 @@ fn assert_left<R: AllocGlobal + Abort>(
     store: &MemoryStore,
     case: &Case<'_>,
 ) -> Result<(), Fail> {
-    if case.is_in_order {
-        assert_entries(rt, store, case.copied)?;
-    }
-    assert_eq!(rt; is_closed(store)?, case.is_closed);
+    assert_order(rt, store, case)?;
+    assert_closed(rt, store, case.is_closed)?;
     assert_tag(rt, store, case.copied_tag)
 }
 
@@ -227,11 +293,12 @@ fn assert_left<R: AllocGlobal + Abort>(
 fn assert_told<R: AllocGlobal + Abort, D: Source + Dest>(
     rt: &R,
     destination: &D,
-    told: &str,
+    told: Result<String, Fail>,
     case: &Case<'_>,
 ) -> Result<(), Fail> {
-    assert_text(rt, told, case.told)?;
-    assert_holds(rt, destination, case.copied, told)
+    let told = told?;
+    assert_text(rt, told.as_str(), case.told)?;
+    assert_holds(rt, destination, case.copied, told.as_str())
 }
 
 /// Names a sample that the store has.
@@ -261,18 +328,23 @@ fn memory_with(
     with_tag(alloc, memory(alloc, samples)?, tag)
 }
 
+/// A closed store of these samples, with a tag.
+fn closed_with(
+    alloc: Global,
+    samples: &[Sample],
+    tag: Option<Tag<'_>>,
+) -> Result<ClosedStore, Fail> {
+    with_tag(alloc, closed(alloc, samples)?, tag)
+}
+
 /// Copies into a closed store.
 fn copied_into_closed<R: AllocGlobal + Threads + Wait + Sync>(
     rt: &R,
     source: &MemoryStore,
+    destination: ClosedStore,
     case: &Case<'_>,
     workers: Workers,
-) -> Result<(ClosedStore, String), Fail> {
-    let destination = with_tag(
-        rt.alloc(),
-        closed(rt.alloc(), case.destination)?,
-        case.destination_tag,
-    )?;
+) -> Copied<ClosedStore> {
     let options = options(workers, case.existing, case.max_metadata_bytes);
     match case.call {
         Call::InMemory(roots) => {
@@ -286,10 +358,10 @@ fn copied_into_closed<R: AllocGlobal + Threads + Wait + Sync>(
 fn copied_into_memory<R: AllocGlobal + Threads + Wait + Sync>(
     rt: &R,
     source: &MemoryStore,
+    destination: MemoryStore,
     case: &Case<'_>,
     workers: Workers,
-) -> Result<(MemoryStore, String), Fail> {
-    let destination = memory_with(rt.alloc(), case.destination, case.destination_tag)?;
+) -> Copied<MemoryStore> {
     let options = options(workers, case.existing, case.max_metadata_bytes);
     match case.call {
         Call::InMemory(roots) => repaired(rt, source, destination, roots, workers, &options),
@@ -303,8 +375,9 @@ fn assert_into_closed<R: AllocGlobal + Threads + Wait + Sync + Abort>(
     case: &Case<'_>,
     workers: Workers,
 ) -> Result<(), Fail> {
-    let (destination, told) = copied_into_closed(rt, source, case, workers)?;
-    assert_told(rt, &destination, told.as_str(), case)?;
+    let destination = closed_with(rt.alloc(), case.destination, case.destination_tag)?;
+    let (destination, told) = copied_into_closed(rt, source, destination, case, workers);
+    assert_told(rt, &destination, told, case)?;
     assert_left(rt, destination.memory(), case)
 }
 
@@ -314,8 +387,9 @@ fn assert_into_memory<R: AllocGlobal + Threads + Wait + Sync + Abort>(
     case: &Case<'_>,
     workers: Workers,
 ) -> Result<(), Fail> {
-    let (destination, told) = copied_into_memory(rt, source, case, workers)?;
-    assert_told(rt, &destination, told.as_str(), case)?;
+    let destination = memory_with(rt.alloc(), case.destination, case.destination_tag)?;
+    let (destination, told) = copied_into_memory(rt, source, destination, case, workers);
+    assert_told(rt, &destination, told, case)?;
     assert_left(rt, &destination, case)
 }
 

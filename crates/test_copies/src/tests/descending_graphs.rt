@@ -2,7 +2,7 @@
 //! copy has to bring.
 
 use crate::plain::lacking;
-use crate::tests::calls::{EACH, Workers, copied, left, options};
+use crate::tests::calls::{Copied, EACH, Workers, copied, left, options};
 use crate::tests::large::{has_all, numbered, push_descriptor};
 use bytes::Bytes;
 use oci_manifest::Key;
@@ -73,6 +73,16 @@ fn repaired_chain<R: AllocGlobal + Threads + Wait + Sync + Abort>(
     )
 }
 
+/// The repair by so many workers.
+fn assert_repaired_by<R: AllocGlobal + Threads + Wait + Sync + Abort>(
+    rt: &R,
+    source: &MemoryStore,
+    root: &Key,
+    workers: Workers,
+) -> Result<(), Fail> {
+    assert_whole(rt, &repaired_chain(rt, source, root, workers)?, source)
+}
+
 /// The repair on the calling thread, and by one worker, by three and by 64.
 fn assert_repaired<R: AllocGlobal + Threads + Wait + Sync + Abort>(
     rt: &R,
@@ -80,7 +90,7 @@ fn assert_repaired<R: AllocGlobal + Threads + Wait + Sync + Abort>(
     root: &Key,
 ) -> Result<(), Fail> {
     for workers in EACH {
-        assert_whole(rt, &repaired_chain(rt, source, root, workers)?, source)?;
+        assert_repaired_by(rt, source, root, workers)?;
     }
     Ok(())
 }
@@ -216,14 +226,32 @@ fn put(alloc: Global, store: &mut MemoryStore, content: &Content) -> Result<(), 
     put_as(alloc, store, &content.key(alloc)?, content)
 }
 
+fn is_marked(marks: &[bool], number: usize) -> bool {
+    match marks.get(number) {
+        Some(is_marked) => *is_marked,
+        None => false,
+    }
+}
+
+/// Puts the contents that are marked into a store.
+fn put_marked(
+    alloc: Global,
+    store: &mut MemoryStore,
+    contents: &[Content],
+    marks: &[bool],
+) -> Result<(), Fail> {
+    for (number, content) in contents.iter().enumerate() {
+        if is_marked(marks, number) {
+            put(alloc, store, content)?;
+        }
+    }
+    Ok(())
+}
+
 /// The contents that are marked, as a store.
 fn marked_store(alloc: Global, contents: &[Content], marks: &[bool]) -> Result<MemoryStore, Fail> {
     let mut store = MemoryStore::new(alloc);
-    for (content, is_marked) in contents.iter().zip(marks.iter()) {
-        if *is_marked {
-            put(alloc, &mut store, content)?;
-        }
-    }
+    put_marked(alloc, &mut store, contents, marks)?;
     Ok(store)
 }
 
@@ -292,17 +320,34 @@ fn assert_begins<R: AllocGlobal + Abort>(
     Ok(())
 }
 
+/// A store as the destination is.
+fn opening(alloc: Global, graph: &Graph) -> Result<MemoryStore, Fail> {
+    marked_store(alloc, &graph.contents, &graph.in_destination)
+}
+
 /// The copy into a store as the destination is.
 fn copied_repair<R: AllocGlobal + Threads + Wait + Sync>(
     rt: &R,
     repair: &Repair<'_>,
+    opening: MemoryStore,
     workers: Workers,
-) -> Result<(MemoryStore, String), Fail> {
-    let graph = repair.graph;
-    let opening = marked_store(rt.alloc(), &graph.contents, &graph.in_destination)?;
+) -> Copied<MemoryStore> {
     let options = options(workers, Existing::Descend, 0);
     let roots = std::slice::from_ref(repair.root);
     copied(rt, repair.source, opening, roots, workers, &options)
+}
+
+/// The copy that left this store, and told this, is as the plain program says.
+fn assert_repair<R: AllocGlobal + Abort>(
+    rt: &R,
+    repair: &Repair<'_>,
+    store: &MemoryStore,
+    told: Result<String, Fail>,
+) -> Result<(), Fail> {
+    let told = told?;
+    assert_begins(rt, repair, told.as_str())?;
+    assert!(rt; is_repaired(store, repair), "{told}");
+    Ok(())
 }
 
 /// The copy by so many workers leaves, and tells, what the plain program says of it.
@@ -311,10 +356,9 @@ fn assert_wanted_by<R: AllocGlobal + Threads + Wait + Sync + Abort>(
     repair: &Repair<'_>,
     workers: Workers,
 ) -> Result<(), Fail> {
-    let (store, told) = copied_repair(rt, repair, workers)?;
-    assert_begins(rt, repair, told.as_str())?;
-    assert!(rt; is_repaired(&store, repair), "{told}");
-    Ok(())
+    let opening = opening(rt.alloc(), repair.graph)?;
+    let (store, told) = copied_repair(rt, repair, opening, workers);
+    assert_repair(rt, repair, &store, told)
 }
 
 /// The same on the calling thread, and by one worker, by three and by 64: whether it is refused.
@@ -353,8 +397,7 @@ fn assert_from<R: AllocGlobal + Threads + Wait + Sync + Abort>(
     graph: &Graph,
     source: &MemoryStore,
 ) -> Result<bool, Fail> {
-    let destination = marked_store(rt.alloc(), &graph.contents, &graph.in_destination)?;
-    assert_between(rt, graph, source, &destination)
+    assert_between(rt, graph, source, &opening(rt.alloc(), graph)?)
 }
 
 /// The same of a graph.

@@ -1,6 +1,6 @@
 //! Copies from and into stores that fail once: what is told and left, and that the same copy again brings the rest.
 
-use crate::tests::calls::{Workers, copied_samples, options};
+use crate::tests::calls::{Copied, Workers, copied_samples, options};
 use crate::tests::copies::Word::{KeyOf, Text};
 use crate::tests::copies::{assert_holds, is_text};
 use oci_plan::Existing;
@@ -21,7 +21,7 @@ fn copied<A: Source + Sync, D: Dest + Drop + Send, R: AllocGlobal + Threads + Wa
     source: &A,
     destination: D,
     workers: Workers,
-) -> Result<(D, String), Fail>
+) -> Copied<D>
 where
     D::Draft: Send,
 {
@@ -34,12 +34,14 @@ fn copied_into<D: Dest + Drop + Send, R: AllocGlobal + Threads + Wait + Sync>(
     rt: &R,
     destination: D,
     workers: Workers,
-) -> Result<(D, String), Fail>
+) -> Copied<D>
 where
     D::Draft: Send,
 {
-    let source = closed(rt.alloc(), &ALL)?;
-    copied(rt, &source, destination, workers)
+    match closed(rt.alloc(), &ALL) {
+        Ok(source) => copied(rt, &source, destination, workers),
+        Err(fault) => (destination, Err(fault)),
+    }
 }
 
 fn lacks<D: Dest>(alloc: Global, destination: &D, sample: Sample) -> Result<bool, Fail> {
@@ -60,16 +62,26 @@ fn names_missing<D: Dest>(alloc: Global, destination: &D, told: &str) -> Result<
     Ok(false)
 }
 
-/// A push failed, and what was pushed before is closed.
-fn assert_failed<R: AllocGlobal + Abort, D: Dest>(
+/// One push failed, and what was pushed before is closed.
+fn assert_failed_once<R: AllocGlobal + Abort, D: Dest>(
     rt: &R,
     destination: &D,
-    told: &str,
 ) -> Result<(), Fail> {
-    assert!(rt; names_missing(rt.alloc(), destination, told)?, "{told}");
     assert_eq!(rt; destination.failures(), 1);
     assert!(rt; is_closed(destination)?);
     Ok(())
+}
+
+/// The same, and this tells of the push.
+fn assert_failed<R: AllocGlobal + Abort, D: Dest>(
+    rt: &R,
+    destination: &D,
+    told: Result<String, Fail>,
+) -> Result<(), Fail> {
+    let told = told?;
+    let names_missing = names_missing(rt.alloc(), destination, told.as_str())?;
+    assert!(rt; names_missing, "{told}");
+    assert_failed_once(rt, destination)
 }
 
 /// A copy into a store of which a push fails, which is refused: what it left.
@@ -81,8 +93,8 @@ fn left_by_refused<D: Dest + Drop + Send, R: AllocGlobal + Threads + Wait + Sync
 where
     D::Draft: Send,
 {
-    let (destination, told) = copied_into(rt, destination, workers)?;
-    assert_failed(rt, &destination, told.as_str())?;
+    let (destination, told) = copied_into(rt, destination, workers);
+    assert_failed(rt, &destination, told)?;
     Ok(destination)
 }
 
@@ -91,6 +103,18 @@ fn assert_brought<R: AllocGlobal + Abort>(rt: &R, told: &str, count: usize) -> R
     let want = format!(in rt.alloc(); "planned {count} pushed {count} skipped 0")?;
     assert_eq!(rt; told, want.as_str());
     Ok(())
+}
+
+/// The copy brought so many keys, and the destination then holds all.
+fn assert_rest<A: Dest + Source, R: AllocGlobal + Abort>(
+    rt: &R,
+    destination: &A,
+    told: Result<String, Fail>,
+    count: usize,
+) -> Result<(), Fail> {
+    let told = told?;
+    assert_brought(rt, told.as_str(), count)?;
+    assert_holds(rt, destination, &ALL, told.as_str())
 }
 
 /// The same copy again brings the rest.
@@ -103,9 +127,8 @@ where
     A::Draft: Send,
 {
     let rest = ALL.len().saturating_sub(destination.count());
-    let (destination, told) = copied_into(rt, destination, workers)?;
-    assert_brought(rt, told.as_str(), rest)?;
-    assert_holds(rt, &destination, &ALL, told.as_str())
+    let (destination, told) = copied_into(rt, destination, workers);
+    assert_rest(rt, &destination, told, rest)
 }
 
 /// A copy into a store of which a push fails, and the same copy again: how many contents the first one left.
@@ -128,7 +151,8 @@ where
 #[test]
 fn failing_push(rt: HostRuntime) -> Result<(), Fail> {
     let failing = FailingClosedStore::after(closed(rt.alloc(), &[])?, 2);
-    assert_eq!(&rt; left_by_failed(&rt, failing, None)?, 2);
+    let left = left_by_failed(&rt, failing, None)?;
+    assert_eq!(&rt; left, 2);
     Ok(())
 }
 
@@ -165,6 +189,11 @@ fn failing_puts(rt: HostRuntime) -> Result<(), Fail> {
     Ok(())
 }
 
+fn assert_closed<R: AllocGlobal + Abort>(rt: &R, destination: &ClosedStore) -> Result<(), Fail> {
+    assert!(rt; is_closed(destination)?);
+    Ok(())
+}
+
 /// The fetch failed, for the plan or at a push, and what was pushed is closed.
 fn assert_not_fetched<R: AllocGlobal + Abort>(
     rt: &R,
@@ -174,19 +203,19 @@ fn assert_not_fetched<R: AllocGlobal + Abort>(
     let planning = told.starts_with("81 Plan 57 Fetch ");
     assert!(rt; planning || told.starts_with("88 Fetch "), "{told}");
     assert!(rt; !planning || destination.count() == 0);
-    assert!(rt; is_closed(destination)?);
-    Ok(())
+    assert_closed(rt, destination)
 }
 
 /// Whether the copy was refused for a fetch.
 fn is_refused<R: AllocGlobal + Abort>(
     rt: &R,
     destination: &ClosedStore,
-    told: &str,
+    told: Result<String, Fail>,
 ) -> Result<bool, Fail> {
-    let refused = told.ends_with(" 22 Device");
+    let told = told?;
+    let refused = told.as_str().ends_with(" 22 Device");
     if refused {
-        assert_not_fetched(rt, destination, told)?;
+        assert_not_fetched(rt, destination, told.as_str())?;
     }
     Ok(refused)
 }
@@ -197,9 +226,18 @@ fn copied_once<R: AllocGlobal + Threads + Wait + Sync + Abort>(
     source: &DeviceStore<'_>,
     workers: Workers,
 ) -> Result<(ClosedStore, bool), Fail> {
-    let (destination, told) = copied(rt, source, closed(rt.alloc(), &[])?, workers)?;
-    let refused = is_refused(rt, &destination, told.as_str())?;
+    let (destination, told) = copied(rt, source, closed(rt.alloc(), &[])?, workers);
+    let refused = is_refused(rt, &destination, told)?;
     Ok((destination, refused))
+}
+
+/// The destination holds all after a copy that told this.
+fn assert_all<R: AllocGlobal + Abort>(
+    rt: &R,
+    destination: &ClosedStore,
+    told: Result<String, Fail>,
+) -> Result<(), Fail> {
+    assert_holds(rt, destination, &ALL, told?.as_str())
 }
 
 /// The copy again brings all.
@@ -209,20 +247,28 @@ fn assert_whole<R: AllocGlobal + Threads + Wait + Sync + Abort>(
     destination: ClosedStore,
     workers: Workers,
 ) -> Result<(), Fail> {
-    let (destination, told) = copied(rt, source, destination, workers)?;
-    assert_holds(rt, &destination, &ALL, told.as_str())
+    let (destination, told) = copied(rt, source, destination, workers);
+    assert_all(rt, &destination, told)
 }
 
-/// A copy from a device that fails the get after so many, and the same copy again: whether the first was refused.
+/// A copy from a store, and the same copy again: whether the first was refused.
+fn is_refused_first<R: AllocGlobal + Threads + Wait + Sync + Abort>(
+    rt: &R,
+    source: &DeviceStore<'_>,
+    workers: Workers,
+) -> Result<bool, Fail> {
+    let (destination, refused) = copied_once(rt, source, workers)?;
+    assert_whole(rt, source, destination, workers)?;
+    Ok(refused)
+}
+
+/// The same from a device that fails the get after so many.
 fn is_refused_once<R: AllocGlobal + Threads + Wait + Sync + Abort>(
     rt: &R,
     device: &Device,
     workers: Workers,
 ) -> Result<bool, Fail> {
-    let source = on_device(rt.alloc(), device, &ALL)?;
-    let (destination, refused) = copied_once(rt, &source, workers)?;
-    assert_whole(rt, &source, destination, workers)?;
-    Ok(refused)
+    is_refused_first(rt, &on_device(rt.alloc(), device, &ALL)?, workers)
 }
 
 /// The get after so many fails, on one thread or for workers.
@@ -232,11 +278,8 @@ fn assert_get<R: AllocGlobal + Threads + Wait + Sync + Abort>(
     workers: Workers,
 ) -> Result<(), Fail> {
     let device = Device::failing(None, Some(passing));
-    assert_eq!(rt;
-        is_refused_once(rt, &device, workers)?,
-        passing < 9,
-        "{passing}"
-    );
+    let refused = is_refused_once(rt, &device, workers)?;
+    assert_eq!(rt; refused, passing < 9, "{passing}");
     Ok(())
 }
 

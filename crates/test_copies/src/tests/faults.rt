@@ -1,7 +1,7 @@
 //! How each refusal of a copy prints: its number, its name, and what it carries.
 
 use crate::tests::copies::Word::{KeyOf, Text};
-use crate::tests::copies::{Word, text};
+use crate::tests::copies::{Word, printed, text};
 use oci_copy::CopyFault;
 use oci_plan::PlanFault;
 use oci_store::{FetchFault, PushFault, RefFault};
@@ -39,10 +39,24 @@ fn fault_of(alloc: Global, refusal: Refusal) -> Result<CopyFault, Fail> {
     })
 }
 
+fn line(alloc: Global, number: u8, words: &str) -> Result<String, Fail> {
+    Ok(format!(in alloc; "{number} {words}")?)
+}
+
 /// The number of a fault, and these words.
 fn line_of(alloc: Global, fault: &CopyFault, words: &[Word<'_>]) -> Result<String, Fail> {
-    let words = text(alloc, words)?;
-    Ok(format!(in alloc; "{} {words}", fault.number())?)
+    line(alloc, fault.number(), text(alloc, words)?.as_str())
+}
+
+/// A fault prints as this.
+fn assert_prints<R: AllocGlobal + Abort>(
+    rt: &R,
+    fault: &CopyFault,
+    want: &str,
+) -> Result<(), Fail> {
+    let line = printed(rt.alloc(), fault)?;
+    assert_eq!(rt; line.as_str(), want);
+    Ok(())
 }
 
 /// A fault prints as its number and these words.
@@ -51,9 +65,16 @@ fn assert_line<R: AllocGlobal + Abort>(
     fault: &CopyFault,
     words: &[Word<'_>],
 ) -> Result<(), Fail> {
-    let want = line_of(rt.alloc(), fault, words)?;
-    assert_eq!(rt; fault.to_string(rt.alloc())?.as_str(), want.as_str());
-    Ok(())
+    assert_prints(rt, fault, line_of(rt.alloc(), fault, words)?.as_str())
+}
+
+/// A refusal prints so.
+fn assert_refusal<R: AllocGlobal + Abort>(
+    rt: &R,
+    refusal: Refusal,
+    words: &[Word<'_>],
+) -> Result<(), Fail> {
+    assert_line(rt, &fault_of(rt.alloc(), refusal)?, words)
 }
 
 /// Each refusal prints as its number and these words.
@@ -62,7 +83,7 @@ fn assert_lines<R: AllocGlobal + Abort>(
     rows: &[(Refusal, &[Word<'_>])],
 ) -> Result<(), Fail> {
     for (refusal, words) in rows {
-        assert_line(rt, &fault_of(rt.alloc(), *refusal)?, words)?;
+        assert_refusal(rt, *refusal, words)?;
     }
     Ok(())
 }

@@ -3,6 +3,7 @@
 use crate::tests::calls::Workers;
 use crate::tests::copies::Word::{KeyOf, Text};
 use crate::tests::copies::{Call, Case, NOTHING, assert_cases, assert_copied_by};
+use std::alloc::Global;
 use std::process::Abort;
 use std::sync::Wait;
 use std::test::Fail;
@@ -93,6 +94,7 @@ fn assert_by_each<R: AllocGlobal + Threads + Wait + Sync + Abort>(
 /// An index of two images arrives whole on one thread and with each number of workers; over 64 of them nothing is copied.
 #[test]
 fn two_images(rt: HostRuntime) -> Result<(), Fail> {
+    static BY_EACH: Case<'static> = TWO_IMAGES;
     static CASES: [Case<'static>; 2] = [
         Case {
             workers: &[None],
@@ -105,7 +107,7 @@ fn two_images(rt: HostRuntime) -> Result<(), Fail> {
             ..TWO_IMAGES
         },
     ];
-    assert_by_each(&rt, &TWO_IMAGES)?;
+    assert_by_each(&rt, &BY_EACH)?;
     assert_cases(&rt, &CASES)
 }
 
@@ -150,11 +152,22 @@ fn many_roots(rt: HostRuntime) -> Result<(), Fail> {
     assert_cases(&rt, &CASES)
 }
 
+/// How long the descriptor of a sample is.
+fn descriptor_length(alloc: Global, sample: Sample) -> Result<usize, Fail> {
+    let key = sample.key(alloc)?;
+    Ok(descriptor(alloc, &key)?.len())
+}
+
+fn size(alloc: Global, sample: Sample) -> Result<u64, Fail> {
+    Ok(sample.key(alloc)?.size())
+}
+
 /// The descriptor of the layer and the image are as long as they are outside.
 fn assert_sizes<R: AllocGlobal + Abort>(rt: &R) -> Result<(), Fail> {
-    let layer = FooBySha512.key(rt.alloc())?;
-    assert_eq!(rt; descriptor(rt.alloc(), &layer)?.len(), 210);
-    assert_eq!(rt; Image5.key(rt.alloc())?.size(), 449);
+    let length = descriptor_length(rt.alloc(), FooBySha512)?;
+    let size = size(rt.alloc(), Image5)?;
+    assert_eq!(rt; length, 210);
+    assert_eq!(rt; size, 449);
     Ok(())
 }
 

@@ -1,4 +1,4 @@
-use crate::tests::calls::{options, told_by_workers};
+use crate::tests::calls::{assert_told, options, told_by_workers};
 use oci_manifest::Key;
 use oci_plan::Existing;
 use oci_pool::Hooks;
@@ -41,6 +41,17 @@ impl<'d> Counting<'d> {
     fn pushed(&self) -> u64 {
         self.device.puts().saturating_sub(self.before)
     }
+
+    /// How many roots were told as held; how many keys began, were pushed, and ended; and how many calls came out of order.
+    fn counts(&self) -> [u64; 5] {
+        [
+            self.skipped.load(Ordering::SeqCst),
+            self.began.load(Ordering::SeqCst),
+            self.pushed(),
+            self.ended.load(Ordering::SeqCst),
+            self.late.load(Ordering::SeqCst),
+        ]
+    }
 }
 
 impl<'d> Hooks for Counting<'d> {
@@ -70,40 +81,39 @@ impl<'d> Hooks for Counting<'d> {
 /// Copies two images by three workers into a store that has their layers.
 fn copied_images<R: AllocGlobal + Threads + Wait + Sync>(
     rt: &R,
+    source: &MemoryStore,
     destination: DeviceStore<'_>,
     hooks: &Counting<'_>,
 ) -> Result<String, Fail> {
-    let source = memory(rt.alloc(), &[Empty, Foo, Bar, Image2, Image3, Index1])?;
     let roots = [Foo, Index1, Bar, Foo];
     let options = options(Some(3), Existing::Skip, 0);
-    told_by_workers(rt, &source, destination, &roots, &options, hooks)
+    told_by_workers(rt, source, destination, &roots, &options, hooks)
 }
 
 /// Two roots were held, and three keys were brought, with each call in its place.
-fn assert_counted<R: AllocGlobal + Abort>(rt: &R, hooks: &Counting<'_>) -> Result<(), Fail> {
-    assert_eq!(rt; hooks.skipped.load(Ordering::SeqCst), 2);
-    assert_eq!(rt; hooks.began.load(Ordering::SeqCst), 3);
-    assert_eq!(rt; hooks.pushed(), 3);
-    assert_eq!(rt; hooks.ended.load(Ordering::SeqCst), 3);
-    assert_eq!(rt; hooks.late.load(Ordering::SeqCst), 0);
-    Ok(())
+fn assert_counted(rt: &impl Abort, hooks: &Counting<'_>) {
+    let counts = hooks.counts();
+    assert_eq!(rt; counts, [2, 3, 3, 3, 0]);
 }
 
 fn assert_calls<R: AllocGlobal + Threads + Wait + Sync + Abort>(
     rt: &R,
+    source: &MemoryStore,
     device: &Device,
 ) -> Result<(), Fail> {
     let destination = on_device(rt.alloc(), device, &[Empty, Foo, Bar])?;
     let hooks = Counting::new(device);
-    let told = copied_images(rt, destination, &hooks)?;
-    assert_eq!(rt; told.as_str(), "planned 3 pushed 3 skipped 2");
-    assert_counted(rt, &hooks)
+    let told = copied_images(rt, source, destination, &hooks);
+    assert_told(rt, told, "planned 3 pushed 3 skipped 2")?;
+    assert_counted(rt, &hooks);
+    Ok(())
 }
 
 /// Each held root is told once and first; each key that is brought is told before it is pushed, and once it is.
 #[test]
 fn calls_of_hooks(rt: HostRuntime) -> Result<(), Fail> {
-    assert_calls(&rt, &Device::failing(None, None))
+    let source = memory(rt.alloc(), &[Empty, Foo, Bar, Image2, Image3, Index1])?;
+    assert_calls(&rt, &source, &Device::failing(None, None))
 }
 
 /// Hooks that know which roots they are to be told as held, in their order.
@@ -125,6 +135,15 @@ impl Naming {
             began: AtomicU64::new(0),
             wrong: AtomicU64::new(0),
         }
+    }
+
+    /// How many roots were told as held, how many keys began, and how many roots were told out of turn.
+    fn counts(&self) -> [u64; 3] {
+        [
+            self.skipped.load(Ordering::SeqCst),
+            self.began.load(Ordering::SeqCst),
+            self.wrong.load(Ordering::SeqCst),
+        ]
     }
 
     fn is_next(&self, key: &Key) -> bool {
@@ -164,11 +183,9 @@ fn copied_below<R: AllocGlobal + Threads + Wait + Sync>(
 }
 
 /// Two roots were held, which were told in their order, and two keys were brought.
-fn assert_named<R: AllocGlobal + Abort>(rt: &R, hooks: &Naming) -> Result<(), Fail> {
-    assert_eq!(rt; hooks.skipped.load(Ordering::SeqCst), 2);
-    assert_eq!(rt; hooks.began.load(Ordering::SeqCst), 2);
-    assert_eq!(rt; hooks.wrong.load(Ordering::SeqCst), 0);
-    Ok(())
+fn assert_named(rt: &impl Abort, hooks: &Naming) {
+    let counts = hooks.counts();
+    assert_eq!(rt; counts, [2, 2, 0]);
 }
 
 /// The held roots are a layer and an image, in the order of the roots.
@@ -178,17 +195,23 @@ fn assert_calls_below<R: AllocGlobal + Threads + Wait + Sync + Abort>(
     workers: u32,
 ) -> Result<(), Fail> {
     let hooks = Naming::new(keys(rt.alloc(), &[Foo, Image0])?);
-    let told = copied_below(rt, source, workers, &hooks)?;
-    assert_eq!(rt; told.as_str(), "planned 2 pushed 2 skipped 2");
-    assert_named(rt, &hooks)
+    let told = copied_below(rt, source, workers, &hooks);
+    assert_told(rt, told, "planned 2 pushed 2 skipped 2")?;
+    assert_named(rt, &hooks);
+    Ok(())
+}
+
+/// The same of one worker, and of three.
+fn assert_calls_by_each<R: AllocGlobal + Threads + Wait + Sync + Abort>(
+    rt: &R,
+    source: &MemoryStore,
+) -> Result<(), Fail> {
+    assert_calls_below(rt, source, 1)?;
+    assert_calls_below(rt, source, 3)
 }
 
 /// A copy that descends tells held roots as one that skips them: each once, in their order, and first.
 #[test]
 fn calls_of_hooks_below_held_keys(rt: HostRuntime) -> Result<(), Fail> {
-    let source = memory(rt.alloc(), &[Empty, Foo, Image0, Image2])?;
-    for workers in [1, 3] {
-        assert_calls_below(&rt, &source, workers)?;
-    }
-    Ok(())
+    assert_calls_by_each(&rt, &memory(rt.alloc(), &[Empty, Foo, Image0, Image2])?)
 }

@@ -61,6 +61,21 @@ fn assert_same_by<R: AllocGlobal + Threads + Wait + Sync + Abort>(
     assert_alike(rt, &copied, single, workers)
 }
 
+/// A copy by each of these numbers of workers brings what a copy on one thread brought.
+fn assert_same_by_each<R: AllocGlobal + Threads + Wait + Sync + Abort>(
+    rt: &R,
+    source: &MemoryStore,
+    root: &Key,
+    single: &ClosedStore,
+    each: &[u32],
+    want: &str,
+) -> Result<(), Fail> {
+    for workers in each {
+        assert_same_by(rt, source, root, single, *workers, want)?;
+    }
+    Ok(())
+}
+
 /// A copy by each of these numbers of workers brings what a copy on one thread brings.
 fn assert_same<R: AllocGlobal + Threads + Wait + Sync + Abort>(
     rt: &R,
@@ -70,10 +85,7 @@ fn assert_same<R: AllocGlobal + Threads + Wait + Sync + Abort>(
     want: &str,
 ) -> Result<(), Fail> {
     let single = copied_into_empty(rt, source, root, None, want)?;
-    for workers in each {
-        assert_same_by(rt, source, root, &single, *workers, want)?;
-    }
-    Ok(())
+    assert_same_by_each(rt, source, root, &single, each, want)
 }
 
 /// The same of a chain that is put into the store.

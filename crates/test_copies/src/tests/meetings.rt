@@ -1,4 +1,4 @@
-use crate::tests::calls::{options, told_by_workers};
+use crate::tests::calls::{assert_told, options, told_by_workers};
 use bytes::Bytes;
 use oci_manifest::Key;
 use oci_plan::Existing;
@@ -156,8 +156,19 @@ fn assert_two<R: AllocGlobal + Threads + Wait + Sync + Abort, A: Source + Sync, 
 ) -> Result<(), Fail> {
     let empty = closed(rt.alloc(), &[])?;
     let options = options(Some(workers), Existing::Skip, 0);
-    let told = told_by_workers(rt, source, empty, &[Foo, Bar], &options, hooks)?;
-    assert_eq!(rt; told.as_str(), "planned 2 pushed 2 skipped 0");
+    let told = told_by_workers(rt, source, empty, &[Foo, Bar], &options, hooks);
+    assert_told(rt, told, "planned 2 pushed 2 skipped 0")
+}
+
+/// So many of the workers that copy with these hooks meet.
+fn assert_hooks_meet<R: AllocGlobal + Threads + Wait + Sync + Abort>(
+    rt: &R,
+    workers: u32,
+    hooks: &MeetingHooks,
+    met: u64,
+) -> Result<(), Fail> {
+    assert_two(rt, &memory(rt.alloc(), &[Foo, Bar])?, workers, hooks)?;
+    assert_eq!(rt; hooks.meeting.met(), met);
     Ok(())
 }
 
@@ -171,10 +182,7 @@ fn assert_met<R: AllocGlobal + Threads + Wait + Sync + Abort>(
     let hooks = MeetingHooks {
         meeting: MeetingPlace::looking(looks),
     };
-    let source = memory(rt.alloc(), &[Foo, Bar])?;
-    assert_two(rt, &source, workers, &hooks)?;
-    assert_eq!(rt; hooks.meeting.met(), met);
-    Ok(())
+    assert_hooks_meet(rt, workers, &hooks, met)
 }
 
 /// Two workers are at work at once: each of two keys waits for the other to have begun.
@@ -189,6 +197,16 @@ fn meeting_of_one_worker(rt: HostRuntime) -> Result<(), Fail> {
     assert_met(&rt, 1, 1_000, 1)
 }
 
+/// The workers that fetch from a store meet.
+fn assert_fetches_meet<R: AllocGlobal + Threads + Wait + Sync + Abort>(
+    rt: &R,
+    source: &MeetingStore<MemoryStore>,
+) -> Result<(), Fail> {
+    assert_two(rt, source, 2, &NoHooks)?;
+    assert!(rt; source.meeting.met() >= 2);
+    Ok(())
+}
+
 /// Two workers fetch at once, so none of them has the destination's lock meanwhile.
 #[test]
 fn fetches_meet(rt: HostRuntime) -> Result<(), Fail> {
@@ -196,8 +214,16 @@ fn fetches_meet(rt: HostRuntime) -> Result<(), Fail> {
         store: memory(rt.alloc(), &[Foo, Bar])?,
         meeting: MeetingPlace::looking(LOOKS),
     };
-    assert_two(&rt, &source, 2, &NoHooks)?;
-    assert!(rt; source.meeting.met() >= 2);
+    assert_fetches_meet(&rt, &source)
+}
+
+/// Two workers that read parts of what a store has meet.
+fn assert_parts_meet<R: AllocGlobal + Threads + Wait + Sync + Abort>(
+    rt: &R,
+    source: &PartsMeet,
+) -> Result<(), Fail> {
+    assert_two(rt, source, 2, &NoHooks)?;
+    assert_eq!(rt; source.meeting.met(), 2);
     Ok(())
 }
 
@@ -208,7 +234,5 @@ fn parts_meet(rt: HostRuntime) -> Result<(), Fail> {
         store: memory(rt.alloc(), &[Foo, Bar])?,
         meeting: MeetingPlace::looking(LOOKS),
     };
-    assert_two(&rt, &source, 2, &NoHooks)?;
-    assert_eq!(rt; source.meeting.met(), 2);
-    Ok(())
+    assert_parts_meet(&rt, &source)
 }
