@@ -23,13 +23,37 @@ fn climbed(
     Ok(climb(alloc, source, &key, depth)?)
 }
 
+fn are_keys(alloc: Global, got: &[Key], want: &[Sample]) -> Result<bool, Fail> {
+    Ok(got == keys(alloc, want)?.as_slice())
+}
+
+/// Whether a climb gives its keys.
+fn is_climb(
+    alloc: Global,
+    source: &MemoryStore,
+    (sample, depth, want): Climb,
+) -> Result<bool, Fail> {
+    are_keys(alloc, &climbed(alloc, source, sample, depth)?, want)
+}
+
 fn assert_climb<R: AllocGlobal + Abort>(
     rt: &R,
     source: &MemoryStore,
     (sample, depth, want): Climb,
 ) -> Result<(), Fail> {
-    let got = climbed(rt.alloc(), source, sample, depth)?;
-    assert!(rt; got == keys(rt.alloc(), want)?, "depth {depth}");
+    let is_wanted = is_climb(rt.alloc(), source, (sample, depth, want))?;
+    assert!(rt; is_wanted, "depth {depth}");
+    Ok(())
+}
+
+fn assert_each<R: AllocGlobal + Abort>(
+    rt: &R,
+    source: &MemoryStore,
+    climbs: &[Climb],
+) -> Result<(), Fail> {
+    for row in climbs {
+        assert_climb(rt, source, *row)?;
+    }
     Ok(())
 }
 
@@ -39,11 +63,7 @@ fn assert_climbs<R: AllocGlobal + Abort>(
     samples: &[Sample],
     climbs: &[Climb],
 ) -> Result<(), Fail> {
-    let source = memory(rt.alloc(), samples)?;
-    for row in climbs {
-        assert_climb(rt, &source, *row)?;
-    }
-    Ok(())
+    assert_each(rt, &memory(rt.alloc(), samples)?, climbs)
 }
 
 const ALL: [Sample; 5] = [Index5, Index4, Index6, Index3, Image2];
@@ -51,43 +71,37 @@ const ALL: [Sample; 5] = [Index5, Index4, Index6, Index3, Image2];
 /// `index_6` lies two edges above `image_2`, although the `index_5` between them is met again after three.
 #[test]
 fn met_again_after_more_edges(rt: HostRuntime) -> Result<(), Fail> {
-    assert_climbs(
-        &rt,
-        &[Empty, Foo, Image2, Index3, Index4, Index5, Index6],
-        &[
-            (Image2, 1, &[Index5, Index3, Image2]),
-            (Image2, 2, &ALL),
-            (Image2, 3, &ALL),
-            (Image2, 0, &ALL),
-        ],
-    )
+    static SAMPLES: [Sample; 7] = [Empty, Foo, Image2, Index3, Index4, Index5, Index6];
+    static CLIMBS: [Climb; 4] = [
+        (Image2, 1, &[Index5, Index3, Image2]),
+        (Image2, 2, &ALL),
+        (Image2, 3, &ALL),
+        (Image2, 0, &ALL),
+    ];
+    assert_climbs(&rt, &SAMPLES, &CLIMBS)
 }
 
 #[test]
 fn referrers_climbed(rt: HostRuntime) -> Result<(), Fail> {
-    assert_climbs(
-        &rt,
-        &[Empty, Foo, Image2, Referrer, Index3, Index4],
-        &[
-            (Image2, 1, &[Index3, Image2, Referrer]),
-            (Image2, 2, &[Index4, Index3, Image2, Referrer]),
-            (Image2, 0, &[Index4, Index3, Image2, Referrer]),
-        ],
-    )
+    static SAMPLES: [Sample; 6] = [Empty, Foo, Image2, Referrer, Index3, Index4];
+    static CLIMBS: [Climb; 3] = [
+        (Image2, 1, &[Index3, Image2, Referrer]),
+        (Image2, 2, &[Index4, Index3, Image2, Referrer]),
+        (Image2, 0, &[Index4, Index3, Image2, Referrer]),
+    ];
+    assert_climbs(&rt, &SAMPLES, &CLIMBS)
 }
 
 /// The key itself is in the answer, held or not.
 #[test]
 fn climb_of_a_key_that_is_not_held(rt: HostRuntime) -> Result<(), Fail> {
-    assert_climbs(
-        &rt,
-        &[Image0],
-        &[
-            (Bar, 0, &[Bar]),
-            (Bar, 3, &[Bar]),
-            (Empty, 1, &[Empty, Image0]),
-        ],
-    )
+    static SAMPLES: [Sample; 1] = [Image0];
+    static CLIMBS: [Climb; 3] = [
+        (Bar, 0, &[Bar]),
+        (Bar, 3, &[Bar]),
+        (Empty, 1, &[Empty, Image0]),
+    ];
+    assert_climbs(&rt, &SAMPLES, &CLIMBS)
 }
 
 /// A store of a chain of images.

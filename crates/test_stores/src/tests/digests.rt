@@ -219,13 +219,20 @@ const RISING: &[&str] = &[
     ABC_SHA512,
 ];
 
+/// Whether two digests compare as their places do.
+fn compare_alike(left: &Digest, right: &Digest, at: usize, place: usize) -> bool {
+    left.cmp(right) == at.cmp(&place) && (*left == *right) == (at == place)
+}
+
 /// Two digests compare as their places do.
 fn assert_compares(rt: &impl Abort, (at, first): (usize, &str), (place, second): (usize, &str)) {
     let (Ok(left), Ok(right)) = (Digest::parse(first), Digest::parse(second)) else {
         panic!(rt; "{first} and {second} are digests");
     };
-    assert!(rt; left.cmp(&right) == at.cmp(&place), "{first} with {second}");
-    assert!(rt; (left == right) == (at == place), "{first} with {second}");
+    assert!(rt;
+        compare_alike(&left, &right, at, place),
+        "{first} with {second}"
+    );
 }
 
 /// The digest at a place of the texts, compared with each.
@@ -290,15 +297,26 @@ fn parts_of_a_digest(rt: HostRuntime) -> Result<(), Fail> {
     assert_parts(&rt, &Digest::of_sha512(b"abc"), "sha512", &ABC_SHA512[7..])
 }
 
+/// A fault has this number, and prints as this text.
+fn assert_fault<R: AllocGlobal + Abort>(
+    rt: &R,
+    fault: DigestFault,
+    number: u8,
+    text: &str,
+) -> Result<(), Fail> {
+    assert_eq!(rt; fault.number(), number);
+    assert_prints(rt, &fault, text)
+}
+
 #[test]
 fn printed_faults(rt: HostRuntime) -> Result<(), Fail> {
-    for (fault, number, text) in [
+    static ROWS: [(DigestFault, u8, &str); 3] = [
         (DigestFault::BadForm, 1, "1 BadForm"),
         (DigestFault::UnknownAlgorithm, 2, "2 UnknownAlgorithm"),
         (DigestFault::BadEncoding, 3, "3 BadEncoding"),
-    ] {
-        assert_eq!(rt; fault.number(), number);
-        assert_prints(&rt, &fault, text)?;
+    ];
+    for (fault, number, text) in &ROWS {
+        assert_fault(&rt, *fault, *number, text)?;
     }
     assert_prints(&rt, &NoMemory, "memory")
 }

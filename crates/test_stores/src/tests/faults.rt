@@ -21,6 +21,22 @@ fn numbered(alloc: Global, number: u8, rest: &[Part]) -> Result<String, Fail> {
     Ok(format!(in alloc; "{number} {rest}")?)
 }
 
+fn printed<F: Display>(alloc: Global, fault: &F) -> Result<String, Fail> {
+    Ok(format!(in alloc; "{fault}")?)
+}
+
+/// The line is a number, and then these parts.
+fn assert_line<R: AllocGlobal + Abort>(
+    rt: &R,
+    line: &str,
+    number: u8,
+    rest: &[Part],
+) -> Result<(), Fail> {
+    let want = numbered(rt.alloc(), number, rest)?;
+    assert!(rt; line == want.as_str(), "{line}");
+    Ok(())
+}
+
 /// A fault prints as its number and the rest.
 fn assert_printed<R: AllocGlobal + Abort, F: Display>(
     rt: &R,
@@ -28,10 +44,7 @@ fn assert_printed<R: AllocGlobal + Abort, F: Display>(
     number: u8,
     rest: &[Part],
 ) -> Result<(), Fail> {
-    let want = numbered(rt.alloc(), number, rest)?;
-    let line = format!(in rt.alloc(); "{fault}")?;
-    assert!(rt; line == want, "{line}");
-    Ok(())
+    assert_line(rt, printed(rt.alloc(), fault)?.as_str(), number, rest)
 }
 
 /// A fault. Each has samples in the place of their keys.
@@ -159,131 +172,117 @@ fn assert_faults<R: AllocGlobal + Abort>(rt: &R, rows: &[(Fault, &[Part])]) -> R
 
 #[test]
 fn key_and_manifest_faults(rt: HostRuntime) -> Result<(), Fail> {
-    assert_faults(
-        &rt,
-        &[
-            (OfKey(KeyFault::BadSize), &[Words("BadSize")]),
-            (OfManifest(ManifestFault::NotJson), &[Words("NotJson")]),
-            (OfManifest(ManifestFault::NotObject), &[Words("NotObject")]),
-            (OfManifest(ManifestFault::NoConfig), &[Words("NoConfig")]),
-            (
-                OfManifest(ManifestFault::BadList("blobs")),
-                &[Words("BadList blobs")],
-            ),
-            (
-                OfManifest(ManifestFault::BadDescriptor("layers", 3)),
-                &[Words("BadDescriptor layers 3")],
-            ),
-            (OfManifest(ManifestFault::Memory), &[Words("Memory")]),
-        ],
-    )
+    static ROWS: [(Fault, &[Part]); 7] = [
+        (OfKey(KeyFault::BadSize), &[Words("BadSize")]),
+        (OfManifest(ManifestFault::NotJson), &[Words("NotJson")]),
+        (OfManifest(ManifestFault::NotObject), &[Words("NotObject")]),
+        (OfManifest(ManifestFault::NoConfig), &[Words("NoConfig")]),
+        (
+            OfManifest(ManifestFault::BadList("blobs")),
+            &[Words("BadList blobs")],
+        ),
+        (
+            OfManifest(ManifestFault::BadDescriptor("layers", 3)),
+            &[Words("BadDescriptor layers 3")],
+        ),
+        (OfManifest(ManifestFault::Memory), &[Words("Memory")]),
+    ];
+    assert_faults(&rt, &ROWS)
 }
 
 #[test]
 fn fetch_faults(rt: HostRuntime) -> Result<(), Fail> {
-    assert_faults(
-        &rt,
-        &[
-            (OfFetch(FetchFault::NotFound), &[Words("NotFound")]),
-            (OfFetch(FetchFault::Corrupt), &[Words("Corrupt")]),
-            (OfFetch(FetchFault::Device), &[Words("Device")]),
-            (OfFetch(FetchFault::Memory), &[Words("Memory")]),
-        ],
-    )
+    static ROWS: [(Fault, &[Part]); 4] = [
+        (OfFetch(FetchFault::NotFound), &[Words("NotFound")]),
+        (OfFetch(FetchFault::Corrupt), &[Words("Corrupt")]),
+        (OfFetch(FetchFault::Device), &[Words("Device")]),
+        (OfFetch(FetchFault::Memory), &[Words("Memory")]),
+    ];
+    assert_faults(&rt, &ROWS)
 }
 
 #[test]
 fn reference_faults(rt: HostRuntime) -> Result<(), Fail> {
-    assert_faults(
-        &rt,
-        &[
-            (
-                OfReference(RefFault::EmptyReference),
-                &[Words("EmptyReference")],
-            ),
-            (
-                OfReference(RefFault::UnknownReference),
-                &[Words("UnknownReference")],
-            ),
-            (OfReference(RefFault::NotHeld), &[Words("NotHeld")]),
-            (OfReference(RefFault::Memory), &[Words("Memory")]),
-        ],
-    )
+    static ROWS: [(Fault, &[Part]); 4] = [
+        (
+            OfReference(RefFault::EmptyReference),
+            &[Words("EmptyReference")],
+        ),
+        (
+            OfReference(RefFault::UnknownReference),
+            &[Words("UnknownReference")],
+        ),
+        (OfReference(RefFault::NotHeld), &[Words("NotHeld")]),
+        (OfReference(RefFault::Memory), &[Words("Memory")]),
+    ];
+    assert_faults(&rt, &ROWS)
 }
 
 #[test]
 fn push_faults(rt: HostRuntime) -> Result<(), Fail> {
-    assert_faults(
-        &rt,
-        &[
-            (OfPush(Push::AlreadyExists), &[Words("AlreadyExists")]),
-            (OfPush(Push::SizeMismatch), &[Words("SizeMismatch")]),
-            (OfPush(Push::DigestMismatch), &[Words("DigestMismatch")]),
-            (
-                OfPush(Push::BadManifest(ManifestFault::NoConfig)),
-                &[Words("BadManifest 12 NoConfig")],
-            ),
-            (OfPush(Push::Memory), &[Words("Memory")]),
-            (OfPush(Push::Device), &[Words("Device")]),
-            (OfPush(Push::Halted), &[Words("Halted")]),
-            (
-                OfPush(Push::MissingSuccessor(Foo)),
-                &[Words("MissingSuccessor "), KeyOf(Foo)],
-            ),
-        ],
-    )
+    static ROWS: [(Fault, &[Part]); 8] = [
+        (OfPush(Push::AlreadyExists), &[Words("AlreadyExists")]),
+        (OfPush(Push::SizeMismatch), &[Words("SizeMismatch")]),
+        (OfPush(Push::DigestMismatch), &[Words("DigestMismatch")]),
+        (
+            OfPush(Push::BadManifest(ManifestFault::NoConfig)),
+            &[Words("BadManifest 12 NoConfig")],
+        ),
+        (OfPush(Push::Memory), &[Words("Memory")]),
+        (OfPush(Push::Device), &[Words("Device")]),
+        (OfPush(Push::Halted), &[Words("Halted")]),
+        (
+            OfPush(Push::MissingSuccessor(Foo)),
+            &[Words("MissingSuccessor "), KeyOf(Foo)],
+        ),
+    ];
+    assert_faults(&rt, &ROWS)
 }
 
 #[test]
 fn open_faults(rt: HostRuntime) -> Result<(), Fail> {
-    assert_faults(
-        &rt,
-        &[
-            (
-                OfOpen(Open::Open(Foo, Bar)),
-                &[Words("Open "), KeyOf(Foo), Words(" "), KeyOf(Bar)],
-            ),
-            (OfOpen(Open::Memory), &[Words("Memory")]),
-        ],
-    )
+    static ROWS: [(Fault, &[Part]); 2] = [
+        (
+            OfOpen(Open::Open(Foo, Bar)),
+            &[Words("Open "), KeyOf(Foo), Words(" "), KeyOf(Bar)],
+        ),
+        (OfOpen(Open::Memory), &[Words("Memory")]),
+    ];
+    assert_faults(&rt, &ROWS)
 }
 
 #[test]
 fn plan_faults(rt: HostRuntime) -> Result<(), Fail> {
-    assert_faults(
-        &rt,
-        &[
-            (
-                OfPlan(Plan::NotFound(Foo)),
-                &[Words("NotFound "), KeyOf(Foo)],
-            ),
-            (
-                OfPlan(Plan::TooLarge(Foo, 2)),
-                &[Words("TooLarge "), KeyOf(Foo), Words(" 2")],
-            ),
-            (
-                OfPlan(Plan::Manifest(Foo, ManifestFault::NotJson)),
-                &[Words("Manifest "), KeyOf(Foo), Words(" 10 NotJson")],
-            ),
-            (
-                OfPlan(Plan::Fetch(Foo, FetchFault::Corrupt)),
-                &[Words("Fetch "), KeyOf(Foo), Words(" 21 Corrupt")],
-            ),
-            (
-                OfPlan(Plan::Cycle(&[Foo, Bar])),
-                &[Words("Cycle "), KeyOf(Foo), Words(" "), KeyOf(Bar)],
-            ),
-        ],
-    )
+    static ROWS: [(Fault, &[Part]); 5] = [
+        (
+            OfPlan(Plan::NotFound(Foo)),
+            &[Words("NotFound "), KeyOf(Foo)],
+        ),
+        (
+            OfPlan(Plan::TooLarge(Foo, 2)),
+            &[Words("TooLarge "), KeyOf(Foo), Words(" 2")],
+        ),
+        (
+            OfPlan(Plan::Manifest(Foo, ManifestFault::NotJson)),
+            &[Words("Manifest "), KeyOf(Foo), Words(" 10 NotJson")],
+        ),
+        (
+            OfPlan(Plan::Fetch(Foo, FetchFault::Corrupt)),
+            &[Words("Fetch "), KeyOf(Foo), Words(" 21 Corrupt")],
+        ),
+        (
+            OfPlan(Plan::Cycle(&[Foo, Bar])),
+            &[Words("Cycle "), KeyOf(Foo), Words(" "), KeyOf(Bar)],
+        ),
+    ];
+    assert_faults(&rt, &ROWS)
 }
 
 #[test]
 fn plan_faults_without_a_key(rt: HostRuntime) -> Result<(), Fail> {
-    assert_faults(
-        &rt,
-        &[
-            (OfPlan(Plan::Memory), &[Words("Memory")]),
-            (OfPlan(Plan::TooMany), &[Words("TooMany")]),
-        ],
-    )
+    static ROWS: [(Fault, &[Part]); 2] = [
+        (OfPlan(Plan::Memory), &[Words("Memory")]),
+        (OfPlan(Plan::TooMany), &[Words("TooMany")]),
+    ];
+    assert_faults(&rt, &ROWS)
 }

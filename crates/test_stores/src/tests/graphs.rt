@@ -23,13 +23,29 @@ fn predecessors<G: GraphSource>(
     Ok(store.predecessors(&key)?)
 }
 
+fn are_keys(alloc: Global, got: &[Key], want: &[Sample]) -> Result<bool, Fail> {
+    Ok(got == keys(alloc, want)?.as_slice())
+}
+
 fn assert_predecessors<R: AllocGlobal + Abort, G: GraphSource>(
     rt: &R,
     store: &G,
     (sample, want): Listed,
 ) -> Result<(), Fail> {
     let got = predecessors(rt.alloc(), store, sample)?;
-    assert!(rt; got == keys(rt.alloc(), want)?);
+    let is_wanted = are_keys(rt.alloc(), &got, want)?;
+    assert!(rt; is_wanted);
+    Ok(())
+}
+
+fn assert_each<R: AllocGlobal + Abort>(
+    rt: &R,
+    store: &MemoryStore,
+    rows: &[Listed],
+) -> Result<(), Fail> {
+    for row in rows {
+        assert_predecessors(rt, store, *row)?;
+    }
     Ok(())
 }
 
@@ -39,20 +55,14 @@ fn assert_listed<R: AllocGlobal + Abort>(
     samples: &[Sample],
     rows: &[Listed],
 ) -> Result<(), Fail> {
-    let store = memory(rt.alloc(), samples)?;
-    for row in rows {
-        assert_predecessors(rt, &store, *row)?;
-    }
-    Ok(())
+    assert_each(rt, &memory(rt.alloc(), samples)?, rows)
 }
 
 #[test]
 fn referrers(rt: HostRuntime) -> Result<(), Fail> {
-    assert_listed(
-        &rt,
-        &[Empty, Foo, Image2, Referrer, Index3, Index4],
-        &[(Image2, &[Index3, Referrer]), (Index4, &[])],
-    )
+    static SAMPLES: [Sample; 6] = [Empty, Foo, Image2, Referrer, Index3, Index4];
+    static ROWS: [Listed; 2] = [(Image2, &[Index3, Referrer]), (Index4, &[])];
+    assert_listed(&rt, &SAMPLES, &ROWS)
 }
 
 /// The samples whose keys list the key of `foo`, by their digests, which begin with 3f, 7e and d8.
@@ -102,11 +112,21 @@ fn line(alloc: Global, fault: &Option<OpenFault>) -> Result<String, Fail> {
     }
 }
 
+/// Whether a store holds the samples, and a fault as text.
+fn held_and_told(
+    alloc: Global,
+    store: &MemoryStore,
+    fault: &Option<OpenFault>,
+    samples: &[Sample],
+) -> Result<(bool, String), Fail> {
+    let held = holds(alloc, store, samples)?;
+    Ok((held, line(alloc, fault)?))
+}
+
 /// What `close` answers of a store of samples, as text, and whether the store holds them afterwards.
 fn told(alloc: Global, samples: &[Sample]) -> Result<(bool, String), Fail> {
     let (store, fault) = close(memory(alloc, samples)?);
-    let told = line(alloc, &fault)?;
-    Ok((holds(alloc, &store, samples)?, told))
+    held_and_told(alloc, &store, &fault, samples)
 }
 
 /// What `missing` and `close` answer of a store of samples, which holds them afterwards.

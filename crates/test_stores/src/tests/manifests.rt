@@ -2,7 +2,7 @@ mod reads;
 
 use crate::tests::manifests::reads::{
     ALL_KINDS, BAD, BAD_MANIFEST_0, DIGEST, EMPTY_LINE, EMPTY_MEDIA_TYPE, FORMS, GOOD, OF_BAR,
-    OF_EMPTY, OF_FOO, OF_IMAGE_0, OF_IMAGE_2, answer, assert_read, assert_reads,
+    OF_EMPTY, OF_FOO, OF_IMAGE_0, OF_IMAGE_2, Read, answer, assert_read, assert_reads,
 };
 use crate::tests::texts::Part::{
     self, Brackets, BytesOf, DescriptorAs, DescriptorOf, KeyOf, Words,
@@ -22,14 +22,19 @@ use test_support::{EMPTY, FOREIGN, IMAGE, INDEX, LAYER, Sample};
 /// A sample, its media type, its size and the digits of its digest, which python3's hashlib computed from the texts of the contents.
 type Described = (Sample, &'static str, u64, &'static str);
 
-fn assert_key<R: AllocGlobal + Abort>(
-    rt: &R,
-    (sample, media_type, size, digits): Described,
-) -> Result<(), Fail> {
-    let got = text(rt.alloc(), &[KeyOf(sample)])?;
-    let want = format!(in rt.alloc(); "sha256:{digits} {size} {media_type}")?;
-    assert!(rt; got == want, "{got}");
+/// The text of the key that is described.
+fn described(alloc: Global, (_, media_type, size, digits): Described) -> Result<String, Fail> {
+    Ok(format!(in alloc; "sha256:{digits} {size} {media_type}")?)
+}
+
+fn assert_described<R: AllocGlobal + Abort>(rt: &R, got: &str, row: Described) -> Result<(), Fail> {
+    let want = described(rt.alloc(), row)?;
+    assert!(rt; got == want.as_str(), "{got}");
     Ok(())
+}
+
+fn assert_key<R: AllocGlobal + Abort>(rt: &R, row: Described) -> Result<(), Fail> {
+    assert_described(rt, text(rt.alloc(), &[KeyOf(row.0)])?.as_str(), row)
 }
 
 fn assert_keys<R: AllocGlobal + Abort>(rt: &R, rows: &[Described]) -> Result<(), Fail> {
@@ -41,91 +46,87 @@ fn assert_keys<R: AllocGlobal + Abort>(rt: &R, rows: &[Described]) -> Result<(),
 
 #[test]
 fn layers_and_images(rt: HostRuntime) -> Result<(), Fail> {
-    assert_keys(
-        &rt,
-        &[
-            (Empty, EMPTY, 2, OF_EMPTY),
-            (Foo, LAYER, 3, OF_FOO),
-            (Bar, LAYER, 3, OF_BAR),
-            (Image0, IMAGE, 241, OF_IMAGE_0),
-            (
-                Image1,
-                IMAGE,
-                532,
-                "d80fa97ca0539dfbfd206b1c8ebe52025d1994c7f1b9b187c4cad1371ab9a585",
-            ),
-            (Image2, IMAGE, 385, OF_IMAGE_2),
-            (
-                Image3,
-                IMAGE,
-                532,
-                "3f167608abdb6f3e8f7a3c6ac3957c7da7b621d2536c484e8419ae104fba9b34",
-            ),
-            (
-                Image4,
-                IMAGE,
-                387,
-                "bed7727900d8aa6452792bb6124f28d01c2cc16e232add9a9276cc17d799a784",
-            ),
-        ],
-    )
+    static ROWS: [Described; 8] = [
+        (Empty, EMPTY, 2, OF_EMPTY),
+        (Foo, LAYER, 3, OF_FOO),
+        (Bar, LAYER, 3, OF_BAR),
+        (Image0, IMAGE, 241, OF_IMAGE_0),
+        (
+            Image1,
+            IMAGE,
+            532,
+            "d80fa97ca0539dfbfd206b1c8ebe52025d1994c7f1b9b187c4cad1371ab9a585",
+        ),
+        (Image2, IMAGE, 385, OF_IMAGE_2),
+        (
+            Image3,
+            IMAGE,
+            532,
+            "3f167608abdb6f3e8f7a3c6ac3957c7da7b621d2536c484e8419ae104fba9b34",
+        ),
+        (
+            Image4,
+            IMAGE,
+            387,
+            "bed7727900d8aa6452792bb6124f28d01c2cc16e232add9a9276cc17d799a784",
+        ),
+    ];
+    assert_keys(&rt, &ROWS)
 }
 
 #[test]
 fn referrers_and_indexes(rt: HostRuntime) -> Result<(), Fail> {
-    assert_keys(
-        &rt,
-        &[
-            (
-                Referrer,
-                IMAGE,
-                402,
-                "bab9e997a499d9a01debd4356f23454db050baa4f31321e5a33e2e3aebd4f8eb",
-            ),
-            (
-                Index1,
-                INDEX,
-                339,
-                "8ede3797b5d175cf105016f170f6e4a175a141a2865be8e6822edd38acd70711",
-            ),
-            (
-                Index2,
-                INDEX,
-                339,
-                "0b8dc1984af33df0070c6aac0e96b5e5a73279e316612635d1a76f663efbde88",
-            ),
-            (
-                Index3,
-                INDEX,
-                186,
-                "d9c3e7cfc5f64c505159926d395e41fe249bf6d3a5bf23f53c6bdce34993a368",
-            ),
-            (
-                Index4,
-                INDEX,
-                183,
-                "04b54ec52bc620cd8553bcdfd876570329efa5cc7ead029e4d6b03ae3f4b29dd",
-            ),
-            (
-                Index5,
-                INDEX,
-                336,
-                "0106f749c0f4bc273f902f56b26283702b80f7d2f85c0c8e19834d3f847c6015",
-            ),
-            (
-                Index6,
-                INDEX,
-                183,
-                "d3f77871dd08f661484d350b4dfe1f8347ea2548c20ae9812f75f0f69531839e",
-            ),
-            (
-                DockerImage,
-                "application/vnd.docker.distribution.manifest.v2+json",
-                347,
-                "655f703d5da3c83b1f8c9a8bb0cc7d4f6921a4a30b0b9d024a867ed937c03921",
-            ),
-        ],
-    )
+    static ROWS: [Described; 8] = [
+        (
+            Referrer,
+            IMAGE,
+            402,
+            "bab9e997a499d9a01debd4356f23454db050baa4f31321e5a33e2e3aebd4f8eb",
+        ),
+        (
+            Index1,
+            INDEX,
+            339,
+            "8ede3797b5d175cf105016f170f6e4a175a141a2865be8e6822edd38acd70711",
+        ),
+        (
+            Index2,
+            INDEX,
+            339,
+            "0b8dc1984af33df0070c6aac0e96b5e5a73279e316612635d1a76f663efbde88",
+        ),
+        (
+            Index3,
+            INDEX,
+            186,
+            "d9c3e7cfc5f64c505159926d395e41fe249bf6d3a5bf23f53c6bdce34993a368",
+        ),
+        (
+            Index4,
+            INDEX,
+            183,
+            "04b54ec52bc620cd8553bcdfd876570329efa5cc7ead029e4d6b03ae3f4b29dd",
+        ),
+        (
+            Index5,
+            INDEX,
+            336,
+            "0106f749c0f4bc273f902f56b26283702b80f7d2f85c0c8e19834d3f847c6015",
+        ),
+        (
+            Index6,
+            INDEX,
+            183,
+            "d3f77871dd08f661484d350b4dfe1f8347ea2548c20ae9812f75f0f69531839e",
+        ),
+        (
+            DockerImage,
+            "application/vnd.docker.distribution.manifest.v2+json",
+            347,
+            "655f703d5da3c83b1f8c9a8bb0cc7d4f6921a4a30b0b9d024a867ed937c03921",
+        ),
+    ];
+    assert_keys(&rt, &ROWS)
 }
 
 /// Whether a key of this size is refused for it.
@@ -201,9 +202,13 @@ fn order(rt: HostRuntime) -> Result<(), Fail> {
     Ok(())
 }
 
+fn assert_kind(rt: &impl Abort, media_type: &str, kind: Kind) {
+    assert_eq!(rt; Kind::of(media_type), kind, "{media_type}");
+}
+
 #[test]
 fn kinds(rt: HostRuntime) {
-    for (media_type, kind) in [
+    static KINDS: [(&str, Kind); 11] = [
         ("application/vnd.oci.image.manifest.v1+json", Kind::Image),
         ("application/vnd.oci.image.index.v1+json", Kind::Index),
         (
@@ -224,8 +229,9 @@ fn kinds(rt: HostRuntime) {
         ("application/vnd.oci.image.manifest.v1+json ", Kind::Leaf),
         ("application/vnd.oci.image.manifest.v1", Kind::Leaf),
         ("", Kind::Leaf),
-    ] {
-        assert_eq!(rt; Kind::of(media_type), kind, "{media_type}");
+    ];
+    for (media_type, kind) in &KINDS {
+        assert_kind(&rt, media_type, *kind);
     }
 }
 
@@ -244,12 +250,13 @@ fn assert_not_listed<R: AllocGlobal + Abort>(rt: &R, media_type: &'static str) -
 
 #[test]
 fn undistributed_layers(rt: HostRuntime) -> Result<(), Fail> {
-    for media_type in [
+    static MEDIA_TYPES: [&str; 4] = [
         "application/vnd.oci.image.layer.nondistributable.v1.tar",
         "application/vnd.oci.image.layer.nondistributable.v1.tar+gzip",
         "application/vnd.oci.image.layer.nondistributable.v1.tar+zstd",
         FOREIGN,
-    ] {
+    ];
+    for media_type in &MEDIA_TYPES {
         assert_not_listed(&rt, media_type)?;
     }
     Ok(())
@@ -257,43 +264,39 @@ fn undistributed_layers(rt: HostRuntime) -> Result<(), Fail> {
 
 #[test]
 fn foreign_layer(rt: HostRuntime) -> Result<(), Fail> {
-    assert_reads(
-        &rt,
-        &[(Kind::DockerImage, &[BytesOf(DockerImage)], &[EMPTY_LINE])],
-    )
+    static ROWS: [Read; 1] = [(Kind::DockerImage, &[BytesOf(DockerImage)], &[EMPTY_LINE])];
+    assert_reads(&rt, &ROWS)
 }
 
 #[test]
 fn first_places(rt: HostRuntime) -> Result<(), Fail> {
-    assert_reads(
-        &rt,
-        &[
-            (
-                Kind::Image,
-                &[BytesOf(Image1)],
-                &[
-                    EMPTY_LINE,
-                    Words("sha256:"),
-                    Words(OF_FOO),
-                    Words(" 3 "),
-                    Words(LAYER),
-                    Words(";"),
-                ],
-            ),
-            (
-                Kind::Image,
-                &[BytesOf(Referrer)],
-                &[
-                    Words("sha256:"),
-                    Words(OF_IMAGE_2),
-                    Words(" 385 "),
-                    Words(IMAGE),
-                    Words(";"),
-                    EMPTY_LINE,
-                ],
-            ),
-        ],
-    )
+    static ROWS: [Read; 2] = [
+        (
+            Kind::Image,
+            &[BytesOf(Image1)],
+            &[
+                EMPTY_LINE,
+                Words("sha256:"),
+                Words(OF_FOO),
+                Words(" 3 "),
+                Words(LAYER),
+                Words(";"),
+            ],
+        ),
+        (
+            Kind::Image,
+            &[BytesOf(Referrer)],
+            &[
+                Words("sha256:"),
+                Words(OF_IMAGE_2),
+                Words(" 385 "),
+                Words(IMAGE),
+                Words(";"),
+                EMPTY_LINE,
+            ],
+        ),
+    ];
+    assert_reads(&rt, &ROWS)
 }
 
 #[test]
@@ -319,7 +322,7 @@ fn assert_size<R: AllocGlobal + Abort>(
 
 #[test]
 fn descriptor_forms(rt: HostRuntime) -> Result<(), Fail> {
-    for (size, want) in [
+    static SIZES: [(&str, Part); 3] = [
         ("-1", BAD_MANIFEST_0),
         (
             "9223372036854775807",
@@ -328,8 +331,9 @@ fn descriptor_forms(rt: HostRuntime) -> Result<(), Fail> {
             ),
         ),
         ("9223372036854775808", BAD_MANIFEST_0),
-    ] {
-        assert_size(&rt, size, &[want])?;
+    ];
+    for (size, want) in &SIZES {
+        assert_size(&rt, size, &[*want])?;
     }
     assert_reads(&rt, &FORMS)
 }
@@ -358,14 +362,15 @@ fn assert_second<R: AllocGlobal + Abort>(
 
 #[test]
 fn wrong_sizes_and_digests(rt: HostRuntime) -> Result<(), Fail> {
-    for (digest, size) in [
+    static MEMBERS: [(&str, &str); 6] = [
         (GOOD, ",\"size\":\"2\""),
         (GOOD, ",\"size\":[2]"),
         (GOOD, ",\"size\":2.0"),
         (GOOD, ",\"size\":2.5"),
         (GOOD, ""),
         (BAD, ",\"size\":2"),
-    ] {
+    ];
+    for (digest, size) in &MEMBERS {
         assert_second(&rt, digest, size)?;
     }
     assert_reads(&rt, &[EMPTY_MEDIA_TYPE])
@@ -373,14 +378,12 @@ fn wrong_sizes_and_digests(rt: HostRuntime) -> Result<(), Fail> {
 
 #[test]
 fn nested_brackets(rt: HostRuntime) -> Result<(), Fail> {
-    assert_reads(
-        &rt,
-        &[
-            (Kind::Image, &[Brackets(127)], &[Words("11 NotObject")]),
-            (Kind::Image, &[Brackets(128)], &[Words("10 NotJson")]),
-            (Kind::Image, &[Brackets(100_000)], &[Words("10 NotJson")]),
-        ],
-    )
+    static ROWS: [Read; 3] = [
+        (Kind::Image, &[Brackets(127)], &[Words("11 NotObject")]),
+        (Kind::Image, &[Brackets(128)], &[Words("10 NotJson")]),
+        (Kind::Image, &[Brackets(100_000)], &[Words("10 NotJson")]),
+    ];
+    assert_reads(&rt, &ROWS)
 }
 
 /// Whether bytes are refused since they are no JSON.
@@ -409,29 +412,31 @@ fn every_proper_beginning(rt: HostRuntime) -> Result<(), Fail> {
 
 #[test]
 fn trailing_bytes(rt: HostRuntime) -> Result<(), Fail> {
-    assert_reads(
-        &rt,
-        &[
-            (Kind::Image, &[BytesOf(Image0), Words("\n")], &[EMPTY_LINE]),
-            (
-                Kind::Image,
-                &[BytesOf(Image0), Words("\nx")],
-                &[Words("10 NotJson")],
-            ),
-            (
-                Kind::Image,
-                &[BytesOf(Image0), Words("x")],
-                &[Words("10 NotJson")],
-            ),
-        ],
-    )
+    static ROWS: [Read; 3] = [
+        (Kind::Image, &[BytesOf(Image0), Words("\n")], &[EMPTY_LINE]),
+        (
+            Kind::Image,
+            &[BytesOf(Image0), Words("\nx")],
+            &[Words("10 NotJson")],
+        ),
+        (
+            Kind::Image,
+            &[BytesOf(Image0), Words("x")],
+            &[Words("10 NotJson")],
+        ),
+    ];
+    assert_reads(&rt, &ROWS)
+}
+
+/// Bytes are refused as an index since they are no JSON.
+fn assert_no_json<R: AllocGlobal + Abort>(rt: &R, bytes: &[u8]) -> Result<(), Fail> {
+    let got = answer(rt.alloc(), Kind::Index, bytes)?;
+    assert!(rt; got.as_str() == "10 NotJson");
+    Ok(())
 }
 
 #[test]
 fn no_utf8(rt: HostRuntime) -> Result<(), Fail> {
-    for bytes in [b"{\"x\":\"\xff\"}".as_slice(), b"\xc3\x28".as_slice()] {
-        let got = answer(rt.alloc(), Kind::Index, bytes)?;
-        assert!(rt; got.as_str() == "10 NotJson");
-    }
-    Ok(())
+    assert_no_json(&rt, b"{\"x\":\"\xff\"}")?;
+    assert_no_json(&rt, b"\xc3\x28")
 }

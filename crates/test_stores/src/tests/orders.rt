@@ -280,6 +280,26 @@ fn is_cycle(lists: &[Vec<u32>], numbers: &[u32]) -> bool {
     next.is_some()
 }
 
+/// The graph is to have an order, and this is one.
+fn assert_right<R: AllocGlobal + Abort>(
+    rt: &R,
+    order: &Order,
+    count: usize,
+    wanted: bool,
+    round: u32,
+) -> Result<(), Fail> {
+    assert!(rt; wanted, "round {round}");
+    let is_right = is_right(rt.alloc(), order, count)?;
+    assert!(rt; is_right, "round {round}");
+    Ok(())
+}
+
+/// The graph is to have no order, and this is a cycle of it.
+fn assert_cycle(rt: &impl Abort, lists: &[Vec<u32>], numbers: &[u32], wanted: bool, round: u32) {
+    assert!(rt; !wanted, "round {round}");
+    assert!(rt; is_cycle(lists, numbers), "round {round}");
+}
+
 /// The answer for a graph is right: an order where it has one, and else a cycle of it.
 fn assert_answer<R: AllocGlobal + Abort>(
     rt: &R,
@@ -289,14 +309,8 @@ fn assert_answer<R: AllocGlobal + Abort>(
 ) -> Result<(), Fail> {
     let wanted = has_order(rt.alloc(), lists)?;
     match answer {
-        Ok(order) => {
-            assert!(rt; wanted, "round {round}");
-            assert!(rt; is_right(rt.alloc(), order, lists.len())?, "round {round}");
-        }
-        Err(OrderFault::Cycle(numbers)) => {
-            assert!(rt; !wanted, "round {round}");
-            assert!(rt; is_cycle(lists, numbers), "round {round}");
-        }
+        Ok(order) => assert_right(rt, order, lists.len(), wanted, round)?,
+        Err(OrderFault::Cycle(numbers)) => assert_cycle(rt, lists, numbers, wanted, round),
         Err(fault) => panic!(rt; "round {round}: {fault}"),
     }
     Ok(())

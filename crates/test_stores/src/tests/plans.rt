@@ -113,26 +113,39 @@ fn gathered<A: Source, D: Dest>(
 }
 
 /// What is planned, as text, and how many fetches that takes.
-fn planned_between(
+fn planned_and_counted(
     alloc: Global,
     store: &MemoryStore,
     destination: &MemoryStore,
+    roots: &[Key],
     row: &Row<'_>,
 ) -> Result<(String, u32), Fail> {
     let source = Counted {
         store,
         fetches: Cell::new(0),
     };
-    let roots = keys(alloc, row.roots)?;
-    let told = gathered(alloc, &source, destination, &roots, row)?;
+    let told = gathered(alloc, &source, destination, roots, row)?;
     Ok((told, source.fetches.get()))
 }
 
-/// The same of stores of the row's samples.
+/// The same of the row's roots.
+fn planned_between(
+    alloc: Global,
+    store: &MemoryStore,
+    destination: &MemoryStore,
+    row: &Row<'_>,
+) -> Result<(String, u32), Fail> {
+    planned_and_counted(alloc, store, destination, &keys(alloc, row.roots)?, row)
+}
+
+/// The same into a store of the row's samples.
+fn planned_from(alloc: Global, source: &MemoryStore, row: &Row<'_>) -> Result<(String, u32), Fail> {
+    planned_between(alloc, source, &memory(alloc, row.destination)?, row)
+}
+
+/// The same from such a store too.
 fn planned(alloc: Global, row: &Row<'_>) -> Result<(String, u32), Fail> {
-    let source = memory(alloc, row.source)?;
-    let destination = memory(alloc, row.destination)?;
-    planned_between(alloc, &source, &destination, row)
+    planned_from(alloc, &memory(alloc, row.source)?, row)
 }
 
 fn assert_row<R: AllocGlobal + Abort>(rt: &R, row: &Row<'_>) -> Result<(), Fail> {

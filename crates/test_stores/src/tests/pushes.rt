@@ -50,35 +50,38 @@ fn push_all<R: AllocGlobal + Abort>(
     Ok(())
 }
 
+fn assert_pushes_into<R: AllocGlobal + Abort>(
+    rt: &R,
+    store: &mut MemoryStore,
+    pushes: &[(Sample, &'static str)],
+    held: &[Sample],
+) -> Result<(), Fail> {
+    push_all(rt, store, pushes)?;
+    assert_holds(rt, store, held)
+}
+
 /// What the pushes of these samples answer, one after another, and what is held then.
 fn assert_pushes<R: AllocGlobal + Abort>(
     rt: &R,
     pushes: &[(Sample, &'static str)],
     held: &[Sample],
 ) -> Result<(), Fail> {
-    let mut store = MemoryStore::new(rt.alloc());
-    push_all(rt, &mut store, pushes)?;
-    assert!(rt; holds(rt.alloc(), &store, held)?);
-    Ok(())
+    assert_pushes_into(rt, &mut MemoryStore::new(rt.alloc()), pushes, held)
 }
 
 #[test]
 fn push_twice(rt: HostRuntime) -> Result<(), Fail> {
-    assert_pushes(
-        &rt,
-        &[(Empty, "place 0"), (Empty, "30 AlreadyExists")],
-        &[Empty],
-    )
+    static PUSHES: [(Sample, &str); 2] = [(Empty, "place 0"), (Empty, "30 AlreadyExists")];
+    static HELD: [Sample; 1] = [Empty];
+    assert_pushes(&rt, &PUSHES, &HELD)
 }
 
 /// One content under its digests by two algorithms is two keys.
 #[test]
 fn foo_by_two_algorithms(rt: HostRuntime) -> Result<(), Fail> {
-    assert_pushes(
-        &rt,
-        &[(Foo, "place 0"), (FooBySha512, "place 1")],
-        &[Foo, FooBySha512],
-    )
+    static PUSHES: [(Sample, &str); 2] = [(Foo, "place 0"), (FooBySha512, "place 1")];
+    static HELD: [Sample; 2] = [Foo, FooBySha512];
+    assert_pushes(&rt, &PUSHES, &HELD)
 }
 
 fn key(alloc: Global, media_type: &str, digest: Digest, size: u64) -> Result<Key, Fail> {
@@ -86,21 +89,38 @@ fn key(alloc: Global, media_type: &str, digest: Digest, size: u64) -> Result<Key
     Ok(Key::new(media_type, digest, size)?)
 }
 
+fn assert_holds<R: AllocGlobal + Abort>(
+    rt: &R,
+    store: &MemoryStore,
+    held: &[Sample],
+) -> Result<(), Fail> {
+    assert!(rt; holds(rt.alloc(), store, held)?);
+    Ok(())
+}
+
 /// Pushes bytes into an empty store under some key, and compares what is told; the store stays empty.
+fn assert_refused_by<R: AllocGlobal + Abort>(
+    rt: &R,
+    store: &mut MemoryStore,
+    key: &Key,
+    bytes: &'static [u8],
+    want: &'static str,
+) -> Result<(), Fail> {
+    assert_told(
+        rt,
+        &store.push(key, Bytes::from_static(bytes)),
+        &[Words(want)],
+    )?;
+    assert_holds(rt, store, &[])
+}
+
 fn assert_refused<R: AllocGlobal + Abort>(
     rt: &R,
     key: &Key,
     bytes: &'static [u8],
     want: &'static str,
 ) -> Result<(), Fail> {
-    let mut store = MemoryStore::new(rt.alloc());
-    assert_told(
-        rt,
-        &store.push(key, Bytes::from_static(bytes)),
-        &[Words(want)],
-    )?;
-    assert!(rt; holds(rt.alloc(), &store, &[])?);
-    Ok(())
+    assert_refused_by(rt, &mut MemoryStore::new(rt.alloc()), key, bytes, want)
 }
 
 /// A digest by SHA-512 is verified by that algorithm.
@@ -110,33 +130,32 @@ fn other_bytes_by_sha512(rt: HostRuntime) -> Result<(), Fail> {
     assert_refused(&rt, &key, b"bar", "32 DigestMismatch")
 }
 
+/// The media type of a key, the content that is digested, and the size; then the bytes that are pushed, and the refusal.
+type Refused = (
+    &'static str,
+    &'static [u8],
+    u64,
+    &'static [u8],
+    &'static str,
+);
+
+fn assert_refusal<R: AllocGlobal + Abort>(
+    rt: &R,
+    (media_type, digested, size, bytes, want): Refused,
+) -> Result<(), Fail> {
+    let key = key(rt.alloc(), media_type, Digest::of(digested), size)?;
+    assert_refused(rt, &key, bytes, want)
+}
+
 #[test]
 fn push_refusals(rt: HostRuntime) -> Result<(), Fail> {
-    for (media_type, digested, size, bytes, want) in [
-        (
-            EMPTY,
-            b"{}".as_slice(),
-            3,
-            b"{}".as_slice(),
-            "31 SizeMismatch",
-        ),
-        (
-            EMPTY,
-            b"foo".as_slice(),
-            2,
-            b"{}".as_slice(),
-            "32 DigestMismatch",
-        ),
-        (
-            IMAGE,
-            b"[]".as_slice(),
-            2,
-            b"[]".as_slice(),
-            "33 BadManifest 11 NotObject",
-        ),
-    ] {
-        let key = key(rt.alloc(), media_type, Digest::of(digested), size)?;
-        assert_refused(&rt, &key, bytes, want)?;
+    static ROWS: [Refused; 3] = [
+        (EMPTY, b"{}", 3, b"{}", "31 SizeMismatch"),
+        (EMPTY, b"foo", 2, b"{}", "32 DigestMismatch"),
+        (IMAGE, b"[]", 2, b"[]", "33 BadManifest 11 NotObject"),
+    ];
+    for row in &ROWS {
+        assert_refusal(&rt, *row)?;
     }
     Ok(())
 }
@@ -159,11 +178,18 @@ fn assert_push_closed<R: AllocGlobal + Abort>(
 }
 
 /// The same with an empty closed store, which stays empty.
+fn assert_not_closed_by<R: AllocGlobal + Abort>(
+    rt: &R,
+    store: &mut ClosedStore,
+    key: &Key,
+    want: &[Part],
+) -> Result<(), Fail> {
+    assert_push_closed(rt, store, key, want)?;
+    assert_holds(rt, store.memory(), &[])
+}
+
 fn assert_not_closed<R: AllocGlobal + Abort>(rt: &R, key: &Key, want: &[Part]) -> Result<(), Fail> {
-    let mut store = ClosedStore::new(rt.alloc());
-    assert_push_closed(rt, &mut store, key, want)?;
-    assert!(rt; holds(rt.alloc(), store.memory(), &[])?);
-    Ok(())
+    assert_not_closed_by(rt, &mut ClosedStore::new(rt.alloc()), key, want)
 }
 
 /// A manifest does not come before what it lists.

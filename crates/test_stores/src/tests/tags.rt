@@ -102,12 +102,20 @@ enum Step {
     Names(&'static [Part]),
 }
 
+/// The tag of a sample's key is taken, and the name then resolves to it.
+fn assert_named<R: AllocGlobal + Abort>(
+    rt: &R,
+    store: &mut MemoryStore,
+    sample: Sample,
+    name: &[Part],
+) -> Result<(), Fail> {
+    assert_tagged(rt, store, sample, name, &[])?;
+    assert_resolves(rt, store, name, &[KeyOf(sample)])
+}
+
 fn take<R: AllocGlobal + Abort>(rt: &R, store: &mut MemoryStore, step: Step) -> Result<(), Fail> {
     match step {
-        Step::Tags(sample, name) => {
-            assert_tagged(rt, store, sample, name, &[])?;
-            assert_resolves(rt, store, name, &[KeyOf(sample)])
-        }
+        Step::Tags(sample, name) => assert_named(rt, store, sample, name),
         Step::Refuses(sample, name, want) => {
             assert_tagged(rt, store, sample, &[Words(name)], &[Words(want)])
         }
@@ -116,30 +124,35 @@ fn take<R: AllocGlobal + Abort>(rt: &R, store: &mut MemoryStore, step: Step) -> 
     }
 }
 
+fn take_all<R: AllocGlobal + Abort>(
+    rt: &R,
+    store: &mut MemoryStore,
+    steps: &[Step],
+) -> Result<(), Fail> {
+    for step in steps {
+        take(rt, store, *step)?;
+    }
+    Ok(())
+}
+
 /// Takes these steps with a store of these samples.
 fn assert_steps<R: AllocGlobal + Abort>(
     rt: &R,
     samples: &[Sample],
     steps: &[Step],
 ) -> Result<(), Fail> {
-    let mut store = memory(rt.alloc(), samples)?;
-    for step in steps {
-        take(rt, &mut store, *step)?;
-    }
-    Ok(())
+    take_all(rt, &mut memory(rt.alloc(), samples)?, steps)
 }
 
 #[test]
 fn references(rt: HostRuntime) -> Result<(), Fail> {
-    assert_steps(
-        &rt,
-        &[Empty, Image0],
-        &[
-            Step::Resolves(DigestOf(Empty), KeyOf(Empty)),
-            Step::Resolves(Words("x"), Words("36 UnknownReference")),
-            Step::Resolves(Words(""), Words("35 EmptyReference")),
-        ],
-    )
+    static SAMPLES: [Sample; 2] = [Empty, Image0];
+    static STEPS: [Step; 3] = [
+        Step::Resolves(DigestOf(Empty), KeyOf(Empty)),
+        Step::Resolves(Words("x"), Words("36 UnknownReference")),
+        Step::Resolves(Words(""), Words("35 EmptyReference")),
+    ];
+    assert_steps(&rt, &SAMPLES, &STEPS)
 }
 
 /// A digest resolves to a key in a closed store of these samples.
@@ -165,29 +178,25 @@ fn least_key_of_a_digest(rt: HostRuntime) -> Result<(), Fail> {
 /// A name that is there is moved, and a name comes before a digest.
 #[test]
 fn tags(rt: HostRuntime) -> Result<(), Fail> {
-    assert_steps(
-        &rt,
-        &[Empty, Image0],
-        &[
-            Step::Tags(Image0, &[Words("m")]),
-            Step::Tags(Empty, &[Words("m")]),
-            Step::Tags(Image0, &[DigestOf(Empty)]),
-        ],
-    )
+    static SAMPLES: [Sample; 2] = [Empty, Image0];
+    static STEPS: [Step; 3] = [
+        Step::Tags(Image0, &[Words("m")]),
+        Step::Tags(Empty, &[Words("m")]),
+        Step::Tags(Image0, &[DigestOf(Empty)]),
+    ];
+    assert_steps(&rt, &SAMPLES, &STEPS)
 }
 
 #[test]
 fn refused_tags(rt: HostRuntime) -> Result<(), Fail> {
-    assert_steps(
-        &rt,
-        &[Empty, Image0],
-        &[
-            Step::Tags(Empty, &[Words("m")]),
-            Step::Refuses(Foo, "m", "37 NotHeld"),
-            Step::Refuses(Empty, "", "35 EmptyReference"),
-            Step::Names(&[Words("m "), LineOf(Empty)]),
-            Step::Tags(Image0, &[Words("a")]),
-            Step::Names(&[Words("a "), LineOf(Image0), Words("m "), LineOf(Empty)]),
-        ],
-    )
+    static SAMPLES: [Sample; 2] = [Empty, Image0];
+    static STEPS: [Step; 6] = [
+        Step::Tags(Empty, &[Words("m")]),
+        Step::Refuses(Foo, "m", "37 NotHeld"),
+        Step::Refuses(Empty, "", "35 EmptyReference"),
+        Step::Names(&[Words("m "), LineOf(Empty)]),
+        Step::Tags(Image0, &[Words("a")]),
+        Step::Names(&[Words("a "), LineOf(Image0), Words("m "), LineOf(Empty)]),
+    ];
+    assert_steps(&rt, &SAMPLES, &STEPS)
 }

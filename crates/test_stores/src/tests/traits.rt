@@ -95,16 +95,24 @@ fn assert_fetched<R: AllocGlobal + Abort, A: Source>(
     Ok(())
 }
 
+fn assert_call<R: AllocGlobal + Abort, D: Source + Dest>(
+    rt: &R,
+    store: &mut D,
+    call: Call,
+) -> Result<(), Fail> {
+    match call {
+        Call::Push(content, want) => assert_pushed(rt, store, content, want),
+        Call::Fetch(content, want) => assert_fetched(rt, store, content, want),
+    }
+}
+
 fn assert_calls<R: AllocGlobal + Abort, D: Source + Dest>(
     rt: &R,
     store: &mut D,
     calls: &[Call],
 ) -> Result<(), Fail> {
     for call in calls {
-        match *call {
-            Call::Push(content, want) => assert_pushed(rt, store, content, want)?,
-            Call::Fetch(content, want) => assert_fetched(rt, store, content, want)?,
-        }
+        assert_call(rt, store, *call)?;
     }
     Ok(())
 }
@@ -165,19 +173,27 @@ fn stores_in_memory(rt: HostRuntime) -> Result<(), Fail> {
     assert_foo(&rt, &mut ClosedStore::new(rt.alloc()))
 }
 
+fn assert_pushes<R: AllocGlobal + Abort>(
+    rt: &R,
+    store: &mut PublishedStore,
+    pushes: &[(Content, Pushed)],
+) -> Result<(), Fail> {
+    for (content, want) in pushes {
+        assert_pushed(rt, store, *content, *want)?;
+    }
+    Ok(())
+}
+
 #[test]
 fn published_store(rt: HostRuntime) -> Result<(), Fail> {
-    let mut store = PublishedStore::new(rt.alloc(), 1);
-    for (content, want) in [
+    static PUSHES: [(Content, Pushed); 4] = [
         (FOO, (0, true, 1, true, 0)),
         // A publication that is refused, and then each further one.
         (BAR, (34, false, 1, true, 0)),
         (BAR, (44, false, 1, true, 0)),
         (FOO, (30, true, 1, true, 0)),
-    ] {
-        assert_pushed(&rt, &mut store, content, want)?;
-    }
-    Ok(())
+    ];
+    assert_pushes(&rt, &mut PublishedStore::new(rt.alloc(), 1), &PUSHES)
 }
 
 /// What a store over a device answers whose second put and whose fourth get fail.
@@ -193,14 +209,14 @@ const DEVICE_CALLS: [Call; 8] = [
     Call::Fetch(FOO, (true, true, 22, 0)),
 ];
 
+fn assert_device<R: AllocGlobal + Abort>(rt: &R, device: &Device) -> Result<(), Fail> {
+    assert_calls(rt, &mut DeviceStore::new(rt.alloc(), device), &DEVICE_CALLS)
+}
+
 #[test]
 fn device_store(rt: HostRuntime) -> Result<(), Fail> {
     let device = Device::failing(Some(1), Some(3));
-    assert_calls(
-        &rt,
-        &mut DeviceStore::new(rt.alloc(), &device),
-        &DEVICE_CALLS,
-    )?;
+    assert_device(&rt, &device)?;
     assert_eq!(rt; device.puts(), 3);
     Ok(())
 }

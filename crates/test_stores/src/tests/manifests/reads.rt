@@ -31,6 +31,17 @@ pub(crate) fn answer(alloc: Global, kind: Kind, bytes: &[u8]) -> Result<String, 
     }
 }
 
+/// A text is read as a manifest of this kind, and what is answered.
+fn assert_answer<R: AllocGlobal + Abort>(
+    rt: &R,
+    kind: Kind,
+    manifest: &str,
+    want: &[Part],
+) -> Result<(), Fail> {
+    let got = answer(rt.alloc(), kind, manifest.as_bytes())?;
+    assert_text(rt, rt.alloc(), manifest, got.as_str(), want)
+}
+
 /// The text of these parts is read as a manifest of this kind, and what is answered.
 pub(crate) fn assert_read<R: AllocGlobal + Abort>(
     rt: &R,
@@ -38,9 +49,7 @@ pub(crate) fn assert_read<R: AllocGlobal + Abort>(
     parts: &[Part],
     want: &[Part],
 ) -> Result<(), Fail> {
-    let manifest = text(rt.alloc(), parts)?;
-    let got = answer(rt.alloc(), kind, manifest.as_bytes())?;
-    assert_text(rt, rt.alloc(), manifest.as_str(), got.as_str(), want)
+    assert_answer(rt, kind, text(rt.alloc(), parts)?.as_str(), want)
 }
 
 /// The kind of a manifest, the parts of its text, and what is answered.
