@@ -1,6 +1,6 @@
 //! The calls that copy, on the calling thread and by workers, with their answers as text.
 
-use crate::tests::copies::{Call, Word, printed, sized, text_of};
+use crate::tests::copies::{Call, Word, assert_same, printed, sized, text_of};
 use oci_copy::{
     CopyFault, Options, Report, copy, copy_graph, copy_memory, copy_memory_by_workers, copy_one,
     extended_copy, extended_copy_graph, repair_memory, repair_memory_by_workers,
@@ -135,9 +135,13 @@ pub(crate) fn assert_told(
     told: Result<String, Fail>,
     want: &str,
 ) -> Result<(), Fail> {
-    let told = told?;
-    assert_eq!(rt; told.as_str(), want);
+    assert_same(rt, told?.as_str(), want);
     Ok(())
+}
+
+/// A text is the one that is wanted of a copy by so many workers.
+fn assert_same_by(rt: &impl Abort, found: &str, want: &str, workers: Workers) {
+    assert_eq!(rt; found, want, "{workers:?}");
 }
 
 /// The copy by so many workers told this.
@@ -147,8 +151,7 @@ fn assert_told_by(
     want: &str,
     workers: Workers,
 ) -> Result<(), Fail> {
-    let told = told?;
-    assert_eq!(rt; told.as_str(), want, "{workers:?}");
+    assert_same_by(rt, told?.as_str(), want, workers);
     Ok(())
 }
 

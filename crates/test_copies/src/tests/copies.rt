@@ -149,6 +149,11 @@ pub(crate) fn is_text(alloc: Global, found: &str, words: &[Word<'_>]) -> Result<
     Ok(found == text(alloc, words)?.as_str())
 }
 
+/// A text is the one that is wanted.
+pub(crate) fn assert_same(rt: &impl Abort, found: &str, want: &str) {
+    assert_eq!(rt; found, want);
+}
+
 /// The text is that of these words.
 fn assert_text<R: AllocGlobal + Abort>(
     rt: &R,
@@ -156,7 +161,7 @@ fn assert_text<R: AllocGlobal + Abort>(
     words: &[Word<'_>],
 ) -> Result<(), Fail> {
     let want = text(rt.alloc(), words)?;
-    assert_eq!(rt; found, want.as_str());
+    assert_same(rt, found, want.as_str());
     Ok(())
 }
 

@@ -2,7 +2,7 @@
 
 use crate::tests::calls::{Copied, Workers, copied_samples, options};
 use crate::tests::copies::Word::{KeyOf, Text};
-use crate::tests::copies::{assert_holds, is_text};
+use crate::tests::copies::{assert_holds, assert_same, is_text};
 use oci_plan::Existing;
 use oci_store::{ClosedStore, Dest, Source};
 use std::alloc::Global;
@@ -98,10 +98,15 @@ where
     Ok(destination)
 }
 
+/// What is told of a copy that brings so many keys.
+fn brought(alloc: Global, count: usize) -> Result<String, Fail> {
+    Ok(format!(in alloc; "planned {count} pushed {count} skipped 0")?)
+}
+
 /// The copy brought so many keys.
 fn assert_brought<R: AllocGlobal + Abort>(rt: &R, told: &str, count: usize) -> Result<(), Fail> {
-    let want = format!(in rt.alloc(); "planned {count} pushed {count} skipped 0")?;
-    assert_eq!(rt; told, want.as_str());
+    let want = brought(rt.alloc(), count)?;
+    assert_same(rt, told, want.as_str());
     Ok(())
 }
 

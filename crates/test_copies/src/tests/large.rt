@@ -124,6 +124,11 @@ pub(crate) fn numbered(alloc: Global, number: u32) -> Result<Content, Fail> {
     })
 }
 
+fn put(alloc: Global, store: &mut MemoryStore, content: Content) -> Result<(), Fail> {
+    put_content(alloc, store, content)?;
+    Ok(())
+}
+
 /// Puts the layer of a number into the store, and its descriptor at the end of a list.
 fn put_layer(
     alloc: Global,
@@ -133,8 +138,7 @@ fn put_layer(
 ) -> Result<(), Fail> {
     let layer = numbered(alloc, number)?;
     push_descriptor(alloc, list, &layer)?;
-    put_content(alloc, store, layer)?;
-    Ok(())
+    put(alloc, store, layer)
 }
 
 /// Puts so many layers into the store, and gives the list of their descriptors.
