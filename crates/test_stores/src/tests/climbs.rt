@@ -1,3 +1,4 @@
+use crate::tests::graphs::are_keys;
 use oci_manifest::Key;
 use oci_plan::climb;
 use oci_store::MemoryStore;
@@ -7,7 +8,7 @@ use std::test::Fail;
 use test_support::Sample::{
     Bar, Empty, Foo, Image0, Image2, Index3, Index4, Index5, Index6, Referrer,
 };
-use test_support::{Sample, keys, memory, put_chain};
+use test_support::{Sample, memory, put_chain};
 
 /// The sample from whose key a climb begins, its depth, and the samples of the keys that it gives, in this order.
 type Climb = (Sample, u32, &'static [Sample]);
@@ -21,10 +22,6 @@ fn climbed(
 ) -> Result<Vec<Key>, Fail> {
     let key = sample.key(alloc)?;
     Ok(climb(alloc, source, &key, depth)?)
-}
-
-fn are_keys(alloc: Global, got: &[Key], want: &[Sample]) -> Result<bool, Fail> {
-    Ok(got == keys(alloc, want)?.as_slice())
 }
 
 /// Whether a climb gives its keys.

@@ -23,7 +23,8 @@ fn predecessors<G: GraphSource>(
     Ok(store.predecessors(&key)?)
 }
 
-fn are_keys(alloc: Global, got: &[Key], want: &[Sample]) -> Result<bool, Fail> {
+/// Whether these are the keys of the samples, in their order.
+pub(crate) fn are_keys(alloc: Global, got: &[Key], want: &[Sample]) -> Result<bool, Fail> {
     Ok(got == keys(alloc, want)?.as_slice())
 }
 

@@ -50,6 +50,7 @@ fn push_all<R: AllocGlobal + Abort>(
     Ok(())
 }
 
+/// What the pushes of these samples into a store answer, one after another, and what it holds then.
 fn assert_pushes_into<R: AllocGlobal + Abort>(
     rt: &R,
     store: &mut MemoryStore,
@@ -60,7 +61,7 @@ fn assert_pushes_into<R: AllocGlobal + Abort>(
     assert_holds(rt, store, held)
 }
 
-/// What the pushes of these samples answer, one after another, and what is held then.
+/// The same with an empty store.
 fn assert_pushes<R: AllocGlobal + Abort>(
     rt: &R,
     pushes: &[(Sample, &'static str)],
@@ -114,6 +115,7 @@ fn assert_refused_by<R: AllocGlobal + Abort>(
     assert_holds(rt, store, &[])
 }
 
+/// The same with a store that is made for it.
 fn assert_refused<R: AllocGlobal + Abort>(
     rt: &R,
     key: &Key,
@@ -177,7 +179,7 @@ fn assert_push_closed<R: AllocGlobal + Abort>(
     assert_told(rt, &store.push_closed(key, bytes), want)
 }
 
-/// The same with an empty closed store, which stays empty.
+/// The same with an empty closed store. It stays empty.
 fn assert_not_closed_by<R: AllocGlobal + Abort>(
     rt: &R,
     store: &mut ClosedStore,
@@ -188,6 +190,7 @@ fn assert_not_closed_by<R: AllocGlobal + Abort>(
     assert_holds(rt, store.memory(), &[])
 }
 
+/// The same with a closed store that is made for it.
 fn assert_not_closed<R: AllocGlobal + Abort>(rt: &R, key: &Key, want: &[Part]) -> Result<(), Fail> {
     assert_not_closed_by(rt, &mut ClosedStore::new(rt.alloc()), key, want)
 }
