@@ -1,7 +1,7 @@
 //! The rows of the commands: words, status, and both outputs, whole. Each has a folder of its own.
 //!
 //! `sessions` goes through a text of runs and compares, and `rows` through rows of words; `runs` and `files` do what a line of
-//! a session says; `contents` and `layouts` have the files; `broken` has writers and files that fail.
+//! a session says; `host` has the runtimes, `contents` and `layouts` the files; `broken` has writers and files that fail.
 
 mod algorithms;
 mod broken;
@@ -11,6 +11,7 @@ mod copy_all;
 mod dry_run;
 mod explain;
 mod files;
+mod host;
 mod layouts;
 mod looks;
 mod mem;

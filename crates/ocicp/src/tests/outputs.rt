@@ -1,17 +1,16 @@
 //! Outputs and files that fail in mid-stream.
 
 use crate::tests::broken::{Broken, Step};
+use crate::tests::host::Host;
 use crate::tests::layouts::IMAGE;
 use crate::tests::runs::{told, words_of};
 use crate::tests::sessions::assert_session_in;
-use oci_commands::{Lockable, run_words};
+use oci_commands::run_words;
 use std::io::ErrorKind;
 use std::process::Abort;
-use std::rt::Files;
 use std::sync::Wait;
 use std::test::Fail;
 use std::thread::Threads;
-use std::time::Clock;
 
 /// What the program writes to the error output where the output fails, and its status.
 const OUTPUT: &str = "! ocicp: 94 Output\n? 1\n";
@@ -29,14 +28,10 @@ const FAILURES: [(Step, ErrorKind, &str); 5] = [
 ];
 
 /// Runs the program with outputs that fail in each way, and compares its status and the error output.
-pub(crate) fn assert_breaks<R: Files + AllocGlobal + Clock + Threads + Wait + Sync + Abort>(
+pub(crate) fn assert_breaks<R: Host + Threads + Wait + Abort>(
     rt: &R,
     words: &str,
-) -> Result<(), Fail>
-where
-    R::File: Lockable + Send,
-    R::Dir: Send,
-{
+) -> Result<(), Fail> {
     for (at, kind, wanted) in FAILURES {
         let told = broken(rt, words, Broken { at, kind })?;
         assert_eq!(rt; told.as_str(), wanted, "{words}: {kind:?}");
@@ -45,15 +40,7 @@ where
 }
 
 /// What a run with this output writes to the error output, and its status.
-fn broken<R: Files + AllocGlobal + Clock + Threads + Wait + Sync>(
-    rt: &R,
-    words: &str,
-    out: Broken,
-) -> Result<String, Fail>
-where
-    R::File: Lockable + Send,
-    R::Dir: Send,
-{
+fn broken<R: Host + Threads + Wait>(rt: &R, words: &str, out: Broken) -> Result<String, Fail> {
     let words = words_of(rt.alloc(), words)?;
     let mut out = out;
     let mut err = Vec::new(rt.alloc());

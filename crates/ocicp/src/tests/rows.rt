@@ -1,14 +1,12 @@
 //! Rows of words, of whose run something is wanted.
 
+use crate::tests::host::Host;
 use crate::tests::runs::transcript;
 use crate::tests::sessions::parts;
-use oci_commands::Lockable;
 use std::process::Abort;
-use std::rt::Files;
 use std::sync::Wait;
 use std::test::Fail;
 use std::thread::Threads;
-use std::time::Clock;
 
 /// What is wanted of the run of a row.
 #[derive(Clone, Copy)]
@@ -26,16 +24,12 @@ pub(crate) enum Wanted {
 }
 
 /// Runs the program on each row of a text.
-pub(crate) fn assert_rows<R: Files + AllocGlobal + Clock + Threads + Wait + Sync + Abort>(
+pub(crate) fn assert_rows<R: Host + Threads + Wait + Abort>(
     rt: &R,
     rows: &str,
     separator: &str,
     wanted: Wanted,
-) -> Result<(), Fail>
-where
-    R::File: Lockable + Send,
-    R::Dir: Send,
-{
+) -> Result<(), Fail> {
     for row in rows.split(separator) {
         assert_row(rt, row, wanted)?;
     }
@@ -43,15 +37,11 @@ where
 }
 
 /// Runs the program on a row.
-pub(crate) fn assert_row<R: Files + AllocGlobal + Clock + Threads + Wait + Sync + Abort>(
+pub(crate) fn assert_row<R: Host + Threads + Wait + Abort>(
     rt: &R,
     row: &str,
     wanted: Wanted,
-) -> Result<(), Fail>
-where
-    R::File: Lockable + Send,
-    R::Dir: Send,
-{
+) -> Result<(), Fail> {
     let (command, words) = words_of_row(row, wanted);
     let told = run_of(rt, command, words)?;
     assert!(rt; is_as_wanted(told.as_str(), row, wanted), "{row}: {told}");
@@ -69,15 +59,7 @@ fn words_of_row(row: &str, wanted: Wanted) -> (&'static str, &str) {
 }
 
 /// All that a run of a command prints, and its status.
-fn run_of<R: Files + AllocGlobal + Clock + Threads + Wait + Sync>(
-    rt: &R,
-    command: &str,
-    words: &str,
-) -> Result<String, Fail>
-where
-    R::File: Lockable + Send,
-    R::Dir: Send,
-{
+fn run_of<R: Host + Threads + Wait>(rt: &R, command: &str, words: &str) -> Result<String, Fail> {
     let line = format!(in rt.alloc(); "{command} {words}")?;
     transcript(rt, line.as_str())
 }

@@ -1,24 +1,16 @@
 //! Runs of the program, and what they write.
 
 use crate::tests::contents::push_all;
-use oci_commands::{Lockable, run_words};
+use crate::tests::host::Host;
+use oci_commands::run_words;
 use std::alloc::Global;
 use std::fmt::Write;
-use std::rt::Files;
 use std::sync::Wait;
 use std::test::Fail;
 use std::thread::Threads;
-use std::time::Clock;
 
 /// All that a run of the program prints, and its status.
-pub(crate) fn transcript<R: Files + AllocGlobal + Clock + Threads + Wait + Sync>(
-    rt: &R,
-    words: &str,
-) -> Result<String, Fail>
-where
-    R::File: Lockable + Send,
-    R::Dir: Send,
-{
+pub(crate) fn transcript<R: Host + Threads + Wait>(rt: &R, words: &str) -> Result<String, Fail> {
     let words = words_of(rt.alloc(), words)?;
     let mut out = Vec::new(rt.alloc());
     let mut err = Vec::new(rt.alloc());
@@ -27,14 +19,7 @@ where
 }
 
 /// What a run on a terminal writes to stderr, and a line feed.
-pub(crate) fn drawn<R: Files + AllocGlobal + Clock + Threads + Wait + Sync>(
-    rt: &R,
-    words: &str,
-) -> Result<String, Fail>
-where
-    R::File: Lockable + Send,
-    R::Dir: Send,
-{
+pub(crate) fn drawn<R: Host + Threads + Wait>(rt: &R, words: &str) -> Result<String, Fail> {
     let words = words_of(rt.alloc(), words)?;
     let mut out = Vec::new(rt.alloc());
     let mut err = Vec::new(rt.alloc());

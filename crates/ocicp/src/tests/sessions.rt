@@ -24,55 +24,34 @@
 use crate::tests::broken::Unreadable;
 use crate::tests::contents::filled;
 use crate::tests::files::{change, shown};
+use crate::tests::host::{Host, Placed};
 use crate::tests::outputs::assert_breaks;
 use crate::tests::runs::{drawn, transcript};
 use crate::tests::side_by_side::beside;
-use oci_commands::Lockable;
+use std::fs;
 use std::io::ErrorKind;
 use std::process::Abort;
-use std::rt::Files;
 use std::sync::Wait;
 use std::test::Fail;
 use std::thread::Threads;
-use std::time::Clock;
-use std::{env, fs, process};
 
 /// Goes through two sessions in a folder of this name, which then goes.
-pub(crate) fn assert_session_in<
-    R: Files + AllocGlobal + Clock + Threads + Wait + Sync + Abort + Placed,
->(rt: &R, name: &str, before: &str, session: &str) -> Result<(), Fail>
-where
-    R::File: Lockable + Send,
-    R::Dir: Send,
-{
+pub(crate) fn assert_session_in<R: Placed + Threads + Wait + Abort>(
+    rt: &R,
+    name: &str,
+    before: &str,
+    session: &str,
+) -> Result<(), Fail> {
     let folder = rt.folder(name)?;
     assert_session(rt, folder.as_str(), before, session)
 }
 
-/// A runtime that has a folder for each test.
-pub(crate) trait Placed {
-    /// The path of the folder of this name.
-    fn folder(&self, name: &str) -> Result<String, Fail>;
-}
-
-impl Placed for HostRuntime {
-    fn folder(&self, name: &str) -> Result<String, Fail> {
-        let root = env::temp_dir(self)?;
-        let id = process::id(self.process());
-        Ok(format!(in self.alloc(); "{}/ocicp-{name}-{id}", root.display())?)
-    }
-}
-
-fn assert_session<R: Files + AllocGlobal + Clock + Threads + Wait + Sync + Abort>(
+fn assert_session<R: Host + Threads + Wait + Abort>(
     rt: &R,
     folder: &str,
     before: &str,
     session: &str,
-) -> Result<(), Fail>
-where
-    R::File: Lockable + Send,
-    R::Dir: Send,
-{
+) -> Result<(), Fail> {
     fs::create_dir_all(rt, folder)?;
     assert_runs(rt, folder, before)?;
     assert_runs(rt, folder, session)?;
@@ -80,15 +59,11 @@ where
 }
 
 /// Goes through a session.
-pub(crate) fn assert_runs<R: Files + AllocGlobal + Clock + Threads + Wait + Sync + Abort>(
+pub(crate) fn assert_runs<R: Host + Threads + Wait + Abort>(
     rt: &R,
     folder: &str,
     session: &str,
-) -> Result<(), Fail>
-where
-    R::File: Lockable + Send,
-    R::Dir: Send,
-{
+) -> Result<(), Fail> {
     let session = filled(rt.alloc(), folder, session)?;
     for run in session.as_str().split("$ ").skip(1) {
         assert_run(rt, run)?;
@@ -97,14 +72,7 @@ where
 }
 
 /// What a line prints is what stands below it.
-fn assert_run<R: Files + AllocGlobal + Clock + Threads + Wait + Sync + Abort>(
-    rt: &R,
-    run: &str,
-) -> Result<(), Fail>
-where
-    R::File: Lockable + Send,
-    R::Dir: Send,
-{
+fn assert_run<R: Host + Threads + Wait + Abort>(rt: &R, run: &str) -> Result<(), Fail> {
     let (line, wanted) = parts(run, '\n');
     let (command, rest) = parts(line, ' ');
     let told = telling(rt, command, rest)?;
@@ -125,15 +93,11 @@ pub(crate) fn parts(text: &str, separator: char) -> (&str, &str) {
 }
 
 /// What a line prints.
-fn telling<R: Files + AllocGlobal + Clock + Threads + Wait + Sync + Abort>(
+fn telling<R: Host + Threads + Wait + Abort>(
     rt: &R,
     command: &str,
     rest: &str,
-) -> Result<String, Fail>
-where
-    R::File: Lockable + Send,
-    R::Dir: Send,
-{
+) -> Result<String, Fail> {
     match command {
         "ocicp" | "unordered" => transcript(rt, rest),
         "terminal" => drawn(rt, rest),
@@ -149,29 +113,13 @@ where
 }
 
 /// Runs the program where some files cannot be opened.
-fn hindered<R: Files + AllocGlobal + Clock + Threads + Wait + Sync>(
-    rt: &R,
-    line: &str,
-    kind: ErrorKind,
-) -> Result<String, Fail>
-where
-    R::File: Lockable + Send,
-    R::Dir: Send,
-{
+fn hindered<R: Host + Threads + Wait>(rt: &R, line: &str, kind: ErrorKind) -> Result<String, Fail> {
     let (part, words) = parts(line, ' ');
     transcript(&Unreadable { rt, part, kind }, words)
 }
 
 /// Goes through a line that prints nothing.
-fn silent<R: Files + AllocGlobal + Clock + Threads + Wait + Sync + Abort>(
-    rt: &R,
-    command: &str,
-    rest: &str,
-) -> Result<(), Fail>
-where
-    R::File: Lockable + Send,
-    R::Dir: Send,
-{
+fn silent<R: Host + Threads + Wait + Abort>(rt: &R, command: &str, rest: &str) -> Result<(), Fail> {
     match command {
         "broken" => assert_breaks(rt, rest),
         _ => change(rt, command, rest),

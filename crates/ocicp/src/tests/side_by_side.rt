@@ -1,16 +1,15 @@
 //! Runs beside another process that writes into the same folder: one that writes waits for it, and one that reads does not.
 
+use crate::tests::host::Host;
 use crate::tests::layouts::IMAGE;
 use crate::tests::runs::{told, words_of};
 use crate::tests::sessions::{assert_session_in, parts};
 use oci_commands::{Lockable, run_words};
 use std::fs::File;
 use std::io::Write;
-use std::rt::Files;
 use std::sync::Wait;
 use std::test::Fail;
 use std::thread::Threads;
-use std::time::Clock;
 use std::{fs, io};
 
 /// An error output that lets a lock go as the first line comes, and keeps what is written.
@@ -32,14 +31,7 @@ impl<L: Drop> Write for LettingGo<L> {
 }
 
 /// All that a run prints while another process has a lock on a folder, as one that copies into it has.
-pub(crate) fn beside<R: Files + AllocGlobal + Clock + Threads + Wait + Sync>(
-    rt: &R,
-    line: &str,
-) -> Result<String, Fail>
-where
-    R::File: Lockable + Send,
-    R::Dir: Send,
-{
+pub(crate) fn beside<R: Host + Threads + Wait>(rt: &R, line: &str) -> Result<String, Fail> {
     let (folder, words) = parts(line, ' ');
     let lock = Some(locked(rt, folder)?);
     let mut err = LettingGo {
@@ -50,15 +42,11 @@ where
 }
 
 /// All that a run with this error output prints, and its status.
-fn transcript_to<R: Files + AllocGlobal + Clock + Threads + Wait + Sync>(
+fn transcript_to<R: Host + Threads + Wait>(
     rt: &R,
     words: &str,
     err: &mut LettingGo<R::File>,
-) -> Result<String, Fail>
-where
-    R::File: Lockable + Send,
-    R::Dir: Send,
-{
+) -> Result<String, Fail> {
     let words = words_of(rt.alloc(), words)?;
     let mut out = Vec::new(rt.alloc());
     let status = run_words(rt, &words, false, &mut out, err);
@@ -66,10 +54,7 @@ where
 }
 
 /// A lock on a folder.
-fn locked<R: Files>(rt: &R, folder: &str) -> Result<R::File, Fail>
-where
-    R::File: Lockable,
-{
+fn locked<R: Host>(rt: &R, folder: &str) -> Result<R::File, Fail> {
     fs::create_dir_all(rt, folder)?;
     let lock = File::open(rt, folder)?;
     lock.take()?;

@@ -1,0 +1,29 @@
+//! The runtimes with which the tests run the program.
+
+use crate::tests::broken::Unreadable;
+use oci_commands::Lockable;
+use std::rt::Files;
+use std::test::Fail;
+use std::time::Clock;
+use std::{env, process};
+
+/// What a run needs of its runtime, apart from threads: files, memory and a clock.
+pub(crate) trait Host: Files<File: Lockable + Send, Dir: Send> + AllocGlobal + Clock + Sync {}
+
+impl Host for HostRuntime {}
+
+impl<'r, R: Host> Host for Unreadable<'r, R> {}
+
+/// A runtime that has a folder for each test.
+pub(crate) trait Placed: Host {
+    /// The path of the folder of this name.
+    fn folder(&self, name: &str) -> Result<String, Fail>;
+}
+
+impl Placed for HostRuntime {
+    fn folder(&self, name: &str) -> Result<String, Fail> {
+        let root = env::temp_dir(self)?;
+        let id = process::id(self.process());
+        Ok(format!(in self.alloc(); "{}/ocicp-{name}-{id}", root.display())?)
+    }
+}
