@@ -18,6 +18,7 @@ use bytes::Bytes;
 use oci_digest::Digest;
 use oci_manifest::Key;
 use std::alloc::Global;
+use std::slice;
 use std::test::Fail;
 
 pub const IMAGE: &str = "application/vnd.oci.image.manifest.v1+json";
@@ -31,6 +32,52 @@ pub const EMPTY: &str = "application/vnd.oci.empty.v1+json";
 pub const LAYER: &str = "application/vnd.oci.image.layer.v1.tar";
 
 pub const FOREIGN: &str = "application/vnd.docker.image.rootfs.foreign.diff.tar.gzip";
+
+/// The name of the one row whose digest is by SHA-512.
+const FOO_BY_SHA512: &str = "foo_by_sha512";
+
+/// The beginning of the images with the config `empty`.
+const IMAGE_HEAD: &str =
+    r#"{"schemaVersion":2,"mediaType":"application/vnd.oci.image.manifest.v1+json","config":<empty>,"layers":"#;
+
+/// The beginning of the Docker image.
+const DOCKER_HEAD: &str = r#"{"schemaVersion":2,"config":<empty>,"layers":"#;
+
+/// The beginning of the indexes.
+const INDEX_HEAD: &str = r#"{"schemaVersion":2,"manifests":["#;
+
+/// A content: its name, its media type, and its text in two parts, in which `<name>` stands for the descriptor of the row of
+/// that name.
+type Row = (&'static str, &'static str, &'static str, &'static str);
+
+/// The contents. A row names only rows before it.
+const ROWS: &[Row] = &[
+    ("empty", EMPTY, "", "{}"),
+    ("foo", LAYER, "", "foo"),
+    ("bar", LAYER, "", "bar"),
+    (FOO_BY_SHA512, LAYER, "", "foo"),
+    ("image_0", IMAGE, IMAGE_HEAD, "null}"),
+    ("image_2", IMAGE, IMAGE_HEAD, "[<foo>]}"),
+    ("image_3", IMAGE, IMAGE_HEAD, "[<foo>,<bar>]}"),
+    ("referrer", IMAGE, IMAGE_HEAD, r#"[],"subject":<image_2>}"#),
+    ("index_1", INDEX, INDEX_HEAD, "<image_2>,<image_3>]}"),
+    ("index_3", INDEX, INDEX_HEAD, "<image_2>]}"),
+    ("index_4", INDEX, INDEX_HEAD, "<index_3>]}"),
+    ("index_5", INDEX, INDEX_HEAD, "<index_4>,<image_2>]}"),
+    ("index_6", INDEX, INDEX_HEAD, "<index_5>]}"),
+    ("image_0_as_layer", LAYER, IMAGE_HEAD, "null}"),
+    ("image_1", IMAGE, IMAGE_HEAD, "[<foo>,<foo>]}"),
+    ("image_4", IMAGE, IMAGE_HEAD, "[<image_0_as_layer>]}"),
+    ("image_5", IMAGE, IMAGE_HEAD, "[<foo_by_sha512>]}"),
+    ("index_2", INDEX, INDEX_HEAD, "<image_0>,<image_4>]}"),
+    ("foreign_bar", FOREIGN, "", "bar"),
+    (
+        "docker_image",
+        DOCKER_IMAGE,
+        DOCKER_HEAD,
+        "[<foreign_bar>]}",
+    ),
+];
 
 /// The contents, by name.
 #[derive(Clone, Copy)]
@@ -59,39 +106,42 @@ pub enum Sample {
 
 impl Sample {
     pub fn content(self, alloc: Global) -> Result<Content, Fail> {
-        match self {
-            Sample::Empty => empty(alloc),
-            Sample::Foo | Sample::FooBySha512 => foo(alloc),
-            Sample::Bar => bar(alloc),
-            Sample::Image0 => image_0(alloc),
-            Sample::Image0AsLayer => image_0_as_layer(alloc),
-            Sample::Image1 => image_1(alloc),
-            Sample::Image2 => image_2(alloc),
-            Sample::Image3 => image_3(alloc),
-            Sample::Image4 => image_4(alloc),
-            Sample::Image5 => image_5(alloc),
-            Sample::Referrer => referrer(alloc),
-            Sample::Index1 => index_1(alloc),
-            Sample::Index2 => index_2(alloc),
-            Sample::Index3 => index_3(alloc),
-            Sample::Index4 => index_4(alloc),
-            Sample::Index5 => index_5(alloc),
-            Sample::Index6 => index_6(alloc),
-            Sample::DockerImage => docker_image(alloc),
-        }
+        content_named(alloc, self.name())
     }
 
     pub fn key(self, alloc: Global) -> Result<Key, Fail> {
         let content = self.content(alloc)?;
-        match self {
-            Sample::FooBySha512 => content.key_by_sha512(alloc),
-            _ => content.key(alloc),
-        }
+        key_named(alloc, self.name(), &content)
     }
 
     pub fn bytes(self, alloc: Global) -> Result<Bytes, Fail> {
         let content = self.content(alloc)?;
         Ok(Bytes::from_vec(content.bytes.into_bytes())?)
+    }
+
+    /// The name of its row.
+    fn name(self) -> &'static str {
+        match self {
+            Sample::Empty => "empty",
+            Sample::Foo => "foo",
+            Sample::FooBySha512 => FOO_BY_SHA512,
+            Sample::Bar => "bar",
+            Sample::Image0 => "image_0",
+            Sample::Image0AsLayer => "image_0_as_layer",
+            Sample::Image1 => "image_1",
+            Sample::Image2 => "image_2",
+            Sample::Image3 => "image_3",
+            Sample::Image4 => "image_4",
+            Sample::Image5 => "image_5",
+            Sample::Referrer => "referrer",
+            Sample::Index1 => "index_1",
+            Sample::Index2 => "index_2",
+            Sample::Index3 => "index_3",
+            Sample::Index4 => "index_4",
+            Sample::Index5 => "index_5",
+            Sample::Index6 => "index_6",
+            Sample::DockerImage => "docker_image",
+        }
     }
 }
 
@@ -135,141 +185,120 @@ pub fn descriptor(alloc: Global, key: &Key) -> Result<String, Fail> {
     )?)
 }
 
-pub fn empty(alloc: Global) -> Result<Content, Fail> {
-    Ok(Content {
-        media_type: EMPTY,
-        bytes: String::from_str(alloc, "{}")?,
-    })
+/// The key of the content that has this name.
+fn key_named(alloc: Global, name: &str, content: &Content) -> Result<Key, Fail> {
+    if name == FOO_BY_SHA512 {
+        content.key_by_sha512(alloc)
+    } else {
+        content.key(alloc)
+    }
 }
 
-pub fn foo(alloc: Global) -> Result<Content, Fail> {
-    Ok(Content {
-        media_type: LAYER,
-        bytes: String::from_str(alloc, "foo")?,
-    })
+/// The content that has this name. The descriptors of the rows before its own are made first.
+fn content_named(alloc: Global, name: &str) -> Result<Content, Fail> {
+    let mut descriptors = Vec::new(alloc);
+    for row in ROWS {
+        if row.0 == name {
+            return content_of(alloc, row, &descriptors);
+        }
+        push_descriptor(alloc, &mut descriptors, row)?;
+    }
+    Err(Fail::from("no content has this name"))
 }
 
-pub fn bar(alloc: Global) -> Result<Content, Fail> {
-    Ok(Content {
-        media_type: LAYER,
-        bytes: String::from_str(alloc, "bar")?,
-    })
+/// Adds the descriptor of a row to those of the rows before it.
+fn push_descriptor(alloc: Global, descriptors: &mut Vec<String>, row: &Row) -> Result<(), Fail> {
+    let content = content_of(alloc, row, descriptors)?;
+    let key = key_named(alloc, row.0, &content)?;
+    Ok(descriptors.push(descriptor(alloc, &key)?)?)
 }
 
-/// The image with the config `empty` whose text goes on with `rest` after `"layers":`.
+/// The content of a row, by the descriptors of the rows before it.
+fn content_of(alloc: Global, row: &Row, descriptors: &[String]) -> Result<Content, Fail> {
+    let (_, media_type, head, rest) = *row;
+    let mut bytes = String::new(alloc);
+    push_filled(&mut bytes, head, descriptors)?;
+    push_filled(&mut bytes, rest, descriptors)?;
+    Ok(Content { media_type, bytes })
+}
+
+/// Adds a text, with a descriptor in the place of each name.
+fn push_filled(told: &mut String, text: &str, descriptors: &[String]) -> Result<(), Fail> {
+    for part in text.split('<') {
+        push_part(told, part, descriptors)?;
+    }
+    Ok(())
+}
+
+/// Adds a name's descriptor and what follows it, or the beginning of a text.
+fn push_part(told: &mut String, part: &str, descriptors: &[String]) -> Result<(), Fail> {
+    match part.split_once('>') {
+        Some((name, rest)) => {
+            push_named(told, name, descriptors)?;
+            Ok(told.push_str(rest)?)
+        }
+        None => Ok(told.push_str(part)?),
+    }
+}
+
+/// Adds the descriptor of the row of this name.
+fn push_named(told: &mut String, name: &str, descriptors: &[String]) -> Result<(), Fail> {
+    for (row, descriptor) in ROWS.iter().zip(descriptors) {
+        if row.0 == name {
+            return Ok(told.push_str(descriptor.as_str())?);
+        }
+    }
+    Err(Fail::from("no row before has this name"))
+}
+
+/// The image with the config `empty`, which is the first row, whose text goes on with `rest` after `"layers":`.
 pub fn image(alloc: Global, rest: &str) -> Result<Content, Fail> {
     let config = empty(alloc)?.descriptor(alloc)?;
+    let mut bytes = String::new(alloc);
+    push_filled(&mut bytes, IMAGE_HEAD, slice::from_ref(&config))?;
+    bytes.push_str(rest)?;
     Ok(Content {
         media_type: IMAGE,
-        bytes: format!(in alloc;
-            "{{\"schemaVersion\":2,\"mediaType\":\"{IMAGE}\",\"config\":{config},\"layers\":{rest}"
-        )?,
-    })
-}
-
-pub fn image_0(alloc: Global) -> Result<Content, Fail> {
-    image(alloc, "null}")
-}
-
-pub fn image_0_as_layer(alloc: Global) -> Result<Content, Fail> {
-    let Content { bytes, .. } = image_0(alloc)?;
-    Ok(Content {
-        media_type: LAYER,
         bytes,
     })
-}
-
-pub fn image_1(alloc: Global) -> Result<Content, Fail> {
-    let foo = foo(alloc)?.descriptor(alloc)?;
-    let rest = format!(in alloc; "[{foo},{foo}]}}")?;
-    image(alloc, rest.as_str())
-}
-
-pub fn image_2(alloc: Global) -> Result<Content, Fail> {
-    let foo = foo(alloc)?.descriptor(alloc)?;
-    let rest = format!(in alloc; "[{foo}]}}")?;
-    image(alloc, rest.as_str())
-}
-
-pub fn image_3(alloc: Global) -> Result<Content, Fail> {
-    let foo = foo(alloc)?.descriptor(alloc)?;
-    let bar = bar(alloc)?.descriptor(alloc)?;
-    let rest = format!(in alloc; "[{foo},{bar}]}}")?;
-    image(alloc, rest.as_str())
-}
-
-pub fn image_4(alloc: Global) -> Result<Content, Fail> {
-    let key = image_0(alloc)?.key_as(alloc, LAYER)?;
-    let layer = descriptor(alloc, &key)?;
-    let rest = format!(in alloc; "[{layer}]}}")?;
-    image(alloc, rest.as_str())
-}
-
-pub fn image_5(alloc: Global) -> Result<Content, Fail> {
-    let key = foo(alloc)?.key_by_sha512(alloc)?;
-    let layer = descriptor(alloc, &key)?;
-    let rest = format!(in alloc; "[{layer}]}}")?;
-    image(alloc, rest.as_str())
-}
-
-pub fn referrer(alloc: Global) -> Result<Content, Fail> {
-    let subject = image_2(alloc)?.descriptor(alloc)?;
-    let rest = format!(in alloc; "[],\"subject\":{subject}}}")?;
-    image(alloc, rest.as_str())
 }
 
 /// The index whose list of descriptors is `list`, without its brackets.
 pub fn index(alloc: Global, list: &str) -> Result<Content, Fail> {
     Ok(Content {
         media_type: INDEX,
-        bytes: format!(in alloc; "{{\"schemaVersion\":2,\"manifests\":[{list}]}}")?,
+        bytes: format!(in alloc; "{INDEX_HEAD}{list}]}}")?,
     })
+}
+
+pub fn empty(alloc: Global) -> Result<Content, Fail> {
+    Sample::Empty.content(alloc)
+}
+
+pub fn foo(alloc: Global) -> Result<Content, Fail> {
+    Sample::Foo.content(alloc)
+}
+
+pub fn bar(alloc: Global) -> Result<Content, Fail> {
+    Sample::Bar.content(alloc)
+}
+
+pub fn image_0(alloc: Global) -> Result<Content, Fail> {
+    Sample::Image0.content(alloc)
+}
+
+pub fn image_1(alloc: Global) -> Result<Content, Fail> {
+    Sample::Image1.content(alloc)
+}
+
+pub fn referrer(alloc: Global) -> Result<Content, Fail> {
+    Sample::Referrer.content(alloc)
 }
 
 pub fn index_1(alloc: Global) -> Result<Content, Fail> {
-    let first = image_2(alloc)?.descriptor(alloc)?;
-    let second = image_3(alloc)?.descriptor(alloc)?;
-    let list = format!(in alloc; "{first},{second}")?;
-    index(alloc, list.as_str())
-}
-
-pub fn index_2(alloc: Global) -> Result<Content, Fail> {
-    let first = image_0(alloc)?.descriptor(alloc)?;
-    let second = image_4(alloc)?.descriptor(alloc)?;
-    let list = format!(in alloc; "{first},{second}")?;
-    index(alloc, list.as_str())
-}
-
-pub fn index_3(alloc: Global) -> Result<Content, Fail> {
-    let list = image_2(alloc)?.descriptor(alloc)?;
-    index(alloc, list.as_str())
-}
-
-pub fn index_4(alloc: Global) -> Result<Content, Fail> {
-    let list = index_3(alloc)?.descriptor(alloc)?;
-    index(alloc, list.as_str())
-}
-
-pub fn index_5(alloc: Global) -> Result<Content, Fail> {
-    let first = index_4(alloc)?.descriptor(alloc)?;
-    let second = image_2(alloc)?.descriptor(alloc)?;
-    let list = format!(in alloc; "{first},{second}")?;
-    index(alloc, list.as_str())
-}
-
-pub fn index_6(alloc: Global) -> Result<Content, Fail> {
-    let list = index_5(alloc)?.descriptor(alloc)?;
-    index(alloc, list.as_str())
+    Sample::Index1.content(alloc)
 }
 
 pub fn docker_image(alloc: Global) -> Result<Content, Fail> {
-    let config = empty(alloc)?.descriptor(alloc)?;
-    let key = bar(alloc)?.key_as(alloc, FOREIGN)?;
-    let layer = descriptor(alloc, &key)?;
-    Ok(Content {
-        media_type: DOCKER_IMAGE,
-        bytes: format!(in alloc;
-            "{{\"schemaVersion\":2,\"config\":{config},\"layers\":[{layer}]}}"
-        )?,
-    })
+    Sample::DockerImage.content(alloc)
 }
