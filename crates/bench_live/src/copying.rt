@@ -26,13 +26,18 @@ pub(crate) fn copy_twice<T: Threads + Wait + Sync, R: Wait + Drop + Send>(
 fn source(alloc: Global, contents: Vec<Content>) -> Result<(MemoryStore, Vec<Key>), AllocError> {
     let mut store = MemoryStore::new(alloc);
     let mut keys = Vec::new(alloc);
-    for Content { key, bytes } in contents {
-        if store.push(&key, bytes).is_err() {
-            return Err(AllocError);
-        }
-        keys.push(key)?;
+    for content in contents {
+        put(&mut store, &mut keys, content)?;
     }
     Ok((store, keys))
+}
+
+fn put(store: &mut MemoryStore, keys: &mut Vec<Key>, content: Content) -> Result<(), AllocError> {
+    let Content { key, bytes } = content;
+    match store.push(&key, bytes) {
+        Ok(_) => Ok(keys.push(key)?),
+        Err(_) => Err(AllocError),
+    }
 }
 
 fn copy_all<T: Threads + Wait + Sync, R: Wait + Drop + Send>(

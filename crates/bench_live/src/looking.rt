@@ -5,8 +5,19 @@ use std::sync::Wait;
 use std::sync::atomic::{AtomicBool, Ordering};
 use std::thread::{Threads, join};
 
-/// Pushes all contents while two looks ask for a key, each on its own thread.
+/// Pushes all contents while two looks ask for a key. None where there was no memory for a look.
 pub(crate) fn push_all_looked_at<T: Threads + Sync, R: Wait + Drop + Send>(
+    rt: &T,
+    live: &mut LiveStore<R>,
+    key: &Key,
+    contents: Vec<Content>,
+) -> Option<Tally> {
+    let looks = (live.look().ok()?, live.look().ok()?);
+    Some(push_all_beside(rt, live, looks, key, contents))
+}
+
+/// Pushes all contents while these looks ask for a key, each on its own thread.
+fn push_all_beside<T: Threads + Sync, R: Wait + Drop + Send>(
     rt: &T,
     live: &mut LiveStore<R>,
     looks: (Look, Look),

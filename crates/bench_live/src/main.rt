@@ -41,10 +41,19 @@ fn run<R: Threads + Wait + Send + Sync + Copy + Drop>(
     alloc: Global,
     words: &[String],
 ) -> Option<Tally> {
-    let store = words.first()?;
     let count = words.get(1)?.as_str().parse().ok()?;
     let contents = contents(alloc, count).ok()?;
-    match store.as_str() {
+    pushed(rt, alloc, words.first()?.as_str(), contents)
+}
+
+/// Pushes the contents into the store of this name.
+fn pushed<R: Threads + Wait + Send + Sync + Copy + Drop>(
+    rt: R,
+    alloc: Global,
+    store: &str,
+    contents: Vec<Content>,
+) -> Option<Tally> {
+    match store {
         "closed" => Some(closed(alloc, contents)),
         "live" => live(rt, alloc, contents),
         "looked" => looked(rt, alloc, contents),
@@ -70,8 +79,15 @@ fn opened<R: Wait + Drop>(rt: R, alloc: Global) -> Option<LiveStore<R>> {
 fn live<R: Wait + Drop>(rt: R, alloc: Global, contents: Vec<Content>) -> Option<Tally> {
     let mut live = opened(rt, alloc)?;
     let tally = push_all(&mut live, contents);
-    let out = live.copy_out().ok()?;
-    Some(tally.held(out.memory().len()))
+    copied_out(&live, tally)
+}
+
+/// What came of the pushes, with how many entries a copy of the store has.
+fn copied_out<R: Wait + Drop>(live: &LiveStore<R>, tally: Tally) -> Option<Tally> {
+    match live.copy_out() {
+        Ok(out) => Some(tally.held(out.memory().len())),
+        Err(_) => None,
+    }
 }
 
 /// The key that looks ask for.
@@ -86,8 +102,7 @@ fn looked<R: Threads + Wait + Send + Sync + Copy + Drop>(
 ) -> Option<Tally> {
     let key = asked_for(&contents)?;
     let mut live = opened(rt, alloc)?;
-    let looks = (live.look().ok()?, live.look().ok()?);
-    let tally = push_all_looked_at(&rt, &mut live, looks, &key, contents);
+    let tally = push_all_looked_at(&rt, &mut live, &key, contents)?;
     Some(tally.held(live.count()))
 }
 
@@ -106,6 +121,5 @@ fn copied<R: Threads + Wait + Send + Sync + Copy + Drop>(
     contents: Vec<Content>,
 ) -> Option<Tally> {
     let (live, tally) = copy_twice(&rt, alloc, opened(rt, alloc)?, contents)?;
-    let out = live.copy_out().ok()?;
-    Some(tally.held(out.memory().len()))
+    copied_out(&live, tally)
 }
