@@ -60,10 +60,8 @@ pub(crate) fn copied_twice<R: Threads + Wait + Sync>(
 ) -> Result<(), Fail> {
     let (samples, root) = call.samples();
     let graph = Graph::of(alloc, &samples, root)?;
-    let mut store = destination_with(alloc, OLD)?;
-    for _ in 0..2 {
-        store = copied(rt, alloc, call, &graph, store, line)?;
-    }
+    let store = copied(rt, alloc, call, &graph, destination_with(alloc, OLD)?, line)?;
+    copied(rt, alloc, call, &graph, store, line)?;
     Ok(())
 }
 
@@ -76,8 +74,21 @@ fn copied<R: Threads + Wait + Sync>(
     store: ClosedStore,
     line: &mut Line,
 ) -> Result<ClosedStore, Fail> {
-    let (store, answer) = call.copy(rt, alloc, graph, store);
-    line.copy(&answer, &store);
+    let store = made(rt, alloc, call, graph, store, line);
     line.old(gives_sample(alloc, &store, OLD)?);
     Ok(store)
+}
+
+/// Makes the copy, and tells what it answered.
+fn made<R: Threads + Wait + Sync>(
+    rt: &R,
+    alloc: Global,
+    call: Call,
+    graph: &Graph,
+    store: ClosedStore,
+    line: &mut Line,
+) -> ClosedStore {
+    let (store, answer) = call.copy(rt, alloc, graph, store);
+    line.copy(&answer, &store);
+    store
 }

@@ -7,7 +7,7 @@ use oci_copy::copy_graph;
 use oci_live::{LiveStore, Look};
 use oci_manifest::Key;
 use oci_pool::NoHooks;
-use oci_store::Dest;
+use oci_store::{ClosedStore, Dest};
 use std::alloc::Global;
 use std::slice;
 use std::sync::Wait;
@@ -33,21 +33,33 @@ fn opened<R: Wait + Drop + Copy>(
     alloc: Global,
     line: &mut Line,
 ) -> Result<LiveStore<R>, Fail> {
-    let mut store = destination_with(alloc, Foo)?;
-    for _ in 0..2 {
-        line.say("open");
-        match LiveStore::open(rt, alloc, store) {
-            Ok(live) => {
-                line.say("done");
-                return Ok(live);
-            }
-            Err((refused, fault)) => {
-                line.tell(&fault);
-                store = refused;
-            }
+    match opened_over(rt, alloc, destination_with(alloc, Foo)?, line) {
+        Ok(live) => Ok(live),
+        Err(refused) => match opened_over(rt, alloc, refused, line) {
+            Ok(live) => Ok(live),
+            Err(_) => Err(Fail::from("the live store cannot be opened")),
+        },
+    }
+}
+
+/// A live store over this one, which is given back where that is refused.
+fn opened_over<R: Wait + Drop>(
+    rt: R,
+    alloc: Global,
+    store: ClosedStore,
+    line: &mut Line,
+) -> Result<LiveStore<R>, ClosedStore> {
+    line.say("open");
+    match LiveStore::open(rt, alloc, store) {
+        Ok(live) => {
+            line.say("done");
+            Ok(live)
+        }
+        Err((refused, fault)) => {
+            line.tell(&fault);
+            Err(refused)
         }
     }
-    Err(Fail::from("the live store cannot be opened"))
 }
 
 /// Takes a look, and copies the image twice.
@@ -92,13 +104,29 @@ fn copied<R: Threads + Wait + Send + Sync + Copy + Drop>(
     requires { look.old.name ≡ live.name }
     ensures { IfOk result (λ it. look.new.name ≡ it.name) }
 {
+    let live = made(rt, alloc, graph, live, look, line);
+    line.old(live.has(&Foo.key(alloc)?));
+    count(look, line);
+    Ok(live)
+}
+
+/// Copies the image into the live store, and tells what that answered.
+fn made<R: Threads + Wait + Send + Sync + Copy + Drop>(
+    rt: &R,
+    alloc: Global,
+    graph: &Graph,
+    live: LiveStore<R>,
+    look: &mut Look,
+    line: &mut Line,
+) -> LiveStore<R>
+    requires { look.old.name ≡ live.name }
+    ensures { look.new.name ≡ result.name }
+{
     let (roots, by) = (slice::from_ref(&graph.root), by_three());
     let (live, answer) = copy_graph(rt, alloc, &graph.source, live, roots, &by, &NoHooks);
     look.learn(&live.note());
     line.copy(&answer, &live);
-    line.old(live.has(&Foo.key(alloc)?));
-    count(look, line);
-    Ok(live)
+    live
 }
 
 /// Tells how many entries a look has.

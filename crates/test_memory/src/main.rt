@@ -33,9 +33,9 @@ use std::thread::Threads;
 const ALL: [&str; 5] = ["one", "workers", "referrers", "round-trip", "live"];
 
 fn main(rt: HostRuntime) -> Result<(), Fail> {
-    let words: Vec<String> = env::args(&rt)?.skip(1).collect(rt.alloc())?;
+    let wanted = env::args(&rt)?.nth(1);
     for name in ALL {
-        if is_wanted(&words, name) {
+        if is_wanted(&wanted, name) {
             let line = line_of(rt, rt.alloc(), name)?;
             println!(rt; "{name}:{line}")?;
         }
@@ -43,9 +43,9 @@ fn main(rt: HostRuntime) -> Result<(), Fail> {
     Ok(())
 }
 
-/// Whether the words ask for this.
-fn is_wanted(words: &[String], name: &str) -> bool {
-    match words.first() {
+/// Whether the word, if there is one, asks for this.
+fn is_wanted(wanted: &Option<String>, name: &str) -> bool {
+    match wanted {
         Some(word) => word.as_str() == name,
         None => true,
     }

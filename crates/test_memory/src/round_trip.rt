@@ -1,7 +1,8 @@
 use crate::line::Line;
 use crate::stores::{Graph, by_three};
-use oci_copy::copy;
+use oci_copy::{CopyFault, Report, copy};
 use oci_layout::{Layout, MemDir};
+use oci_manifest::Key;
 use oci_pool::NoHooks;
 use oci_store::{Dest, MemoryStore, Tagger};
 use std::alloc::Global;
@@ -31,12 +32,21 @@ pub(crate) fn taken_round<R: Threads + Wait + Sync>(
     line: &mut Line,
 ) -> Result<(), Fail> {
     let source = tagged(Graph::of(alloc, &[Empty, Image0], Image0)?)?;
-    let Some(layout) = laid(alloc, MemDir::new(alloc), NEW, line) else {
-        return Err(Fail::from("the new layout cannot be opened"));
-    };
-    let layout = filled(rt, alloc, &source, layout, line);
-    let dir = saved(layout, line)?;
+    let dir = kept(rt, alloc, &source, line)?;
     opened(alloc, dir, line)
+}
+
+/// The directory of a new layout with the image, saved.
+fn kept<R: Threads + Wait + Sync>(
+    rt: &R,
+    alloc: Global,
+    source: &MemoryStore,
+    line: &mut Line,
+) -> Result<MemDir, Fail> {
+    match laid(alloc, MemDir::new(alloc), NEW, line) {
+        Some(layout) => saved(filled(rt, alloc, source, layout, line), line),
+        None => Err(Fail::from("the new layout cannot be opened")),
+    }
 }
 
 /// The source of a graph, in which its root has a tag.
@@ -103,13 +113,19 @@ fn fill<R: Threads + Wait + Sync>(
 ) -> (Layout<MemDir>, bool) {
     let by = by_three();
     let (layout, answer) = copy(rt, alloc, source, "m", layout, "v1", &by, &NoHooks);
+    let is_filled = tell_copy(&answer, line);
+    line.state(&layout);
+    (layout, is_filled)
+}
+
+/// Tells what a copy answered: whether it was made.
+fn tell_copy(answer: &Result<(Key, Report), CopyFault>, line: &mut Line) -> bool {
     line.say("copy");
-    match &answer {
+    match answer {
         Ok((_, report)) => line.tell(report),
         Err(fault) => line.tell(fault),
     }
-    line.state(&layout);
-    (layout, answer.is_ok())
+    answer.is_ok()
 }
 
 /// Saves the layout; once more where that is refused.
@@ -140,21 +156,28 @@ fn opened(alloc: Global, dir: MemDir, line: &mut Line) -> Result<(), Fail> {
 
 /// Tells how many keys the layout holds, and what its references are.
 fn names(alloc: Global, layout: &Layout<MemDir>, line: &mut Line) -> Result<(), Fail> {
-    let image = Image0.key(alloc)?.digest().to_string(alloc)?;
-    let config = Empty.key(alloc)?.digest().to_string(alloc)?;
     line.say("held");
     line.tell(&layout.count());
     line.say("names");
-    for (reference, sample) in [
-        ("v1", Image0),
-        (image.as_str(), Image0),
-        (config.as_str(), Empty),
-        ("v2", Image0),
-        ("", Image0),
-    ] {
-        named(alloc, layout, reference, sample, line)?;
+    named(alloc, layout, "v1", Image0, line)?;
+    for sample in [Image0, Empty] {
+        named_by_digest(alloc, layout, sample, line)?;
+    }
+    for reference in ["v2", ""] {
+        named(alloc, layout, reference, Image0, line)?;
     }
     Ok(())
+}
+
+/// Tells whether a sample's digest is its reference.
+fn named_by_digest(
+    alloc: Global,
+    layout: &Layout<MemDir>,
+    sample: Sample,
+    line: &mut Line,
+) -> Result<(), Fail> {
+    let reference = sample.key(alloc)?.digest().to_string(alloc)?;
+    named(alloc, layout, reference.as_str(), sample, line)
 }
 
 /// Tells whether a reference is that of this sample, or how it is refused.
