@@ -34,9 +34,14 @@ pub(crate) fn assert_breaks<R: Host + Threads + Wait + Abort>(
 ) -> Result<(), Fail> {
     for (at, kind, wanted) in FAILURES {
         let told = broken(rt, words, Broken { at, kind })?;
-        assert_eq!(rt; told.as_str(), wanted, "{words}: {kind:?}");
+        assert_told(rt, words, kind, told.as_str(), wanted);
     }
     Ok(())
+}
+
+/// What a run with an output that fails in this way printed is what is wanted of it.
+fn assert_told<R: Abort>(rt: &R, words: &str, kind: ErrorKind, told: &str, wanted: &str) {
+    assert_eq!(rt; told, wanted, "{words}: {kind:?}");
 }
 
 /// What a run with this output writes to the error output, and its status.

@@ -24,7 +24,13 @@ pub(crate) fn drawn<R: Host + Threads + Wait>(rt: &R, words: &str) -> Result<Str
     let mut out = Vec::new(rt.alloc());
     let mut err = Vec::new(rt.alloc());
     run_words(rt, &words, true, &mut out, &mut err);
-    Ok(format!(in rt.alloc(); "{}\n", str::from_utf8(&err)?)?)
+    line_of(rt.alloc(), &err)
+}
+
+/// What was written, and a line feed.
+fn line_of(alloc: Global, written: &[u8]) -> Result<String, Fail> {
+    let written = str::from_utf8(written)?;
+    Ok(format!(in alloc; "{written}\n")?)
 }
 
 /// The words of a line.

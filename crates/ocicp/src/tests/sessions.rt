@@ -76,12 +76,17 @@ fn assert_run<R: Host + Threads + Wait + Abort>(rt: &R, run: &str) -> Result<(),
     let (line, wanted) = parts(run, '\n');
     let (command, rest) = parts(line, ' ');
     let told = telling(rt, command, rest)?;
-    if command == "unordered" {
-        assert!(rt; have_same_lines(told.as_str(), wanted), "{line}: {told}");
-    } else {
-        assert_eq!(rt; told.as_str(), wanted, "{line}");
-    }
+    assert_told(rt, line, told.as_str(), wanted);
     Ok(())
+}
+
+/// What a line printed is what is wanted of it; of a line `unordered`, in some order.
+fn assert_told<R: Abort>(rt: &R, line: &str, told: &str, wanted: &str) {
+    if parts(line, ' ').0 == "unordered" {
+        assert!(rt; have_same_lines(told, wanted), "{line}: {told}");
+    } else {
+        assert_eq!(rt; told, wanted, "{line}");
+    }
 }
 
 /// What stands before the first of these characters, and what follows it; all of a text that has none.
