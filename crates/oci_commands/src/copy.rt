@@ -61,25 +61,24 @@ where
     D::Draft: Send,
 {
     let source = opened(rt.alloc(), source)?;
-    copy_alone(rt, &source, destination, words, out, err)
+    let answer = copied_alone(rt, &source, destination, words, err);
+    print_copied(answer, out)
 }
 
-/// Copies from an open layout what is selected, tags, saves and prints. If the source has that, no other process copies meanwhile
-/// into the folder of the destination.
-fn copy_alone<
+/// Copies from an open layout what is selected, tags and saves, and shows meanwhile what the words ask for. From when the source is
+/// known to have it until the destination is saved, no other process copies into that folder.
+fn copied_alone<
     R: Files + AllocGlobal + Clock + Threads + Wait + Sync,
     S: Dir + Sync,
     D: Dir + Drop + Send,
-    W: Write,
     X: Write + Send,
 >(
     rt: &R,
     source: &Layout<S>,
     destination: D,
     words: &CopyWords<'_>,
-    out: &mut W,
     err: &mut X,
-) -> Result<Outcome, ProgramFault>
+) -> Result<(Vec<Key>, Report), ProgramFault>
 where
     R::File: Lockable,
     S::Draft: Send,
@@ -87,50 +86,7 @@ where
 {
     check_selection(source, words.selection)?;
     let _lock = alone_in(rt, words.destination, err)?;
-    copy_into(rt, source, destination, words, out, err)
-}
-
-/// Copies from an open layout into a directory, tags, saves and prints.
-fn copy_into<
-    R: AllocGlobal + Clock + Threads + Wait + Sync,
-    S: Dir + Sync,
-    D: Dir + Drop + Send,
-    W: Write,
-    X: Write + Send,
->(
-    rt: &R,
-    source: &Layout<S>,
-    destination: D,
-    words: &CopyWords<'_>,
-    out: &mut W,
-    err: &mut X,
-) -> Result<Outcome, ProgramFault>
-where
-    S::Draft: Send,
-    D::Draft: Send,
-{
     let destination = opened_or_made(rt.alloc(), destination)?;
-    let (keys, report) = copied_and_shown(rt, source, destination, words, err)?;
-    print_copied(&keys, report, out)
-}
-
-/// Copies from an open layout into one, tags and saves, and shows on `err` meanwhile what the words ask for.
-fn copied_and_shown<
-    R: AllocGlobal + Clock + Threads + Wait + Sync,
-    S: Dir + Sync,
-    D: Dir + Drop + Send,
-    X: Write + Send,
->(
-    rt: &R,
-    source: &Layout<S>,
-    destination: Layout<D>,
-    words: &CopyWords<'_>,
-    err: &mut X,
-) -> Result<(Vec<Key>, Report), ProgramFault>
-where
-    S::Draft: Send,
-    D::Draft: Send,
-{
     match words.shown {
         Shown::Nothing => copied(rt, source, destination, words, &NoHooks),
         Shown::EachBlob => copied(rt, source, destination, words, &Progress::new(rt, err)),
@@ -178,12 +134,13 @@ where
     answer
 }
 
+/// Prints the keys that were copied, and the report.
 fn print_copied<W: Write>(
-    keys: &[Key],
-    report: Report,
+    answer: Result<(Vec<Key>, Report), ProgramFault>,
     out: &mut W,
 ) -> Result<Outcome, ProgramFault> {
-    for key in keys {
+    let (keys, report) = answer?;
+    for key in &keys {
         writeln!(out, "copied {key}").map_err(output_fault)?;
     }
     print_line(&report, out)?;

@@ -3,6 +3,7 @@ ghost use Rattle.std.specs.Prelude.{◌≤◌};
 use crate::alone::Lockable;
 use crate::copy::copy;
 use crate::dry_run::dry_run;
+use crate::lines::print_line;
 use crate::look::look_into;
 use crate::mem::mem;
 use crate::output::output_fault;
@@ -36,13 +37,16 @@ where
     R::Dir: Send,
     ensures { result ≤ 3 }
 {
-    match Request::parse(rt.alloc(), words, on_terminal, MAX_WORKERS) {
-        Ok(Request::Text(text)) => end(print_text(&text, out), out, err),
-        Ok(Request::Explain(text)) => end(print_explanation(text, out), out, err),
-        Ok(Request::Mem(words)) => end(mem(rt, &words, out), out, err),
-        Ok(Request::Copy(words)) => run_copy(rt, &words, out, err),
-        Ok(Request::Look(folder, look)) => run_look(rt, folder, look, out, err),
-        Err(fault) => ending_of(fault).tell(err),
+    let request = match Request::parse(rt.alloc(), words, on_terminal, MAX_WORKERS) {
+        Ok(request) => request,
+        Err(fault) => return ending_of(fault).tell(err),
+    };
+    match &request {
+        Request::Text(text) => end(print_text(text, out), out, err),
+        Request::Explain(text) => end(print_explanation(text, out), out, err),
+        Request::Mem(words) => end(mem(rt, words, out), out, err),
+        Request::Copy(words) => run_copy(rt, words, out, err),
+        Request::Look(folder, look) => run_look(rt, folder, *look, out, err),
     }
 }
 
@@ -62,7 +66,7 @@ fn print_text<W: Write>(text: &str, out: &mut W) -> Result<Outcome, ProgramFault
 
 /// `explain NUMBER`: prints what the number of a refusal means.
 fn print_explanation<W: Write>(text: &str, out: &mut W) -> Result<Outcome, ProgramFault> {
-    writeln!(out, "{text}").map_err(output_fault)?;
+    print_line(&text, out)?;
     Ok(Outcome::Good)
 }
 

@@ -136,8 +136,8 @@ impl Ending {
     }
 
     /// Writes the ending on `err`, and answers its status, also where `err` cannot be written.
-    pub fn tell<X: Write>(&self, err: &mut X) -> u8
-        ensures { result ≡ status_of self.now }
+    pub fn tell<X: Write>(self, err: &mut X) -> u8
+        ensures { result ≡ status_of self }
     {
         let _ = write!(err, "{self}");
         self.status()

@@ -223,29 +223,29 @@ fn content_of(alloc: Global, row: &Row, descriptors: &[String]) -> Result<Conten
 }
 
 /// Adds a text, with a descriptor in the place of each name.
-fn push_filled(told: &mut String, text: &str, descriptors: &[String]) -> Result<(), Fail> {
+fn push_filled(bytes: &mut String, text: &str, descriptors: &[String]) -> Result<(), Fail> {
     for part in text.split('<') {
-        push_part(told, part, descriptors)?;
+        push_part(bytes, part, descriptors)?;
     }
     Ok(())
 }
 
 /// Adds a name's descriptor and what follows it, or the beginning of a text.
-fn push_part(told: &mut String, part: &str, descriptors: &[String]) -> Result<(), Fail> {
+fn push_part(bytes: &mut String, part: &str, descriptors: &[String]) -> Result<(), Fail> {
     match part.split_once('>') {
         Some((name, rest)) => {
-            push_named(told, name, descriptors)?;
-            Ok(told.push_str(rest)?)
+            push_named(bytes, name, descriptors)?;
+            Ok(bytes.push_str(rest)?)
         }
-        None => Ok(told.push_str(part)?),
+        None => Ok(bytes.push_str(part)?),
     }
 }
 
 /// Adds the descriptor of the row of this name.
-fn push_named(told: &mut String, name: &str, descriptors: &[String]) -> Result<(), Fail> {
+fn push_named(bytes: &mut String, name: &str, descriptors: &[String]) -> Result<(), Fail> {
     for (row, descriptor) in ROWS.iter().zip(descriptors) {
         if row.0 == name {
-            return Ok(told.push_str(descriptor.as_str())?);
+            return Ok(bytes.push_str(descriptor.as_str())?);
         }
     }
     Err(Fail::from("no row before has this name"))
