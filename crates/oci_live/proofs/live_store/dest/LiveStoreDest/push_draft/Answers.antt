@@ -1,4 +1,4 @@
-use Rattle.std.proofs.Common.{◌≡◌, sym, subst}
+use Rattle.std.proofs.Common.{sym, subst}
 use Rattle.oci_store.specs.Content.{Entry, Matches}
 use Rattle.oci_store.specs.Graph.{nodes_of}
 use Rattle.oci_store.specs.Push.{IsPush}
