@@ -253,7 +253,7 @@ fn push_named(bytes: &mut String, name: &str, descriptors: &[String]) -> Result<
 
 /// The image with the config `empty`, which is the first row, whose text goes on with `rest` after `"layers":`.
 pub fn image(alloc: Global, rest: &str) -> Result<Content, Fail> {
-    let config = empty(alloc)?.descriptor(alloc)?;
+    let config = Sample::Empty.content(alloc)?.descriptor(alloc)?;
     let mut bytes = String::new(alloc);
     push_filled(&mut bytes, IMAGE_HEAD, slice::from_ref(&config))?;
     bytes.push_str(rest)?;
@@ -269,36 +269,4 @@ pub fn index(alloc: Global, list: &str) -> Result<Content, Fail> {
         media_type: INDEX,
         bytes: format!(in alloc; "{INDEX_HEAD}{list}]}}")?,
     })
-}
-
-pub fn empty(alloc: Global) -> Result<Content, Fail> {
-    Sample::Empty.content(alloc)
-}
-
-pub fn foo(alloc: Global) -> Result<Content, Fail> {
-    Sample::Foo.content(alloc)
-}
-
-pub fn bar(alloc: Global) -> Result<Content, Fail> {
-    Sample::Bar.content(alloc)
-}
-
-pub fn image_0(alloc: Global) -> Result<Content, Fail> {
-    Sample::Image0.content(alloc)
-}
-
-pub fn image_1(alloc: Global) -> Result<Content, Fail> {
-    Sample::Image1.content(alloc)
-}
-
-pub fn referrer(alloc: Global) -> Result<Content, Fail> {
-    Sample::Referrer.content(alloc)
-}
-
-pub fn index_1(alloc: Global) -> Result<Content, Fail> {
-    Sample::Index1.content(alloc)
-}
-
-pub fn docker_image(alloc: Global) -> Result<Content, Fail> {
-    Sample::DockerImage.content(alloc)
 }

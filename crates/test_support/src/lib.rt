@@ -13,8 +13,7 @@ mod published;
 mod samples;
 
 pub use contents::{
-    Content, DOCKER_IMAGE, EMPTY, FOREIGN, IMAGE, INDEX, LAYER, Sample, bar, descriptor,
-    docker_image, empty, foo, image, image_0, image_1, index, index_1, referrer,
+    Content, DOCKER_IMAGE, EMPTY, FOREIGN, IMAGE, INDEX, LAYER, Sample, descriptor, image, index,
 };
 pub use device::{Device, DeviceStore};
 pub use failing_closed::FailingClosedStore;

@@ -1,4 +1,4 @@
-use crate::{Content, Device, DeviceStore, Sample, image, image_0};
+use crate::{Content, Device, DeviceStore, Sample, image};
 use bytes::Bytes;
 use oci_manifest::Key;
 use oci_store::{ClosedStore, Dest, MemoryStore, PushFault, Source};
@@ -52,7 +52,7 @@ fn put_subject(alloc: Global, store: &mut MemoryStore, subject: Content) -> Resu
 
 /// Puts a chain of images into the store, each with the one before as its subject, and gives the key of the last.
 pub fn put_chain(alloc: Global, store: &mut MemoryStore, length: u32) -> Result<Key, Fail> {
-    let mut last = image_0(alloc)?;
+    let mut last = Sample::Image0.content(alloc)?;
     for _ in 1..length {
         last = put_subject(alloc, store, last)?;
     }
