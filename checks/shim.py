@@ -2,7 +2,7 @@
 import os
 import subprocess
 
-from program import run
+from program import PROGRAM, run
 
 # Calls `on_change` before each call that would change a file or a folder, with the path, or with none for a write to an open file.
 # What it answers is the error of that call; 0 lets the call through.
@@ -66,8 +66,17 @@ ssize_t write(int file, const void *bytes, size_t count) {
   return NEXT(ssize_t (*)(int, const void *, size_t), "write")(file, bytes, count);
 }
 /* Writes a mark into the pipe that the environment names. */
-static void mark(void) {
+__attribute__((unused)) static void mark(void) {
   if (syscall(SYS_write, atoi(getenv("MARK")), "x", 1) != 1) abort();
+}
+"""
+
+# The process stops itself before the change whose number the environment has.
+STOPS = CHANGES + r"""
+static int on_change(const char *path) {
+  static int count;
+  if (__atomic_add_fetch(&count, 1, __ATOMIC_SEQ_CST) == atoi(getenv("STOP"))) kill(getpid(), SIGSTOP);
+  return 0;
 }
 """
 
@@ -88,3 +97,16 @@ def run_marked(library, words, folder, environment={}, **how):
     os.close(mark)
     with os.fdopen(marks) as file:
         return len(file.read()), ended
+
+
+def stopped(library, words, folder, number):
+    """Begins a command that stops before this change: its process, or none if it has ended without so many changes."""
+    environment = dict(os.environ, LD_PRELOAD=library, STOP=str(number))
+    process = subprocess.Popen([PROGRAM, *words], cwd=folder, env=environment, stdin=subprocess.DEVNULL,
+                               stdout=subprocess.DEVNULL, stderr=subprocess.PIPE, text=True)
+    _, status = os.waitpid(process.pid, os.WUNTRACED)
+    if os.WIFSTOPPED(status):
+        return process
+    process.returncode = os.waitstatus_to_exitcode(status)
+    process.stderr.close()
+    return None

@@ -1,75 +1,54 @@
-//! The library in use: an image is put into a store in memory, and copied into an empty one by workers.
+//! The library in use: copies the image with the tag `hello` from the folder `hello` into the folder `mirror`.
 #![tactic(auto)]
 
-ghost use Rattle.std.specs.Prelude.{◌≡◌, length, IfOk};
-ghost use Rattle.oci_digest.specs.Digest.{digest_of};
-
 use anyhow::Error;
-use bytes::Bytes;
-use oci_copy::{Options, copy_memory_by_workers};
-use oci_digest::Digest;
+use oci_copy::{Options, Report, copy};
+use oci_layout::{Dir, FolderLock, FsDir, Layout, LayoutFault};
 use oci_manifest::Key;
 use oci_pool::NoHooks;
-use oci_store::{ClosedStore, MemoryStore};
-use std::alloc::Global;
-
-const CONFIG: &[u8] = b"{}";
-
-const MANIFEST: &[u8] =
-    br#"{"schemaVersion":2,"mediaType":"application/vnd.oci.image.manifest.v1+json","config":{"mediaType":"application/vnd.oci.empty.v1+json","digest":"sha256:44136fa355b3678a1146ad16f7e8649e94fb4fc21fe77e8310c060f61caaff8a","size":2},"layers":[]}"#;
+use std::sync::Wait;
+use std::thread::Threads;
 
 fn main(rt: HostRuntime) -> Result<(), Error> {
-    let alloc = rt.alloc();
-    let mut source = MemoryStore::new(alloc);
-    put(
-        alloc,
-        &mut source,
-        "application/vnd.oci.empty.v1+json",
-        CONFIG,
-    )?;
-    let image = put(
-        alloc,
-        &mut source,
-        "application/vnd.oci.image.manifest.v1+json",
-        MANIFEST,
-    )?;
-
-    let empty = ClosedStore::new(alloc);
-    let options = Options::default();
-    let (copied, report) = copy_memory_by_workers(
-        &rt,
-        alloc,
-        &source,
-        empty,
-        &[image],
-        &options,
-        &NoHooks,
-    );
-    println!(rt; "{}", report?)?;
-
-    for place in 0..copied.memory().len() {
-        if let Some((key, _)) = copied.memory().entry(place) {
-            println!(rt; "{key}")?;
-        }
-    }
+    // Until the lock is dropped nobody else writes into the folder, which it makes if it is missing.
+    let _lock = FolderLock::make_and_lock(&rt, "mirror")?;
+    let (key, report) = copy_hello(&rt, FsDir::new(&rt, "hello")?, FsDir::new(&rt, "mirror")?)?;
+    println!(rt; "copied {key}\n{report}")?;
     Ok(())
 }
 
-/// Puts content into a store, and gives its key.
-fn put(
-    alloc: Global,
-    store: &mut MemoryStore,
-    media_type: &str,
-    content: &'static [u8],
-) -> Result<Key, Error>
-    ensures describes { IfOk result (λ key. key ≡ record {
-      media_type = media_type.now;
-      digest = digest_of content.now;
-      size = length content.now;
-    }) }
-{
-    let media_type = String::from_str(alloc, media_type)?;
-    let key = Key::new(media_type, Digest::of(content), content.len() as u64)?;
-    store.push(&key, Bytes::from_static(content))?;
-    Ok(key)
+/// Copies from one directory into another, which becomes a layout if it is none, and saves that.
+fn copy_hello<
+    R: AllocGlobal + Threads + Wait + Sync,
+    S: Dir<Draft: Send> + Drop + Sync,
+    D: Dir<Draft: Send> + Drop + Send,
+>(rt: &R, source: S, destination: D) -> Result<(Key, Report), Error> {
+    let alloc = rt.alloc();
+    let source = layout(Layout::open(alloc, source))?;
+    let destination = match Layout::open(alloc, destination) {
+        Err((directory, LayoutFault::NoLayoutFile)) => layout(Layout::create(alloc, directory))?,
+        opened => layout(opened)?,
+    };
+    let options = Options::default();
+    let (mut destination, copied) = copy(
+        rt,
+        alloc,
+        &source,
+        "hello",
+        destination,
+        "",
+        &options,
+        &NoHooks,
+    );
+    let copied = copied?;
+    destination.save()?;
+    Ok(copied)
+}
+
+/// The layout, or why it is none. The directory is dropped then.
+fn layout<D: Dir + Drop>(answer: Result<Layout<D>, (D, LayoutFault)>) -> Result<Layout<D>, Error> {
+    match answer {
+        Ok(layout) => Ok(layout),
+        Err((_directory, fault)) => Err(Error::from(fault)),
+    }
 }

@@ -3,7 +3,9 @@ use Rattle.std.proofs.Common.{◌≡◌, ◌<◌, ◌-◌, ◌^◌, inl, inr, �
 use Rattle.std.specs.Prelude.{Contains, option_map}
 use Rattle.std.specs.List.{All}
 use Rattle.std.proofs.lemmas.List.Elements.{All-nil, All-weaker, All-push}
+use Rattle.std.specs.Result.{result_unwrap_or}
 use Rattle.oci_manifest.specs.Descriptor.{Descriptor}
+use Rattle.oci_manifest.specs.Fault.{Fault}
 use Rattle.oci_store.specs.Keyed.{value_at, has_key, HasAll}
 use Rattle.oci_store.specs.Content.{Entry, IsChecked, successors_in}
 use Rattle.oci_store.specs.Graph.{Node, node_of}
@@ -12,13 +14,23 @@ use Rattle.oci_store.specs.declared.fault.PushFault.{PushFault}
 use Rattle.oci_store.specs.State.{State}
 use Rattle.oci_store.proofs.Lookups.{All-value_at, value_at-append_cases, has_key-append_left}
 use Rattle.oci_plan.proofs.Items.{value_at-nodes_of}
-use Rattle.oci_copy.specs.Grown.{graph_of, HasKnownBytes}
+use Rattle.oci_copy.specs.Grown.{graph_of, HasKnownBytes, ListsByBytes}
 use Rattle.oci_copy.specs.Kept.{Keeps, IsOpeningAnd}
 use Rattle.oci_copy.proofs.Checks.{held-from_check}
 
 -- what is held stays held
 pub HasAll-append : {X : Type 0} (a b : List (Descriptor × X)) (ks : List Descriptor) → HasAll a ks → HasAll (a ++ b) ks
 HasAll-append a b ks h = All-weaker (λ k. has_key a k ≡ true) (λ k. has_key (a ++ b) k ≡ true) (λ k held. has_key-append_left a b k held) ks h
+
+-- bytes that were looked at list what their node lists
+lists_by_bytes : (k : Descriptor) (bytes : List ℕ) (listed : List Descriptor) → IsChecked k bytes listed → ListsByBytes (node_of (k, bytes))
+lists_by_bytes k bytes listed read = (
+  bytes,
+  record {
+    matching = read.matching;
+    reads = read.reads ∙ ap (λ (ks : List Descriptor). Ok ks) (sym (ap (λ (r : Result (List Descriptor) Fault). result_unwrap_or r []) read.reads));
+  },
+)
 
 -- a run keeps it as it begins
 pub keeps_start : (shares : Type 0) (source : State) (planned : List Descriptor) (opening : State) → Keeps shares source planned opening opening
@@ -27,6 +39,7 @@ keeps_start shares source planned opening = record {
   is = sym (append-nil opening.nodes);
   planned_keys = All-nil (λ (n : Node). Contains planned n.0);
   supported = All-nil (λ (n : Node). HasAll opening.nodes n.1);
+  checked = All-nil ListsByBytes;
   own = λ h. All-nil (λ (n : Node). value_at (graph_of source) n.0 ≡ Some n.1);
   known = λ t. (t.is_sound, record { added = []; is = sym (append-nil opening.entries); each = All-nil (λ (e : Entry). Contains planned e.0 × (value_at source.entries e.0 ≡ Some e.1)) });
   rising = omega arith;
@@ -64,9 +77,9 @@ module _ {shares : Type 0} {source : State} {planned : List Descriptor} {opening
       record { is_sound = was.0; is_calm = b.1; agrees = agrees_at b.0 was.1 }
 
   -- a push keeps it where it is done
-  keeps_pushed : Contains planned e.0 → after.nodes ≡ before.nodes ++ node_of e ∷ [] → HasAll before.nodes (successors_in e.0 e.1)
+  keeps_pushed : Contains planned e.0 → after.nodes ≡ before.nodes ++ node_of e ∷ [] → HasAll before.nodes (successors_in e.0 e.1) → ListsByBytes (node_of e)
       → (IsUndisturbed shares before after e → after.entries ≡ before.entries ++ e ∷ []) → Keeps shares source planned opening after
-  keeps_pushed plan grown held bytes_are =
+  keeps_pushed plan grown held by_bytes bytes_are =
       let node = node_of e in
       let Listed : List Node → Node → Type 0 = λ graph n. HasAll graph n.1 in
       record {
@@ -77,6 +90,7 @@ module _ {shares : Type 0} {source : State} {planned : List Descriptor} {opening
             (All-push (Listed (before.nodes ++ node ∷ [])) keeps.added node
             (All-weaker (Listed before.nodes) (Listed (before.nodes ++ node ∷ [])) (λ n h. HasAll-append before.nodes (node ∷ []) n.1 h) keeps.added keeps.supported)
             (HasAll-append before.nodes (node ∷ []) node.1 held));
+        checked = All-push ListsByBytes keeps.added node keeps.checked by_bytes;
         own = λ h. All-push (λ (n : Node). value_at (graph_of source) n.0 ≡ Some n.1) keeps.added node (keeps.own h)
             (value_at-nodes_of source.entries e.0 ∙ ap (option_map (successors_in e.0)) (own h));
         known = λ t.
@@ -101,6 +115,7 @@ module _ {shares : Type 0} {source : State} {planned : List Descriptor} {opening
     is = same ∙ keeps.is;
     planned_keys = keeps.planned_keys;
     supported = subst (λ (graph : List Node). All (λ (n : Node). HasAll graph n.1) keeps.added) (sym same) keeps.supported;
+    checked = keeps.checked;
     own = keeps.own;
     known = λ t.
         let calm = undisturbed t in
@@ -115,6 +130,6 @@ module _ {shares : Type 0} {source : State} {planned : List Descriptor} {opening
 pub keeps_answered : {shares : Type 0} {source : State} {planned : List Descriptor} {opening before after : State} {e : Entry} {listed : List Descriptor} (pushed : Result ℕ PushFault)
     → IsPush shares before after e pushed → (source.is_honest → value_at source.entries e.0 ≡ Some e.1) → Contains planned e.0 → has_key before.nodes e.0 ≡ false → IsChecked e.0 e.1 listed
     → Keeps shares source planned opening before → Keeps shares source planned opening after
-keeps_answered {before = before} {e = e} (Ok place) did own plan fresh read keeps =
-    keeps_pushed did own keeps plan did.keys.pushed (held-from_check before.nodes e.0 e.1 did.keys.checked.0 fresh read.matching did.keys.checked.1) did.bytes.pushed
+keeps_answered {before = before} {e = e} {listed = listed} (Ok place) did own plan fresh read keeps =
+    keeps_pushed did own keeps plan did.keys.pushed (held-from_check before.nodes e.0 e.1 did.keys.checked.0 fresh read.matching did.keys.checked.1) (lists_by_bytes e.0 e.1 listed read) did.bytes.pushed
 keeps_answered (Err fault) did own plan fresh read keeps = keeps_refused did own keeps did.keys.refused did.bytes.refused

@@ -15,6 +15,8 @@ use Rattle.oci_store.specs.Closed.{IsClosed}
 use Rattle.oci_store.specs.Copied.{Agree, IsCopied, AreReached}
 use Rattle.oci_store.proofs.Lookups.{All-value_at, value_at-append_cases, has_key-append_left, has_key-same_keys}
 use Rattle.oci_store.proofs.Copies.{holds_reached, grows_to_copy}
+use Rattle.oci_plan.specs.Met.{IsMet}
+use Rattle.oci_plan.specs.Met as path
 use Rattle.oci_plan.specs.Outside.{IsOutside, IsToBring}
 use Rattle.oci_plan.specs.Outside as outside
 use Rattle.oci_plan.specs.Plan.{Planned}
@@ -24,7 +26,7 @@ use Rattle.oci_store.specs.State.{State}
 use Rattle.oci_copy.specs.declared.options.Options.{Options}
 use Rattle.oci_copy.specs.Destination.{IsClosedWhenSkipping}
 use Rattle.oci_copy.specs.Copy.{IsCopy, OnlyGrows}
-use Rattle.oci_copy.specs.Grown.{graph_of, IsGrown, HasKnownBytes}
+use Rattle.oci_copy.specs.Grown.{graph_of, IsGrown, HasKnownBytes, ListsByBytes}
 use Rattle.oci_copy.specs.Kept.{Keeps}
 use Rattle.oci_copy.specs.Planned.{IsPlanOf}
 use Rattle.oci_copy.specs.Report.{IsReport}
@@ -79,6 +81,11 @@ closed_kept {shares} {source} {planned} {opening} {now} keeps was =
     let old = All-weaker (λ (n : Node). HasAll opening.nodes n.1) (λ (n : Node). HasAll now.nodes n.1) (λ n h. more n.1 h) opening.nodes was in
     subst (λ (l : List Node). All (λ (n : Node). HasAll now.nodes n.1) l) (sym keeps.is) (All-append (λ (n : Node). HasAll now.nodes n.1) opening.nodes keeps.added old keeps.supported)
 
+-- a key that was met where held keys are passed over is met where they are not
+met_descending : (existing : Existing) (entries : List Entry) (held : List Node) (roots : List Descriptor) (k : Descriptor) → IsMet existing entries held roots k → IsMet Descend entries held roots k
+met_descending existing entries held roots k (path.root there pass) = path.root there refl
+met_descending existing entries held roots k (path.along {from} {to} before under pass) = path.along (met_descending existing entries held roots from before) under refl
+
 module _ {shares : Type 0} {source : State} {options : Options} {opening now : State} {p : Planned} {roots : List Descriptor}
     (plan : IsPlanOf source options opening roots p) (keeps : Keeps shares source p.keys opening now) where
   -- what is planned is reached
@@ -100,7 +107,9 @@ module _ {shares : Type 0} {source : State} {options : Options} {opening now : S
     grown = λ h. (keeps.added, keeps.is, each h);
     grown_content = grown_content;
     sound = λ known. (keeps.known known).0;
+    met = (keeps.added, keeps.is, λ i d lt. met_descending options.existing source.entries opening.nodes roots _ (All-contains (IsMet options.existing source.entries opening.nodes roots) p.keys _ plan.met (keeps.planned_keys i d lt)));
     whole = (keeps.added, keeps.is, keeps.supported);
+    checked = (keeps.added, keeps.is, keeps.checked);
     closed = closed_kept keeps;
     failures = keeps.rising;
     name = keeps.name;
@@ -180,7 +189,9 @@ unchanged_grows shares source opening roots = record {
   grown = λ h. ([], sym (append-nil opening.nodes), All-nil (λ (e : Node). (value_at (graph_of source) e.0 ≡ Some e.1) × Reaches (graph_of source) roots e.0));
   grown_content = λ known. ([], sym (append-nil opening.entries), All-nil (λ (e : Entry). (value_at source.entries e.0 ≡ Some e.1) × Reaches (graph_of source) roots e.0));
   sound = λ known. known.is_sound;
+  met = ([], sym (append-nil opening.nodes), All-nil (λ (n : Node). IsMet Descend source.entries opening.nodes roots n.0));
   whole = ([], sym (append-nil opening.nodes), All-nil (λ (n : Node). HasAll opening.nodes n.1));
+  checked = ([], sym (append-nil opening.nodes), All-nil ListsByBytes);
   closed = λ was. was;
   failures = omega arith;
   name = refl;

@@ -49,7 +49,9 @@ module _ {shares : Type 0} {source opening now tagged : State} {roots : List Des
     grown = λ h. rw stays.nodes (grows.grown h);
     grown_content = λ t. rw stays.entries (grows.grown_content (known now tagged stays.failures t));
     sound = λ t. stays.sound (grows.sound (known now tagged stays.failures t));
+    met = rw stays.nodes grows.met;
     whole = rw stays.nodes grows.whole;
+    checked = rw stays.nodes grows.checked;
     closed = λ was. rw stays.nodes (grows.closed was);
     failures = rw stays.failures grows.failures;
     name = rw stays.name grows.name;

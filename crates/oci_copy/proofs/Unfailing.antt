@@ -33,7 +33,7 @@ module _ (options : Options) {source opening now : State} (unfailing : IsUnfaili
       let unread = cause.named.2 in
       let reads = All-value_at (λ (e : Entry). IsOk (succ_of e.0 e.1)) source.entries k unread.bytes unfailing.content.readable (unread.own unfailing.is_honest) in
       absurd (not_err (succ_of k unread.bytes) unread.cause unread.breaks reads)
-  not_planned roots (plan.Fetch k e) cause = absurd (false≢true (sym (unfailing.gives k) ∙ cause.named.2))
+  not_planned roots (plan.Fetch k e) cause = absurd (false≢true (sym (unfailing.gives k) ∙ cause.named.3))
   not_planned roots plan.Memory cause = absurd cause.refusal
   not_planned roots plan.TooMany cause = cause.first unfailing.is_honest
 

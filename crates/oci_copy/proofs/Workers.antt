@@ -1,6 +1,6 @@
 -- What workers keep of a destination under a lock, how many keys they pushed, and why they fail.
-use Rattle.std.proofs.Common.{◌≡◌, ◌+◌, ◌≤◌, inl, inr, ℕ, Bool, true, false, List, [], ◌∷◌, ◌++◌, length, Option, Some, None, Result, Ok, Err, refl, sym, ap, subst, ◌∙◌, arith, length-append}
-use Rattle.std.specs.Prelude.{Contains, IsErrOf, IsSomeAnd, slice_get}
+use Rattle.std.proofs.Common.{◌≡◌, ◌+◌, ◌<◌, ◌≤◌, ◌⊎◌, inl, inr, ℕ, Bool, true, false, List, [], ◌∷◌, ◌++◌, length, Option, Some, None, Result, Ok, Err, refl, sym, ap, subst, ◌∙◌, arith, length-append}
+use Rattle.std.specs.Prelude.{◌↔◌, Contains, IfErr, IsErrOf, IsSomeAnd, slice_get}
 use Rattle.std.specs.List.{All, IsDistinct}
 use Rattle.std.specs.Map.{keys_of}
 use Rattle.std.specs.Result.{result_unwrap_or}
@@ -169,6 +169,15 @@ refused_in_work failed workers (fault.Push k e) plan closed cause = (closed, λ 
 refused_in_work failed workers fault.Memory plan closed cause = tt
 refused_in_work failed workers other plan closed cause = absurd cause
 
+-- why a copy by workers is refused whose plan was run: for the number of workers, or for what stopped the run
+pub refused_once_planned : {X : Type 0} {source : State} {options : Options} {opening : State} {roots : List Descriptor} {p : Planned} (failed : Type 0) (workers : ℕ) (answer : Result X CopyFault)
+    → IsPlanOf source options opening roots p → IsClosedWhenSkipping options.existing opening.nodes → (IsErrOf answer fault.BadWorkers ↔ (64 < workers))
+    → IfErr answer (λ e. (e ≡ fault.BadWorkers) ⊎ IsStopCause failed source opening p.keys e) → IfErr answer (IsRefusalToWorkers failed options source opening roots workers)
+refused_once_planned failed workers (Ok x) plan closed many cause = cause
+refused_once_planned {source = source} {options = options} {opening = opening} {roots = roots} failed workers (Err e) plan closed many (inl is) =
+    subst (IsRefusalToWorkers failed options source opening roots workers) (sym is) (many.0 (ap (λ (t : CopyFault). Err t) is))
+refused_once_planned failed workers (Err e) plan closed many (inr stop) = refused_in_work failed workers e plan closed stop
+
 -- why a copy by workers is refused that has no plan
 pub refused_without_plan : (failed : Type 0) (options : Options) (source opening : State) (roots : List Descriptor) (workers : ℕ) (reported : CopyFault)
     → IsStartCause options source opening roots reported → IsRefusalToWorkers failed options source opening roots workers reported
@@ -184,6 +193,13 @@ module _ (failed : Type 0) (source opening : State) (not_failed : failed → ⊥
   not_locked k push.Device cause = not_failed cause
   not_locked k push.Halted cause = unfailing.takes cause
   not_locked k other cause = cause
+
+  -- a run that has its plan stops for a memory error
+  pub stopped_for_memory : (planned : List Descriptor) (reported : CopyFault) → IsStopCause failed source opening planned reported → reported ≡ fault.Memory
+  stopped_for_memory planned (fault.Fetch k e) cause = absurd (false≢true (sym (unfailing.gives k) ∙ cause.1.0))
+  stopped_for_memory planned (fault.Push k e) cause = absurd (not_locked k e cause.1)
+  stopped_for_memory planned fault.Memory cause = refl
+  stopped_for_memory planned other cause = absurd cause
 
   pub refused_for_plan_or_workers : (roots : List Descriptor) (workers : ℕ) (reported : CopyFault) → IsRefusalToWorkers failed options source opening roots workers reported
       → RefusedForPlanOrWorkers source.entries options opening.nodes roots workers reported

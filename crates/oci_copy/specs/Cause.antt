@@ -8,8 +8,9 @@ use Rattle.oci_store.specs.State.{State}
 use Rattle.oci_store.specs.declared.fault.FetchFault.{FetchFault}
 use Rattle.oci_store.specs.declared.fault.PushFault.{PushFault}
 use Rattle.oci_store.specs.declared.fault.PushFault.TheVariants as push
+use Rattle.oci_plan.specs.Met.{NamesMet}
 use Rattle.oci_plan.specs.Outside.{IsToBring}
-use Rattle.oci_plan.specs.Refusal.{IsDeviceFault, IsUnread, IsKeyFault, NamesNoneOnlyInDestination, IsFirstFault}
+use Rattle.oci_plan.specs.Refusal.{IsDeviceFault, IsUnread, IsKeyFault, NamesNoneOnlyInDestination, NamesVisited, IsFirstFault}
 use Rattle.oci_plan.specs.declared.existing.Existing.{Existing}
 use Rattle.oci_plan.specs.declared.fault.PlanFault.{PlanFault}
 use Rattle.oci_copy.specs.Fault.{IsPlanRefusal}
@@ -20,12 +21,14 @@ use Rattle.oci_copy.specs.Destination.{IsClosedWhenSkipping, IsNotClosedWhenSkip
 use Rattle.oci_copy.specs.declared.fault.CopyFault.{CopyFault}
 use Rattle.oci_copy.specs.declared.fault.CopyFault.TheVariants as fault
 
--- why there is no plan: what the fault names is at fault, and it is no key that only the destination has; and of an honest
--- source it is the first that is at fault
+-- why there is no plan: what the fault names is at fault; it is no key that only the destination has, and none that the plan
+-- does not visit; it was met on the way from the roots; and of an honest source it is the first that is at fault
 pub record IsPlanCause (source : State) (options : Options) (opening : State) (roots : List Descriptor) (e : PlanFault) : Type 0 where
   pub refusal : IsPlanRefusal e
   pub named : IsKeyFault source.is_honest source.fails_at source.entries (limit_of options) e
   pub spared : NamesNoneOnlyInDestination source.entries opening.nodes e
+  pub visited : NamesVisited options.existing opening.nodes e
+  pub met : NamesMet options.existing source.entries opening.nodes roots e
   pub first : source.is_honest → IsFirstFault options.existing source.entries opening.nodes roots (limit_of options) e
 
 -- the copy has to bring the key, as far as the source is honest

@@ -7,12 +7,14 @@ use Rattle.oci_store.specs.Graph.{Node, Reaches}
 use Rattle.oci_store.specs.Closed.{IsClosed}
 use Rattle.oci_store.specs.Copied.{Agree, IsCopied}
 use Rattle.oci_store.specs.State.{State}
+use Rattle.oci_plan.specs.Met.{IsMet}
 use Rattle.oci_plan.specs.Outside.{IsVisited}
 use Rattle.oci_plan.specs.Visiting.{IsSoundVisit}
+use Rattle.oci_plan.specs.declared.existing.Existing.TheVariants.{Descend}
 use Rattle.oci_copy.specs.declared.options.Options.{Options}
 use Rattle.oci_copy.specs.Options.{limit_of}
 use Rattle.oci_copy.specs.Destination.{IsClosedWhenSkipping}
-use Rattle.oci_copy.specs.Grown.{graph_of, BeginsWith, IsGrown, HasKnownBytes}
+use Rattle.oci_copy.specs.Grown.{graph_of, BeginsWith, IsGrown, HasKnownBytes, ListsByBytes}
 
 -- the destination is a copy: it has what it had, and what the source reaches from the roots, and nothing else
 pub record IsCopy (shares : Type 0) (options : Options) (source opening : State) (roots : List Descriptor) (now : State) : Type 0 where
@@ -43,8 +45,12 @@ pub record OnlyGrows (shares : Type 0) (source opening : State) (roots : List De
   -- so of bytes, where they are known; and there the destination stays sound
   pub grown_content : HasKnownBytes shares source opening now → IsGrown (graph_of source) source.entries roots opening.entries now.entries
   pub sound : HasKnownBytes shares source opening now → now.is_sound
+  -- whatever the source's device has now, each new key is a root, or bytes that match such a key of the source list it
+  pub met : (added : List Node) × (now.nodes ≡ opening.nodes ++ added) × All (λ (n : Node). IsMet Descend source.entries opening.nodes roots n.0) added
   -- it has all that the new keys list
   pub whole : (added : List Node) × (now.nodes ≡ opening.nodes ++ added) × All (λ (n : Node). HasAll now.nodes n.1) added
+  -- of any source: what a new key lists is what bytes that match the key list
+  pub checked : (added : List Node) × (now.nodes ≡ opening.nodes ++ added) × All ListsByBytes added
   -- where it was closed it is closed
   pub closed : IsClosed opening.nodes → IsClosed now.nodes
   -- no failed put is forgotten, and it is the same store

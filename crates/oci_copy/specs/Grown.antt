@@ -2,7 +2,7 @@
 use Rattle.std.specs.Prelude.{◌≡◌, ℕ, List, ◌++◌, Some}
 use Rattle.oci_manifest.specs.Descriptor.{Descriptor}
 use Rattle.oci_store.specs.Keyed.{value_at}
-use Rattle.oci_store.specs.Content.{Entry}
+use Rattle.oci_store.specs.Content.{Entry, IsChecked}
 use Rattle.oci_store.specs.Graph.{Node, nodes_of}
 use Rattle.oci_store.specs.Copied.{AreReached}
 use Rattle.oci_store.specs.Push.{IsCalm}
@@ -11,6 +11,10 @@ use Rattle.oci_store.specs.State.{State}
 -- the graph that the store's bytes make
 abbrev pub graph_of : State → List Node
 graph_of store = nodes_of store.entries
+
+-- what the node's key lists is what bytes that match the key list
+abbrev pub ListsByBytes : Node → Type 0
+ListsByBytes n = (bytes : List ℕ) × IsChecked n.0 bytes n.1
 
 -- the new list begins with the old one
 abbrev pub BeginsWith : {X : Type 0} → List X → List X → Type 0

@@ -5,7 +5,7 @@ use Rattle.oci_manifest.specs.Descriptor.{Descriptor}
 use Rattle.oci_store.specs.Keyed.{value_at, HasAll}
 use Rattle.oci_store.specs.Graph.{Node}
 use Rattle.oci_store.specs.State.{State}
-use Rattle.oci_copy.specs.Grown.{graph_of, HasKnownBytes}
+use Rattle.oci_copy.specs.Grown.{graph_of, HasKnownBytes, ListsByBytes}
 
 -- these are the source's pairs of planned keys
 abbrev pub ArePlanned : {X : Type 0} → List (Descriptor × X) → List Descriptor → List (Descriptor × X) → Type 0
@@ -25,6 +25,8 @@ pub record Keeps (shares : Type 0) (source : State) (planned : List Descriptor) 
   pub is : now.nodes ≡ opening.nodes ++ added
   pub planned_keys : All (λ (n : Node). Contains planned n.0) added
   pub supported : All (λ (n : Node). HasAll now.nodes n.1) added
+  -- of any source: what it lists is what bytes that match its key list
+  pub checked : All ListsByBytes added
   -- of an honest source it is what the source has, and where the bytes are known, so are the bytes
   pub own : source.is_honest → All (λ (n : Node). value_at (graph_of source) n.0 ≡ Some n.1) added
   pub known : HasKnownBytes shares source opening now → now.is_sound × IsOpeningAnd source.entries planned opening.entries now.entries

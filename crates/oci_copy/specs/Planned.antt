@@ -7,6 +7,7 @@ use Rattle.oci_store.specs.Keyed.{value_at, has_key, HasAll}
 use Rattle.oci_store.specs.Content.{Entry, succ_of}
 use Rattle.oci_store.specs.State.{State}
 use Rattle.oci_plan.specs.Order.{IsOrder}
+use Rattle.oci_plan.specs.Met.{IsMet}
 use Rattle.oci_plan.specs.Outside.{IsVisited, IsToBring}
 use Rattle.oci_plan.specs.Plan.{Planned, IsPlan, FollowsListed}
 use Rattle.oci_plan.specs.Visiting.{IsSoundItem, IsSoundVisit}
@@ -28,12 +29,13 @@ pub record CanPush (source opening : State) (p : Planned) : Type 0 where
   pub reads : source.is_honest → All (CanBeRead source.entries) p.keys
   pub follows : source.is_honest → FollowsListed (graph_of source) opening.nodes p
 
--- it is the plan of a copy of these roots: they are held or planned, the held ones are named as skipped, and of an honest source
--- the keys are those to bring, and each visited key is sound under the limit
+-- it is the plan of a copy of these roots: they are held or planned, the held ones are named as skipped, each key was met on the
+-- way from the roots, and of an honest source the keys are those to bring, and each visited key is sound under the limit
 pub record IsPlanOf (source : State) (options : Options) (opening : State) (roots : List Descriptor) (p : Planned) : Type 0 where
   pub can_push : CanPush source opening p
   pub roots_held : All (λ k. (has_key opening.nodes k ≡ true) ⊎ Contains p.keys k) roots
   pub skipped : p.skipped ≡ first_places (filter (has_key opening.nodes) roots)
+  pub met : All (IsMet options.existing source.entries opening.nodes roots) p.keys
   pub sound : source.is_honest → All (IsSoundItem source.entries (limit_of options)) p.keys
   pub visited : source.is_honest → (k : Descriptor) → IsVisited options.existing (graph_of source) opening.nodes roots k
       → IsSoundVisit options.existing source.entries opening.nodes (limit_of options) k

@@ -7,11 +7,10 @@ ghost use Rattle.oci_copy.specs.Work.{CanFail, IsRefusalToWorkers, RefusedForPla
 
 use crate::fault::CopyFault;
 use crate::options::Options;
+use crate::planned::copy_plan;
 use crate::planning::plan_copy;
-use crate::report::{Report, report_of};
-use crate::running::workers::copy_planned;
+use crate::report::Report;
 use oci_manifest::Key;
-use oci_plan::Plan;
 use oci_pool::{Hooks, MAX_WORKERS};
 use oci_store::{Dest, Source};
 use std::alloc::Global;
@@ -77,22 +76,8 @@ where
     if options.workers > MAX_WORKERS {
         return (destination, Err(CopyFault::BadWorkers));
     }
-    let plan = match plan_copy(alloc, source, &destination, roots, options) {
-        Ok(plan) => plan,
-        Err(fault) => return (destination, Err(fault)),
-    };
-    report_skipped(hooks, &plan);
-    let workers = options.workers;
-    let (destination, copied) = copy_planned(rt, alloc, source, destination, &plan, workers, hooks);
-    match copied {
-        Ok(()) => (destination, Ok(report_of(&plan))),
+    match plan_copy(alloc, source, &destination, roots, options) {
+        Ok(plan) => copy_plan(rt, alloc, source, destination, &plan, roots, options, hooks),
         Err(fault) => (destination, Err(fault)),
-    }
-}
-
-/// Reports each root that the destination has to the hooks.
-fn report_skipped<H: Hooks>(hooks: &H, plan: &Plan) {
-    for key in plan.skipped() {
-        hooks.skipped(key);
     }
 }

@@ -9,6 +9,7 @@
 //! | [`copy_memory_by_workers`], [`copy_memory`] | as `copy_graph` and `copy_one`, between stores in memory |
 //! | [`repair_memory_by_workers`], [`repair_memory`] | as these, below what the destination holds too |
 //! | [`plan_copy`], [`plan_reference`], [`plan_extended`] | nothing: they give the plan of such a copy |
+//! | [`copy_plan`] | what a plan of `plan_copy` has, by workers |
 //!
 //! What leads to a key is each key from which a path of some length leads to it: of an image its
 //! signatures and its indexes.
@@ -46,6 +47,7 @@ mod graph;
 mod memory;
 mod options;
 mod plan_by_reference;
+mod planned;
 mod planning;
 mod report;
 mod running;
@@ -59,6 +61,7 @@ pub use graph::copy_graph;
 pub use memory::{copy_memory, repair_memory};
 pub use options::Options;
 pub use plan_by_reference::{plan_extended, plan_reference};
+pub use planned::copy_plan;
 pub use planning::plan_copy;
 pub use report::Report;
 pub use running::copy_start::CopyStart;

@@ -15,7 +15,7 @@ pub enum DigestFault {
     #[error("2 UnknownAlgorithm")]
     UnknownAlgorithm,
     /// The text is of the grammar, its algorithm is `sha256` or `sha512`, and its encoded part is not
-    /// 64 or 128 characters of `[a-f0-9]`.
+    /// 64 or 128 characters of `[a-f0-9]`, as its algorithm wants.
     #[error("3 BadEncoding")]
     BadEncoding,
 }

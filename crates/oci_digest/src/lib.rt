@@ -27,14 +27,19 @@
 //!     return Err(Corrupt);
 //! }
 //! ```
+//!
+//! [`tests_decide_definitions`] does nothing when it runs: its contract is the law that the tests of
+//! digests, which contracts above compute with, are the definitions.
 #![tactic(auto)]
 
 mod digest;
 mod fault;
 mod hash;
 mod hasher;
+mod laws;
 mod parse;
 
 pub use digest::Digest;
 pub use fault::{DigestFault, NoMemory};
 pub use hasher::Hasher;
+pub use laws::tests_decide_definitions;

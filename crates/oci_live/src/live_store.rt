@@ -21,7 +21,7 @@ use std::marker::Model;
 use std::sync::Wait;
 
 /// A store that is read while it grows. It is closed, and what it holds is what it has published: each push is one
-/// publication, which looks on any thread see at once.
+/// publication, which looks on any thread see at once: tests show that, and no clause says it.
 ///
 /// It is a destination of copies ([`oci_store::Dest`]). Where a publication runs out of memory, the store halts: it
 /// keeps what it has published, goes on being read, and takes nothing any more.
@@ -89,7 +89,8 @@ impl<R: Wait + Drop> LiveStore<R> {
 
     /// A look whose list is what is published now. It may go to another thread.
     ///
-    /// Refused with `Unavailable` where 64 looks have their places; a look that is dropped gives its place back.
+    /// Refused with `Unavailable`. There are places for 64 looks, and a look that is dropped gives its place back; no clause
+    /// says that a look is given while there is a place.
     pub fn look(&mut self) -> Result<Look, LookFault>
         ensures name { IfOk result (λ look. look.name ≡ self.old.name) }
         ensures entries { IfOk result (λ look. look.entries ≡ self.old.entries) }

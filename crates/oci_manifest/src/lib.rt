@@ -23,17 +23,19 @@
 //!
 //! The contract of [`successors`] says which keys and which refusal the bytes have, that no key is answered twice, and
 //! that a leaf is never refused; it says nothing of time and depth. Keys and refusals are stated twice: by relations that
-//! can be read (`specs/Manifest.antt`), and by a function that crates above compute with (`specs/Reading.antt`). Each is
-//! proved to be the other.
+//! can be read (`specs/Manifest.antt`), and by a function that crates above compute with (`specs/Reading.antt`). That they
+//! are the same is the contract of [`successors_are_what_is_listed`], which does nothing when it runs.
 #![tactic(auto)]
 
 mod fault;
 mod key;
 mod kind;
+mod law;
 mod manifest;
 mod media_type;
 
 pub use fault::{KeyFault, ManifestFault};
 pub use key::{Key, MAX_SIZE};
 pub use kind::Kind;
+pub use law::successors_are_what_is_listed;
 pub use manifest::{index_keys, read_json, successors};

@@ -1,8 +1,8 @@
 -- One visited key: what its checks, its fetch and its reading say of it.
-use Rattle.std.proofs.Common.{◌≡◌, ℕ, Bool, true, false, inl, inr, List, [], ◌∷◌, Option, Some, None, Result, Ok, Err, refl, sym, ap, subst, ◌∙◌}
+use Rattle.std.proofs.Common.{◌≡◌, ◌≢◌, ℕ, Bool, true, false, inl, inr, List, [], ◌∷◌, Option, Some, None, Result, Ok, Err, refl, sym, ap, subst, ◌∙◌}
 use Rattle.std.specs.Prelude.{option_map, is_some, unwrap_or, IfOk, IfErr, OnOk}
 use Rattle.std.specs.Result.{result_unwrap_or}
-use Rattle.std.specs.List.{IsDistinct}
+use Rattle.std.specs.List.{All, IsDistinct}
 use Rattle.oci_manifest.specs.Descriptor.{Descriptor, same_key}
 use Rattle.oci_manifest.specs.Fault.{Fault, Fails}
 use Rattle.oci_manifest.specs.declared.fault.ManifestFault.{ManifestFault}
@@ -18,6 +18,8 @@ use Rattle.oci_store.specs.Content.{Entry, Matches, succ_of, successors_in}
 use Rattle.oci_store.specs.Graph.{nodes_of}
 use Rattle.oci_store.specs.declared.fault.FetchFault.{FetchFault}
 use Rattle.oci_store.specs.declared.fault.FetchFault.TheVariants as fetch
+use Rattle.oci_store.proofs.Membership.{Contains-from_among, All-from_among}
+use Rattle.oci_plan.specs.Met.{IsListedUnder}
 use Rattle.oci_plan.specs.Visiting.{successors_at, IsWithin}
 use Rattle.oci_plan.specs.Refusal.{IsKeyFault, IsOfKey, IsUnread}
 use Rattle.oci_plan.specs.Walk.{IsPassed, IsReadFault, fetch_refusal, read_refusal}
@@ -48,13 +50,13 @@ successors_at-nodes_of entries k bytes ks at reads =
 -- ---- refusals
 
 -- a refused fetch of a held key is told of it
-pub fetch_refused : (honest : Type 0) (fails : Descriptor → Bool) (entries : List Entry) (limit : ℕ) (k : Descriptor) (f : FetchFault) → IsWithin limit k → has_key entries k ≡ true
+pub fetch_refused : (honest : Type 0) (fails : Descriptor → Bool) (entries : List Entry) (limit : ℕ) (k : Descriptor) (f : FetchFault) → kind_of k.media_type ≢ Leaf → IsWithin limit k → has_key entries k ≡ true
     → (f ≡ fetch.NotFound → has_key entries k ≡ false) → (f ≡ fetch.Corrupt → fails k ≡ true) → (f ≡ fetch.Device → fails k ≡ true)
     → IsKeyFault honest fails entries limit (fetch_refusal k f) × IsOfKey k (fetch_refusal k f)
-fetch_refused honest fails entries limit k fetch.NotFound within there gone corrupt device = ((within, gone refl), refl)
-fetch_refused honest fails entries limit k fetch.Corrupt within there gone corrupt device = ((within, there, corrupt refl, tt), refl)
-fetch_refused honest fails entries limit k fetch.Device within there gone corrupt device = ((within, there, device refl, tt), refl)
-fetch_refused honest fails entries limit k fetch.Memory within there gone corrupt device = (tt, tt)
+fetch_refused honest fails entries limit k fetch.NotFound manifest within there gone corrupt device = ((within, gone refl), refl)
+fetch_refused honest fails entries limit k fetch.Corrupt manifest within there gone corrupt device = ((manifest, within, there, corrupt refl, tt), refl)
+fetch_refused honest fails entries limit k fetch.Device manifest within there gone corrupt device = ((manifest, within, there, device refl, tt), refl)
+fetch_refused honest fails entries limit k fetch.Memory manifest within there gone corrupt device = (tt, tt)
 
 -- a refused reading is told of the key
 pub read_refused : (k : Descriptor) (bytes : List ℕ) (f : ManifestFault) → Fails f (succ_of k bytes) → IsReadFault k bytes (read_refusal k f)
@@ -116,6 +118,7 @@ absent_lists entries k h = sym (ap (λ (o : Option (List Descriptor)). unwrap_or
 pub record IsItemAnswer (honest : Type 0) (fails : Descriptor → Bool) (entries : List Entry) (limit : ℕ) (k : Descriptor) (r : Result (Vec Descriptor) PlanFault) : Type 0 where
   pub passed : OnOk r (IsPassed honest entries limit k)
   pub listed : IfOk r (λ keys. honest → keys.items ≡ successors_at (nodes_of entries) k)
+  pub under : IfOk r (λ keys. All (IsListedUnder entries k) keys.items)
   pub distinct : IfOk r (λ keys. IsDistinct same_key keys.items)
   pub cause : IfErr r (IsKeyFault honest fails entries limit)
   pub named : IfErr r (IsOfKey k)
@@ -126,10 +129,11 @@ pub item_answer : (honest : Type 0) (fails : Descriptor → Bool) (entries : Lis
 item_answer honest fails entries limit k bytes (Ok keys) within there matching own reads refused = record {
   passed = record { there = there; within = within; reads = λ h. (bytes, keys.items, own h, reads) };
   listed = λ h. sym (successors_at-nodes_of entries k bytes keys.items (own h) reads);
+  under = All-from_among (IsListedUnder entries k) keys.items (λ to listed. record { there = there; bytes = bytes; listed = keys.items; checked = record { matching = matching; reads = reads }; lists = Contains-from_among keys.items to listed });
   distinct = successors_of-distinct (kind_of k.media_type) bytes keys.items reads;
   cause = tt;
   named = tt;
 }
 item_answer honest fails entries limit k bytes (Err e) within there matching own reads refused =
     let told = unread honest fails entries limit k bytes e within there matching own refused in
-    record { passed = tt; listed = tt; distinct = tt; cause = told.0; named = told.1 }
+    record { passed = tt; listed = tt; under = tt; distinct = tt; cause = told.0; named = told.1 }

@@ -5,6 +5,7 @@ pub mod Ends
 pub mod Fresh
 pub mod Items
 pub mod Lists
+pub mod Mets
 pub mod Names
 pub mod Numbers
 pub mod Orders

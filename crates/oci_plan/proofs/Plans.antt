@@ -1,5 +1,5 @@
 -- What a finished walk and an order of its lists make: a plan, or a cycle of keys.
-use Rattle.std.proofs.Common.{◌≡◌, ℕ, zero, suc, ◌+◌, ◌-◌, ◌<◌, true, false, not, ◌⊎◌, inl, inr, List, [], ◌∷◌, length, map, take, get_or, eqb, Option, Some, None, refl, sym, ap, subst, ◌∙◌, arith}
+use Rattle.std.proofs.Common.{◌≡◌, ℕ, zero, suc, ◌+◌, ◌-◌, ◌<◌, Bool, true, false, not, ◌⊎◌, inl, inr, List, [], ◌∷◌, length, map, take, get_or, eqb, Option, Some, None, refl, sym, ap, subst, ◌∙◌, arith}
 use Rattle.std.specs.Prelude.{Contains, filter_map, nat_le}
 use Rattle.std.specs.Global.{Vec}
 use Rattle.std.specs.List.{filter, slice_get, find, cons_option, All, AllZip, AllByRecursion, IsDistinct}
@@ -16,11 +16,12 @@ use Rattle.oci_store.specs.Graph.{Node, nodes_of, IsEdge}
 use Rattle.oci_plan.specs.Graph.{lists_of, successors_of, without_doubles, HasEdge, IsGraph, IsCycle, IsFirstBad}
 use Rattle.oci_plan.specs.Order.{Ordered, IsOrder}
 use Rattle.oci_plan.specs.Fault.{IsCauseOf}
-use Rattle.oci_plan.specs.Outside.{IsToBring, IsKeyCycle}
-use Rattle.oci_plan.specs.Visiting.{successors_at, is_fresh, IsOnlyInDestination, IsSoundItem}
+use Rattle.oci_plan.specs.Met.{IsMet, IsListedUnder, NamesMet}
+use Rattle.oci_plan.specs.Outside.{IsToBring, IsCycleAlong}
+use Rattle.oci_plan.specs.Visiting.{successors_at, is_fresh, IsWithin, IsOnlyInDestination, IsSoundItem}
 use Rattle.oci_plan.specs.declared.existing.Existing.{Existing}
 use Rattle.oci_plan.specs.Plan.{Number, HasEdges, FollowsListed}
-use Rattle.oci_plan.specs.Refusal.{NamesNoneOnlyInDestination, IsFirstFault}
+use Rattle.oci_plan.specs.Refusal.{IsListedCycle, IsKeyFault, NamesNoneOnlyInDestination, NamesVisited, IsFirstFault}
 use Rattle.oci_plan.specs.Walk.{IsListOf, IsPassed, IsGathered, HasKeyOfEach, NamesByKeys, IsNamedCycle}
 use Rattle.oci_plan.specs.declared.fault.OrderFault.{OrderFault}
 use Rattle.oci_plan.specs.declared.fault.OrderFault.TheVariants as ordering
@@ -154,6 +155,7 @@ module _ (honest : Type 0) (existing : Existing) (entries : List Entry) (held : 
     pub to : Descriptor
     pub at_from : slice_get keys m ≡ Some from
     pub at_to : slice_get keys n ≡ Some to
+    pub under : IsListedUnder entries from to
     pub edge : honest → IsEdge source from to
 
   key_edge : (m n : ℕ) → HasEdge (lists_of lists) m n → IsKeyEdge m n
@@ -180,6 +182,7 @@ module _ (honest : Type 0) (existing : Existing) (entries : List Entry) (held : 
             to = it.0;
             at_from = at;
             at_to = it.1;
+            under = All-among (IsListedUnder entries some) told.named it.0 told.under it.2;
             edge = λ h.
                 let own = ap (λ (t : Keys). is_among t it.0) (sym (told.own h)) ∙ it.2 in
                 successors_at-edge source some it.0 (among-filter (is_fresh held) (successors_at source some) it.0 own).1;
@@ -225,27 +228,12 @@ module _ (honest : Type 0) (existing : Existing) (entries : List Entry) (held : 
   tellable (ordering.BadNumber list number) cause = no_bad_number list number cause
   tellable ordering.Memory cause = tt
 
-  named_cycle : (numbers : List ℕ) (named : Keys) → IsCycle (lists_of lists) numbers → Number keys numbers named → honest → IsKeyCycle source named
-  named_cycle numbers named cycle names h = record {
-    some = omega (arith, cycle.some, same_len);
-    distinct = IsDistinct-from_apart same_key named apart;
-    path = λ i from to at_from at_to.
-        let inner : i + 1 < length numbers = omega (arith, slice_get_within named (i + 1) to at_to, same_len) in
-        joined (get_or numbers i 0) (get_or numbers (i + 1) 0) from to (key_edge (get_or numbers i 0) (get_or numbers (i + 1) 0) (cycle.path i inner)) (Number-at keys numbers named i from names at_from) (Number-at keys numbers named (i + 1) to names at_to);
-    closes = λ from to at_from at_to.
-        let end : length named - 1 ≡ length numbers - 1 = ap (λ (n : ℕ). n - 1) (sym same_len) in
-        let at_end = subst (λ (j : ℕ). slice_get named j ≡ Some from) end at_from in
-        joined (get_or numbers (length numbers - 1) 0) (get_or numbers 0 0) from to (key_edge (get_or numbers (length numbers - 1) 0) (get_or numbers 0 0) cycle.closes) (Number-at keys numbers named (length numbers - 1) from names at_end) (Number-at keys numbers named 0 to names at_to);
-  }
+  -- the keys of a cycle's numbers are distinct
+  named_distinct : (numbers : List ℕ) (named : Keys) → IsCycle (lists_of lists) numbers → Number keys numbers named → IsDistinct same_key named
+  named_distinct numbers named cycle names = IsDistinct-from_apart same_key named apart
     where
       same_len : length numbers ≡ length named
       same_len = Number-length keys numbers named names
-
-      joined : (m n : ℕ) (from to : Descriptor) → IsKeyEdge m n → slice_get keys m ≡ Some from → slice_get keys n ≡ Some to → IsEdge source from to
-      joined m n from to e at_from at_to =
-          let same_from : e.from ≡ from = cc (sym e.at_from ∙ at_from) in
-          let same_to : e.to ≡ to = cc (sym e.at_to ∙ at_to) in
-          subst (λ (x : Descriptor). IsEdge source x to) same_from (subst (λ (x : Descriptor). IsEdge source e.from x) same_to (e.edge h))
 
       apart : (i j : ℕ) (d : Descriptor) → i < j → j < length named → same_key (get_or named i d) (get_or named j d) ≡ false
       apart i j d lt within =
@@ -259,14 +247,94 @@ module _ (honest : Type 0) (existing : Existing) (entries : List Entry) (held : 
                 absurd (cycle.distinct i j 0 lt (omega (arith, within, same_len)) one)
           ]
 
+  -- what holds of each planned key holds of those of some numbers
+  of_named : (P : Descriptor → Type 0) (numbers : List ℕ) (named : Keys) → Number keys numbers named → All P keys → All P named
+  of_named P numbers named names all = All-from_among P named (λ k there.
+      let it = numbered_key keys numbers named k names there in
+      All-among P keys k all (among_from_place keys it.0 k it.2))
+
+  -- what holds of the keys of the two ends of each edge makes the keys of a cycle one along it
+  named_along : (leads : Descriptor → Descriptor → Type 0) → ((m n : ℕ) → (e : IsKeyEdge m n) → leads e.from e.to) → (numbers : List ℕ) (named : Keys) → IsCycle (lists_of lists) numbers → Number keys numbers named → IsCycleAlong leads named
+  named_along leads leading numbers named cycle names = record {
+    some = omega (arith, cycle.some, same_len);
+    distinct = named_distinct numbers named cycle names;
+    path = λ i from to at_from at_to.
+        let inner : i + 1 < length numbers = omega (arith, slice_get_within named (i + 1) to at_to, same_len) in
+        joined (get_or numbers i 0) (get_or numbers (i + 1) 0) from to (key_edge (get_or numbers i 0) (get_or numbers (i + 1) 0) (cycle.path i inner)) (Number-at keys numbers named i from names at_from) (Number-at keys numbers named (i + 1) to names at_to);
+    closes = λ from to at_from at_to.
+        let end : length named - 1 ≡ length numbers - 1 = ap (λ (n : ℕ). n - 1) (sym same_len) in
+        let at_end = subst (λ (j : ℕ). slice_get named j ≡ Some from) end at_from in
+        joined (get_or numbers (length numbers - 1) 0) (get_or numbers 0 0) from to (key_edge (get_or numbers (length numbers - 1) 0) (get_or numbers 0 0) cycle.closes) (Number-at keys numbers named (length numbers - 1) from names at_end) (Number-at keys numbers named 0 to names at_to);
+  }
+    where
+      same_len : length numbers ≡ length named
+      same_len = Number-length keys numbers named names
+
+      joined : (m n : ℕ) (from to : Descriptor) → IsKeyEdge m n → slice_get keys m ≡ Some from → slice_get keys n ≡ Some to → leads from to
+      joined m n from to e at_from at_to =
+          let same_from : e.from ≡ from = cc (sym e.at_from ∙ at_from) in
+          let same_to : e.to ≡ to = cc (sym e.at_to ∙ at_to) in
+          subst (λ (x : Descriptor). leads x to) same_from (subst (λ (x : Descriptor). leads e.from x) same_to (leading m n e))
+
+  -- what is told of an order's fault is a fault of keys that the source has
+  pub named_cause : (fails : Descriptor → Bool) (f : OrderFault) (e : PlanFault) → IsCauseOf (lists_of lists) f → NamesByKeys keys f e → IsKeyFault honest fails entries limit e
+  named_cause fails (ordering.Cycle numbers) e cause told = go e told
+    where
+      part : (named : Keys) → Number keys numbers.items named → IsListedCycle entries limit named
+      part named names = record {
+        cycle = named_along (IsListedUnder entries) (λ m n e. e.under) numbers.items named cause.1 names;
+        there = of_named (λ k. has_key entries k ≡ true) numbers.items named names (All-weaker (IsPassed honest entries limit) (λ k. has_key entries k ≡ true) (λ k passed. passed.there) keys walk.passed);
+        within = of_named (IsWithin limit) numbers.items named names (All-weaker (IsPassed honest entries limit) (IsWithin limit) (λ k passed. passed.within) keys walk.passed);
+      }
+
+      go : (e : PlanFault) → IsNamedCycle keys numbers.items e → IsKeyFault honest fails entries limit e
+      go (fault.TooLarge k l) told' = absurd told'
+      go (fault.NotFound k) told' = absurd told'
+      go (fault.Fetch k x) told' = absurd told'
+      go (fault.Manifest k x) told' = absurd told'
+      go (fault.Cycle named) told' = part named.items told'
+      go fault.Memory told' = tt
+      go fault.TooMany told' = absurd told'
+  named_cause fails (ordering.BadNumber list number) e cause told = absurd told
+  named_cause fails ordering.Memory e cause told = subst (λ (x : PlanFault). IsKeyFault honest fails entries limit x) (sym told) tt
+
+  -- it names keys that the plan visits
+  pub named_visited : (f : OrderFault) (e : PlanFault) → NamesByKeys keys f e → NamesVisited existing held e
+  named_visited (ordering.Cycle numbers) e told = go e told
+    where
+      go : (e : PlanFault) → IsNamedCycle keys numbers.items e → NamesVisited existing held e
+      go (fault.TooLarge k l) told' = absurd told'
+      go (fault.NotFound k) told' = absurd told'
+      go (fault.Fetch k x) told' = absurd told'
+      go (fault.Manifest k x) told' = absurd told'
+      go (fault.Cycle named) told' = of_named (λ k. has_key held k ≡ false) numbers.items named.items told' walk.fresh
+      go fault.Memory told' = tt
+      go fault.TooMany told' = absurd told'
+  named_visited (ordering.BadNumber list number) e told = absurd told
+  named_visited ordering.Memory e told = subst (λ (x : PlanFault). NamesVisited existing held x) (sym told) tt
+
+  -- it names keys that were met
+  pub named_met : (f : OrderFault) (e : PlanFault) → NamesByKeys keys f e → NamesMet existing entries held roots e
+  named_met (ordering.Cycle numbers) e told = go e told
+    where
+      go : (e : PlanFault) → IsNamedCycle keys numbers.items e → NamesMet existing entries held roots e
+      go (fault.TooLarge k l) told' = absurd told'
+      go (fault.NotFound k) told' = absurd told'
+      go (fault.Fetch k x) told' = absurd told'
+      go (fault.Manifest k x) told' = absurd told'
+      go (fault.Cycle named) told' = of_named (IsMet existing entries held roots) numbers.items named.items told' walk.met
+      go fault.Memory told' = tt
+      go fault.TooMany told' = absurd told'
+  named_met (ordering.BadNumber list number) e told = absurd told
+  named_met ordering.Memory e told = subst (λ (x : PlanFault). NamesMet existing entries held roots x) (sym told) tt
+
   -- what is told of an order's fault names no key that only the destination has: a cycle is one of planned keys
   pub named_spared : (f : OrderFault) (e : PlanFault) → NamesByKeys keys f e → NamesNoneOnlyInDestination entries held e
   named_spared (ordering.Cycle numbers) e told = go e told
     where
       planned : (named : Keys) → Number keys numbers.items named → All (λ k. IsOnlyInDestination entries held k → ⊥) named
-      planned named names = All-from_among (λ k. IsOnlyInDestination entries held k → ⊥) named (λ k there only.
-          let it = numbered_key keys numbers.items named k names there in
-          both_ways (has_key held k) (All-among (λ x. has_key held x ≡ false) keys k walk.fresh (among_from_place keys it.0 k it.2)) only.0)
+      planned named names = All-weaker (λ k. has_key held k ≡ false) (λ k. IsOnlyInDestination entries held k → ⊥) (λ k new only. both_ways (has_key held k) new only.0) named
+          (of_named (λ k. has_key held k ≡ false) numbers.items named names walk.fresh)
 
       go : (e : PlanFault) → IsNamedCycle keys numbers.items e → NamesNoneOnlyInDestination entries held e
       go (fault.TooLarge k l) told' = absurd told'
@@ -284,16 +352,15 @@ module _ (honest : Type 0) (existing : Existing) (entries : List Entry) (held : 
   named_first (ordering.Cycle numbers) e cause told h = go e told
     where
       bring : (named : Keys) → Number keys numbers.items named → All (IsToBring existing source held roots) named
-      bring named names = All-from_among (IsToBring existing source held roots) named (λ k there.
-          let it = numbered_key keys numbers.items named k names there in
-          (walk.exactly h k).0 (Contains-from_among keys k (among_from_place keys it.0 k it.2)))
+      bring named names = of_named (IsToBring existing source held roots) numbers.items named names
+          (All-from_among (IsToBring existing source held roots) keys (λ k there. (walk.exactly h k).0 (Contains-from_among keys k there)))
 
       go : (e : PlanFault) → IsNamedCycle keys numbers.items e → IsFirstFault existing entries held roots limit e
       go (fault.TooLarge k l) told' = absurd told'
       go (fault.NotFound k) told' = absurd told'
       go (fault.Fetch k x) told' = absurd told'
       go (fault.Manifest k x) told' = absurd told'
-      go (fault.Cycle named) told' = (named_cycle numbers.items named.items cause.1 told' h, bring named.items told', walk.sound h)
+      go (fault.Cycle named) told' = (named_along (IsEdge source) (λ m n e. e.edge h) numbers.items named.items cause.1 told', bring named.items told', walk.sound h)
       go fault.Memory told' = tt
       go fault.TooMany told' = absurd told'
   named_first (ordering.BadNumber list number) e cause told h = absurd told

@@ -14,10 +14,11 @@ use Rattle.oci_store.specs.Keyed.{has_key}
 use Rattle.oci_store.specs.Content.{Entry, succ_of}
 use Rattle.oci_store.specs.Graph.{Node, nodes_of}
 use Rattle.oci_store.specs.Visiting.{candidates, with_keys, IsVisiting, start, next}
+use Rattle.oci_plan.specs.Met.{IsMet, IsListedUnder, NamesMet}
 use Rattle.oci_plan.specs.Outside.{IsToBring, IsVisited}
 use Rattle.oci_plan.specs.Visiting.{successors_at, is_fresh, passes, IsOnlyInDestination, IsSoundItem, IsSoundVisit, IsNextVisited}
 use Rattle.oci_plan.specs.Plan.{Number}
-use Rattle.oci_plan.specs.Refusal.{IsOfKey, IsFirstFault, NamesNoneOnlyInDestination}
+use Rattle.oci_plan.specs.Refusal.{IsOfKey, IsFirstFault, NamesNoneOnlyInDestination, NamesVisited}
 use Rattle.oci_plan.specs.Walk.{IsListOf, IsPassed, MayPass, IsVisitPassed, IsWalk, IsGathered, IsNumberFault, held_at, visits_of, noted}
 use Rattle.oci_plan.specs.declared.existing.Existing.{Existing}
 use Rattle.oci_plan.specs.declared.existing.Existing.TheVariants.{Skip, Descend}
@@ -27,6 +28,7 @@ use Rattle.oci_store.proofs.Membership.{Keys, Contains-from_among, among_from_Co
 use Rattle.oci_store.proofs.Visits.{next_visit-at, candidates-push, first_places-all}
 use Rattle.oci_plan.proofs.Fresh.{fresh_more, filter-push_kept, filter-push_dropped}
 use Rattle.oci_plan.proofs.Visits.{found_to_bring, visiting_visited, visited_found, to_bring, bring_visited, bring_fresh}
+use Rattle.oci_plan.proofs.Mets.{once_more, all_more, met_roots, met_listed, fresh_visited, fresh_kept, numbers_met}
 use Rattle.oci_plan.proofs.Names.{Number-grows}
 
 -- ---- held keys, where they are skipped and where they are visited
@@ -94,12 +96,31 @@ spared_of existing entries held k e pass asked of_key = go e of_key
     go fault.Memory same = tt
     go fault.TooMany same = absurd same
 
+-- a fault of a key to visit names no other
+pub visited_of : (existing : Existing) (held : List Node) (k : Descriptor) (e : PlanFault) → passes existing held k ≡ true → IsOfKey k e → NamesVisited existing held e
+visited_of existing held k e pass of_key = go e of_key
+  where
+    named_passes : (named : Descriptor) → named ≡ k → passes existing held named ≡ true
+    named_passes named same = subst (λ (x : Descriptor). passes existing held x ≡ true) (sym same) pass
+
+    go : (e : PlanFault) → IsOfKey k e → NamesVisited existing held e
+    go (fault.TooLarge named l) same = named_passes named same
+    go (fault.NotFound named) same = named_passes named same
+    go (fault.Fetch named f) same = named_passes named same
+    go (fault.Manifest named f) same = named_passes named same
+    go (fault.Cycle ks) same = absurd same
+    go fault.Memory same = tt
+    go fault.TooMany same = absurd same
+
 module _ (honest : Type 0) (existing : Existing) (entries : List Entry) (held : List Node) (roots : Keys) (limit : ℕ) where
   abbrev source : List Node
   source = nodes_of entries
 
   abbrev NotHeld : Descriptor → Type 0
   NotHeld k = has_key held k ≡ false
+
+  abbrev Met : Descriptor → Type 0
+  Met = IsMet existing entries held roots
 
   abbrev Passes : Descriptor → Type 0
   Passes k = passes existing held k ≡ true
@@ -118,6 +139,8 @@ module _ (honest : Type 0) (existing : Existing) (entries : List Entry) (held : 
     few = few;
     kept = fresh_more existing held [] [] roots all keys refl is_all is_keys;
     pass = All-from_among Passes all passing;
+    met = subst (All Met) (sym is_all) (all_more Met [] (filter (passes existing held) roots) (All-nil Met) (met_roots existing entries held roots (passes existing held) (λ k pass. pass)));
+    once = (filter (is_fresh held) roots, places);
     has_roots = All-from_among (λ k. (has_key held k ≡ true) ⊎ Contains keys k) roots rooted;
     passed = All-nil (IsVisitPassed honest existing entries held limit);
     listed = tt;
@@ -148,7 +171,7 @@ module _ (honest : Type 0) (existing : Existing) (entries : List Entry) (held : 
   -- ---- one more key
 
   grown_list : (keys more : Keys) (k : Descriptor) (numbers : Vec ℕ) → IsListOf honest entries held keys k numbers → IsListOf honest entries held (with_keys keys more) k numbers
-  grown_list keys more k numbers h = record { named = h.named; numbers_name = Number-grows keys more numbers.items h.named h.numbers_name; distinct = h.distinct; own = h.own }
+  grown_list keys more k numbers h = record { named = h.named; numbers_name = Number-grows keys more numbers.items h.named h.numbers_name; distinct = h.distinct; under = h.under; own = h.own }
 
   lists_grow : (keys more visited : Keys) (lists : List (Vec ℕ)) → AllZip (IsListOf honest entries held keys) visited lists → AllZip (IsListOf honest entries held (with_keys keys more)) visited lists
   lists_grow keys more [] [] h = h
@@ -195,6 +218,7 @@ module _ (honest : Type 0) (existing : Existing) (entries : List Entry) (held : 
   pub record IsNext (all keys successors grown_all grown_keys : Keys) (numbers : Vec ℕ) (k : Descriptor) : Type 0 where
     pub may : MayPass honest entries (held_at existing held k) limit k
     pub own : honest → successors ≡ successors_at source k
+    pub under : All (IsListedUnder entries k) successors
     pub distinct : IsDistinct same_key successors
     pub is_all : grown_all ≡ with_keys all (filter (passes existing held) successors)
     pub is_keys : grown_keys ≡ with_keys keys (filter (is_fresh held) successors)
@@ -204,6 +228,10 @@ module _ (honest : Type 0) (existing : Existing) (entries : List Entry) (held : 
   -- a key to visit is one that passes
   pub place_passes : (all keys visited : Keys) (lists : List (Vec ℕ)) (i : ℕ) (k : Descriptor) → IsWalk honest existing entries held roots limit all keys visited lists → slice_get all i ≡ Some k → passes existing held k ≡ true
   place_passes all keys visited lists i k walk at = All-among Passes all k walk.pass (among_from_place all i k at)
+
+  -- it was met
+  pub place_met : (all keys visited : Keys) (lists : List (Vec ℕ)) (i : ℕ) (k : Descriptor) → IsWalk honest existing entries held roots limit all keys visited lists → slice_get all i ≡ Some k → Met k
+  place_met all keys visited lists i k walk at = All-among Met all k walk.met (among_from_place all i k at)
 
   -- a key that is visited, and may pass, did pass
   pub visit_passed : (all keys visited : Keys) (lists : List (Vec ℕ)) (i : ℕ) (k : Descriptor) → IsWalk honest existing entries held roots limit all keys visited lists → slice_get all i ≡ Some k
@@ -220,6 +248,8 @@ module _ (honest : Type 0) (existing : Existing) (entries : List Entry) (held : 
         few = new.few;
         kept = fresh_more existing held all keys successors grown_all grown_keys walk.kept new.is_all new.is_keys;
         pass = subst (All Passes) (sym new.is_all) (All-from_among Passes (with_keys all more_all) passing);
+        met = subst (All Met) (sym new.is_all) (all_more Met all more_all walk.met (met_listed existing entries held roots (passes existing held) (λ j passes_j. passes_j) k successors (place_met all keys visited lists i k walk at) new.under));
+        once = (walk.once.0 ++ more, once_more keys walk.once.0 more grown_keys walk.once.1 new.is_keys);
         has_roots = subst (λ (t : Keys). All (λ j. (has_key held j ≡ true) ⊎ Contains t j) roots) (sym new.is_keys)
             (All-weaker (λ j. (has_key held j ≡ true) ⊎ Contains keys j) (λ j. (has_key held j ≡ true) ⊎ Contains (with_keys keys more) j) rooted roots walk.has_roots);
         passed = All-push (IsVisitPassed honest existing entries held limit) visited k walk.passed (visit_passed all keys visited lists i k walk at new.may);
@@ -284,6 +314,7 @@ module _ (honest : Type 0) (existing : Existing) (entries : List Entry) (held : 
         named = more;
         numbers_name = subst (λ (t : Keys). Number t numbers.items more) new.is_keys new.names;
         distinct = IsDistinct-filter (is_fresh held) successors new.distinct;
+        under = All-from_among (IsListedUnder entries k) more (λ j there. All-among (IsListedUnder entries k) successors j new.under (among-filter (is_fresh held) successors j there).1);
         own = λ h. ap (filter (is_fresh held)) (new.own h);
       }
 
@@ -296,6 +327,7 @@ module _ (honest : Type 0) (existing : Existing) (entries : List Entry) (held : 
     fresh = All-from_among NotHeld keys (λ k there. fresh_held k (parts k there).0);
     has_roots = walk.has_roots;
     passed = All-from_among (IsPassed honest entries limit) keys passed;
+    met = All-from_among Met keys (λ k there. All-among Met all k walk.met (parts k there).1);
     listed = subst (λ (t : Keys). AllZip (IsListOf honest entries held keys) t lists) (sym walk.kept) walk.listed;
     exactly = λ h k. (λ there. brought h k (among_from_Contains keys k there), λ bring. Contains-from_among keys k (found h k bring));
     sound = λ h k visited. sound_visit honest existing entries held limit h k (All-among (IsVisitPassed honest existing entries held limit) all k walk.passed (visited_found existing source held roots all (walk.found h) k visited));
@@ -368,6 +400,20 @@ module _ (honest : Type 0) (existing : Existing) (entries : List Entry) (held : 
     distinct = subst (λ (t : Keys). IsDistinct same_key t) (sym found) (IsDistinct-first_places (filter (is_fresh held) (candidates (successors_at source) roots visited)));
     outside = All-from_among (IsToBring existing source held roots) keys (λ k there. found_to_bring existing source held roots visited k visiting (sym (ap (λ (t : Keys). is_among t k) found) ∙ there));
   }
+
+  -- what is to be brought so far is not held, and was met
+  kept_fresh : (all keys visited : Keys) (lists : List (Vec ℕ)) → IsWalk honest existing entries held roots limit all keys visited lists → All NotHeld keys
+  kept_fresh all keys visited lists walk = subst (All NotHeld) (sym walk.kept) (fresh_kept existing entries held roots all)
+
+  kept_met : (all keys visited : Keys) (lists : List (Vec ℕ)) → IsWalk honest existing entries held roots limit all keys visited lists → All Met keys
+  kept_met all keys visited lists walk = All-from_among Met keys (λ k there. All-among Met all k walk.met (among-filter (is_fresh held) all k (ap (λ (t : Keys). is_among t k) (sym walk.kept) ∙ there)).1)
+
+  -- where numbers are refused for the successors of the next key, there are too many keys that were met
+  pub successors_met : (all keys visited successors : Keys) (lists : List (Vec ℕ)) (i : ℕ) (k : Descriptor) (e : PlanFault) → IsWalk honest existing entries held roots limit all keys visited lists → slice_get all i ≡ Some k
+      → All (IsListedUnder entries k) successors → IsNumberFault (with_keys keys (filter (is_fresh held) successors)) e → NamesMet existing entries held roots e
+  successors_met all keys visited successors lists i k e walk at under refused =
+      numbers_met existing entries held roots keys walk.once.0 (filter (is_fresh held) successors) e walk.once.1 (kept_fresh all keys visited lists walk) (kept_met all keys visited lists walk) (fresh_kept existing entries held roots successors)
+      (met_listed existing entries held roots (is_fresh held) (fresh_visited existing entries held roots) k successors (place_met all keys visited lists i k walk at) under) refused
 
   -- the same for the roots, and for the successors of the next key
   pub roots_first : (e : PlanFault) → IsNumberFault (with_keys [] (filter (is_fresh held) roots)) e → IsFirstFault existing entries held roots limit e

@@ -2,6 +2,7 @@ pub mod Climb
 pub mod Doubles
 pub mod Fault
 pub mod Graph
+pub mod Met
 pub mod Order
 pub mod Outside
 pub mod Plan

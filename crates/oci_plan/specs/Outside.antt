@@ -26,9 +26,13 @@ abbrev pub IsToBring : Existing → List Node → List Node → List Descriptor 
 IsToBring Skip source held roots = IsOutside source held roots
 IsToBring Descend source held roots = IsLacking source held roots
 
--- a cycle: one or more distinct keys, with an edge from each to the next, and from the last to the first
-pub record IsKeyCycle (source : List Node) (keys : List Descriptor) : Type 0 where
+-- a cycle: one or more distinct keys, each of which leads to the next, and the last to the first
+pub record IsCycleAlong (leads : Descriptor → Descriptor → Type 0) (keys : List Descriptor) : Type 0 where
   pub some : 0 < length keys
   pub distinct : IsDistinct same_key keys
-  pub path : (i : ℕ) (from to : Descriptor) → slice_get keys i ≡ Some from → slice_get keys (i + 1) ≡ Some to → IsEdge source from to
-  pub closes : (from to : Descriptor) → slice_get keys (length keys - 1) ≡ Some from → slice_get keys 0 ≡ Some to → IsEdge source from to
+  pub path : (i : ℕ) (from to : Descriptor) → slice_get keys i ≡ Some from → slice_get keys (i + 1) ≡ Some to → leads from to
+  pub closes : (from to : Descriptor) → slice_get keys (length keys - 1) ≡ Some from → slice_get keys 0 ≡ Some to → leads from to
+
+-- a cycle along the edges of the source
+abbrev pub IsKeyCycle : List Node → List Descriptor → Type 0
+IsKeyCycle source = IsCycleAlong (IsEdge source)

@@ -7,12 +7,13 @@ use Rattle.oci_manifest.specs.MediaTypes.{kind_of}
 use Rattle.oci_manifest.specs.Fault.{Fault, IsFault}
 use Rattle.oci_manifest.specs.declared.kind.Kind.TheVariants.{Leaf}
 use Rattle.oci_manifest.specs.declared.fault.ManifestFault.{ManifestFault}
-use Rattle.oci_store.specs.Keyed.{value_at, has_key}
+use Rattle.oci_store.specs.Keyed.{value_at, has_key, HasAll}
 use Rattle.oci_store.specs.Content.{Entry, Matches, succ_of}
 use Rattle.oci_store.specs.Graph.{Node, nodes_of}
 use Rattle.oci_store.specs.declared.fault.FetchFault.{FetchFault}
 use Rattle.oci_store.specs.declared.fault.FetchFault.TheVariants as fetch
-use Rattle.oci_plan.specs.Outside.{IsVisited, IsToBring, IsKeyCycle}
+use Rattle.oci_plan.specs.Met.{IsListedUnder}
+use Rattle.oci_plan.specs.Outside.{IsVisited, IsToBring, IsCycleAlong, IsKeyCycle}
 use Rattle.oci_store.specs.Visiting.{candidates, IsVisiting}
 use Rattle.oci_plan.specs.Visiting.{successors_at, is_fresh, passes, IsWithin, IsOnlyInDestination, IsSoundVisit, IsNextVisited}
 use Rattle.oci_plan.specs.declared.existing.Existing.{Existing}
@@ -49,13 +50,20 @@ pub record IsUnread (honest : Type 0) (entries : List Entry) (k : Descriptor) (e
   pub breaks : succ_of k bytes ≡ Err cause
   pub tells : IsFault e cause
 
--- what a fault says of the key that it names: each check is made only where those before it pass
+-- one or more distinct keys are a cycle, since bytes that match each of them list the next; the source has each, of a size within
+-- the limit
+pub record IsListedCycle (entries : List Entry) (limit : ℕ) (keys : List Descriptor) : Type 0 where
+  pub cycle : IsCycleAlong (IsListedUnder entries) keys
+  pub there : HasAll entries keys
+  pub within : All (IsWithin limit) keys
+
+-- what a fault says of what it names: each check is made only where those before it pass; a leaf is not fetched
 abbrev pub IsKeyFault : Type 0 → (Descriptor → Bool) → List Entry → ℕ → PlanFault → Type 0
 IsKeyFault honest fails entries limit (fault.TooLarge k l) = (l ≡ limit) × IsTooLarge limit k
 IsKeyFault honest fails entries limit (fault.NotFound k) = IsWithin limit k × (has_key entries k ≡ false)
-IsKeyFault honest fails entries limit (fault.Fetch k e) = IsWithin limit k × (has_key entries k ≡ true) × (fails k ≡ true) × IsDeviceFault e
+IsKeyFault honest fails entries limit (fault.Fetch k e) = (kind_of k.media_type ≢ Leaf) × IsWithin limit k × (has_key entries k ≡ true) × (fails k ≡ true) × IsDeviceFault e
 IsKeyFault honest fails entries limit (fault.Manifest k e) = IsWithin limit k × (has_key entries k ≡ true) × IsUnread honest entries k e
-IsKeyFault honest fails entries limit (fault.Cycle keys) = Unit {0}
+IsKeyFault honest fails entries limit (fault.Cycle keys) = IsListedCycle entries limit keys.items
 IsKeyFault honest fails entries limit fault.Memory = Unit {0}
 IsKeyFault honest fails entries limit fault.TooMany = Unit {0}
 
@@ -78,6 +86,17 @@ NamesNoneOnlyInDestination entries held (fault.Manifest k e) = IsOnlyInDestinati
 NamesNoneOnlyInDestination entries held (fault.Cycle keys) = All (λ k. IsOnlyInDestination entries held k → ⊥) keys.items
 NamesNoneOnlyInDestination entries held fault.Memory = Unit {0}
 NamesNoneOnlyInDestination entries held fault.TooMany = Unit {0}
+
+-- the fault names a key that the plan visits: none that is held, where it stops at these; and a cycle is one of keys that
+-- are not held
+abbrev pub NamesVisited : Existing → List Node → PlanFault → Type 0
+NamesVisited existing held (fault.TooLarge k l) = passes existing held k ≡ true
+NamesVisited existing held (fault.NotFound k) = passes existing held k ≡ true
+NamesVisited existing held (fault.Fetch k e) = passes existing held k ≡ true
+NamesVisited existing held (fault.Manifest k e) = passes existing held k ≡ true
+NamesVisited existing held (fault.Cycle keys) = All (λ k. has_key held k ≡ false) keys.items
+NamesVisited existing held fault.Memory = Unit {0}
+NamesVisited existing held fault.TooMany = Unit {0}
 
 -- the keys are a cycle of the source, all of them are to be brought, and every visited key is sound
 abbrev pub IsCycleToBring : Existing → List Entry → List Node → List Descriptor → ℕ → List Descriptor → Type 0

@@ -13,6 +13,7 @@ use Rattle.oci_manifest.specs.declared.fault.ManifestFault.TheVariants as readin
 use Rattle.oci_store.specs.declared.fault.FetchFault.{FetchFault}
 use Rattle.oci_store.specs.declared.fault.FetchFault.TheVariants as fetch
 use Rattle.oci_store.specs.Visiting.{candidates, with_keys, IsVisiting}
+use Rattle.oci_plan.specs.Met.{IsMet, IsListedUnder}
 use Rattle.oci_plan.specs.Outside.{IsVisited, IsToBring}
 use Rattle.oci_plan.specs.Visiting.{successors_at, is_fresh, passes, IsWithin, IsSoundVisit}
 use Rattle.oci_plan.specs.Plan.{Number}
@@ -23,11 +24,12 @@ use Rattle.oci_plan.specs.declared.fault.OrderFault.TheVariants as ordering
 use Rattle.oci_plan.specs.declared.fault.PlanFault.{PlanFault}
 use Rattle.oci_plan.specs.declared.fault.PlanFault.TheVariants as fault
 
--- the numbers name distinct keys; of an honest source these are the listed keys that are not held
+-- the numbers name distinct keys that are listed; of an honest source these are the listed keys that are not held
 pub record IsListOf (honest : Type 0) (entries : List Entry) (held : List Node) (keys : List Descriptor) (k : Descriptor) (numbers : Vec ℕ) : Type 0 where
   pub named : List Descriptor
   pub numbers_name : Number keys numbers.items named
   pub distinct : IsDistinct same_key named
+  pub under : All (IsListedUnder entries k) named
   pub own : honest → named ≡ filter (is_fresh held) (successors_at (nodes_of entries) k)
 
 -- the key passed its checks
@@ -66,6 +68,8 @@ pub record IsWalk (honest : Type 0) (existing : Existing) (entries : List Entry)
   pub few : length keys ≤ 4294967295
   pub kept : keys ≡ filter (is_fresh held) all
   pub pass : All (λ k. passes existing held k ≡ true) all
+  pub met : All (IsMet existing entries held roots) all
+  pub once : (offered : List Descriptor) × (keys ≡ first_places offered)
   pub has_roots : All (λ k. (has_key held k ≡ true) ⊎ Contains keys k) roots
   pub passed : All (IsVisitPassed honest existing entries held limit) visited
   pub listed : AllZip (IsListOf honest entries held keys) (filter (is_fresh held) visited) lists
@@ -79,6 +83,7 @@ pub record IsGathered (honest : Type 0) (existing : Existing) (entries : List En
   pub fresh : All (λ k. has_key held k ≡ false) keys
   pub has_roots : All (λ k. (has_key held k ≡ true) ⊎ Contains keys k) roots
   pub passed : All (IsPassed honest entries limit) keys
+  pub met : All (IsMet existing entries held roots) keys
   pub listed : AllZip (IsListOf honest entries held keys) keys lists
   pub exactly : honest → (k : Descriptor) → Contains keys k ↔ IsToBring existing (nodes_of entries) held roots k
   pub sound : honest → (k : Descriptor) → IsVisited existing (nodes_of entries) held roots k → IsSoundVisit existing entries held limit k

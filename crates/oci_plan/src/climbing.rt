@@ -19,8 +19,8 @@ use std::alloc::Global;
 /// key, so one that is met again after more edges stays. The key itself need not be held, and is always in the answer.
 ///
 /// These are the roots of an extended copy, which brings what lists a content along with it (oras-go v2, "ExtendedCopy",
-/// its option "Depth"). The climb goes by levels: the key, then what lists it, then what lists those. It asks for the
-/// predecessors of a key at most once. The time grows with the keys and what they list, times a logarithm.
+/// its option "Depth"). The climb goes by levels: the key, then what lists it, then what lists those. The time grows with
+/// the keys and what they list, times a logarithm.
 pub fn climb<G: GraphSource>(
     alloc: Global,
     source: &G,

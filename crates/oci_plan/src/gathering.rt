@@ -4,11 +4,12 @@ ghost use Rattle.oci_manifest.specs.Descriptor.{Descriptor};
 ghost use Rattle.oci_manifest.specs.Manifest.{first_places};
 ghost use Rattle.oci_store.specs.Keyed.{has_key, HasAll};
 ghost use Rattle.oci_store.specs.Graph.{nodes_of};
+ghost use Rattle.oci_plan.specs.Met.{IsMet, NamesMet};
 ghost use Rattle.oci_plan.specs.Order.{IsOrder};
 ghost use Rattle.oci_plan.specs.Outside.{IsVisited, IsToBring};
 ghost use Rattle.oci_plan.specs.Visiting.{IsWithin, IsSoundItem, IsSoundVisit};
 ghost use Rattle.oci_plan.specs.Plan.{IsPlan, HasEdges, FollowsListed};
-ghost use Rattle.oci_plan.specs.Refusal.{IsKeyFault, IsFirstFault, NamesNoneOnlyInDestination};
+ghost use Rattle.oci_plan.specs.Refusal.{IsKeyFault, IsFirstFault, NamesNoneOnlyInDestination, NamesVisited};
 ghost use Rattle.oci_plan.specs.Walk.{HasKeyOfEach, NamesByKeys};
 
 mod cycle;
@@ -50,10 +51,13 @@ fn plan_fault(alloc: Global, keys: &[Key], fault: OrderFault) -> PlanFault
 /// and nothing below it is looked at. With [`Existing::Descend`] it is visited too; where the source does not have it, that is no
 /// fault, and the plan goes on with the next key. A manifest is fetched once, a leaf never.
 ///
-/// The first visited key that is at fault decides: [`PlanFault::TooLarge`] where it is a manifest's and its size is over the
-/// limit, then [`PlanFault::NotFound`] where the source lacks it, [`PlanFault::Fetch`] where the device refuses it, and
-/// [`PlanFault::Manifest`] where its bytes do not read. [`PlanFault::Cycle`] comes once all are visited,
-/// [`PlanFault::TooMany`] where there are more than 4294967295 keys, and [`PlanFault::Memory`] at any point. A refusal
+/// Whatever the source's device has now, each planned key is a root, or bytes that match such a key list it. So is a key that a
+/// refusal names.
+///
+/// The first visited key that is at fault decides: [`PlanFault::TooLarge`] if it is a manifest's and its size is over the
+/// limit, then [`PlanFault::NotFound`] if the source lacks it, [`PlanFault::Fetch`] if the device refuses it, and
+/// [`PlanFault::Manifest`] if its bytes do not read. [`PlanFault::Cycle`] comes once all are visited,
+/// [`PlanFault::TooMany`] if there are more than 4294967295 keys, and [`PlanFault::Memory`] at any point. A refusal
 /// changes nothing. The time grows with the keys and what they list, times a logarithm.
 pub fn gather<A: Source, D: Dest>(
     alloc: Global,
@@ -69,6 +73,8 @@ pub fn gather<A: Source, D: Dest>(
     ensures fresh { IfOk result (λ p. All (λ k. has_key (D.state destination.now).nodes k ≡ false)
         p.keys) }
     ensures there { IfOk result (λ p. HasAll (A.state source.now).entries p.keys) }
+    ensures met { IfOk result (λ p. All (IsMet existing (A.state source.now).entries
+        (D.state destination.now).nodes roots.now) p.keys) }
     ensures within { IfOk result (λ p. All (IsWithin limit) p.keys) }
     ensures roots { IfOk result (λ p. All (λ k. (has_key (D.state destination.now).nodes k ≡ true) ⊎
         Contains p.keys k) roots.now) }
@@ -93,11 +99,14 @@ pub fn gather<A: Source, D: Dest>(
     ensures follows { IfOk result (λ p. (A.state source.now).is_honest
         → FollowsListed (nodes_of (A.state source.now).entries) (D.state destination.now).nodes p) }
 
-    // Why nothing is planned.
+    // Why nothing is planned: the last clause where the source's bytes are known, the others of any source.
     ensures cause { IfErr result (IsKeyFault (A.state source.now).is_honest
         (A.state source.now).fails_at (A.state source.now).entries limit) }
     ensures spared { IfErr result (NamesNoneOnlyInDestination (A.state source.now).entries
         (D.state destination.now).nodes) }
+    ensures named { IfErr result (NamesVisited existing (D.state destination.now).nodes) }
+    ensures named_met { IfErr result (NamesMet existing (A.state source.now).entries
+        (D.state destination.now).nodes roots.now) }
     ensures first { IfErr result (λ e. (A.state source.now).is_honest
         → IsFirstFault existing (A.state source.now).entries (D.state destination.now).nodes
         roots.now limit e) }

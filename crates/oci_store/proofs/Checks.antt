@@ -66,6 +66,8 @@ IsPush-refused shares s e f plain refused = record {
   calm = λ less. absurd (omega arith);
   halted = λ is. let same : f ≡ fault.Halted = cc is in absurd (subst IsPlain same plain);
   running = λ halted. inl halted;
+  taken = tt;
+  stays = λ halted. halted;
   tags = refl;
   name = refl;
 }
@@ -82,6 +84,8 @@ IsPush-in_memory shares old new e (Ok n) place pushed refused checked plain = rw
   calm = λ less. absurd (omega arith);
   halted = λ is. absurd (cc is);
   running = λ halted. inl halted;
+  taken = λ halted. halted;
+  stays = λ halted. halted;
   tags = refl;
   name = refl;
 })

@@ -24,7 +24,8 @@ fn part_size(left: u64) -> usize
     }
 }
 
-/// Reads the content of a key part by part into a draft, and verifies it. At most one byte more than the key's size is read.
+/// Reads the content of a key part by part into a draft, and verifies it. It asks for at most one byte more than the key's
+/// size: that is by how it is written, and no clause says it.
 ///
 /// Refused as a fetch is. What the draft has then is unspecified: drop it.
 pub fn fetch_into<A: Source, W: Drafting>(

@@ -1,7 +1,13 @@
 //! `ocicp`: copies OCI content between stores, and looks into image layouts.
+//!
+//! The whole program is [`run::run_words`]: it takes the words after the program's name and two writers, and returns the exit
+//! status. [`process::run_process`] runs it with the words and the outputs of the process.
 #![tactic(auto)]
 
-use oci_commands::run_process;
+mod process;
+mod run;
+
+use process::run_process;
 use std::process::ExitCode;
 
 fn main(rt: HostRuntime) -> ExitCode {

@@ -1,4 +1,4 @@
-use crate::{Content, Device, DeviceStore, Sample, image};
+use crate::{Content, Device, DeviceStore, IMAGE, OneContent, Sample, image};
 use bytes::Bytes;
 use oci_manifest::Key;
 use oci_store::{ClosedStore, Dest, MemoryStore, PushFault, Source};
@@ -99,6 +99,18 @@ pub fn on_device<'d>(
     samples: &[Sample],
 ) -> Result<DeviceStore<'d>, Fail> {
     put_closed(alloc, DeviceStore::new(alloc, device), samples)
+}
+
+/// A source of an image whose bytes are those of an empty JSON list, and the image's key.
+pub fn unreadable(alloc: Global) -> Result<(OneContent, Key), Fail> {
+    let content = Content {
+        media_type: IMAGE,
+        bytes: String::from_str(alloc, "[]")?,
+    };
+    let key = content.key(alloc)?;
+    let Content { bytes, .. } = content;
+    let bytes = Bytes::from_vec(bytes.into_bytes())?;
+    Ok((OneContent::new(key.try_clone()?, bytes), key))
 }
 
 /// The store has these bytes under the key.

@@ -1,4 +1,4 @@
-ghost use Rattle.std.specs.Prelude.{◌≡◌, ◌+◌, ◌≤◌, length, OnOk, IfErr, IfSome};
+ghost use Rattle.std.specs.Prelude.{◌≡◌, ◌≤◌, OnOk, IfErr, IfSome};
 ghost use Rattle.oci_store.specs.Keyed.{HasAll, HasDistinctKeys};
 ghost use Rattle.oci_pool.specs.Run.{IsCause};
 ghost use Rattle.oci_copy.specs.Kept.{Keeps};
@@ -14,7 +14,6 @@ use oci_plan::Plan;
 use oci_pool::{Hooks, PoolFault, run};
 use oci_store::{Dest, Source};
 use std::alloc::Global;
-use std::marker::Brand;
 use std::sync::{Condvar, Mutex, Wait};
 use std::thread::Threads;
 
@@ -48,7 +47,7 @@ fn reported<D: Dest, T: CopyStart>(workers: u32, fault: PoolFault<CopyFault>) ->
 }
 
 /// Lets workers copy what is planned, over what the run knows from its start on.
-fn work<
+pub(crate) fn work<
     'a,
     A: Source + Sync,
     D: Dest + Drop + Send,
@@ -102,34 +101,4 @@ where
             (finish(locked), Err(fault))
         }
     }
-}
-
-/// Lets workers copy what is planned.
-pub(crate) fn copy_planned<
-    A: Source + Sync,
-    D: Dest + Drop + Send,
-    R: Threads + Wait + Sync,
-    H: Hooks + Sync,
->(
-    rt: &R,
-    alloc: Global,
-    source: &A,
-    destination: D,
-    plan: &Plan,
-    workers: u32,
-    hooks: &H,
-) -> (D, Result<(), CopyFault>)
-where
-    D::Draft: Send,
-    requires workers { workers ≤ 64 }
-    requires can_push { CanPush (A.state source.now) (D.state destination) plan.now }
-    ensures held { OnOk result.1 (HasAll (D.state result.0).nodes plan.now.keys) }
-    ensures count { OnOk result.1 (length (D.state result.0).nodes ≡ length
-        (D.state destination).nodes + length plan.now.keys) }
-    ensures keeps { Keeps D.shares (A.state source.now) plan.now.keys (D.state destination)
-        (D.state result.0) }
-    ensures cause { IfErr result.1 (IsStopCause (CanFail D.state (D.state destination))
-        (A.state source.now) (D.state destination) plan.now.keys) }
-{
-    work::<A, D, Brand, R, H>(rt, alloc, source, destination, plan, workers, hooks)
 }

@@ -1,47 +1,62 @@
 use crate::fault::DirFault;
 use crate::fs_dir::files::{failed, part_of_file};
 use std::io::{ErrorKind, Write};
+use std::random::RandomSource;
 use std::rt::Files;
 use std::{fs, io};
 
 /// How many bytes are copied at a time.
 const PART: u64 = 1_048_576;
 
-/// A file beside the place that it is to have: its name is the place's, a number that no other file has, and `.new`. It is
-/// open only while bytes are written, and is removed where it is dropped before it was renamed.
+/// How many names are tried before a write fails. Two are equal once in 2^64 times, so a second try shows that the random source
+/// repeats itself.
+const TRIES: u32 = 16;
+
+/// A file beside the place that it is to have. Its name is the place's, 16 random hexadecimal digits and `.new`, which no file had
+/// before, and it is open from its first byte until it is renamed. So nobody else writes into it, and if somebody removes it,
+/// its renaming fails. It is removed if it is dropped before that.
 pub(crate) struct Beside<'r, R: Files + AllocGlobal> {
     rt: &'r R,
     path: String,
+    file: R::File,
 }
 
 impl<'r, R: Files + AllocGlobal> Drop for Beside<'r, R> {
     fn drop(self) {
-        let Beside { rt, path } = self;
+        let Beside { rt, path, file } = self;
+        drop(file);
         let _ = fs::remove_file(rt, &path);
     }
 }
 
 impl<'r, R: Files + AllocGlobal> Beside<'r, R> {
-    /// A file of these bytes, which no other thread or process has. Its folder is made where it is missing.
-    pub(crate) fn with(rt: &'r R, place: &str, bytes: &[u8]) -> Result<Beside<'r, R>, DirFault> {
-        for number in 0..u32::MAX {
-            let path = format!(in rt.alloc(); "{place}.{number}.new")?;
-            match made(rt, &path) {
-                Ok(mut file) => {
-                    let beside = Beside { rt, path };
-                    file.write_all(bytes).map_err(|error| failed(&error))?;
-                    return Ok(beside);
-                }
-                Err(error) if error.kind() == ErrorKind::AlreadyExists => {}
-                Err(error) => return Err(failed(&error)),
-            }
-        }
-        Err(DirFault::Failed)
+    /// Adds bytes at the end.
+    pub(crate) fn append(&mut self, bytes: &[u8]) -> Result<(), DirFault> {
+        self.file.write_all(bytes).map_err(|error| failed(&error))
     }
 
-    /// A file of the first so many bytes of the one at the place.
+    /// Renames the file to the place.
+    pub(crate) fn rename(self, place: &str) -> Result<(), DirFault> {
+        let Beside { rt, path, file } = self;
+        drop(file);
+        fs::rename(rt, &path, place).map_err(|error| {
+            let _ = fs::remove_file(rt, &path);
+            failed(&error)
+        })
+    }
+}
+
+impl<'r, R: Files + AllocGlobal + RandomSource> Beside<'r, R> {
+    /// A file of these bytes. Its folder is made if it is missing.
+    pub(crate) fn with(rt: &'r R, place: &str, bytes: &[u8]) -> Result<Beside<'r, R>, DirFault> {
+        let mut beside = Beside::empty(rt, place)?;
+        beside.append(bytes)?;
+        Ok(beside)
+    }
+
+    /// A file of the first `length` bytes of the one at the place.
     pub(crate) fn copied(rt: &'r R, place: &str, length: u64) -> Result<Beside<'r, R>, DirFault> {
-        let beside = Beside::with(rt, place, b"")?;
+        let mut beside = Beside::empty(rt, place)?;
         for number in 0..length.div_ceil(PART) {
             let from = number.saturating_mul(PART);
             let most = PART.min(length.saturating_sub(from));
@@ -54,22 +69,29 @@ impl<'r, R: Files + AllocGlobal> Beside<'r, R> {
         Ok(beside)
     }
 
-    /// Adds bytes at the end.
-    pub(crate) fn append(&self, bytes: &[u8]) -> Result<(), DirFault> {
-        match fs::File::options().append(true).open(self.rt, &self.path) {
-            Ok(mut file) => file.write_all(bytes).map_err(|error| failed(&error)),
-            Err(error) => Err(failed(&error)),
+    /// A file without bytes. A name that is taken is left alone, and another one is tried.
+    fn empty(rt: &'r R, place: &str) -> Result<Beside<'r, R>, DirFault> {
+        for _ in 0..TRIES {
+            let path = new_path(rt, place)?;
+            match made(rt, &path) {
+                Ok(file) => return Ok(Beside { rt, path, file }),
+                Err(error) if error.kind() == ErrorKind::AlreadyExists => {}
+                Err(error) => return Err(failed(&error)),
+            }
         }
+        Err(DirFault::Failed)
     }
+}
 
-    /// Renames the file to the place.
-    pub(crate) fn rename(self, place: &str) -> Result<(), DirFault> {
-        let Beside { rt, path } = self;
-        fs::rename(rt, &path, place).map_err(|error| {
-            let _ = fs::remove_file(rt, &path);
-            failed(&error)
-        })
+/// The path of a file beside a place, by a random number.
+fn new_path<R: AllocGlobal + RandomSource>(rt: &R, place: &str) -> Result<String, DirFault> {
+    let mut bytes = [0; 8];
+    match rt.fill_bytes(&mut bytes) {
+        Ok(()) => {}
+        Err(error) => return Err(failed(&error)),
     }
+    let number = u64::from_be_bytes(bytes);
+    Ok(format!(in rt.alloc(); "{place}.{number:016x}.new")?)
 }
 
 /// Makes a file that is not there, and its folder where that is missing.

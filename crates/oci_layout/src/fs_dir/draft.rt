@@ -4,6 +4,7 @@ use crate::fs_dir::files::{failed, length_of, part_of_file};
 use oci_digest::NoMemory;
 use oci_store::Drafting;
 use std::io::ErrorKind;
+use std::random::RandomSource;
 use std::rt::Files;
 
 /// How far a draft of a file of a folder is.
@@ -20,8 +21,8 @@ enum Stage<'r, R: Files + AllocGlobal> {
 /// A draft of a file of a folder.
 ///
 /// As long as what is appended is what the file at the place has already, nothing is written. From the first difference on it
-/// is in a file beside the place, which is open only while bytes are written, and is removed where the draft is dropped.
-/// If the file at the place turns out to be longer than the draft, its beginning is copied when the draft is kept.
+/// is in a file beside the place, which no other draft has, and which is removed if the draft is dropped. If the file at the
+/// place turns out to be longer than the draft, its beginning is copied when the draft is kept.
 #[derive(Drop)]
 pub struct FsDraft<'r, R: Files + AllocGlobal> {
     rt: &'r R,
@@ -47,10 +48,12 @@ impl<'r, R: Files + AllocGlobal> FsDraft<'r, R> {
             stage: Stage::Failed,
         }
     }
+}
 
+impl<'r, R: Files + AllocGlobal + RandomSource> FsDraft<'r, R> {
     /// Adds bytes at the end.
     fn add(&mut self, part: &[u8]) -> Result<(), DirFault> {
-        match &self.stage {
+        match &mut self.stage {
             Stage::Found(length) => {
                 self.stage = added(self.rt, &self.place, *length, part)?;
                 Ok(())
@@ -62,7 +65,7 @@ impl<'r, R: Files + AllocGlobal> FsDraft<'r, R> {
 }
 
 /// No code can show what a file has, so a draft in a folder may be said to have any bytes.
-impl<'r, R: Files + AllocGlobal> Drafting for FsDraft<'r, R> {
+impl<'r, R: Files + AllocGlobal + RandomSource> Drafting for FsDraft<'r, R> {
     ghost use Rattle.std.specs.Prelude.{⊤};
 
     ghost drafted = { λ d bytes. ⊤ };
@@ -80,7 +83,7 @@ impl<'r, R: Files + AllocGlobal> Drafting for FsDraft<'r, R> {
 }
 
 /// Where a draft is with one more part, after so many bytes that the file at the place has.
-fn added<'r, R: Files + AllocGlobal>(
+fn added<'r, R: Files + AllocGlobal + RandomSource>(
     rt: &'r R,
     place: &str,
     length: u64,
@@ -92,7 +95,7 @@ fn added<'r, R: Files + AllocGlobal>(
     if length == 0 {
         return Ok(Stage::Written(Beside::with(rt, place, part)?));
     }
-    let beside = Beside::copied(rt, place, length)?;
+    let mut beside = Beside::copied(rt, place, length)?;
     beside.append(part)?;
     Ok(Stage::Written(beside))
 }
@@ -113,7 +116,7 @@ fn has_part<R: Files + AllocGlobal>(
 
 /// Puts what was drafted at a place. As a rule that is one renaming, or nothing where the file there has these bytes. Where it
 /// goes on after them, they are copied here, since no draft knows how many are to come.
-pub(crate) fn finish<R: Files + AllocGlobal>(
+pub(crate) fn finish<R: Files + AllocGlobal + RandomSource>(
     draft: FsDraft<'_, R>,
     place: &str,
 ) -> Result<(), DirFault> {

@@ -1,62 +1,133 @@
 use crate::fault::DirFault;
 use crate::fs_dir::files::{failed, is_absence};
+use std::io::ErrorKind;
 use std::rt::Files;
 use std::{fs, io};
 
-/// Removes from a folder the files that were written beside others and never renamed.
+/// A folder of a layout into which files are written.
+#[derive(Clone, Copy)]
+enum Room {
+    Top,
+    Sha256,
+    Sha512,
+}
+
+impl Room {
+    /// Its path from the folder of the layout.
+    fn path(self) -> &'static str {
+        match self {
+            Room::Top => ".",
+            Room::Sha256 => "blobs/sha256",
+            Room::Sha512 => "blobs/sha512",
+        }
+    }
+
+    /// Whether a file of a layout that lies there may have this name.
+    fn is_name(self, name: &str) -> bool {
+        match self {
+            Room::Top => matches!(name, "oci-layout" | "index.json"),
+            Room::Sha256 => is_hexadecimal(name, 64),
+            Room::Sha512 => is_hexadecimal(name, 128),
+        }
+    }
+
+    /// Whether a file that was written beside such a file has this name.
+    fn is_leftover(self, name: &str) -> bool {
+        let Some(numbered) = name.strip_suffix(".new") else {
+            return false;
+        };
+        match numbered.rsplit_once('.') {
+            Some((file, number)) => self.is_name(file) && is_hexadecimal(number, 16),
+            None => false,
+        }
+    }
+}
+
+/// Whether a text is a number of `digits` hexadecimal digits, none of them in upper case.
+fn is_hexadecimal(text: &str, digits: usize) -> bool {
+    text.len() == digits
+        && text
+            .bytes()
+            .all(|byte| matches!(byte, b'0'..=b'9' | b'a'..=b'f'))
+}
+
+/// Removes from the folder of a layout the files that were written beside others and never renamed. What cannot be removed stays.
 pub(crate) fn remove_leftovers<R: Files + AllocGlobal>(
     rt: &R,
     folder: &str,
 ) -> Result<(), DirFault> {
-    match leftovers(rt, folder) {
+    let mut answer = Ok(());
+    for room in [Room::Top, Room::Sha256, Room::Sha512] {
+        match remove_from(rt, folder, room) {
+            Ok(()) => {}
+            Err(DirFault::Failed) => answer = Err(DirFault::Failed),
+            Err(DirFault::Memory) => return Err(DirFault::Memory),
+        }
+    }
+    answer
+}
+
+fn remove_from<R: Files + AllocGlobal>(rt: &R, folder: &str, room: Room) -> Result<(), DirFault> {
+    match leftovers(rt, folder, room) {
         Ok(paths) => remove(rt, &paths),
         Err(error) if is_absence(&error) => Ok(()),
         Err(error) => Err(failed(&error)),
     }
 }
 
-/// The paths of these files.
-fn leftovers<R: Files + AllocGlobal>(rt: &R, folder: &str) -> io::Result<Vec<String>> {
+/// The paths of these files. Those of blobs are not looked for through a link.
+fn leftovers<R: Files + AllocGlobal>(rt: &R, folder: &str, room: Room) -> io::Result<Vec<String>> {
     let mut paths = Vec::new(rt.alloc());
-    for entry in fs::read_dir(&rt, folder)? {
-        // A name that is no text is none that was written beside a file.
-        let Ok(entry) = entry else { continue };
-        if is_leftover(entry.file_name()) {
-            paths.push(String::from_str(rt.alloc(), entry.path().as_str())?)?;
+    if is_linked(rt, folder, room)? {
+        return Ok(paths);
+    }
+    for entry in fs::read_dir(&rt, path_below(rt, folder, room.path())?.as_str())? {
+        match entry {
+            Ok(entry) if room.is_leftover(entry.file_name()) => {
+                paths.push(String::from_str(rt.alloc(), entry.path().as_str())?)?;
+            }
+            Ok(_) => {}
+            // A name that is no text is none that was written beside a file.
+            Err(error) if error.kind() == ErrorKind::InvalidFilename => {}
+            Err(error) => return Err(error),
         }
     }
     Ok(paths)
 }
 
-/// Removes files; a missing one is skipped.
+/// Whether a link is in the place of this folder, or of `blobs`.
+fn is_linked<R: Files + AllocGlobal>(rt: &R, folder: &str, room: Room) -> io::Result<bool> {
+    match room {
+        Room::Top => Ok(false),
+        _ => Ok(is_link(rt, folder, "blobs")? || is_link(rt, folder, room.path())?),
+    }
+}
+
+fn is_link<R: Files + AllocGlobal>(rt: &R, folder: &str, path: &str) -> io::Result<bool> {
+    Ok(fs::symlink_metadata(rt, path_below(rt, folder, path)?.as_str())?.is_symlink())
+}
+
+fn path_below<R: AllocGlobal>(rt: &R, folder: &str, path: &str) -> io::Result<String> {
+    Ok(format!(in rt.alloc(); "{folder}/{path}")?)
+}
+
+/// Removes files, as far as that can be done.
 fn remove<R: Files>(rt: &R, paths: &[String]) -> Result<(), DirFault> {
+    let mut answer = Ok(());
     for path in paths {
-        match fs::remove_file(rt, path) {
-            Err(error) if !is_absence(&error) => return Err(failed(&error)),
+        match remove_file(rt, path.as_str()) {
+            Err(error) if !is_absence(&error) => answer = Err(failed(&error)),
             _ => {}
         }
     }
-    Ok(())
+    answer
 }
 
-/// Whether a name is that of a file beside another: the other's name, a number, and `new`, with dots between them.
-fn is_leftover(name: &str) -> bool {
-    let Some(numbered) = name.strip_suffix(".new") else {
-        return false;
-    };
-    match numbered.rsplit_once('.') {
-        Some((file, number)) => is_file_of_layout(file) && is_number(number),
-        None => false,
+/// Removes a regular file. What is none stays.
+fn remove_file<R: Files>(rt: &R, path: &str) -> io::Result<()> {
+    if fs::symlink_metadata(rt, path)?.is_file() {
+        fs::remove_file(rt, path)
+    } else {
+        Ok(())
     }
-}
-
-/// Whether a file of a layout may have this name.
-fn is_file_of_layout(name: &str) -> bool {
-    let is_blob = matches!(name.len(), 64 | 128)
-        && name.bytes().all(|byte| byte.is_ascii_hexdigit());
-    is_blob || matches!(name, "oci-layout" | "index.json")
-}
-
-fn is_number(text: &str) -> bool {
-    !text.is_empty() && text.bytes().all(|byte| byte.is_ascii_digit())
 }

@@ -1,11 +1,12 @@
 ghost use Rattle.std.specs.Prelude.{◌≡◌, ◌≢◌, ◌<◌, ◌≤◌, ◌⊎◌, true, false, Some, Ok, IfOk, IfErr, OnOk, OnErr, MatchBool};
-ghost use Rattle.std.specs.List.{IsDistinct};
+ghost use Rattle.std.specs.List.{All, IsDistinct};
 ghost use Rattle.oci_manifest.specs.Descriptor.{same_key};
 ghost use Rattle.oci_manifest.specs.MediaTypes.{kind_of};
 ghost use Rattle.oci_manifest.specs.declared.kind.Kind.TheVariants.{Leaf};
 ghost use Rattle.oci_store.specs.Content.{Matches, succ_of};
 ghost use Rattle.oci_store.specs.Graph.{nodes_of};
 ghost use Rattle.oci_store.specs.Keyed.{has_key, value_at};
+ghost use Rattle.oci_plan.specs.Met.{IsListedUnder};
 ghost use Rattle.oci_plan.specs.Refusal.{IsKeyFault, IsOfKey};
 ghost use Rattle.oci_plan.specs.Visiting.{successors_at, IsWithin};
 ghost use Rattle.oci_plan.specs.Walk.{IsPassed, MayPass, IsReadFault, fetch_refusal, read_refusal};
@@ -55,9 +56,10 @@ fn fetch_fault(key: Key, fault: FetchFault) -> PlanFault
     }
 }
 
-/// The bytes of a key that passed its checks.
+/// The bytes of a manifest's key that passed its checks.
 #[tactic(auto, using(crate::proofs::Items::fetch_refused))]
 fn fetch<A: Source>(source: &A, key: &Key, limit: u64) -> Result<Bytes, PlanFault>
+    requires manifest { kind_of key.now.media_type ≢ Leaf }
     requires there { has_key (A.state source.now).entries key.now ≡ true }
     requires within { IsWithin limit key.now }
     ensures matching { IfOk result (λ bytes. Matches key.now bytes) }
@@ -115,6 +117,8 @@ fn item_successors<A: Source>(
         (A.state source.now).entries limit key.now) }
     ensures listed { IfOk result (λ keys. (A.state source.now).is_honest
         → keys.items ≡ successors_at (nodes_of (A.state source.now).entries) key.now) }
+    ensures under { IfOk result (λ keys. All (IsListedUnder (A.state source.now).entries key.now)
+        keys.items) }
     ensures distinct { IfOk result (λ keys. IsDistinct same_key keys.items) }
     ensures cause { IfErr result (IsKeyFault (A.state source.now).is_honest
         (A.state source.now).fails_at (A.state source.now).entries limit) }
@@ -143,6 +147,8 @@ pub(crate) fn visited_successors<A: Source>(
         (A.state source.now).entries is_held limit key.now) }
     ensures listed { IfOk result (λ keys. (A.state source.now).is_honest
         → keys.items ≡ successors_at (nodes_of (A.state source.now).entries) key.now) }
+    ensures under { IfOk result (λ keys. All (IsListedUnder (A.state source.now).entries key.now)
+        keys.items) }
     ensures distinct { IfOk result (λ keys. IsDistinct same_key keys.items) }
     ensures cause { IfErr result (IsKeyFault (A.state source.now).is_honest
         (A.state source.now).fails_at (A.state source.now).entries limit) }

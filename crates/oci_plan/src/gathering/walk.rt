@@ -1,8 +1,9 @@
 ghost use Rattle.std.specs.Prelude.{◌≡◌, ◌≤◌, length, filter, Some, slice_get, IfOk, IfErr, OnOk};
 ghost use Rattle.std.specs.List.{IsDistinct};
 ghost use Rattle.oci_manifest.specs.Descriptor.{same_key};
+ghost use Rattle.oci_plan.specs.Met.{NamesMet};
 ghost use Rattle.oci_plan.specs.Plan.{Number};
-ghost use Rattle.oci_plan.specs.Refusal.{IsKeyFault, IsFirstFault, NamesNoneOnlyInDestination};
+ghost use Rattle.oci_plan.specs.Refusal.{IsKeyFault, IsFirstFault, NamesNoneOnlyInDestination, NamesVisited};
 ghost use Rattle.oci_store.specs.Visiting.{with_key, with_keys};
 ghost use Rattle.oci_plan.specs.Visiting.{is_fresh};
 ghost use Rattle.oci_plan.specs.Walk.{IsNumberFault, IsGathered};
@@ -78,6 +79,9 @@ pub(crate) fn visit<A: Source, D: Dest>(
         (A.state source.now).fails_at (A.state source.now).entries limit) }
     ensures spared { IfErr result (NamesNoneOnlyInDestination (A.state source.now).entries
         (D.state destination.now).nodes) }
+    ensures named { IfErr result (NamesVisited existing (D.state destination.now).nodes) }
+    ensures met { IfErr result (NamesMet existing (A.state source.now).entries
+        (D.state destination.now).nodes roots.now) }
     ensures first { IfErr result (λ e. (A.state source.now).is_honest
         → IsFirstFault existing (A.state source.now).entries (D.state destination.now).nodes
         roots.now limit e) }

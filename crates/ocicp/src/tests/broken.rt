@@ -3,6 +3,7 @@
 use std::fs::{Metadata, OpenOptions};
 use std::io;
 use std::io::Write;
+use std::random::RandomSource;
 use std::rt::Files;
 use std::sync::Wait;
 use std::thread::Threads;
@@ -110,6 +111,12 @@ impl<'r, R: Files + Clock> Clock for Unreadable<'r, R> {
 
     fn since_1970(&self) -> io::Result<Duration> {
         self.rt.since_1970()
+    }
+}
+
+impl<'r, R: Files + RandomSource> RandomSource for Unreadable<'r, R> {
+    fn fill_bytes(&self, bytes: &mut [u8]) -> io::Result<()> {
+        self.rt.fill_bytes(bytes)
     }
 }
 

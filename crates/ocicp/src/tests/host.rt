@@ -1,16 +1,9 @@
 //! The runtimes with which the tests run the program.
 
 use crate::tests::broken::Unreadable;
-use oci_commands::Lockable;
-use std::rt::Files;
+use oci_copy_commands::Host;
 use std::test::Fail;
-use std::time::Clock;
 use std::{env, process};
-
-/// What a run needs of its runtime, apart from threads: files, memory and a clock.
-pub(crate) trait Host: Files<File: Lockable + Send, Dir: Send> + AllocGlobal + Clock + Sync {}
-
-impl Host for HostRuntime {}
 
 impl<'r, R: Host> Host for Unreadable<'r, R> {}
 

@@ -1,11 +1,11 @@
 //! Outputs and files that fail in mid-stream.
 
+use crate::run::run_words;
 use crate::tests::broken::{Broken, Step};
-use crate::tests::host::Host;
 use crate::tests::layouts::IMAGE;
 use crate::tests::runs::{told, words_of};
 use crate::tests::sessions::assert_session_in;
-use oci_commands::run_words;
+use oci_copy_commands::Host;
 use std::io::ErrorKind;
 use std::process::Abort;
 use std::sync::Wait;
@@ -49,7 +49,7 @@ fn broken<R: Host + Threads + Wait>(rt: &R, words: &str, out: Broken) -> Result<
     let words = words_of(rt.alloc(), words)?;
     let mut out = out;
     let mut err = Vec::new(rt.alloc());
-    let status = run_words(rt, &words, false, &mut out, &mut err);
+    let status = run_words(rt, &words, &mut out, &mut err);
     told(rt.alloc(), &[], &err, status)
 }
 

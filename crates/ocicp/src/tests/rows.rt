@@ -1,8 +1,8 @@
 //! Rows of words, of whose run something is wanted.
 
-use crate::tests::host::Host;
 use crate::tests::runs::transcript;
 use crate::tests::sessions::parts;
+use oci_copy_commands::Host;
 use std::process::Abort;
 use std::sync::Wait;
 use std::test::Fail;

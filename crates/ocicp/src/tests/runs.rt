@@ -1,8 +1,8 @@
 //! Runs of the program, and what they write.
 
+use crate::run::{run_words, run_words_on};
 use crate::tests::contents::push_all;
-use crate::tests::host::Host;
-use oci_commands::run_words;
+use oci_copy_commands::Host;
 use std::alloc::Global;
 use std::fmt::Write;
 use std::sync::Wait;
@@ -14,7 +14,7 @@ pub(crate) fn transcript<R: Host + Threads + Wait>(rt: &R, words: &str) -> Resul
     let words = words_of(rt.alloc(), words)?;
     let mut out = Vec::new(rt.alloc());
     let mut err = Vec::new(rt.alloc());
-    let status = run_words(rt, &words, false, &mut out, &mut err);
+    let status = run_words(rt, &words, &mut out, &mut err);
     told(rt.alloc(), &out, &err, status)
 }
 
@@ -23,7 +23,7 @@ pub(crate) fn drawn<R: Host + Threads + Wait>(rt: &R, words: &str) -> Result<Str
     let words = words_of(rt.alloc(), words)?;
     let mut out = Vec::new(rt.alloc());
     let mut err = Vec::new(rt.alloc());
-    run_words(rt, &words, true, &mut out, &mut err);
+    run_words_on(rt, &words, true, &mut out, &mut err);
     line_of(rt.alloc(), &err)
 }
 

@@ -24,10 +24,11 @@
 use crate::tests::broken::Unreadable;
 use crate::tests::contents::filled;
 use crate::tests::files::{change, shown};
-use crate::tests::host::{Host, Placed};
+use crate::tests::host::Placed;
 use crate::tests::outputs::assert_breaks;
 use crate::tests::runs::{drawn, transcript};
 use crate::tests::side_by_side::beside;
+use oci_copy_commands::Host;
 use std::fs;
 use std::io::ErrorKind;
 use std::process::Abort;

@@ -1,16 +1,16 @@
 //! Runs beside another process that writes into the same folder: one that writes waits for it, and one that reads does not.
 
-use crate::tests::host::Host;
+use crate::run::run_words;
 use crate::tests::layouts::IMAGE;
 use crate::tests::runs::{told, words_of};
 use crate::tests::sessions::{assert_session_in, parts};
-use oci_commands::{Lockable, run_words};
-use std::fs::File;
+use oci_copy_commands::Host;
+use oci_layout::FolderLock;
+use std::io;
 use std::io::Write;
 use std::sync::Wait;
 use std::test::Fail;
 use std::thread::Threads;
-use std::{fs, io};
 
 /// An error output that lets a lock go as the first line comes, and keeps what is written.
 #[derive(Drop)]
@@ -33,9 +33,9 @@ impl<L: Drop> Write for LettingGo<L> {
 /// All that a run prints while another process has a lock on a folder, as one that copies into it has.
 pub(crate) fn beside<R: Host + Threads + Wait>(rt: &R, line: &str) -> Result<String, Fail> {
     let (folder, words) = parts(line, ' ');
-    let lock = Some(locked(rt, folder)?);
+    let lock = FolderLock::make_and_lock(rt, folder)?;
     let mut err = LettingGo {
-        lock,
+        lock: Some(lock),
         text: Vec::new(rt.alloc()),
     };
     transcript_to(rt, words, &mut err)
@@ -45,20 +45,12 @@ pub(crate) fn beside<R: Host + Threads + Wait>(rt: &R, line: &str) -> Result<Str
 fn transcript_to<R: Host + Threads + Wait>(
     rt: &R,
     words: &str,
-    err: &mut LettingGo<R::File>,
+    err: &mut LettingGo<FolderLock<R>>,
 ) -> Result<String, Fail> {
     let words = words_of(rt.alloc(), words)?;
     let mut out = Vec::new(rt.alloc());
-    let status = run_words(rt, &words, false, &mut out, err);
+    let status = run_words(rt, &words, &mut out, err);
     told(rt.alloc(), &out, &err.text, status)
-}
-
-/// A lock on a folder.
-fn locked<R: Host>(rt: &R, folder: &str) -> Result<R::File, Fail> {
-    fs::create_dir_all(rt, folder)?;
-    let lock = File::open(rt, folder)?;
-    lock.take()?;
-    Ok(lock)
 }
 
 /// A copy into a folder that another process has locked says so, and goes on once it may.

@@ -68,8 +68,7 @@ kept
     assert_session_in(&rt, "files_as_folders", IMAGE, session)
 }
 
-/// A destination whose blobs cannot be put names nothing that was not copied. A folder that has the name of a file beside the index
-/// is passed over.
+/// A destination whose blobs cannot be put names nothing that was not copied. A folder that has the name of a leftover stays.
 #[test]
 fn files_in_the_place_of_blobs(rt: HostRuntime) -> Result<(), Fail> {
     let session = r#"
@@ -83,12 +82,14 @@ $ cat @/N/blobs
 kept
 $ write @/K/oci-layout {"imageLayoutVersion":"1.0.0"}
 $ write @/K/index.json {}
-$ mkdir @/K/index.json.0.new
+$ mkdir @/K/index.json.0123456789abcdef.new
 $ ocicp copy @/L v1 @/K
 copied <M0>
 planned 2 pushed 2 skipped 0
 $ ocicp tags @/K
 v1 <M0>
+$ exists @/K/index.json.0123456789abcdef.new
+yes
 "#;
     assert_session_in(&rt, "files_as_blobs", IMAGE, session)
 }

@@ -3,7 +3,8 @@
 use crate::tests::copies::{Call, Word, assert_same, printed, sized, text_of};
 use oci_copy::{
     CopyFault, Options, Report, copy, copy_graph, copy_memory, copy_memory_by_workers, copy_one,
-    extended_copy, extended_copy_graph, repair_memory, repair_memory_by_workers,
+    copy_plan, extended_copy, extended_copy_graph, plan_copy, repair_memory,
+    repair_memory_by_workers,
 };
 use oci_manifest::Key;
 use oci_plan::Existing;
@@ -222,6 +223,51 @@ where
     }
 }
 
+/// Plans the copy of keys, and then runs the plan by workers.
+fn planned_keys<R: AllocGlobal + Threads + Wait + Sync, D: Dest + Drop + Send>(
+    rt: &R,
+    source: &MemoryStore,
+    destination: D,
+    roots: &[Key],
+    options: &Options,
+) -> Copied<D>
+where
+    D::Draft: Send,
+{
+    let alloc = rt.alloc();
+    let copied = match plan_copy(alloc, source, &destination, roots, options) {
+        Ok(plan) => copy_plan(
+            rt,
+            alloc,
+            source,
+            destination,
+            &plan,
+            roots,
+            options,
+            &NoHooks,
+        ),
+        Err(fault) => (destination, Err(fault)),
+    };
+    told(alloc, copied)
+}
+
+/// Plans the copy of samples, and then runs the plan by workers.
+fn planned<R: AllocGlobal + Threads + Wait + Sync, D: Dest + Drop + Send>(
+    rt: &R,
+    source: &MemoryStore,
+    destination: D,
+    roots: &[Sample],
+    options: &Options,
+) -> Copied<D>
+where
+    D::Draft: Send,
+{
+    match keys(rt.alloc(), roots) {
+        Ok(roots) => planned_keys(rt, source, destination, &roots, options),
+        Err(fault) => (destination, Err(fault)),
+    }
+}
+
 /// Copies by reference.
 fn copied_reference<R: AllocGlobal + Threads + Wait + Sync, D: Dest + Tagger + Drop + Send>(
     rt: &R,
@@ -345,6 +391,7 @@ where
         Call::Graph(roots) | Call::InMemory(roots) => {
             copied_samples(rt, source, destination, roots, workers, options)
         }
+        Call::Planned(roots) => planned(rt, source, destination, roots, options),
         Call::Sized(size) => copied_sized(rt, source, destination, size, workers, options),
         Call::Reference(from, to) => copied_word(rt, source, destination, from, to, options),
         Call::Extended(sample, depth) => extended(rt, source, destination, sample, depth, options),

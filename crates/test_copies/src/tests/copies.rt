@@ -38,7 +38,9 @@ pub(crate) struct Tag<'a> {
 pub(crate) enum Call<'a> {
     /// `copy_graph` of these roots, and `copy_one` on the calling thread.
     Graph(&'a [Sample]),
-    /// The same of the key of an image of this size that has the digest of the empty object.
+    /// `plan_copy` of these roots, and then `copy_plan`.
+    Planned(&'a [Sample]),
+    /// `copy_graph` and `copy_one` of the key of an image of this size that has the digest of the empty object.
     Sized(u64),
     /// The calls between stores in memory: into a closed store `copy_memory_by_workers`, and `copy_memory` on the calling thread;
     /// into another `repair_memory_by_workers` and `repair_memory`.

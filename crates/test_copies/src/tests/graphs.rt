@@ -111,6 +111,34 @@ fn two_images(rt: HostRuntime) -> Result<(), Fail> {
     assert_cases(&rt, &CASES)
 }
 
+/// The same index arrives whole if one call makes the plan and another runs it, and a held root is counted; over 64 workers
+/// nothing is copied.
+#[test]
+fn two_images_planned(rt: HostRuntime) -> Result<(), Fail> {
+    const WORKERS: [Workers; 4] = [Some(0), Some(1), Some(3), Some(64)];
+    const PLANNED: Case<'static> = Case {
+        call: Call::Planned(&[Index1]),
+        workers: &WORKERS,
+        ..TWO_IMAGES
+    };
+    static CASES: [Case<'static>; 3] = [
+        PLANNED,
+        Case {
+            call: Call::Planned(&[Foo, Index1, Foo]),
+            destination: &[Foo],
+            told: &[Text("planned 5 pushed 5 skipped 1")],
+            ..PLANNED
+        },
+        Case {
+            workers: &[Some(65)],
+            told: &[Text("85 BadWorkers")],
+            copied: &[],
+            ..PLANNED
+        },
+    ];
+    assert_cases(&rt, &CASES)
+}
+
 /// The calls between stores in memory are the same copy, on one thread and by workers.
 #[test]
 fn two_images_in_memory(rt: HostRuntime) -> Result<(), Fail> {

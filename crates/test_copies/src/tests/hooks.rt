@@ -1,15 +1,17 @@
 use crate::tests::calls::{assert_told, options, told_by_workers};
+use bytes::Bytes;
+use oci_copy::{copy_plan, plan_copy};
 use oci_manifest::Key;
 use oci_plan::Existing;
 use oci_pool::Hooks;
-use oci_store::MemoryStore;
+use oci_store::{FetchFault, MemoryStore, Source, Store};
 use std::process::Abort;
 use std::sync::Wait;
 use std::sync::atomic::{AtomicU64, Ordering};
 use std::test::Fail;
 use std::thread::Threads;
 use test_support::Sample::{Bar, Empty, Foo, Image0, Image2, Image3, Index1};
-use test_support::{Device, DeviceStore, keys, memory, on_device};
+use test_support::{Device, DeviceStore, closed, keys, memory, on_device};
 
 /// Hooks that count their calls, and those that come out of order.
 #[derive(Drop)]
@@ -214,4 +216,145 @@ fn assert_calls_by_each<R: AllocGlobal + Threads + Wait + Sync + Abort>(
 #[test]
 fn calls_of_hooks_below_held_keys(rt: HostRuntime) -> Result<(), Fail> {
     assert_calls_by_each(&rt, &memory(rt.alloc(), &[Empty, Foo, Image0, Image2])?)
+}
+
+/// A store that counts its fetches.
+#[derive(Drop)]
+struct CountedStore<S> {
+    store: S,
+    fetches: AtomicU64,
+}
+
+impl<S> CountedStore<S> {
+    fn new(store: S) -> CountedStore<S> {
+        CountedStore {
+            store,
+            fetches: AtomicU64::new(0),
+        }
+    }
+
+    /// How many contents were fetched, or are being fetched.
+    fn fetches(&self) -> u64 {
+        self.fetches.load(Ordering::SeqCst)
+    }
+}
+
+impl<S: Source> Store for CountedStore<S> {
+    ghost state = { λ s. S.state s.store };
+
+    ghost same_keys = { λ s. S.same_keys s.store };
+
+    ghost trusted = { λ s. S.trusted s.store };
+
+    ghost listed = { λ s. S.listed s.store };
+}
+
+impl<S: Source> Source for CountedStore<S> {
+    fn exists(&self, key: &Key) -> bool {
+        self.store.exists(key)
+    }
+
+    fn may_fail(&self, key: &Key) -> bool {
+        self.store.may_fail(key)
+    }
+
+    fn fetch(&self, key: &Key) -> Result<Bytes, FetchFault> {
+        self.fetches.fetch_add(1, Ordering::SeqCst);
+        self.store.fetch(key)
+    }
+}
+
+/// Hooks that count the keys that begin, and those that begin once as many were fetched.
+#[derive(Drop)]
+struct Beginning<'s> {
+    source: &'s CountedStore<MemoryStore>,
+    /// How many fetches there were before the copy.
+    before: u64,
+    began: AtomicU64,
+    late: AtomicU64,
+}
+
+impl<'s> Beginning<'s> {
+    fn new(source: &'s CountedStore<MemoryStore>) -> Beginning<'s> {
+        Beginning {
+            source,
+            before: source.fetches(),
+            began: AtomicU64::new(0),
+            late: AtomicU64::new(0),
+        }
+    }
+
+    /// How many contents the copy fetched, or is fetching.
+    fn fetched(&self) -> u64 {
+        self.source.fetches().saturating_sub(self.before)
+    }
+
+    /// How many keys began, and were fetched; and how many began late.
+    fn counts(&self) -> [u64; 3] {
+        [
+            self.began.load(Ordering::SeqCst),
+            self.fetched(),
+            self.late.load(Ordering::SeqCst),
+        ]
+    }
+}
+
+impl<'s> Hooks for Beginning<'s> {
+    fn pre_copy(&self, _key: &Key) {
+        let fetched = self.fetched();
+        if self.began.fetch_add(1, Ordering::SeqCst) < fetched {
+            self.late.fetch_add(1, Ordering::SeqCst);
+        }
+    }
+
+    fn post_copy(&self, _key: &Key) {}
+
+    fn skipped(&self, _key: &Key) {}
+}
+
+/// Plans the copy of keys into an empty store, and then runs the plan: how many keys began and were fetched, and how many began
+/// late.
+fn beginnings<R: AllocGlobal + Threads + Wait + Sync>(
+    rt: &R,
+    source: &CountedStore<MemoryStore>,
+    roots: &[Key],
+    workers: u32,
+) -> Result<[u64; 3], Fail> {
+    let alloc = rt.alloc();
+    let empty = closed(alloc, &[])?;
+    let options = options(Some(workers), Existing::Skip, 0);
+    let plan = plan_copy(alloc, source, &empty, roots, &options)?;
+    let hooks = Beginning::new(source);
+    let (_, copied) = copy_plan(rt, alloc, source, empty, &plan, roots, &options, &hooks);
+    let _ = copied?;
+    Ok(hooks.counts())
+}
+
+/// Six keys began by so many workers, each before it was fetched.
+fn assert_beginnings<R: AllocGlobal + Threads + Wait + Sync + Abort>(
+    rt: &R,
+    source: &CountedStore<MemoryStore>,
+    roots: &[Key],
+    workers: u32,
+) -> Result<(), Fail> {
+    let counts = beginnings(rt, source, roots, workers)?;
+    assert_eq!(rt; counts, [6, 6, 0], "{workers}");
+    Ok(())
+}
+
+/// The same of one worker, and of three.
+fn assert_beginnings_by_each<R: AllocGlobal + Threads + Wait + Sync + Abort>(
+    rt: &R,
+    source: &CountedStore<MemoryStore>,
+) -> Result<(), Fail> {
+    let roots = keys(rt.alloc(), &[Index1])?;
+    assert_beginnings(rt, source, &roots, 1)?;
+    assert_beginnings(rt, source, &roots, 3)
+}
+
+/// A worker says that it begins with a key before it fetches that key.
+#[test]
+fn keys_begin_before_their_fetch(rt: HostRuntime) -> Result<(), Fail> {
+    let source = memory(rt.alloc(), &[Empty, Foo, Bar, Image2, Image3, Index1])?;
+    assert_beginnings_by_each(&rt, &CountedStore::new(source))
 }

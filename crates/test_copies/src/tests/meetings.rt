@@ -48,18 +48,21 @@ impl MeetingPlace {
     }
 }
 
-/// Hooks of which each call before a fetch comes to a meeting.
+/// Hooks of which each call before a fetch comes to a meeting, and each call after a push to another.
 #[derive(Drop)]
 struct MeetingHooks {
-    meeting: MeetingPlace,
+    began: MeetingPlace,
+    ended: MeetingPlace,
 }
 
 impl Hooks for MeetingHooks {
     fn pre_copy(&self, _key: &Key) {
-        self.meeting.come();
+        self.began.come();
     }
 
-    fn post_copy(&self, _key: &Key) {}
+    fn post_copy(&self, _key: &Key) {
+        self.ended.come();
+    }
 
     fn skipped(&self, _key: &Key) {}
 }
@@ -160,7 +163,7 @@ fn assert_two<R: AllocGlobal + Threads + Wait + Sync + Abort, A: Source + Sync, 
     assert_told(rt, told, "planned 2 pushed 2 skipped 0")
 }
 
-/// So many of the workers that copy with these hooks meet.
+/// So many of the workers that copy with these hooks meet before they fetch, and so many after they have pushed.
 fn assert_hooks_meet<R: AllocGlobal + Threads + Wait + Sync + Abort>(
     rt: &R,
     workers: u32,
@@ -168,11 +171,12 @@ fn assert_hooks_meet<R: AllocGlobal + Threads + Wait + Sync + Abort>(
     met: u64,
 ) -> Result<(), Fail> {
     assert_two(rt, &memory(rt.alloc(), &[Foo, Bar])?, workers, hooks)?;
-    assert_eq!(rt; hooks.meeting.met(), met);
+    assert_eq!(rt; hooks.began.met(), met);
+    assert_eq!(rt; hooks.ended.met(), met);
     Ok(())
 }
 
-/// So many workers look so often for each other before they fetch, and so many of them meet.
+/// So many workers look so often for each other, before they fetch and after they have pushed, and so many of them meet.
 fn assert_met<R: AllocGlobal + Threads + Wait + Sync + Abort>(
     rt: &R,
     workers: u32,
@@ -180,12 +184,14 @@ fn assert_met<R: AllocGlobal + Threads + Wait + Sync + Abort>(
     met: u64,
 ) -> Result<(), Fail> {
     let hooks = MeetingHooks {
-        meeting: MeetingPlace::looking(looks),
+        began: MeetingPlace::looking(looks),
+        ended: MeetingPlace::looking(looks),
     };
     assert_hooks_meet(rt, workers, &hooks, met)
 }
 
-/// Two workers are at work at once: each of two keys waits for the other to have begun.
+/// Two workers are at work at once: each of two keys waits for the other to have begun. Then each waits for the other to have
+/// been pushed, so neither has the destination's lock meanwhile.
 #[test]
 fn meeting(rt: HostRuntime) -> Result<(), Fail> {
     assert_met(&rt, 2, LOOKS, 2)

@@ -1,11 +1,16 @@
 //! Copies that are refused before anything is copied.
 
-use crate::tests::calls::Workers;
+use crate::tests::calls::{Workers, left};
 use crate::tests::copies::Word::{KeyOf, Sized, Text};
-use crate::tests::copies::{Call, Case, NOTHING, assert_cases};
+use crate::tests::copies::{Call, Case, NOTHING, assert_cases, assert_holds};
+use oci_manifest::Key;
+use oci_plan::Existing;
+use std::process::Abort;
+use std::sync::Wait;
 use std::test::Fail;
-use test_support::Sample;
+use std::thread::Threads;
 use test_support::Sample::{Empty, Foo, Image0};
+use test_support::{OneContent, Sample, closed, unreadable};
 
 const ONE_AND_THREE: [Workers; 2] = [None, Some(3)];
 
@@ -88,4 +93,32 @@ fn size_limit(rt: HostRuntime) -> Result<(), Fail> {
         },
     ];
     assert_cases(&rt, &CASES)
+}
+
+/// What is told of an image that is an empty JSON list.
+const UNREADABLE: &str =
+    "81 Plan 56 Manifest sha256:4f53cda18c2baa0c0354bb5f9a3ecbe5ed12ab4d8e11ba873c2f11161202b945 2 application/vnd.oci.image.manifest.v1+json 11 NotObject";
+
+/// The copy of an image that does not read is refused, and what the destination holds stays.
+fn assert_unread<R: AllocGlobal + Threads + Wait + Sync + Abort>(
+    rt: &R,
+    source: &OneContent,
+    root: &Key,
+    workers: Workers,
+) -> Result<(), Fail> {
+    let held = [Foo];
+    let destination = closed(rt.alloc(), &held)?;
+    let by = (workers, Existing::Skip);
+    let destination = left(rt, source, destination, root, by, UNREADABLE)?;
+    assert_holds(rt, &destination, &held, UNREADABLE)
+}
+
+/// An image that is no JSON object is not copied.
+#[test]
+fn image_that_does_not_read(rt: HostRuntime) -> Result<(), Fail> {
+    let (source, root) = unreadable(rt.alloc())?;
+    for workers in ONE_AND_THREE {
+        assert_unread(&rt, &source, &root, workers)?;
+    }
+    Ok(())
 }

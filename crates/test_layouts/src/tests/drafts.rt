@@ -1,7 +1,9 @@
 //! Drafts of files: where they are dropped, where an old file stands in their place, and where two are open at once.
 
 use crate::tests::copies::Copying::Layout;
-use crate::tests::files::FileStep::{DropDraft, Failures, Keep, KeepBoth, Put};
+use crate::tests::files::FileStep::{
+    DraftNames, DropDraft, Exists, Failures, Keep, KeepBoth, KeepLost, KeepSecond, Put, Text,
+};
 use crate::tests::files::FolderStep::{Count, IsLink, Link};
 use crate::tests::layouts::LayoutStep::Held;
 use crate::tests::parts::{Folder, PART, assert_layer_copied_into};
@@ -85,12 +87,15 @@ fn old_file_that_is_longer(rt: HostRuntime) -> Result<(), Fail> {
 
 /// Both drafts of a file that are open at once can be kept, and only that file is there afterwards.
 const TWICE: &[Row] = &[
-    Row(In("foobar", KeepBoth(&["foo", "bar"])), "foobar"),
+    Row(In("foobar", KeepBoth(&["foo", "bar"])), "foobar foobar"),
     Row(At("drafted_twice", Count), "1"),
-    Row(In("foobar", KeepBoth(&["foo", "bar"])), "foobar"),
+    Row(In("foobar", KeepBoth(&["foo", "bar"])), "foobar foobar"),
     Row(At("drafted_twice", Count), "1"),
     Row(In("foobar", Put("foobaz")), "put"),
-    Row(In("foobar", KeepBoth(&["foo", "bar"])), "foobar"),
+    Row(In("foobar", KeepBoth(&["foo", "bar"])), "foobar foobar"),
+    Row(At("drafted_twice", Count), "1"),
+    Row(In("foobar", Put("foobaz")), "put"),
+    Row(In("foobar", KeepSecond(&["foo", "bar"])), "foobar"),
     Row(At("drafted_twice", Count), "1"),
     Row(In("", Failures), "0"),
 ];
@@ -99,6 +104,50 @@ const TWICE: &[Row] = &[
 #[test]
 fn two_drafts_of_one_file(rt: HostRuntime) -> Result<(), Fail> {
     assert_run(&rt, Ground::Folder("drafted_twice"), TWICE)
+}
+
+const NAMES: &[Row] = &[
+    Row(
+        In("foo", DraftNames(&["foo"], "draft_names")),
+        " foo.xxxxxxxxxxxxxxxx.new",
+    ),
+    Row(In("foo", Put("foo")), "put"),
+    Row(In("foo", DraftNames(&["foo"], "draft_names")), ""),
+    Row(
+        In("foo", DraftNames(&["foo", "bar"], "draft_names")),
+        " foo.xxxxxxxxxxxxxxxx.new",
+    ),
+    Row(At("draft_names", Count), "1"),
+];
+
+/// A draft is in a file beside the place, whose name has 16 lower-case hexadecimal digits.
+#[test]
+fn names_of_drafts(rt: HostRuntime) -> Result<(), Fail> {
+    assert_run(&rt, Ground::Folder("draft_names"), NAMES)
+}
+
+const LOST: &[Row] = &[
+    Row(In("foo", KeepLost(&["fo"], "lost", &["o"])), "90 Failed"),
+    Row(At("lost", Count), "0"),
+    Row(In("foo", KeepLost(&["fo", "o"], "lost", &[])), "90 Failed"),
+    Row(At("lost", Count), "0"),
+    Row(In("foo", Exists), "false"),
+    Row(In("foo", Put("old")), "put"),
+    Row(In("foo", KeepLost(&["fo"], "lost", &["o"])), "90 Failed"),
+    Row(In("foo", Text), "old"),
+    Row(
+        In("foo", KeepLost(&["ol", "e"], "lost", &["r"])),
+        "90 Failed",
+    ),
+    Row(In("foo", Text), "old"),
+    Row(At("lost", Count), "1"),
+    Row(In("", Failures), "4"),
+];
+
+/// A draft whose file somebody removed, between two parts or after the last one, is not kept, and leaves what was there.
+#[test]
+fn drafts_that_somebody_removed(rt: HostRuntime) -> Result<(), Fail> {
+    assert_run(&rt, Ground::Folder("lost"), LOST)
 }
 
 const FUSE: &[Row] = &[

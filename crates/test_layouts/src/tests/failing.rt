@@ -2,6 +2,7 @@
 
 use crate::tests::copies::copied_samples;
 use crate::tests::faulty::{Failing, FaultyDir};
+use crate::tests::host::Host;
 use crate::tests::layouts::{created, opened, saved};
 use crate::tests::steps::Step::Open;
 use crate::tests::steps::{Row, assert_steps};
@@ -9,7 +10,6 @@ use oci_layout::{Layout, MemDir};
 use oci_store::Dest;
 use std::alloc::Global;
 use std::process::Abort;
-use std::rt::Files;
 use std::sync::Wait;
 use std::test::Fail;
 use std::thread::Threads;
@@ -262,10 +262,7 @@ fn failing_read(rt: HostRuntime) -> Result<(), Fail> {
 }
 
 /// What is told where the read of this number fails while the layout is opened.
-fn assert_not_opened<R: Files + AllocGlobal + Clone + Threads + Wait + Sync + Abort>(
-    rt: &R,
-    read: u64,
-) -> Result<(), Fail> {
+fn assert_not_opened<R: Host + Threads + Wait + Abort>(rt: &R, read: u64) -> Result<(), Fail> {
     let dir = images(rt.alloc(), Failing::Read(read))?;
     assert_steps(rt, dir, &[Row(Open, "74 Device")])
 }

@@ -1,10 +1,10 @@
 //! Steps with the files of a directory, and with those of the current folder.
 
+use crate::tests::host::Host;
 use crate::tests::texts::{blob, expanded};
-use oci_layout::{Dir, FsDir};
+use oci_layout::{Dir, FolderLock, FsDir};
 use oci_store::Drafting;
 use std::alloc::Global;
-use std::rt::Files;
 use std::test::Fail;
 use std::{fs, rt};
 use test_support::Sample;
@@ -28,8 +28,16 @@ pub(crate) enum FileStep<'a> {
     Failures,
     /// Drafts these parts and keeps the draft: the text that the file then has.
     Keep(&'a [&'a str]),
-    /// Drafts these parts twice, in turn, and keeps both drafts: the text that the file then has.
+    /// Drafts these parts twice, in turn, and keeps both drafts: the texts that the file then has.
     KeepBoth(&'a [&'a str]),
+    /// Drafts these parts twice, in turn, drops the first draft and keeps the second: the text that the file then has.
+    KeepSecond(&'a [&'a str]),
+    /// Drafts some parts, removes each file of a folder whose name ends in `.new`, drafts other parts, and keeps the draft:
+    /// `kept`, or the fault.
+    KeepLost(&'a [&'a str], &'a str, &'a [&'a str]),
+    /// Drafts these parts: the names in a folder that end in `.new`, with `x` for each lower-case hexadecimal digit of their
+    /// numbers.
+    DraftNames(&'a [&'a str], &'a str),
     /// Drafts these parts and drops the draft: how many files a folder had while there was the draft.
     DropDraft(&'a [&'a str], &'a str),
 }
@@ -47,12 +55,12 @@ pub(crate) enum FolderStep<'a> {
     Remove,
     /// A read of the file in a directory that is the folder with an empty path.
     ReadInCurrent,
-    /// Removes what was left in a directory that is this folder: `removed`.
+    /// Locks the folder, and removes what was left in it: `removed`, or the fault.
     RemoveLeftovers,
 }
 
 /// Takes a step with a file of a directory, in the path of which marks may stand, and gives what it tells.
-pub(crate) fn in_dir<D: Dir, R: Files + AllocGlobal + Clone>(
+pub(crate) fn in_dir<D: Dir, R: Host>(
     rt: &R,
     dir: &mut D,
     path: &str,
@@ -62,7 +70,7 @@ pub(crate) fn in_dir<D: Dir, R: Files + AllocGlobal + Clone>(
     in_file(rt, dir, path.as_str(), step)
 }
 
-fn in_file<D: Dir, R: Files + AllocGlobal + Clone>(
+fn in_file<D: Dir, R: Host>(
     rt: &R,
     dir: &mut D,
     path: &str,
@@ -78,6 +86,11 @@ fn in_file<D: Dir, R: Files + AllocGlobal + Clone>(
         FileStep::Failures => failures(rt.alloc(), dir),
         FileStep::Keep(parts) => keep(rt.alloc(), dir, path, parts),
         FileStep::KeepBoth(parts) => keep_both(rt.alloc(), dir, path, parts),
+        FileStep::KeepSecond(parts) => keep_second(rt.alloc(), dir, path, parts),
+        FileStep::KeepLost(before, folder, after) => keep_lost(
+            rt, dir, path, before, folder, after,
+        ),
+        FileStep::DraftNames(parts, folder) => draft_names(rt, dir, path, parts, folder),
         FileStep::DropDraft(parts, folder) => drop_draft(rt, dir, path, parts, folder),
     }
 }
@@ -137,9 +150,7 @@ fn failures<D: Dir>(alloc: Global, dir: &D) -> Result<String, Fail> {
 /// A draft of these parts.
 fn drafted<D: Dir>(dir: &D, path: &str, parts: &[&str]) -> Result<D::Draft, Fail> {
     let mut draft = dir.draft(path)?;
-    for part in parts {
-        draft.append(part.as_bytes())?;
-    }
+    append_all(&mut draft, parts)?;
     Ok(draft)
 }
 
@@ -173,11 +184,121 @@ fn keep_both<D: Dir>(
 ) -> Result<String, Fail> {
     let (first, second) = both_drafted(dir, path, parts)?;
     dir.keep(path, first)?;
+    let between = text(alloc, dir, path)?;
+    dir.keep(path, second)?;
+    let after = text(alloc, dir, path)?;
+    Ok(format!(in alloc; "{between} {after}")?)
+}
+
+fn keep_second<D: Dir>(
+    alloc: Global,
+    dir: &mut D,
+    path: &str,
+    parts: &[&str],
+) -> Result<String, Fail> {
+    let (first, second) = both_drafted(dir, path, parts)?;
+    drop(first);
     dir.keep(path, second)?;
     text(alloc, dir, path)
 }
 
-fn drop_draft<D: Dir, R: Files + AllocGlobal + Clone>(
+/// The paths of the drafts in a folder.
+fn drafts_in<R: Host>(rt: &R, folder: &str) -> Result<Vec<String>, Fail> {
+    let mut paths = Vec::new(rt.alloc());
+    for entry in fs::read_dir(rt, folder)? {
+        let entry = entry?;
+        if entry.file_name().ends_with(".new") {
+            paths.push(String::from_str(rt.alloc(), entry.path().as_str())?)?;
+        }
+    }
+    Ok(paths)
+}
+
+fn remove_drafts<R: Host>(rt: &R, folder: &str) -> Result<(), Fail> {
+    for path in drafts_in(rt, folder)? {
+        fs::remove_file(rt, path.as_str())?;
+    }
+    Ok(())
+}
+
+fn append_all<F: Drafting>(draft: &mut F, parts: &[&str]) -> Result<(), Fail> {
+    for part in parts {
+        draft.append(part.as_bytes())?;
+    }
+    Ok(())
+}
+
+fn keep_lost<D: Dir, R: Host>(
+    rt: &R,
+    dir: &mut D,
+    path: &str,
+    before: &[&str],
+    folder: &str,
+    after: &[&str],
+) -> Result<String, Fail> {
+    let mut draft = drafted(dir, path, before)?;
+    remove_drafts(rt, folder)?;
+    append_all(&mut draft, after)?;
+    match dir.keep(path, draft) {
+        Ok(()) => Ok(String::from_str(rt.alloc(), "kept")?),
+        Err(fault) => Ok(format!(in rt.alloc(); "{fault}")?),
+    }
+}
+
+/// Adds a character, or `x` for a lower-case hexadecimal digit.
+fn push_masked(text: &mut String, character: char) -> Result<(), Fail> {
+    match character {
+        '0'..='9' | 'a'..='f' => text.push('x')?,
+        other => text.push(other)?,
+    }
+    Ok(())
+}
+
+fn masked(alloc: Global, number: &str) -> Result<String, Fail> {
+    let mut text = String::new(alloc);
+    for character in number.chars() {
+        push_masked(&mut text, character)?;
+    }
+    Ok(text)
+}
+
+/// The name of a draft with `x` for each digit of its number.
+fn masked_name(alloc: Global, path: &str) -> Result<String, Fail> {
+    let name = path.rsplit('/').next().unwrap_or(path);
+    let Some((file, number)) = name
+        .strip_suffix(".new")
+        .and_then(|name| name.rsplit_once('.'))
+    else {
+        return Ok(String::from_str(alloc, name)?);
+    };
+    let number = masked(alloc, number)?;
+    Ok(format!(in alloc; "{file}.{number}.new")?)
+}
+
+/// The masked names of the drafts in a folder, each after a blank.
+fn shown_drafts<R: Host>(rt: &R, folder: &str) -> Result<String, Fail> {
+    let mut names = String::new(rt.alloc());
+    for path in drafts_in(rt, folder)? {
+        names.push(' ')?;
+        names.push_str(masked_name(rt.alloc(), path.as_str())?.as_str())?;
+    }
+    Ok(names)
+}
+
+fn draft_names<D: Dir, R: Host>(
+    rt: &R,
+    dir: &D,
+    path: &str,
+    parts: &[&str],
+    folder: &str,
+) -> Result<String, Fail> {
+    let draft = drafted(dir, path, parts)?;
+    let names = shown_drafts(rt, folder);
+    drop(draft);
+    names
+}
+
+fn drop_draft<D: Dir, R: Host>(
     rt: &R,
     dir: &D,
     path: &str,
@@ -191,11 +312,7 @@ fn drop_draft<D: Dir, R: Files + AllocGlobal + Clone>(
 }
 
 /// Takes a step with a file or folder, in the path of which marks may stand, and gives what it tells.
-pub(crate) fn in_folder<R: Files + AllocGlobal + Clone>(
-    rt: &R,
-    path: &str,
-    step: FolderStep<'_>,
-) -> Result<String, Fail> {
+pub(crate) fn in_folder<R: Host>(rt: &R, path: &str, step: FolderStep<'_>) -> Result<String, Fail> {
     let path = expanded(rt.alloc(), path)?;
     let path = path.as_str();
     match step {
@@ -209,10 +326,7 @@ pub(crate) fn in_folder<R: Files + AllocGlobal + Clone>(
 }
 
 /// How many files a folder has.
-pub(crate) fn files_in<R: Files + AllocGlobal + Clone>(
-    rt: &R,
-    folder: &str,
-) -> Result<usize, Fail> {
+pub(crate) fn files_in<R: Host>(rt: &R, folder: &str) -> Result<usize, Fail> {
     let mut count = 0usize;
     for entry in fs::read_dir(rt, folder)? {
         entry?;
@@ -221,27 +335,29 @@ pub(crate) fn files_in<R: Files + AllocGlobal + Clone>(
     Ok(count)
 }
 
-fn counted<R: Files + AllocGlobal + Clone>(rt: &R, folder: &str) -> Result<String, Fail> {
+fn counted<R: Host>(rt: &R, folder: &str) -> Result<String, Fail> {
     let count = files_in(rt, folder)?;
     Ok(format!(in rt.alloc(); "{count}")?)
 }
 
-fn link<R: Files + AllocGlobal + Clone>(rt: &R, path: &str, target: &str) -> Result<String, Fail> {
+fn link<R: Host>(rt: &R, path: &str, target: &str) -> Result<String, Fail> {
     rt::Files::symlink(rt, target, path)?;
     Ok(String::from_str(rt.alloc(), "linked")?)
 }
 
-fn is_link<R: Files + AllocGlobal + Clone>(rt: &R, path: &str) -> Result<String, Fail> {
+fn is_link<R: Host>(rt: &R, path: &str) -> Result<String, Fail> {
     let is_link = fs::symlink_metadata(rt, path)?.is_symlink();
     Ok(format!(in rt.alloc(); "{is_link}")?)
 }
 
-fn remove<R: Files + AllocGlobal + Clone>(rt: &R, path: &str) -> Result<String, Fail> {
+fn remove<R: Host>(rt: &R, path: &str) -> Result<String, Fail> {
     fs::remove_file(rt, path)?;
     Ok(String::from_str(rt.alloc(), "removed")?)
 }
 
-fn remove_leftovers<R: Files + AllocGlobal + Clone>(rt: &R, folder: &str) -> Result<String, Fail> {
-    FsDir::new(rt, folder)?.remove_leftovers()?;
-    Ok(String::from_str(rt.alloc(), "removed")?)
+fn remove_leftovers<R: Host>(rt: &R, folder: &str) -> Result<String, Fail> {
+    match FolderLock::lock(rt, folder)?.remove_leftovers(rt) {
+        Ok(()) => Ok(String::from_str(rt.alloc(), "removed")?),
+        Err(fault) => Ok(format!(in rt.alloc(); "{fault}")?),
+    }
 }

@@ -2,12 +2,9 @@
 
 use crate::tests::copies::copied_keys;
 use crate::tests::faulty::{Change, FaultyDir};
-use crate::tests::files::FileStep::{Exists, Put};
-use crate::tests::files::FolderStep::RemoveLeftovers;
 use crate::tests::files::files_in;
+use crate::tests::host::Host;
 use crate::tests::layouts::{created, opened, push, save_named, summary};
-use crate::tests::steps::Step::{At, In};
-use crate::tests::steps::{Ground, Row, assert_run};
 use crate::tests::texts::blob;
 use bytes::Bytes;
 use oci_digest::Digest;
@@ -16,7 +13,6 @@ use oci_manifest::Key;
 use std::alloc::Global;
 use std::fs;
 use std::process::Abort;
-use std::rt::Files;
 use std::sync::Wait;
 use std::test::Fail;
 use std::thread::Threads;
@@ -233,7 +229,7 @@ fn prepare<D: Dir>(
     }
 }
 
-fn folder_of<'r, R: Files + AllocGlobal>(
+fn folder_of<'r, R: Host>(
     rt: &'r R,
     source: &Layers,
     folder: Folder,
@@ -243,16 +239,12 @@ fn folder_of<'r, R: Files + AllocGlobal>(
     Ok(dir)
 }
 
-fn assert_copied_into<R: Files + AllocGlobal + Clone + Threads + Wait + Sync + Abort>(
+fn assert_copied_into<R: Host + Threads + Wait + Abort>(
     rt: &R,
     source: &Layers,
     folder: Folder,
     workers: Option<u32>,
-) -> Result<(), Fail>
-where
-    R::File: Send,
-    R::Dir: Send,
-{
+) -> Result<(), Fail> {
     let _ = fs::remove_dir_all(rt, folder.folder);
     assert_copied(rt, source, folder_of(rt, source, folder)?, workers)?;
     assert_eq!(rt; files_in(rt, folder.below)?, folder.files);
@@ -260,16 +252,12 @@ where
 }
 
 /// Copies layers by so many workers into memory, or into a folder.
-pub(crate) fn assert_copied_by<R: Files + AllocGlobal + Clone + Threads + Wait + Sync + Abort>(
+pub(crate) fn assert_copied_by<R: Host + Threads + Wait + Abort>(
     rt: &R,
     layers: &[Layer],
     folder: Option<Folder>,
     workers: u32,
-) -> Result<(), Fail>
-where
-    R::File: Send,
-    R::Dir: Send,
-{
+) -> Result<(), Fail> {
     let source = layers_of(rt.alloc(), layers)?;
     match folder {
         None => assert_copied(rt, &source, MemDir::new(rt.alloc()), Some(workers)),
@@ -278,13 +266,11 @@ where
 }
 
 /// Copies a layer from a layout that was opened into a folder.
-pub(crate) fn assert_layer_copied_into<
-    R: Files + AllocGlobal + Clone + Threads + Wait + Sync + Abort,
->(rt: &R, size: usize, folder: Folder) -> Result<(), Fail>
-where
-    R::File: Send,
-    R::Dir: Send,
-{
+pub(crate) fn assert_layer_copied_into<R: Host + Threads + Wait + Abort>(
+    rt: &R,
+    size: usize,
+    folder: Folder,
+) -> Result<(), Fail> {
     assert_copied_into(rt, &layer_of(rt.alloc(), size)?, folder, None)
 }
 
@@ -419,52 +405,4 @@ fn layers_in_a_folder(rt: HostRuntime) -> Result<(), Fail> {
         assert_layer_copied_into(&rt, size, LAYERS_FOLDER)?;
     }
     Ok(())
-}
-
-/// A blob, whose digest is by `sha256sum` of a zero byte.
-const BLOB: &str = "blobs/sha256/6e340b9cffb37a989ca544e6bb780a2c78901d3fb33738768511a30617afa01d";
-
-/// Drafts of it.
-const FIRST_DRAFT: &str =
-    "blobs/sha256/6e340b9cffb37a989ca544e6bb780a2c78901d3fb33738768511a30617afa01d.0.new";
-
-const LATER_DRAFT: &str =
-    "blobs/sha256/6e340b9cffb37a989ca544e6bb780a2c78901d3fb33738768511a30617afa01d.17.new";
-
-/// What no draft of it is called.
-const WITHOUT_NUMBER: &str =
-    "blobs/sha256/6e340b9cffb37a989ca544e6bb780a2c78901d3fb33738768511a30617afa01d.new";
-
-const WITH_A_LETTER: &str =
-    "blobs/sha256/6e340b9cffb37a989ca544e6bb780a2c78901d3fb33738768511a30617afa01d.x.new";
-
-/// Files beside the blob, and beside other files.
-const LEFTOVERS: &[Row] = &[
-    Row(At("leftovers", RemoveLeftovers), "removed"),
-    Row(In(BLOB, Put("a")), "put"),
-    Row(At("leftovers", RemoveLeftovers), "removed"),
-    Row(In(BLOB, Exists), "true"),
-    Row(In(FIRST_DRAFT, Put("a")), "put"),
-    Row(At("leftovers", RemoveLeftovers), "removed"),
-    Row(In(FIRST_DRAFT, Exists), "false"),
-    Row(In(LATER_DRAFT, Put("a")), "put"),
-    Row(At("leftovers", RemoveLeftovers), "removed"),
-    Row(In(LATER_DRAFT, Exists), "false"),
-    Row(In(WITHOUT_NUMBER, Put("a")), "put"),
-    Row(At("leftovers", RemoveLeftovers), "removed"),
-    Row(In(WITHOUT_NUMBER, Exists), "true"),
-    Row(In(WITH_A_LETTER, Put("a")), "put"),
-    Row(At("leftovers", RemoveLeftovers), "removed"),
-    Row(In(WITH_A_LETTER, Exists), "true"),
-    Row(In("index.json.3.new", Put("a")), "put"),
-    Row(In("a.0.new", Put("a")), "put"),
-    Row(At("leftovers", RemoveLeftovers), "removed"),
-    Row(In("index.json.3.new", Exists), "false"),
-    Row(In("a.0.new", Exists), "true"),
-];
-
-/// What a process left that was ended while it wrote is removed, and nothing else.
-#[test]
-fn leftovers_of_a_folder(rt: HostRuntime) -> Result<(), Fail> {
-    assert_run(&rt, Ground::Folder("leftovers"), LEFTOVERS)
 }

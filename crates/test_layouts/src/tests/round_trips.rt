@@ -1,10 +1,10 @@
 //! Layouts that are made, filled, saved and opened again, in memory and in a folder.
 
 use crate::tests::copies::Copying::Named;
-use crate::tests::files::FileStep::{Exists, Failures, Put, Read, Text};
-use crate::tests::files::FolderStep::{ReadInCurrent, Remove};
+use crate::tests::files::FileStep::{Failures, Put, Read, Text};
+use crate::tests::files::FolderStep::{Count, ReadInCurrent, Remove};
 use crate::tests::layouts::LayoutStep::{Fetch, Resolve, Save};
-use crate::tests::steps::Step::{At, Copy, Create, In, Open, With};
+use crate::tests::steps::Step::{At, Copy, Create, In, Open, SaveAndOpen, With};
 use crate::tests::steps::{Ground, Row, assert_run};
 use std::test::Fail;
 use test_support::Sample::{Empty, Image0};
@@ -26,6 +26,7 @@ const ROUND_TRIP: &[Row] = &[
     Row(In("<blob Empty>", Text), "<text Empty>"),
     Row(In("<blob Image0>", Text), "<text Image0>"),
     Row(Open, "held 2 v1"),
+    Row(SaveAndOpen, "held 2 v1"),
     Row(With(Resolve("v1")), "<key Image0>"),
     Row(With(Resolve("<digest Image0>")), "<key Image0>"),
     Row(
@@ -50,7 +51,7 @@ const GONE: &[Row] = &[
         "<key Image0> planned 2 pushed 2 skipped 0",
     ),
     Row(With(Save), "saved"),
-    Row(In("index.json.0.new", Exists), "false"),
+    Row(At("round_trip", Count), "3"),
     Row(Open, "held 2 v1"),
     Row(At("round_trip/<blob Empty>", Remove), "removed"),
     Row(With(Fetch(Empty)), "21 Corrupt"),

@@ -1,15 +1,16 @@
 //! Steps that are taken with a directory and the layout that it is, and what each of them tells.
 
+use crate::save_and_open;
 use crate::tests::copies::{Copying, copied};
 use crate::tests::faulty::{Failing, FaultyDir};
 use crate::tests::files::{FileStep, FolderStep, in_dir, in_folder};
+use crate::tests::host::Host;
 use crate::tests::layouts::{LayoutStep, summary, with_layout};
 use crate::tests::texts::assert_told;
 use oci_layout::{Dir, FsDir, Layout, LayoutFault, MemDir};
 use std::alloc::Global;
 use std::fs;
 use std::process::Abort;
-use std::rt::Files;
 use std::sync::Wait;
 use std::test::Fail;
 use std::thread::Threads;
@@ -21,6 +22,8 @@ pub(crate) enum Step<'a> {
     Create,
     /// Opens the layout that the directory is: what it holds, or the fault.
     Open,
+    /// Saves the layout, and opens it again: what it holds, or the fault.
+    SaveAndOpen,
     /// A copy into the layout.
     Copy(Copying<'a>),
     /// A step with the layout.
@@ -108,6 +111,16 @@ fn open<D: Dir + Drop>(alloc: Global, place: &mut Place<D>) -> Result<String, Fa
     }
 }
 
+fn opened_again<D: Dir + Drop>(alloc: Global, place: &mut Place<D>) -> Result<String, Fail> {
+    match save_and_open(alloc, place.take_layout()?) {
+        Ok(layout) => {
+            place.held = Some(layout);
+            held(alloc, place)
+        }
+        Err(fault) => Ok(format!(in alloc; "{fault}")?),
+    }
+}
+
 /// What the layout holds.
 fn held<D: Dir>(alloc: Global, place: &Place<D>) -> Result<String, Fail> {
     match &place.held {
@@ -140,7 +153,7 @@ fn with_place<D: Dir + Drop>(
     }
 }
 
-fn in_place<D: Dir + Drop, R: Files + AllocGlobal + Clone>(
+fn in_place<D: Dir + Drop, R: Host>(
     rt: &R,
     place: &mut Place<D>,
     path: &str,
@@ -153,7 +166,7 @@ fn in_place<D: Dir + Drop, R: Files + AllocGlobal + Clone>(
 }
 
 /// Takes a step, and gives what it tells.
-fn taken<D: Dir + Drop + Send, R: Files + AllocGlobal + Clone + Threads + Wait + Sync + Abort>(
+fn taken<D: Dir + Drop + Send, R: Host + Threads + Wait + Abort>(
     rt: &R,
     place: &mut Place<D>,
     step: Step<'_>,
@@ -164,6 +177,7 @@ where
     match step {
         Step::Create => create(rt.alloc(), place),
         Step::Open => open(rt.alloc(), place),
+        Step::SaveAndOpen => opened_again(rt.alloc(), place),
         Step::Copy(copying) => copied_into(rt, place, copying),
         Step::With(step) => with_place(rt.alloc(), place, step),
         Step::In(path, step) => in_place(rt, place, path, step),
@@ -171,10 +185,12 @@ where
     }
 }
 
-fn assert_step<
-    D: Dir + Drop + Send,
-    R: Files + AllocGlobal + Clone + Threads + Wait + Sync + Abort,
->(rt: &R, place: &mut Place<D>, number: usize, row: Row<'_>) -> Result<(), Fail>
+fn assert_step<D: Dir + Drop + Send, R: Host + Threads + Wait + Abort>(
+    rt: &R,
+    place: &mut Place<D>,
+    number: usize,
+    row: Row<'_>,
+) -> Result<(), Fail>
 where
     D::Draft: Send,
 {
@@ -182,10 +198,11 @@ where
     assert_told(rt, number, told.as_str(), row.1)
 }
 
-fn assert_rows<
-    D: Dir + Drop + Send,
-    R: Files + AllocGlobal + Clone + Threads + Wait + Sync + Abort,
->(rt: &R, place: &mut Place<D>, rows: &[Row<'_>]) -> Result<(), Fail>
+fn assert_rows<D: Dir + Drop + Send, R: Host + Threads + Wait + Abort>(
+    rt: &R,
+    place: &mut Place<D>,
+    rows: &[Row<'_>],
+) -> Result<(), Fail>
 where
     D::Draft: Send,
 {
@@ -196,7 +213,7 @@ where
 }
 
 /// Takes these steps with a directory, of which each tells what stands beside it, and gives the directory.
-fn dir_after<D: Dir + Drop + Send, R: Files + AllocGlobal + Clone + Threads + Wait + Sync + Abort>(
+fn dir_after<D: Dir + Drop + Send, R: Host + Threads + Wait + Abort>(
     rt: &R,
     dir: D,
     rows: &[Row<'_>],
@@ -213,10 +230,11 @@ where
 }
 
 /// Takes these steps with a directory, of which each tells what stands beside it.
-pub(crate) fn assert_steps<
-    D: Dir + Drop + Send,
-    R: Files + AllocGlobal + Clone + Threads + Wait + Sync + Abort,
->(rt: &R, dir: D, rows: &[Row<'_>]) -> Result<(), Fail>
+pub(crate) fn assert_steps<D: Dir + Drop + Send, R: Host + Threads + Wait + Abort>(
+    rt: &R,
+    dir: D,
+    rows: &[Row<'_>],
+) -> Result<(), Fail>
 where
     D::Draft: Send,
 {
@@ -224,21 +242,17 @@ where
     Ok(())
 }
 
-fn assert_steps_in_folder<R: Files + AllocGlobal + Clone + Threads + Wait + Sync + Abort>(
+fn assert_steps_in_folder<R: Host + Threads + Wait + Abort>(
     rt: &R,
     folder: &str,
     rows: &[Row<'_>],
-) -> Result<(), Fail>
-where
-    R::File: Send,
-    R::Dir: Send,
-{
+) -> Result<(), Fail> {
     let _ = fs::remove_dir_all(rt, folder);
     assert_steps(rt, FsDir::new(rt, folder)?, rows)?;
     Ok(fs::remove_dir_all(rt, folder)?)
 }
 
-fn assert_steps_unreadable<R: Files + AllocGlobal + Clone + Threads + Wait + Sync + Abort>(
+fn assert_steps_unreadable<R: Host + Threads + Wait + Abort>(
     rt: &R,
     before: &[Row<'_>],
     passing: u64,
@@ -250,15 +264,11 @@ fn assert_steps_unreadable<R: Files + AllocGlobal + Clone + Threads + Wait + Syn
 }
 
 /// Takes these steps somewhere: each tells what stands beside it.
-pub(crate) fn assert_run<R: Files + AllocGlobal + Clone + Threads + Wait + Sync + Abort>(
+pub(crate) fn assert_run<R: Host + Threads + Wait + Abort>(
     rt: &R,
     ground: Ground<'_>,
     rows: &[Row<'_>],
-) -> Result<(), Fail>
-where
-    R::File: Send,
-    R::Dir: Send,
-{
+) -> Result<(), Fail> {
     match ground {
         Ground::Memory => assert_steps(rt, MemDir::new(rt.alloc()), rows),
         Ground::Fuse(puts) => assert_steps(rt, MemDir::with_fuse(rt.alloc(), puts), rows),

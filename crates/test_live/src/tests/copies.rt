@@ -3,7 +3,7 @@ use oci_copy::{CopyFault, Report, copy_graph, copy_one, extended_copy_graph};
 use oci_live::LiveStore;
 use oci_manifest::Key;
 use oci_pool::NoHooks;
-use oci_store::MemoryStore;
+use oci_store::{MemoryStore, Source};
 use std::alloc::Global;
 use std::process::Abort;
 use std::slice;
@@ -11,7 +11,7 @@ use std::sync::Wait;
 use std::test::Fail;
 use std::thread::Threads;
 use test_support::Sample::{Bar, Empty, Foo, Image2, Image3, Index1, Index3, Index4, Referrer};
-use test_support::{Sample, memory};
+use test_support::{Device, Sample, memory, on_device};
 
 /// The images, and what they reach.
 const IMAGES: [Sample; 6] = [Empty, Foo, Bar, Image2, Image3, Index1];
@@ -26,91 +26,117 @@ enum Call {
     One,
     /// By so many workers.
     Graph(u32),
-    /// With what refers to the root, so many steps up.
-    Extended(u32),
 }
 
-/// Copies from a store with some samples, of one root, into an empty live store.
-struct Copies<'s> {
-    source: &'s [Sample],
-    root: Sample,
-    calls: &'s [Call],
-    /// What each of them brings, in this order or another.
-    arrive: &'s [Sample],
-}
+/// The kinds of copies of the images.
+const CALLS: [Call; 5] = [
+    Call::Graph(1),
+    Call::Graph(3),
+    Call::Graph(64),
+    Call::Graph(0),
+    Call::One,
+];
 
 /// Makes one of the copies.
-fn copied<R: Threads + Wait + Sync + Send + Copy + Drop>(
+fn copied<A: Source + Sync, R: Threads + Wait + Sync + Send + Copy + Drop>(
     rt: &R,
     alloc: Global,
-    source: &MemoryStore,
+    source: &A,
     root: &Key,
-    empty: LiveStore<R>,
+    live: LiveStore<R>,
     call: Call,
 ) -> (LiveStore<R>, Result<Report, CopyFault>) {
     let roots = slice::from_ref(root);
     match call {
-        Call::One => copy_one(alloc, source, empty, roots, &by(0)),
-        Call::Graph(workers) => {
-            copy_graph(rt, alloc, source, empty, roots, &by(workers), &NoHooks)
-        }
-        Call::Extended(steps) => {
-            extended_copy_graph(rt, alloc, source, root, steps, empty, &by(0), &NoHooks)
-        }
+        Call::One => copy_one(alloc, source, live, roots, &by(0)),
+        Call::Graph(workers) => copy_graph(rt, alloc, source, live, roots, &by(workers), &NoHooks),
     }
 }
 
-/// Whether one of the copies brings all that it is to bring, and nothing else.
-fn arrive<R: Threads + Wait + Sync + Send + Copy + Drop>(
-    rt: &R,
+/// Whether a copy brought these samples into a live store that was empty, and nothing else.
+fn brought<R: Wait + Drop>(
     alloc: Global,
-    source: &MemoryStore,
-    copies: &Copies,
-    call: Call,
+    live: &LiveStore<R>,
+    copied: Result<Report, CopyFault>,
+    samples: &[Sample],
 ) -> Result<bool, Fail> {
-    let root = copies.root.key(alloc)?;
-    let empty = live(alloc, *rt, &[])?;
-    let (live, copied) = copied(rt, alloc, source, &root, empty, call);
-    let count = copies.arrive.len() as u64;
-    Ok(numbers(copied) == Some([count, count, 0]) && has(alloc, &live, copies.arrive)?)
+    let count = samples.len() as u64;
+    Ok(numbers(copied) == Some([count, count, 0]) && has(alloc, live, samples)?)
 }
 
-fn assert_arrive<R: Threads + Wait + Abort + Sync + Send + Copy + Drop>(
-    rt: R,
+/// Whether one of the copies brings the images from a store into an empty live store, and nothing else.
+fn arrive<A: Source + Sync, R: Threads + Wait + Sync + Send + Copy + Drop>(
+    rt: &R,
     alloc: Global,
-    copies: &Copies,
+    source: &A,
+    call: Call,
+) -> Result<bool, Fail> {
+    let root = Index1.key(alloc)?;
+    let empty = live(alloc, *rt, &[])?;
+    let (live, copied) = copied(rt, alloc, source, &root, empty, call);
+    brought(alloc, &live, copied, &IMAGES)
+}
+
+fn assert_arrive<A: Source + Sync, R: Threads + Wait + Abort + Sync + Send + Copy + Drop>(
+    rt: &R,
+    alloc: Global,
+    source: &A,
 ) -> Result<(), Fail> {
-    let source = memory(alloc, copies.source)?;
-    for (row, call) in copies.calls.iter().enumerate() {
-        assert!(rt; arrive(&rt, alloc, &source, copies, *call)?, "row {row}");
+    for (row, call) in CALLS.iter().enumerate() {
+        assert!(rt; arrive(rt, alloc, source, *call)?, "row {row}");
     }
     Ok(())
 }
 
+/// Whether a copy by so many workers is refused for them, and leaves a live store with a layer as it was.
+fn is_refused<R: Threads + Wait + Sync + Send + Copy + Drop>(
+    rt: &R,
+    alloc: Global,
+    source: &MemoryStore,
+    workers: u32,
+) -> Result<bool, Fail> {
+    let root = Index1.key(alloc)?;
+    let before = live(alloc, *rt, &[Foo])?;
+    let (after, copied) = copied(rt, alloc, source, &root, before, Call::Graph(workers));
+    Ok(matches!(copied, Err(CopyFault::BadWorkers)) && has(alloc, &after, &[Foo])?)
+}
+
 #[test]
 fn two_images(rt: HostRuntime) -> Result<(), Fail> {
-    const COPIES: Copies = Copies {
-        source: &IMAGES,
-        root: Index1,
-        calls: &[
-            Call::Graph(1),
-            Call::Graph(3),
-            Call::Graph(64),
-            Call::Graph(0),
-            Call::One,
-        ],
-        arrive: &IMAGES,
-    };
-    assert_arrive(rt, rt.alloc(), &COPIES)
+    let source = memory(rt.alloc(), &IMAGES)?;
+    assert_arrive(&rt, rt.alloc(), &source)?;
+    assert!(rt; is_refused(&rt, rt.alloc(), &source, 65)?);
+    Ok(())
+}
+
+/// From a source that may fail the layers and configs come part by part, in drafts of the live store.
+#[test]
+fn two_images_in_drafts(rt: HostRuntime) -> Result<(), Fail> {
+    let device = Device::failing(None, None);
+    let source = on_device(rt.alloc(), &device, &IMAGES)?;
+    assert_arrive(&rt, rt.alloc(), &source)
+}
+
+/// Whether an image comes with what refers to it directly, and nothing else.
+fn referrers_arrive<R: Threads + Wait + Sync + Send + Copy + Drop>(
+    rt: &R,
+    alloc: Global,
+    source: &MemoryStore,
+) -> Result<bool, Fail> {
+    let image = Image2.key(alloc)?;
+    let empty = live(alloc, *rt, &[])?;
+    let (live, copied) = extended_copy_graph(rt, alloc, source, &image, 1, empty, &by(0), &NoHooks);
+    brought(
+        alloc,
+        &live,
+        copied,
+        &[Empty, Foo, Image2, Referrer, Index3],
+    )
 }
 
 #[test]
 fn referrers(rt: HostRuntime) -> Result<(), Fail> {
-    const COPIES: Copies = Copies {
-        source: &REFERRERS,
-        root: Image2,
-        calls: &[Call::Extended(1)],
-        arrive: &[Empty, Foo, Image2, Referrer, Index3],
-    };
-    assert_arrive(rt, rt.alloc(), &COPIES)
+    let source = memory(rt.alloc(), &REFERRERS)?;
+    assert!(rt; referrers_arrive(&rt, rt.alloc(), &source)?);
+    Ok(())
 }

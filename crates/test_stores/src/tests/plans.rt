@@ -7,9 +7,10 @@ use oci_store::{Dest, FetchFault, MemoryStore, Source, Store};
 use std::alloc::Global;
 use std::cell::Cell;
 use std::process::Abort;
+use std::slice;
 use std::test::Fail;
 use test_support::Sample::{Bar, Empty, Foo, Image0, Image2, Image3, Index1};
-use test_support::{Sample, keys, memory};
+use test_support::{Device, Sample, keys, memory, on_device, unreadable};
 
 /// A source that counts its fetches.
 #[derive(Drop)]
@@ -341,4 +342,48 @@ fn a_held_image_over_the_limit(rt: HostRuntime) -> Result<(), Fail> {
 fn an_image_over_the_limit_that_the_source_lacks(rt: HostRuntime) -> Result<(), Fail> {
     let want = [Words("skipped "), LineOf(Image0)];
     assert_under_limit(&rt, &[Empty], &[Empty, Image0], &want)
+}
+
+/// What is planned of a root into an empty store, as text.
+fn told_of<A: Source>(alloc: Global, source: &A, root: &Key) -> Result<String, Fail> {
+    let destination = MemoryStore::new(alloc);
+    let roots = slice::from_ref(root);
+    line(
+        alloc,
+        &gather(alloc, source, &destination, roots, LIMIT, Existing::Skip),
+    )
+}
+
+/// A plan of a root into an empty store is refused so.
+fn assert_refused<A: Source, R: AllocGlobal + Abort>(
+    rt: &R,
+    source: &A,
+    root: &Key,
+    want: &[Part],
+) -> Result<(), Fail> {
+    let told = told_of(rt.alloc(), source, root)?;
+    assert_text(rt, rt.alloc(), "plan", told.as_str(), want)
+}
+
+/// An image that is no JSON object is a fault, with the reason.
+#[test]
+fn of_an_image_that_does_not_read(rt: HostRuntime) -> Result<(), Fail> {
+    let want = [
+        Words(
+            "56 Manifest sha256:4f53cda18c2baa0c0354bb5f9a3ecbe5ed12ab4d8e11ba873c2f11161202b945 2 ",
+        ),
+        Words("application/vnd.oci.image.manifest.v1+json 11 NotObject"),
+    ];
+    let (source, root) = unreadable(rt.alloc())?;
+    assert_refused(&rt, &source, &root, &want)
+}
+
+/// The device gives the index, and fails at the first image that it lists.
+#[test]
+fn of_an_image_that_the_device_refuses(rt: HostRuntime) -> Result<(), Fail> {
+    let device = Device::failing(None, Some(1));
+    let samples = [Empty, Foo, Bar, Image2, Image3, Index1];
+    let source = on_device(rt.alloc(), &device, &samples)?;
+    let want = [Words("57 Fetch "), KeyOf(Image2), Words(" 22 Device")];
+    assert_refused(&rt, &source, &Index1.key(rt.alloc())?, &want)
 }

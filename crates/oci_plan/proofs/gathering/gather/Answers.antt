@@ -6,7 +6,7 @@ use Rattle.oci_store.specs.Keyed.{has_key}
 use Rattle.oci_store.specs.Graph.{nodes_of}
 use Rattle.oci_plan.specs.Outside.{IsToBring}
 use Rattle.oci_plan.specs.Plan.{Planned, HasEdges, FollowsListed}
-use Rattle.oci_plan.proofs.Plans.{lists_length, tellable, named_spared, named_first, numbered, has_edges, follows_listed}
+use Rattle.oci_plan.proofs.Plans.{lists_length, tellable, named_cause, named_spared, named_visited, named_met, named_first, numbered, has_edges, follows_listed}
 use Rattle.oci_plan.proofs.gathering.gather.Goals as goal
 
 pub order-requires : goal.order-requires
@@ -45,9 +45,21 @@ returns-in-Ok-clause-follows g c = λ h.
     subst (λ (p : Planned). FollowsListed (nodes_of (g.A.Store.state c.args.source.now).entries) (g.D.Store.state c.args.destination.now).nodes p) (sym c.new.ensures)
     (follows_listed _ _ _ _ _ _ c.in_ok-keys.field-0.keys.items c.in_ok-keys.field-0.lists.items c.in_ok-keys.ensures.gathered c.in_ok-keys.ensures.distinct c.in-Ok.order c.in-Ok.ensures.lists h c.in-Ok.ensures.order c.in_ok-skipped.skipped.items)
 
+pub returns-in-Err-clause-cause : goal.returns-in-Err-clause-cause
+returns-in-Err-clause-cause g c =
+    named_cause _ _ _ _ _ _ c.in_ok-keys.field-0.keys.items c.in_ok-keys.field-0.lists.items c.in_ok-keys.ensures.gathered c.in_ok-keys.ensures.distinct (g.A.Store.state c.args.source.now).fails_at c.in-Err.fault c.plan_fault.result c.in-Err.ensures.refused (rw c.deref.ensures.value at c.plan_fault.ensures)
+
 pub returns-in-Err-clause-spared : goal.returns-in-Err-clause-spared
 returns-in-Err-clause-spared g c =
     named_spared _ _ _ _ _ _ c.in_ok-keys.field-0.keys.items c.in_ok-keys.field-0.lists.items c.in_ok-keys.ensures.gathered c.in_ok-keys.ensures.distinct c.in-Err.fault c.plan_fault.result (rw c.deref.ensures.value at c.plan_fault.ensures)
+
+pub returns-in-Err-clause-named : goal.returns-in-Err-clause-named
+returns-in-Err-clause-named g c =
+    named_visited _ _ _ _ _ _ c.in_ok-keys.field-0.keys.items c.in_ok-keys.field-0.lists.items c.in_ok-keys.ensures.gathered c.in_ok-keys.ensures.distinct c.in-Err.fault c.plan_fault.result (rw c.deref.ensures.value at c.plan_fault.ensures)
+
+pub returns-in-Err-clause-named_met : goal.returns-in-Err-clause-named_met
+returns-in-Err-clause-named_met g c =
+    named_met _ _ _ _ _ _ c.in_ok-keys.field-0.keys.items c.in_ok-keys.field-0.lists.items c.in_ok-keys.ensures.gathered c.in_ok-keys.ensures.distinct c.in-Err.fault c.plan_fault.result (rw c.deref.ensures.value at c.plan_fault.ensures)
 
 pub returns-in-Err-clause-first : goal.returns-in-Err-clause-first
 returns-in-Err-clause-first g c =

@@ -62,6 +62,8 @@ returns-in-Ok-clause-pushed g c =
       calm = search rules;
       halted = search rules;
       running = search rules;
+      taken = λ halted. halted;
+      stays = λ halted. halted;
       tags = search rules;
       name = refl;
     })
@@ -88,6 +90,8 @@ returns-in-Err-clause-pushed g c =
       calm = search rules;
       halted = search rules;
       running = search rules;
+      taken = tt;
+      stays = λ halted. halted;
       tags = search rules;
       name = refl;
     })

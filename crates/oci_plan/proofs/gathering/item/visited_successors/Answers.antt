@@ -1,7 +1,9 @@
 use Rattle.std.proofs.Common.{◌≡◌, false, List, sym, subst, ◌∙◌, rules}
-use Rattle.std.specs.List.{IsDistinct}
+use Rattle.std.specs.List.{All, IsDistinct}
+use Rattle.std.proofs.lemmas.List.Elements.{All-nil}
 use Rattle.oci_manifest.specs.Descriptor.{Descriptor, same_key}
 use Rattle.oci_store.specs.Keyed.{has_key}
+use Rattle.oci_plan.specs.Met.{IsListedUnder}
 use Rattle.oci_plan.proofs.Items.{absent_lists}
 use Rattle.oci_plan.proofs.gathering.item.visited_successors.Goals as goal
 
@@ -9,6 +11,10 @@ pub returns-then-not-exists-clause-listed : goal.returns-then-not-exists-clause-
 returns-then-not-exists-clause-listed g c = λ _.
     let none : has_key (g.A.Store.state c.args.source.now).entries c.args.key.now ≡ false = search rules in
     c.new.ensures.items ∙ absent_lists (g.A.Store.state c.args.source.now).entries c.args.key.now none
+
+pub returns-then-not-exists-clause-under : goal.returns-then-not-exists-clause-under
+returns-then-not-exists-clause-under g c =
+    subst (λ (ks : List Descriptor). All (IsListedUnder (g.A.Store.state c.args.source.now).entries c.args.key.now) ks) (sym c.new.ensures.items) (All-nil (IsListedUnder (g.A.Store.state c.args.source.now).entries c.args.key.now))
 
 pub returns-then-not-exists-clause-distinct : goal.returns-then-not-exists-clause-distinct
 unfolding IsDistinct

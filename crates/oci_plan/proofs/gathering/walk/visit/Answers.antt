@@ -7,7 +7,8 @@ use Rattle.oci_store.specs.Visiting.{with_keys}
 use Rattle.oci_plan.specs.Visiting.{is_fresh}
 use Rattle.oci_plan.specs.Walk.{IsWalk, IsGathered, visits_of, noted}
 use Rattle.oci_store.proofs.Membership.{past_from_none}
-use Rattle.oci_plan.proofs.Walks.{visits_start, visits_more, walk_start, walk_step, walk_end, place_passes, spared_of, item_first, roots_first, successors_first}
+use Rattle.oci_plan.proofs.Walks.{visits_start, visits_more, walk_start, walk_step, walk_end, place_passes, spared_of, visited_of, place_met, item_first, roots_first, successors_first, successors_met}
+use Rattle.oci_plan.proofs.Mets.{item_met, roots_met}
 use Rattle.oci_plan.proofs.gathering.walk.visit.Goals as goal
 
 pub returns-in_err-number_fresh-clause-first : goal.returns-in_err-number_fresh-clause-first
@@ -15,6 +16,12 @@ returns-in_err-number_fresh-clause-first g c =
     let p = err_from_is_err_and c.from_residual.result c.from_residual.ensures.1 in
     let fault = rw c.new-keys.ensures at c.in_err-number_fresh.ensures.refused in
     rw (p.1, p.2) (λ _. roots_first (g.A.Store.state c.args.source.now).is_honest c.args.existing (g.A.Store.state c.args.source.now).entries (g.D.Store.state c.args.destination.now).nodes c.args.roots.now c.args.limit c.in_err-number_fresh.field-0.0 fault)
+
+pub returns-in_err-number_fresh-clause-met : goal.returns-in_err-number_fresh-clause-met
+returns-in_err-number_fresh-clause-met g c =
+    let p = err_from_is_err_and c.from_residual.result c.from_residual.ensures.1 in
+    let fault = rw c.new-keys.ensures at c.in_err-number_fresh.ensures.refused in
+    rw (p.1, p.2) (roots_met c.args.existing (g.A.Store.state c.args.source.now).entries (g.D.Store.state c.args.destination.now).nodes c.args.roots.now c.in_err-number_fresh.field-0.0 fault)
 
 pub loop-key-init : goal.loop-key-init
 loop-key-init g c =
@@ -33,6 +40,20 @@ returns-in_err-successors-clause-spared g c =
     let asked = rw c.is_held-held.ensures at c.in_err-successors.ensures.asked in
     rw (p.1, p.2) (spared_of c.args.existing (g.A.Store.state c.args.source.now).entries (g.D.Store.state c.args.destination.now).nodes c.in-Some.key.now c.in_err-successors.field-0.0 pass asked c.in_err-successors.ensures.named)
 
+pub returns-in_err-successors-clause-named : goal.returns-in_err-successors-clause-named
+returns-in_err-successors-clause-named g c =
+    let p = err_from_is_err_and c.from_residual-in_err-successors.result c.from_residual-in_err-successors.ensures.1 in
+    let at : slice_get (visits_of c.args.existing c.loop-key.keys c.loop-key.all) c.loop-key.place ≡ Some c.in-Some.key.now = sym c.in-Some.ensures.value in
+    let pass = place_passes (g.A.Store.state c.args.source.now).is_honest c.args.existing (g.A.Store.state c.args.source.now).entries (g.D.Store.state c.args.destination.now).nodes c.args.roots.now c.args.limit (visits_of c.args.existing c.loop-key.keys c.loop-key.all) c.loop-key.keys (take c.loop-key.place (visits_of c.args.existing c.loop-key.keys c.loop-key.all)) c.loop-key.lists.items c.loop-key.place c.in-Some.key.now c.loop-key.invariant at in
+    rw (p.1, p.2) (visited_of c.args.existing (g.D.Store.state c.args.destination.now).nodes c.in-Some.key.now c.in_err-successors.field-0.0 pass c.in_err-successors.ensures.named)
+
+pub returns-in_err-successors-clause-met : goal.returns-in_err-successors-clause-met
+returns-in_err-successors-clause-met g c =
+    let p = err_from_is_err_and c.from_residual-in_err-successors.result c.from_residual-in_err-successors.ensures.1 in
+    let at : slice_get (visits_of c.args.existing c.loop-key.keys c.loop-key.all) c.loop-key.place ≡ Some c.in-Some.key.now = sym c.in-Some.ensures.value in
+    let was = place_met (g.A.Store.state c.args.source.now).is_honest c.args.existing (g.A.Store.state c.args.source.now).entries (g.D.Store.state c.args.destination.now).nodes c.args.roots.now c.args.limit (visits_of c.args.existing c.loop-key.keys c.loop-key.all) c.loop-key.keys (take c.loop-key.place (visits_of c.args.existing c.loop-key.keys c.loop-key.all)) c.loop-key.lists.items c.loop-key.place c.in-Some.key.now c.loop-key.invariant at in
+    rw (p.1, p.2) (item_met c.args.existing (g.A.Store.state c.args.source.now).entries (g.D.Store.state c.args.destination.now).nodes c.args.roots.now c.in-Some.key.now c.in_err-successors.field-0.0 was c.in_err-successors.ensures.named)
+
 pub returns-in_err-successors-clause-first : goal.returns-in_err-successors-clause-first
 returns-in_err-successors-clause-first g c =
     let p = err_from_is_err_and c.from_residual-in_err-successors.result c.from_residual-in_err-successors.ensures.1 in
@@ -48,6 +69,14 @@ returns-in_err-numbers-clause-first g c =
     rw (p.1, p.2) (successors_first (g.A.Store.state c.args.source.now).is_honest c.args.existing (g.A.Store.state c.args.source.now).entries (g.D.Store.state c.args.destination.now).nodes c.args.roots.now c.args.limit (visits_of c.args.existing c.loop-key.keys c.loop-key.all) c.loop-key.keys c.in_ok-successors.successors.items c.loop-key.lists.items c.loop-key.place c.in-Some.key.now c.in_err-numbers.field-0.0
     c.loop-key.invariant at may c.in_ok-successors.ensures.listed fault)
 
+pub returns-in_err-numbers-clause-met : goal.returns-in_err-numbers-clause-met
+returns-in_err-numbers-clause-met g c =
+    let p = err_from_is_err_and c.from_residual-in_err-numbers.result c.from_residual-in_err-numbers.ensures.1 in
+    let at : slice_get (visits_of c.args.existing c.loop-key.keys c.loop-key.all) c.loop-key.place ≡ Some c.in-Some.key.now = sym c.in-Some.ensures.value in
+    let fault = rw c.deref.ensures.value at c.in_err-numbers.ensures.refused in
+    rw (p.1, p.2) (successors_met (g.A.Store.state c.args.source.now).is_honest c.args.existing (g.A.Store.state c.args.source.now).entries (g.D.Store.state c.args.destination.now).nodes c.args.roots.now c.args.limit (visits_of c.args.existing c.loop-key.keys c.loop-key.all) c.loop-key.keys (take c.loop-key.place (visits_of c.args.existing c.loop-key.keys c.loop-key.all)) c.in_ok-successors.successors.items c.loop-key.lists.items c.loop-key.place c.in-Some.key.now c.in_err-numbers.field-0.0
+    c.loop-key.invariant at c.in_ok-successors.ensures.under fault)
+
 pub loop-key-preserved : goal.loop-key-preserved
 loop-key-preserved g c =
     let at : slice_get (visits_of c.args.existing c.loop-key.keys c.loop-key.all) c.loop-key.place ≡ Some c.in-Some.key.now = sym c.in-Some.ensures.value in
@@ -59,7 +88,7 @@ loop-key-preserved g c =
     let visits = visits_more c.args.existing (g.D.Store.state c.args.destination.now).nodes c.loop-key.keys c.loop-key.all c.in_ok-successors.successors.items c.number_fresh-in-Some.new.keys c.note-in-Some.new.all is_keys is_all in
     walk_step (g.A.Store.state c.args.source.now).is_honest c.args.existing (g.A.Store.state c.args.source.now).entries (g.D.Store.state c.args.destination.now).nodes c.args.roots.now c.args.limit (visits_of c.args.existing c.loop-key.keys c.loop-key.all) c.loop-key.keys c.in_ok-successors.successors.items (visits_of c.args.existing c.number_fresh-in-Some.new.keys c.note-in-Some.new.all) c.number_fresh-in-Some.new.keys
     c.loop-key.lists.items c.keep.new.lists.items c.in_ok-numbers.numbers c.loop-key.place c.in-Some.key.now c.loop-key.invariant at
-    (record { may = may; own = c.in_ok-successors.ensures.listed; distinct = c.in_ok-successors.ensures.distinct; is_all = visits; is_keys = is_keys; names = names; few = c.in_ok-numbers.ensures.few })
+    (record { may = may; own = c.in_ok-successors.ensures.listed; under = c.in_ok-successors.ensures.under; distinct = c.in_ok-successors.ensures.distinct; is_all = visits; is_keys = is_keys; names = names; few = c.in_ok-numbers.ensures.few })
     is_lists
 
 pub returns-clause-gathered : goal.returns-clause-gathered

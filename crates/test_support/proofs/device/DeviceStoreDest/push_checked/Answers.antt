@@ -24,6 +24,8 @@ returns-in_err-push-clause-pushed c =
       calm = search rules;
       halted = search rules;
       running = search rules;
+      taken = tt;
+      stays = λ halted. halted;
       tags = refl;
       name = refl;
     })
@@ -50,6 +52,8 @@ returns-clause-pushed c =
       calm = search rules;
       halted = search rules;
       running = search rules;
+      taken = λ halted. halted;
+      stays = λ halted. halted;
       tags = refl;
       name = refl;
     })

@@ -1,0 +1,165 @@
+"""The scripts `ocicp` and `build` over a repository of empty crates, with a stand-in for `rt`: what is run, what is built, and when."""
+import hashlib
+import os
+import re
+import shutil
+import subprocess
+
+from program import TOP, first
+
+SECONDS = 60
+SCRIPTS = ["ocicp", "build", "crates.txt", "HANDLES", "release/sum", "release/describe"]
+# Prints its words, as the program that was built or released would run with them.
+PROGRAM = """#!/bin/sh
+[ "$1" != --version ] || exec echo "ocicp 0.0.0"
+echo "%s with $*"
+"""
+# Notes what it is asked for, and makes what rt would make, or refuses a crate.
+RT = r"""#!/usr/bin/env bash
+[[ $1 != version ]] || exec echo "a stand-in"
+name=${PWD##*/}
+echo "$name $1" >>"$ASKED"
+[[ $name != "$REFUSED" ]] || { echo "the prover refuses $name"; exit 1; }
+for library in $(sed -n "s/^$name://p" ../../crates.txt); do
+  [[ ! -d ../$library || -e ../$library/out/rlib/stamp ]] || { echo "$library is not proved"; exit 1; }
+done
+mkdir -p out/rlib && touch out/rlib/stamp
+[[ $1 != run ]] || { printf '%s' "$BUILT" >out/ocicp && chmod +x out/ocicp; }
+"""
+
+
+def libraries():
+    """The libraries of each crate that are crates themselves."""
+    with open(TOP + "/crates.txt") as file:
+        lines = [line.split(":") for line in file if ":" in line]
+    used = {name: words.split() for name, words in lines}
+    return {name: [it for it in words if it in used] for name, words in used.items()}
+
+
+class Repository:
+    """A repository of empty crates, and what rt was asked for in it."""
+
+    def __init__(self, room):
+        self.room, self.used = room, libraries()
+        os.mkdir(room)
+        for folder in "bin", "release", *("crates/%s/src/tests" % name for name in self.used):
+            os.makedirs("%s/%s" % (room, folder))
+        for name in SCRIPTS:
+            shutil.copy("%s/%s" % (TOP, name), "%s/%s" % (room, name))
+        for name in self.used:
+            self.change(name)
+        self.write("bin/rt", RT)
+
+    def write(self, path, text):
+        with open("%s/%s" % (self.room, path), "w") as file:
+            file.write(text)
+        os.chmod(file.name, 0o755)
+
+    def change(self, name, file="lib.rt"):
+        with open("%s/crates/%s/src/%s" % (self.room, name, file), "a") as file:
+            file.write("//\n")
+
+    def below(self, name):
+        return {it for low in self.used[name] for it in [low, *self.below(low)]}
+
+    def every(self):
+        return {"ocicp", *self.below("ocicp")}
+
+    def above(self, name):
+        return {it for it in self.every() if it == name or name in self.below(it)}
+
+    def run(self, refused="", path=None):
+        """Runs the script: the crates that rt was asked for, in order, and how it ended."""
+        asked = self.room + "/asked"
+        open(asked, "w").close()
+        environment = {"ASKED": asked, "REFUSED": refused, "BUILT": PROGRAM % "what was built"}
+        environment["PATH"] = path or "%s/bin:%s" % (self.room, os.environ["PATH"])
+        ended = subprocess.run(["./ocicp", "these", "words"], cwd=self.room, env=environment, stdin=subprocess.DEVNULL,
+                               capture_output=True, text=True, timeout=SECONDS)
+        with open(asked) as file:
+            return [line.split()[0] for line in file], ended
+
+    def wrong(self, wanted, runs="what was built"):
+        """What is wrong with a run that is to build these crates, each once and after those below it, and to run this program."""
+        asked, ended = self.run()
+        if (ended.returncode, ended.stdout) != (0, "%s with these words\n" % runs):
+            return "status %d, %s" % (ended.returncode, (ended.stdout + ended.stderr)[-300:])
+        if sorted(asked) != sorted(wanted):
+            return "it builds %s, and not %s" % (" ".join(asked), " ".join(sorted(wanted)))
+        if os.path.exists(self.room + "/out"):
+            return "folders of the build are left over"
+        return self.wrong_lines(wanted, ended.stderr) if wanted else ended.stderr or None
+
+    def wrong_lines(self, wanted, text):
+        """What is wrong with what is said of a build: how many crates, how long, and then how long each took."""
+        opening, *steps, last = text.splitlines()
+        said = re.fullmatch(r"build: built in \d+ s: (.*)", last)
+        took = [it.split()[0] for it in said[1].split(", ")] if said else []
+        if not re.fullmatch(r"build: proving %d of %d crates; this takes about \d+ min" % (len(wanted), len(self.every())), opening):
+            return "it says %r" % opening
+        if sorted(took) != sorted(wanted):
+            return "it says %r" % last
+        line = r"build: proving (and compiling )?\w+; about \d+ min are left"
+        return next(("it says %r" % it for it in steps if not re.fullmatch(line, it)), None)
+
+    def release(self, script, **said):
+        """Makes a script the release, with a text that says that it was built from what is here, but for what is said."""
+        self.write("release/ocicp", script)
+        total = subprocess.run(["release/sum"], cwd=self.room, capture_output=True, text=True, check=True).stdout.strip()
+        text = {"sources": total, "program": hashlib.sha256(script.encode()).hexdigest(), "machine": "Linux x86_64", **said}
+        self.write("release/ocicp.txt", "".join("%s %s\n" % it for it in text.items()))
+
+
+def builds(here):
+    yield "the first build", here.wrong(here.every())
+    yield "nothing has changed", here.wrong([])
+    for name in here.used:
+        os.utime("%s/crates/%s/src/lib.rt" % (here.room, name))
+    yield "the times of all files have changed", here.wrong([])
+    here.change("ocicp", "tests/more.rt")
+    yield "a test has changed", here.wrong([])
+    here.change("oci_live")
+    yield "a crate has changed that the program does not stand on", here.wrong([])
+    here.change("oci_exit")
+    yield "a crate has changed", here.wrong(here.above("oci_exit"))
+    here.change("oci_pool")
+    asked, ended = here.run(refused="oci_copy")
+    refused = ended.returncode == 1 and ended.stdout == "" and "the prover refuses oci_copy\n" in ended.stderr
+    yield "a crate is refused", None if refused and asked == ["oci_pool", "oci_copy"] else "%s, %s" % (asked, ended.stderr[-300:])
+    yield "the same build goes on where it stopped", here.wrong(here.above("oci_copy"))
+
+
+def releases(here):
+    released = PROGRAM % "the release"
+    here.release(released)
+    yield "a release of these sources", here.wrong([], "the release")
+    asked, ended = here.run(path="/usr/bin:/bin")
+    right = (asked, ended.returncode, ended.stdout, ended.stderr) == ([], 0, "the release with these words\n", "")
+    yield "a release, without a toolchain", None if right else "%s, %s" % (asked, ended.stderr[-300:])
+    here.release(released, program="0" * 64)
+    yield "a release that is not the program that its text names", here.wrong([])
+    here.release(released, machine="Linux riscv64")
+    yield "a release for another machine", here.wrong([])
+    here.release("#!/bin/sh\nexit 127\n")
+    yield "a release that does not start here", here.wrong([])
+    here.release(released)
+    here.change("oci_copy")
+    yield "a release of other sources", here.wrong(here.above("oci_copy"))
+    here.change("oci_copy")
+    asked, ended = here.run(path="/usr/bin:/bin")
+    right = (asked, ended.returncode, ended.stdout) == ([], 1, "") and "there is no rt" in ended.stderr
+    yield "a release of other sources, without a toolchain", None if right else "%s, %s" % (asked, ended.stderr[-300:])
+
+
+def wrong_minutes():
+    """What is wrong with the minutes of a first build, which README.md has and `build` says."""
+    with open(TOP + "/README.md") as readme, open(TOP + "/build") as build:
+        minutes, = re.findall(r"^MINUTES=(\d+)$", build.read(), re.M)
+        return None if "about %s minutes" % minutes in readme.read() else "README.md does not say 'about %s minutes'" % minutes
+
+
+def checks(room):
+    here = Repository(room + "/repository")
+    yield from builds(here)
+    yield from releases(here)
+    yield "the minutes of a first build", first([wrong_minutes()])

@@ -1,0 +1,8 @@
+use Rattle.oci_copy.proofs.planned.copy_plan.Given as goal
+
+abbrev pub ghosts-work : goal.ghosts-work
+ghosts-work g a = record {
+  source = g.A.Store.state a.source.now;
+  opening = g.D.Store.state a.destination;
+  planned = a.plan.now.keys;
+}

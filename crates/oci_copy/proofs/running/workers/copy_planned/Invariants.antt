@@ -1,8 +1,0 @@
-use Rattle.oci_copy.proofs.running.workers.copy_planned.Given as goal
-
-abbrev pub ghosts-work : goal.ghosts-work
-ghosts-work g a = record {
-  source = g.A.Store.state a.source.now;
-  opening = g.D.Store.state a.destination;
-  planned = a.plan.now.keys;
-}

@@ -1,0 +1,98 @@
+ghost use Rattle.std.specs.Prelude.{◌≡◌, ◌↔◌, ◌<◌, ◌⊎◌, OnOk, IfOk, IfErr, IsErrOf};
+ghost use Rattle.oci_copy.specs.Copy.{IsCopy, OnlyGrows};
+ghost use Rattle.oci_copy.specs.Destination.{IsClosedWhenSkipping};
+ghost use Rattle.oci_copy.specs.Fault.{IsEarly};
+ghost use Rattle.oci_copy.specs.Plain.{NeitherFails};
+ghost use Rattle.oci_copy.specs.Planned.{IsPlanOf};
+ghost use Rattle.oci_copy.specs.Report.{IsReport};
+ghost use Rattle.oci_copy.specs.Work.{CanFail, IsStopCause};
+
+use crate::fault::CopyFault;
+use crate::options::Options;
+use crate::report::{Report, report_of};
+use crate::running::workers::work;
+use oci_manifest::Key;
+use oci_plan::Plan;
+use oci_pool::{Hooks, MAX_WORKERS};
+use oci_store::{Dest, Source};
+use std::alloc::Global;
+use std::marker::Brand;
+use std::sync::Wait;
+use std::thread::Threads;
+
+/// Copies what is planned, by workers: what [`copy_graph`](crate::copy_graph) does once it has its
+/// plan.
+///
+/// The plan is one that [`plan_copy`](crate::plan_copy) gave of this source, this destination,
+/// these roots and these options, and neither store has changed since. So a caller can look at the
+/// plan, or print it, before the first push, and nothing is planned twice. What comes of it, and
+/// what the hooks get, is as with `copy_graph` of these roots.
+///
+/// Refused with `BadWorkers`, over 64, with which nothing is changed; and then with `Fetch` or
+/// `Push` of a planned key: of several that fail, the one with the least number of the plan. With
+/// these the keys pushed before stay, each with all that it lists, so that a closed destination is
+/// closed. `Memory` may come at any point, and leaves what the others leave.
+///
+/// It takes a lock and joins its workers; no clause says that it returns.
+pub fn copy_plan<
+    A: Source + Sync,
+    D: Dest + Drop + Send,
+    R: Threads + Wait + Sync,
+    H: Hooks + Sync,
+>(
+    rt: &R,
+    alloc: Global,
+    source: &A,
+    destination: D,
+    plan: &Plan,
+    roots: &[Key],
+    options: &Options,
+    hooks: &H,
+) -> (D, Result<Report, CopyFault>)
+where
+    D::Draft: Send,
+    requires closed { IsClosedWhenSkipping options.now.existing (D.state destination).nodes }
+    requires plan { IsPlanOf (A.state source.now) options.now (D.state destination) roots.now
+        plan.now }
+    ensures copied { OnOk result.1 (IsCopy D.shares options.now (A.state source.now)
+        (D.state destination) roots.now (D.state result.0)) }
+    ensures report { IfOk result.1 (IsReport options.now.existing (A.state source.now)
+        (D.state destination) roots.now (D.state result.0)) }
+    ensures grows { OnlyGrows D.shares (A.state source.now) (D.state destination) roots.now
+        (D.state result.0) }
+    ensures tags { (D.state result.0).tags ≡ (D.state destination).tags }
+    ensures workers { IsErrOf result.1 CopyFault.BadWorkers ↔ (64 < options.now.workers) }
+    ensures refused { IfErr result.1 (λ fault. (fault ≡ CopyFault.BadWorkers)
+        ⊎ IsStopCause (CanFail D.state (D.state destination)) (A.state source.now)
+        (D.state destination) plan.now.keys fault) }
+    ensures plain { IfErr result.1 (λ fault. NeitherFails options.now.existing D.state
+        (A.state source.now) (D.state destination)
+        → (fault ≡ CopyFault.BadWorkers) ⊎ (fault ≡ CopyFault.Memory)) }
+    ensures unchanged { IfErr result.1 (λ fault. IsEarly fault → result.0 ≡ destination) }
+{
+    if options.workers > MAX_WORKERS {
+        return (destination, Err(CopyFault::BadWorkers));
+    }
+    report_skipped(hooks, plan);
+    let workers = options.workers;
+    let (destination, copied) = work::<A, D, Brand, R, H>(
+        rt,
+        alloc,
+        source,
+        destination,
+        plan,
+        workers,
+        hooks,
+    );
+    match copied {
+        Ok(()) => (destination, Ok(report_of(plan))),
+        Err(fault) => (destination, Err(fault)),
+    }
+}
+
+/// Reports each root that the destination has to the hooks.
+fn report_skipped<H: Hooks>(hooks: &H, plan: &Plan) {
+    for key in plan.skipped() {
+        hooks.skipped(key);
+    }
+}

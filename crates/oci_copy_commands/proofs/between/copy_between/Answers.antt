@@ -1,0 +1,39 @@
+use Rattle.std.proofs.Common.{List}
+use Rattle.oci_store.specs.Content.{Entry}
+use Rattle.oci_layout.specs.Files.{HasFiles}
+use Rattle.oci_layout.proofs.Law.{keys_of_one_digest}
+use Rattle.oci_copy_commands.proofs.Saved.{after_ok, after_report, sound_after, came_after, report_after, copied_after, files_after}
+use Rattle.oci_copy_commands.proofs.between.copy_between.Goals as goal
+
+pub returns-clause-report : goal.returns-clause-report
+returns-clause-report g c =
+    let from = c.args.source.now in
+    let left = c.copy_plan-destination in
+    let grows = rw c.roots-roots.ensures at left.ensures.grows in
+    after_report left.result.1 c.finish.result.1 (report_after (keys_of_one_digest (g.S.Dir.file from.0) from.1) grows c.finish.ensures.saved c.args.options.now.existing)
+    c.finish.ensures.report (rw c.roots-roots.ensures at left.ensures.report)
+
+pub returns-clause-copied : goal.returns-clause-copied
+returns-clause-copied g c =
+    let from = c.args.source.now in
+    let left = c.copy_plan-destination in
+    let grows = rw c.roots-roots.ensures at left.ensures.grows in
+    after_ok left.result.1 c.finish.result.1 (copied_after (keys_of_one_digest (g.S.Dir.file from.0) from.1) grows c.finish.ensures.saved)
+    c.finish.ensures.report (rw c.roots-roots.ensures at left.ensures.copied)
+
+pub returns-clause-sound : goal.returns-clause-sound
+returns-clause-sound g c =
+    let from = c.args.source.now in
+    sound_after (keys_of_one_digest (g.S.Dir.file from.0) from.1) c.copy_plan-destination.ensures.grows c.finish.ensures.saved
+
+pub returns-clause-came : goal.returns-clause-came
+returns-clause-came g c =
+    let from = c.args.source.now in
+    came_after (keys_of_one_digest (g.S.Dir.file from.0) from.1) c.copy_plan-destination.ensures.grows c.finish.ensures.saved
+
+pub returns-clause-files : goal.returns-clause-files
+returns-clause-files g c =
+    let from = c.args.source.now in
+    let left = c.finish.result.0 in
+    files_after (keys_of_one_digest (g.S.Dir.file from.0) from.1) c.copy_plan-destination.ensures.grows c.finish.ensures.saved c.finish.result.1
+    (λ (content : List Entry). HasFiles (g.D.Dir.file left.0) content left.1 left.2) c.finish.ensures.files

@@ -1,0 +1,38 @@
+-- What a copy between two layouts leaves.
+use Rattle.std.specs.Prelude.{◌≡◌, ◌≤◌, true, List, ◌++◌}
+use Rattle.std.specs.List.{All}
+use Rattle.oci_manifest.specs.Descriptor.{Descriptor}
+use Rattle.oci_store.specs.Copied.{Agree, IsCopied}
+use Rattle.oci_store.specs.Graph.{Node, Reaches}
+use Rattle.oci_store.specs.Keyed.{has_key, HasAll}
+use Rattle.oci_store.specs.Push.{IsCalm}
+use Rattle.oci_store.specs.State.{State}
+use Rattle.oci_copy.specs.Grown.{graph_of, SameByDigest}
+
+-- What is known of the bytes of a copy between two layouts needs this: nobody else writes into either folder, each file that the
+-- destination had matches its key, a digest that is in both has the same bytes in both, and no put failed from the one state of
+-- the destination to the other.
+pub record IsTrusted (source old new : State) : Type 0 where
+  pub is_honest : source.is_honest
+  pub is_sound : old.is_sound
+  pub same : SameByDigest source.entries old.entries
+  pub is_calm : IsCalm old.failures new.failures
+
+-- what came is held with all that it lists
+abbrev pub HoldsWhatCame : List Node → List Node → Type 0
+HoldsWhatCame old new = (added : List Node) × (new ≡ old ++ added) × All (λ (n : Node). HasAll new n.1) added
+
+-- the destination has exactly what it had, and what the source reaches from the roots, each with the bytes that its file has
+abbrev pub IsCopiedBetween : State → State → List Descriptor → State → Type 0
+IsCopiedBetween source old roots new = IsTrusted source old new → IsCopied (graph_of source) source.entries roots old.entries new.entries
+
+-- every key that an honest source reaches from the roots is held, if the two agree on what their keys list
+abbrev pub HasReached : State → State → List Descriptor → State → Type 0
+HasReached source old roots new = source.is_honest → Agree (graph_of source) old.nodes → (k : Descriptor) → Reaches (graph_of source) roots k → has_key new.nodes k ≡ true
+
+-- a save changes nothing that the layout holds
+pub record IsSaved (old new : State) : Type 0 where
+  pub nodes : new.nodes ≡ old.nodes
+  pub entries : old.is_sound → new.entries ≡ old.entries
+  pub sound : old.is_sound → new.is_sound
+  pub failures : old.failures ≤ new.failures

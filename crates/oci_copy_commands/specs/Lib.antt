@@ -1,0 +1,3 @@
+pub mod Between
+pub mod Refusal
+pub mod Selected

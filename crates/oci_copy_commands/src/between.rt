@@ -1,0 +1,170 @@
+ghost use Rattle.std.specs.Prelude.{◌≡◌, ◌≢◌, ◌⊎◌, ℕ, List, [], Ok, Err, IfOk, OnOk, OnErr, IfErr};
+ghost use Rattle.std.specs.List.{All};
+ghost use Rattle.std.specs.Map.{keys_of, values_of};
+ghost use Rattle.oci_store.specs.Closed.{IsClosed};
+ghost use Rattle.oci_store.specs.Keyed.{HasAll};
+ghost use Rattle.oci_store.specs.Tags.{by_bytes};
+ghost use Rattle.oci_copy.specs.Destination.{IsClosedWhenSkipping};
+ghost use Rattle.oci_copy.specs.Grown.{BeginsWith};
+ghost use Rattle.oci_copy.specs.Planned.{IsPlanOf};
+ghost use Rattle.oci_copy.specs.Report.{IsReport};
+ghost use Rattle.oci_copy.specs.Work.{CanFail};
+ghost use Rattle.oci_layout.specs.Files.{HasFiles};
+ghost use Rattle.oci_layout.specs.Refusal.{IsPutFault};
+ghost use Rattle.oci_copy_commands.specs.Between.{HasReached, HoldsWhatCame, IsCopiedBetween, IsSaved, IsTrusted};
+ghost use Rattle.oci_copy_commands.specs.Refusal.{AfterRefusedCopy, IsRefusedBetween, IsRunCause, IsSaveFault};
+ghost use Rattle.oci_copy_commands.specs.Selected.{set_tags};
+
+use crate::selected::Selected;
+use oci_copy::{CopyFault, Options, Report, copy_plan};
+use oci_exit::ProgramFault;
+use oci_layout::{Dir, Layout};
+use oci_manifest::Key;
+use oci_plan::Plan;
+use oci_pool::Hooks;
+use oci_store::{RefFault, Store, Tagger};
+use std::sync::Wait;
+use std::thread::Threads;
+
+/// Copies what is planned from one layout into another, sets the selected tags there, and saves that.
+///
+/// The plan is one that `plan_copy` made of these two layouts, the selected roots and these options. The destination always comes
+/// back. A copy that is refused is not saved: `index.json` stays as it was, and files of blobs that came stay.
+///
+/// # Errors
+///
+/// Those of `copy_plan`: 82, 85 and 88; and 74 `Device` if `index.json` could not be written. Out of memory may come at any point.
+pub fn copy_between<
+    R: AllocGlobal + Threads + Wait + Sync,
+    S: Dir + Sync,
+    D: Dir + Drop + Send,
+    H: Hooks + Sync,
+>(
+    rt: &R,
+    source: &Layout<S>,
+    destination: Layout<D>,
+    plan: &Plan,
+    selected: &Selected,
+    options: &Options,
+    hooks: &H,
+) -> (Layout<D>, Result<Report, ProgramFault>)
+where
+    S::Draft: Send,
+    D::Draft: Send,
+    requires closed { IsClosedWhenSkipping options.now.existing destination.1 }
+    requires plan { IsPlanOf (⟦<Layout<S> as Store>⟧.state source.now) options.now
+        (⟦<Layout<D> as Store>⟧.state destination) selected.now.0 plan.now }
+    ensures held { OnOk result.1 (HasAll result.0.1 selected.now.0) }
+    ensures begins { BeginsWith destination.1 result.0.1 }
+    ensures came { HoldsWhatCame destination.1 result.0.1 }
+    ensures closed { IsClosed destination.1 → IsClosed result.0.1 }
+    ensures report { IfOk result.1 (IsReport options.now.existing
+        (⟦<Layout<S> as Store>⟧.state source.now) (⟦<Layout<D> as Store>⟧.state destination)
+        selected.now.0 (⟦<Layout<D> as Store>⟧.state result.0)) }
+    ensures tagged { OnOk result.1 (result.0.2 ≡ set_tags destination.2 selected.now.1) }
+    ensures untagged { IfErr result.1 (AfterRefusedCopy (result.0.2 ≡ destination.2)) }
+    ensures reached { OnOk result.1 (HasReached (⟦<Layout<S> as Store>⟧.state source.now)
+        (⟦<Layout<D> as Store>⟧.state destination) selected.now.0
+        (⟦<Layout<D> as Store>⟧.state result.0)) }
+    ensures copied { OnOk result.1 (IsCopiedBetween (⟦<Layout<S> as Store>⟧.state source.now)
+        (⟦<Layout<D> as Store>⟧.state destination) selected.now.0
+        (⟦<Layout<D> as Store>⟧.state result.0)) }
+    ensures sound { IsTrusted (⟦<Layout<S> as Store>⟧.state source.now)
+        (⟦<Layout<D> as Store>⟧.state destination) (⟦<Layout<D> as Store>⟧.state result.0)
+        → (⟦<Layout<D> as Store>⟧.state result.0).is_sound }
+    ensures files { OnOk result.1 (IsTrusted (⟦<Layout<S> as Store>⟧.state source.now)
+        (⟦<Layout<D> as Store>⟧.state destination) (⟦<Layout<D> as Store>⟧.state result.0)
+        → HasFiles (D.file result.0.0) (⟦<Layout<D> as Store>⟧.state result.0).entries result.0.1
+        result.0.2) }
+    ensures refused { IfErr result.1 (IsRefusedBetween
+        (IsRunCause (CanFail ⟦<Layout<D> as Store>⟧.state
+        (⟦<Layout<D> as Store>⟧.state destination)) (⟦<Layout<S> as Store>⟧.state source.now)
+        (⟦<Layout<D> as Store>⟧.state destination) plan.now.keys)
+        (IsSaveFault (⟦<Layout<D> as Store>⟧.state destination)
+        (⟦<Layout<D> as Store>⟧.state result.0))) }
+{
+    let roots = selected.roots();
+    let (destination, copied) = copy_plan(
+        rt,
+        rt.alloc(),
+        source,
+        destination,
+        plan,
+        roots,
+        options,
+        hooks,
+    );
+    finish(destination, copied, selected)
+}
+
+/// Sets the selected tags in a layout that was copied into, and saves it, unless the copy was refused.
+fn finish<D: Dir>(
+    destination: Layout<D>,
+    copied: Result<Report, CopyFault>,
+    selected: &Selected,
+) -> (Layout<D>, Result<Report, ProgramFault>)
+    requires held { OnOk copied (HasAll destination.1 selected.now.0) }
+    ensures report { IfOk result.1 (λ it. copied ≡ Ok it) }
+    ensures tagged { OnOk result.1 (result.0.2 ≡ set_tags destination.2 selected.now.1) }
+    ensures unsaved { OnErr copied (result.0 ≡ destination) }
+    ensures saved { IsSaved (⟦<Layout<D> as Store>⟧.state destination)
+        (⟦<Layout<D> as Store>⟧.state result.0) }
+    ensures files { OnOk result.1 ((⟦<Layout<D> as Store>⟧.state destination).is_sound
+        → HasFiles (D.file result.0.0) (⟦<Layout<D> as Store>⟧.state destination).entries
+        result.0.1 result.0.2) }
+    ensures refused { IfErr result.1 (IsRefusedBetween
+        (λ fault. (copied ≡ Err fault) ⊎ (fault ≡ CopyFault.Memory))
+        (IsPutFault (D.failure_count destination.0) (D.failure_count result.0.0))) }
+{
+    let mut destination = destination;
+    match copied {
+        Ok(report) => match tag_and_save(&mut destination, selected) {
+            Ok(()) => (destination, Ok(report)),
+            Err(fault) => (destination, Err(fault)),
+        },
+        Err(fault) => (destination, Err(ProgramFault::Copy(fault))),
+    }
+}
+
+/// Sets the selected tags in a layout that holds their keys, and saves it.
+fn tag_and_save<D: Dir>(
+    destination: &mut Layout<D>,
+    selected: &Selected,
+) -> Result<(), ProgramFault>
+    requires held { HasAll destination.old.1 selected.now.0 }
+    ensures tagged { OnOk result (destination.new.2 ≡ set_tags destination.old.2 selected.now.1) }
+    ensures saved { IsSaved (⟦<Layout<D> as Store>⟧.state destination.old)
+        (⟦<Layout<D> as Store>⟧.state destination.new) }
+    ensures files { OnOk result ((⟦<Layout<D> as Store>⟧.state destination.old).is_sound
+        → HasFiles (D.file destination.new.0) (⟦<Layout<D> as Store>⟧.state destination.old).entries
+        destination.new.1 destination.new.2) }
+    ensures refused { IfErr result (IsRefusedBetween (λ fault. fault ≡ CopyFault.Memory)
+        (IsPutFault (D.failure_count destination.old.0) (D.failure_count destination.new.0))) }
+{
+    if let Err(fault) = tag_all(destination, selected.tags()) {
+        return Err(ProgramFault::Copy(CopyFault::from(fault)));
+    }
+    match destination.save() {
+        Ok(()) => Ok(()),
+        Err(fault) => Err(ProgramFault::Layout(fault)),
+    }
+}
+
+/// Sets tags of held keys in their order. Only memory can be lacking, and then some of them may be set.
+fn tag_all<D: Dir>(destination: &mut Layout<D>, tags: &[(String, Key)]) -> Result<(), RefFault>
+    requires named { All (λ (name : List ℕ). name ≢ []) (keys_of (by_bytes tags.now)) }
+    requires held { HasAll destination.old.1 (values_of (by_bytes tags.now)) }
+    ensures tagged { OnOk result (destination.new.2 ≡ set_tags destination.old.2
+        (by_bytes tags.now)) }
+    ensures graph { destination.new.1 ≡ destination.old.1 }
+    ensures dir { destination.new.0 ≡ destination.old.0 }
+    ensures memory { IfErr result (λ fault. fault ≡ RefFault.Memory) }
+{
+    for (name, key) in tags {
+        match destination.tag(key, name) {
+            Ok(()) => {}
+            Err(fault) => return Err(fault),
+        }
+    }
+    Ok(())
+}

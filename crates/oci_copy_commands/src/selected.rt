@@ -1,0 +1,186 @@
+ghost use Rattle.std.specs.Prelude.{◌≡◌, ◌≢◌, [], ◌∷◌, string_bytes, Contains, IfOk, OnOk};
+ghost use Rattle.std.specs.List.{All};
+ghost use Rattle.std.specs.Map.{values_of};
+ghost use Rattle.oci_manifest.specs.Descriptor.{Descriptor};
+ghost use Rattle.oci_copy.specs.Tagged.{name_of, ResolvesIn};
+ghost use Rattle.oci_store.specs.Tags.{by_bytes};
+ghost use Rattle.oci_copy_commands.specs.Selected.{AreOfRoots, AreRoots};
+
+use oci_command_line::{CopyWords, Selection};
+use oci_exit::ProgramFault;
+use oci_layout::{Dir, Layout};
+use oci_manifest::Key;
+use oci_plan::climb;
+use oci_store::{GraphSource, KeyList, Store, Tagger};
+use std::alloc::Global;
+use std::marker::Model;
+
+/// What a copy starts from, its roots, and the tags that it sets, each of a root.
+#[derive(Drop)]
+pub struct Selected {
+    roots: Vec<Key>,
+    tags: Vec<(String, Key)>,
+}
+
+impl Model for Selected {
+    ghost use Rattle.std.specs.Prelude.{List};
+    ghost use Rattle.oci_manifest.specs.Descriptor.{Descriptor};
+    ghost use Rattle.oci_store.specs.Tags.{Tags, by_bytes};
+    ghost use Rattle.oci_copy_commands.specs.Selected.{AreOfRoots};
+
+    ghost Value = { List Descriptor × Tags };
+
+    ghost view = { λ s. (s.roots.items, by_bytes s.tags.items) };
+
+    ghost invariant = { λ s. AreOfRoots s.roots.items (by_bytes s.tags.items) };
+}
+
+impl Selected {
+    /// Selects what the words of a copy name in an open layout: one reference, or every tag.
+    ///
+    /// # Errors
+    ///
+    /// 35 `EmptyReference` and 36 `UnknownReference` if the source has no such reference, and out of memory.
+    pub(crate) fn of<D: Dir>(
+        alloc: Global,
+        source: &Layout<D>,
+        words: &CopyWords<'_>,
+    ) -> Result<Selected, ProgramFault> {
+        match words.selection {
+            Selection::Reference {
+                source: from,
+                destination: to,
+            } => Selected::reference(alloc, source, from, to, words.referrers),
+            Selection::AllTags => Selected::all_tags(alloc, source, words.referrers),
+        }
+    }
+
+    /// Selects what a reference of the source resolves to, with `referrers` also what refers to it, at most that many steps up,
+    /// 0 for any number. It is tagged `to`, or `from` if that is empty.
+    pub fn reference<D: Dir>(
+        alloc: Global,
+        source: &Layout<D>,
+        from: &str,
+        to: &str,
+        referrers: Option<u32>,
+    ) -> Result<Selected, ProgramFault>
+        ensures { IfOk result (λ selected. (k : Descriptor)
+            × ResolvesIn (⟦<Layout<D> as Store>⟧.state source.now) from.now k
+            × AreRoots source.now.1 referrers k selected.0
+            × (selected.1 ≡ (name_of from.now to.now, k) ∷ [])) }
+    {
+        let key = source.resolve(from)?;
+        let roots = roots_of(alloc, source, &key, referrers)?;
+        let name = tag_name(alloc, from, to)?;
+        Selected::tagged(alloc, roots, name, key)
+    }
+
+    /// Selects roots, one of which is tagged.
+    fn tagged(
+        alloc: Global,
+        roots: Vec<Key>,
+        name: String,
+        key: Key,
+    ) -> Result<Selected, ProgramFault>
+        requires named { string_bytes name ≢ [] }
+        requires rooted { Contains roots.items key }
+        ensures roots { IfOk result (λ selected. selected.0 ≡ roots.items) }
+        ensures tags { IfOk result (λ selected. selected.1 ≡ (string_bytes name, key) ∷ []) }
+    {
+        let mut tags = Vec::new(alloc);
+        tags.push((name, key))?;
+        Ok(Selected { roots, tags })
+    }
+
+    /// Selects what each tag of the source names, with `referrers` also what refers to that. Each tag is set as it is.
+    pub fn all_tags<D: Dir>(
+        alloc: Global,
+        source: &Layout<D>,
+        referrers: Option<u32>,
+    ) -> Result<Selected, ProgramFault>
+        ensures tags { IfOk result (λ selected. selected.1 ≡ source.now.2) }
+    {
+        let tags = source.tags()?;
+        let roots = roots_of_tags(alloc, source, &tags, referrers)?;
+        Ok(Selected { roots, tags })
+    }
+
+    /// The keys that the copy starts from, each once.
+    pub fn roots(&self) -> &[Key]
+        ensures { result.now ≡ self.now.0 }
+    {
+        &self.roots
+    }
+
+    /// The tags that the copy sets, and the root that each names.
+    pub fn tags(&self) -> &[(String, Key)]
+        ensures tags { by_bytes result.now ≡ self.now.1 }
+        ensures of_roots { AreOfRoots self.now.0 self.now.1 }
+    {
+        &self.tags
+    }
+}
+
+/// The tag that a copied reference gets: the destination's reference, or the source's if that is empty.
+fn tag_name(alloc: Global, from: &str, to: &str) -> Result<String, ProgramFault>
+    ensures name { IfOk result (λ name. string_bytes name ≡ name_of from.now to.now) }
+    ensures named { from.now ≢ [] → IfOk result (λ name. string_bytes name ≢ []) }
+{
+    if to.is_empty() {
+        Ok(String::from_str(alloc, from)?)
+    } else {
+        Ok(String::from_str(alloc, to)?)
+    }
+}
+
+/// The roots of a copy of these tags, each once.
+fn roots_of_tags<A: GraphSource>(
+    alloc: Global,
+    source: &A,
+    tags: &[(String, Key)],
+    referrers: Option<u32>,
+) -> Result<Vec<Key>, ProgramFault>
+    ensures { IfOk result (λ roots. All (λ (k : Descriptor). Contains roots.items k)
+        (values_of (by_bytes tags.now))) }
+{
+    let mut roots = KeyList::new(alloc);
+    for (_, key) in tags {
+        place_roots(alloc, source, key, referrers, &mut roots)?;
+    }
+    Ok(roots.into_keys())
+}
+
+/// Adds the roots of a copy of one key.
+fn place_roots<A: GraphSource>(
+    alloc: Global,
+    source: &A,
+    key: &Key,
+    referrers: Option<u32>,
+    roots: &mut KeyList,
+) -> Result<(), ProgramFault>
+    ensures there { OnOk result (Contains roots.new key.now) }
+    ensures stays { OnOk result ((k : Descriptor) → Contains roots.old k → Contains roots.new k) }
+{
+    let more = roots_of(alloc, source, key, referrers)?;
+    roots.place_all(&more)?;
+    Ok(())
+}
+
+/// The roots of a copy of one key: the key, and with `referrers` what refers to it.
+fn roots_of<A: GraphSource>(
+    alloc: Global,
+    source: &A,
+    key: &Key,
+    referrers: Option<u32>,
+) -> Result<Vec<Key>, ProgramFault>
+    ensures { IfOk result (λ roots. AreRoots (A.state source.now).nodes referrers key.now roots.items) }
+{
+    match referrers {
+        Some(depth) => Ok(climb(alloc, source, key, depth)?),
+        None => {
+            let mut roots = Vec::new(alloc);
+            roots.push(key.try_clone()?)?;
+            Ok(roots)
+        }
+    }
+}

@@ -1,0 +1,22 @@
+use std::fmt;
+use std::fmt::Display;
+
+/// A size in bytes, which prints as people read it: `385 B`, `1.2 KB`, `34.0 MB`. The units go up by 1000, to GB; the one decimal
+/// is rounded.
+#[derive(Clone, Copy)]
+pub struct Readable(pub u64);
+
+impl Display for Readable {
+    fn fmt<W: fmt::Write>(&self, f: &mut fmt::Formatter<W>) -> fmt::Result {
+        let size = self.0;
+        // Half of a tenth of the unit, so that a division and a halving round to the nearest tenth.
+        let (step, unit) = match size {
+            0..=999 => return write!(f, "{size} B"),
+            1_000..=999_949 => (50, "KB"),
+            999_950..=999_949_999 => (50_000, "MB"),
+            _ => (50_000_000, "GB"),
+        };
+        let tenths = (size / step + 1) / 2;
+        write!(f, "{}.{} {unit}", tenths / 10, tenths % 10)
+    }
+}

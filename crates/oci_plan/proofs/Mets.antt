@@ -1,0 +1,103 @@
+-- What a walk meets, whatever bytes the source's device has now.
+use Rattle.std.proofs.Common.{◌≡◌, Bool, true, false, inl, inr, ◌++◌, List, [], refl, sym, ap, subst, ◌∙◌}
+use Rattle.std.specs.List.{filter, All, IsDistinct}
+use Rattle.std.proofs.lemmas.Bool.{not-true}
+use Rattle.std.proofs.lemmas.List.Elements.{All-nil}
+use Rattle.oci_manifest.specs.Descriptor.{Descriptor, same_key}
+use Rattle.oci_manifest.specs.Manifest.{first_places}
+use Rattle.oci_manifest.proofs.Keys.{IsDistinct-first_places}
+use Rattle.oci_store.specs.Keyed.{has_key}
+use Rattle.oci_store.specs.Content.{Entry}
+use Rattle.oci_store.specs.Graph.{Node}
+use Rattle.oci_store.specs.Visiting.{with_keys}
+use Rattle.oci_store.proofs.Membership.{Keys, Contains-from_among, among-filter, among-with_keys, All-from_among, All-among, first_places-append}
+use Rattle.oci_plan.specs.Met.{IsListedUnder, IsMet, AreTooMany, NamesMet}
+use Rattle.oci_plan.specs.Met as path
+use Rattle.oci_plan.specs.Refusal.{IsOfKey}
+use Rattle.oci_plan.specs.Visiting.{is_fresh, passes}
+use Rattle.oci_plan.specs.Walk.{IsNumberFault}
+use Rattle.oci_plan.specs.declared.existing.Existing.{Existing}
+use Rattle.oci_plan.specs.declared.fault.PlanFault.{PlanFault}
+use Rattle.oci_plan.specs.declared.fault.PlanFault.TheVariants as fault
+use Rattle.oci_plan.proofs.Visits.{fresh_passes}
+
+-- keys that stand in a list once each: the first places of some list
+pub once_more : (keys offered more grown : Keys) → keys ≡ first_places offered → grown ≡ with_keys keys more → grown ≡ first_places (offered ++ more)
+once_more keys offered more grown once is_grown = is_grown ∙ ap (λ (t : Keys). with_keys t more) once ∙ sym (first_places-append offered more)
+
+-- what holds of keys, and of more keys, holds of them all
+pub all_more : (P : Descriptor → Type 0) (keys more : Keys) → All P keys → All P more → All P (with_keys keys more)
+all_more P keys more old new = All-from_among P (with_keys keys more) (λ k there.
+    elim (among-with_keys keys more k there) [
+      | inl before ↦ All-among P keys k old before
+      | inr added ↦ All-among P more k new added
+    ])
+
+module _ (existing : Existing) (entries : List Entry) (held : List Node) (roots : Keys) where
+  abbrev Met : Descriptor → Type 0
+  Met = IsMet existing entries held roots
+
+  abbrev NotHeld : Descriptor → Type 0
+  NotHeld k = has_key held k ≡ false
+
+  -- those of the roots that a filter keeps were met, if what it keeps is visited
+  pub met_roots : (p : Descriptor → Bool) → ((k : Descriptor) → p k ≡ true → passes existing held k ≡ true) → All Met (filter p roots)
+  met_roots p passing = All-from_among Met (filter p roots) (λ k there.
+      let kept = among-filter p roots k there in
+      path.root (Contains-from_among roots k kept.1) (passing k kept.0))
+
+  -- so were those of the keys that are listed under one that was met
+  pub met_listed : (p : Descriptor → Bool) → ((k : Descriptor) → p k ≡ true → passes existing held k ≡ true) → (from : Descriptor) (listed : Keys) → Met from → All (IsListedUnder entries from) listed → All Met (filter p listed)
+  met_listed p passing from listed before under = All-from_among Met (filter p listed) (λ k there.
+      let kept = among-filter p listed k there in
+      path.along before (All-among (IsListedUnder entries from) listed k under kept.1) (passing k kept.0))
+
+  -- what is not held is visited
+  pub fresh_visited : (k : Descriptor) → is_fresh held k ≡ true → passes existing held k ≡ true
+  fresh_visited k new = fresh_passes existing held k new
+
+  -- what a filter keeps that passes what is not held is not held
+  pub fresh_kept : (ks : Keys) → All NotHeld (filter (is_fresh held) ks)
+  fresh_kept ks = All-from_among NotHeld (filter (is_fresh held) ks) (λ k there. not-true (has_key held k) (among-filter (is_fresh held) ks k there).0)
+
+  -- a fault of a key that was met names no other
+  pub item_met : (k : Descriptor) (e : PlanFault) → Met k → IsOfKey k e → NamesMet existing entries held roots e
+  item_met k e was of_key = go e of_key
+    where
+      same_met : (named : Descriptor) → named ≡ k → Met named
+      same_met named same = subst Met (sym same) was
+
+      go : (e : PlanFault) → IsOfKey k e → NamesMet existing entries held roots e
+      go (fault.TooLarge named l) same = same_met named same
+      go (fault.NotFound named) same = same_met named same
+      go (fault.Fetch named f) same = same_met named same
+      go (fault.Manifest named f) same = same_met named same
+      go (fault.Cycle ks) same = absurd same
+      go fault.Memory same = tt
+      go fault.TooMany same = absurd same
+
+  -- where numbers are refused there are too many keys
+  pub numbers_met : (keys offered more : Keys) (e : PlanFault) → keys ≡ first_places offered → All NotHeld keys → All Met keys → All NotHeld more → All Met more → IsNumberFault (with_keys keys more) e
+      → NamesMet existing entries held roots e
+  numbers_met keys offered more e once old_fresh old_met new_fresh new_met refused = go e refused
+    where
+      go : (e : PlanFault) → IsNumberFault (with_keys keys more) e → NamesMet existing entries held roots e
+      go (fault.TooLarge named l) h = absurd h
+      go (fault.NotFound named) h = absurd h
+      go (fault.Fetch named f) h = absurd h
+      go (fault.Manifest named f) h = absurd h
+      go (fault.Cycle ks) h = absurd h
+      go fault.Memory h = tt
+      go fault.TooMany h = (
+        with_keys keys more,
+        record {
+          many = h;
+          distinct = subst (λ (t : Keys). IsDistinct same_key t) (sym (once_more keys offered more (with_keys keys more) once refl)) (IsDistinct-first_places (offered ++ more));
+          fresh = all_more NotHeld keys more old_fresh new_fresh;
+          met = all_more Met keys more old_met new_met;
+        },
+      )
+
+  -- the same for the roots
+  pub roots_met : (e : PlanFault) → IsNumberFault (with_keys [] (filter (is_fresh held) roots)) e → NamesMet existing entries held roots e
+  roots_met e refused = numbers_met [] [] (filter (is_fresh held) roots) e refl (All-nil NotHeld) (All-nil Met) (fresh_kept roots) (met_roots (is_fresh held) fresh_visited) refused

@@ -1,0 +1,41 @@
+-- Which keys a plan meets on its way from the roots, whatever bytes the source's device has now.
+use Rattle.std.specs.Prelude.{◌≡◌, ℕ, ◌<◌, true, false, List, length, Contains}
+use Rattle.std.specs.List.{All, IsDistinct}
+use Rattle.oci_manifest.specs.Descriptor.{Descriptor, same_key}
+use Rattle.oci_store.specs.Keyed.{has_key}
+use Rattle.oci_store.specs.Content.{Entry, IsChecked}
+use Rattle.oci_store.specs.Graph.{Node}
+use Rattle.oci_plan.specs.Visiting.{passes}
+use Rattle.oci_plan.specs.declared.existing.Existing.{Existing}
+use Rattle.oci_plan.specs.declared.fault.PlanFault.{PlanFault}
+use Rattle.oci_plan.specs.declared.fault.PlanFault.TheVariants as fault
+
+-- the source has the first key, and bytes that match it list the second
+pub record IsListedUnder (entries : List Entry) (from to : Descriptor) : Type 0 where
+  pub there : has_key entries from ≡ true
+  pub bytes : List ℕ
+  pub listed : List Descriptor
+  pub checked : IsChecked from bytes listed
+  pub lists : Contains listed to
+
+-- the key stands at the end of a path from a root, each key of which is one that the plan visits
+pub data IsMet (existing : Existing) (entries : List Entry) (held : List Node) (roots : List Descriptor) : Descriptor → Type 0 where
+  root : {k : Descriptor} → Contains roots k → passes existing held k ≡ true → IsMet existing entries held roots k
+  along : {from to : Descriptor} → IsMet existing entries held roots from → IsListedUnder entries from to → passes existing held to ≡ true → IsMet existing entries held roots to
+
+-- more keys than there are numbers, each once, none of which is held, and all of which were met
+pub record AreTooMany (existing : Existing) (entries : List Entry) (held : List Node) (roots keys : List Descriptor) : Type 0 where
+  pub many : 4294967295 < length keys
+  pub distinct : IsDistinct same_key keys
+  pub fresh : All (λ k. has_key held k ≡ false) keys
+  pub met : All (IsMet existing entries held roots) keys
+
+-- what the fault names was met; where there are too many keys, these were
+abbrev pub NamesMet : Existing → List Entry → List Node → List Descriptor → PlanFault → Type 0
+NamesMet existing entries held roots (fault.TooLarge k l) = IsMet existing entries held roots k
+NamesMet existing entries held roots (fault.NotFound k) = IsMet existing entries held roots k
+NamesMet existing entries held roots (fault.Fetch k e) = IsMet existing entries held roots k
+NamesMet existing entries held roots (fault.Manifest k e) = IsMet existing entries held roots k
+NamesMet existing entries held roots (fault.Cycle keys) = All (IsMet existing entries held roots) keys.items
+NamesMet existing entries held roots fault.Memory = Unit {0}
+NamesMet existing entries held roots fault.TooMany = (keys : List Descriptor) × AreTooMany existing entries held roots keys

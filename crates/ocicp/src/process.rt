@@ -1,0 +1,49 @@
+use crate::run::run_words_on;
+use oci_copy_commands::Host;
+use oci_exit::{Ending, ProgramFault};
+use std::io::{BufWriter, IsTerminal, Write};
+use std::rt::Env;
+use std::sync::Wait;
+use std::thread::Threads;
+use std::{env, io};
+
+/// Runs the program on the words that the process was given, and returns its exit status, as [`run_words_on`] does. What is
+/// printed on `out` goes through a buffer. A word that is not UTF-8 makes the command line invalid: status 2.
+pub fn run_process<R: Env + Host + Threads + Wait, W: Write + Drop, X: Write + IsTerminal + Send>(
+    rt: &R,
+    out: W,
+    err: &mut X,
+) -> u8 {
+    match words(rt) {
+        Ok(words) => run_buffered(rt, &words, out, err),
+        Err(ending) => ending.tell(err),
+    }
+}
+
+/// Runs the program on an output that is written through a buffer.
+fn run_buffered<R: Host + Threads + Wait, W: Write + Drop, X: Write + IsTerminal + Send>(
+    rt: &R,
+    words: &[String],
+    out: W,
+    err: &mut X,
+) -> u8 {
+    match BufWriter::new(rt.alloc(), out) {
+        Ok(mut out) => run_words_on(rt, words, err.is_terminal(), &mut out, err),
+        Err(error) => Ending::Fault(ProgramFault::of_output(error)).tell(err),
+    }
+}
+
+/// The words that the process was given.
+fn words<R: Env + AllocGlobal>(rt: &R) -> Result<Vec<String>, Ending> {
+    let alloc = rt.alloc();
+    let words = env::args(rt).map_err(unread)?.skip(1).collect(alloc)?;
+    Ok(words)
+}
+
+/// Why the words could not be read: one of them is not UTF-8, or memory ran out.
+fn unread(error: io::Error) -> Ending {
+    match error.kind() {
+        io::ErrorKind::InvalidData => Ending::NotUtf8,
+        _ => Ending::Fault(ProgramFault::Memory),
+    }
+}

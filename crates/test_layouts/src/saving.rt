@@ -1,0 +1,32 @@
+ghost use Rattle.std.specs.Prelude.{◌≡◌, IfOk};
+ghost use Rattle.oci_manifest.specs.Descriptor.{Descriptor};
+ghost use Rattle.oci_store.specs.Closed.{IsClosed};
+ghost use Rattle.oci_store.specs.Keyed.{value_at};
+ghost use Rattle.oci_layout.specs.Blobs.{stored, IsSound};
+
+use oci_layout::{Dir, Layout, LayoutFault, opens_as_saved};
+use std::alloc::Global;
+
+/// Saves a layout, and opens its directory again.
+///
+/// Of a closed sound layout the opened one has the same bytes under each key, and the same tags.
+pub fn save_and_open<D: Dir + Drop>(
+    alloc: Global,
+    mut layout: Layout<D>,
+) -> Result<Layout<D>, LayoutFault>
+    ensures contents { IfOk result (λ again. IsClosed layout.1
+        → IsSound (D.is_honest layout.0) (D.file layout.0) layout.1 → (k : Descriptor)
+        → value_at (stored (D.file again.0) again.1) k
+        ≡ value_at (stored (D.file layout.0) layout.1) k) }
+    ensures tags { IfOk result (λ again. IsClosed layout.1
+        → IsSound (D.is_honest layout.0) (D.file layout.0) layout.1 → again.2 ≡ layout.2) }
+{
+    // The contract of `tags` states what every layout keeps, and so the premises of the law.
+    let _tags = layout.tags()?;
+    layout.save()?;
+    opens_as_saved();
+    match Layout::open(alloc, layout.into_dir()) {
+        Ok(again) => Ok(again),
+        Err((_dir, fault)) => Err(fault),
+    }
+}

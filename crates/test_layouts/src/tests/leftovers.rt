@@ -1,0 +1,174 @@
+//! What is removed from a folder of what a process left that was ended while it wrote.
+
+use crate::tests::files::FileStep::{Exists, Put};
+use crate::tests::files::FolderStep::{IsLink, Link, RemoveLeftovers};
+use crate::tests::host::Host;
+use crate::tests::steps::Step::{At, In};
+use crate::tests::steps::{Ground, Row, assert_run};
+use std::process::Abort;
+use std::sync::Wait;
+use std::test::Fail;
+use std::thread::Threads;
+
+/// Files, and whether they are removed. The digits of blobs are those of `sha256sum` and `sha512sum` of a zero byte.
+const FILES: [(&str, bool); 30] = [
+    ("index.json.0123456789abcdef.new", true),
+    ("oci-layout.0123456789abcdef.new", true),
+    (
+        "blobs/sha256/6e340b9cffb37a989ca544e6bb780a2c78901d3fb33738768511a30617afa01d.0123456789abcdef.new",
+        true,
+    ),
+    (
+        "blobs/sha512/b8244d028981d693af7b456af8efa4cad63d282e19ff14942c246e50d9351d22704a802a71c3580b6370de4ceb293c324a8423342557d4e5c38438f0e36910ee.0123456789abcdef.new",
+        true,
+    ),
+    ("index.json", false),
+    ("oci-layout", false),
+    (
+        "blobs/sha256/6e340b9cffb37a989ca544e6bb780a2c78901d3fb33738768511a30617afa01d",
+        false,
+    ),
+    ("index.json.new", false),
+    ("index.json.0.new", false),
+    ("index.json.20240101.new", false),
+    ("index.json.0123456789abcde.new", false),
+    ("index.json.0123456789abcdef0.new", false),
+    ("index.json.0123456789ABCDEF.new", false),
+    ("index.json.0123456789abcdeg.new", false),
+    ("index.json.0123456789abcdef", false),
+    ("index.json.0123456789abcdef.old", false),
+    ("index.json.0123456789abcdef.new.new", false),
+    ("index_json.0123456789abcdef.new", false),
+    ("other.0123456789abcdef.new", false),
+    (
+        "6e340b9cffb37a989ca544e6bb780a2c78901d3fb33738768511a30617afa01d.0123456789abcdef.new",
+        false,
+    ),
+    (
+        "blobs/6e340b9cffb37a989ca544e6bb780a2c78901d3fb33738768511a30617afa01d.0123456789abcdef.new",
+        false,
+    ),
+    ("blobs/sha256/index.json.0123456789abcdef.new", false),
+    (
+        "blobs/sha256/6e340b9cffb37a989ca544e6bb780a2c78901d3fb33738768511a30617afa01d.0.new",
+        false,
+    ),
+    (
+        "blobs/sha256/6E340B9CFFB37A989CA544E6BB780A2C78901D3FB33738768511A30617AFA01D.0123456789abcdef.new",
+        false,
+    ),
+    (
+        "blobs/sha256/6e340b9cffb37a989ca544e6bb780a2c78901d3fb33738768511a30617afa01.0123456789abcdef.new",
+        false,
+    ),
+    (
+        "blobs/sha256/6e340b9cffb37a989ca544e6bb780a2c78901d3fb33738768511a30617afa01d0.0123456789abcdef.new",
+        false,
+    ),
+    (
+        "blobs/sha256/b8244d028981d693af7b456af8efa4cad63d282e19ff14942c246e50d9351d22704a802a71c3580b6370de4ceb293c324a8423342557d4e5c38438f0e36910ee.0123456789abcdef.new",
+        false,
+    ),
+    (
+        "blobs/sha512/6e340b9cffb37a989ca544e6bb780a2c78901d3fb33738768511a30617afa01d.0123456789abcdef.new",
+        false,
+    ),
+    (
+        "blobs/sha256/below/6e340b9cffb37a989ca544e6bb780a2c78901d3fb33738768511a30617afa01d.0123456789abcdef.new",
+        false,
+    ),
+    ("below/index.json.0123456789abcdef.new", false),
+];
+
+fn assert_removed<R: Host + Threads + Wait + Abort>(
+    rt: &R,
+    file: &str,
+    is_removed: bool,
+) -> Result<(), Fail> {
+    let exists = if is_removed { "false" } else { "true" };
+    let rows = [
+        Row(In(file, Put("a")), "put"),
+        Row(At("leftovers", RemoveLeftovers), "removed"),
+        Row(In(file, Exists), exists),
+    ];
+    assert_run(rt, Ground::Folder("leftovers"), &rows)
+}
+
+/// What was written beside a file of a layout is removed, and nothing else.
+#[test]
+fn leftovers_of_a_folder(rt: HostRuntime) -> Result<(), Fail> {
+    for (file, is_removed) in FILES {
+        assert_removed(&rt, file, is_removed)?;
+    }
+    Ok(())
+}
+
+const IN_SHA256: &str =
+    "blobs/sha256/6e340b9cffb37a989ca544e6bb780a2c78901d3fb33738768511a30617afa01d.0123456789abcdef.new";
+
+const IN_SHA512: &str =
+    "blobs/sha512/b8244d028981d693af7b456af8efa4cad63d282e19ff14942c246e50d9351d22704a802a71c3580b6370de4ceb293c324a8423342557d4e5c38438f0e36910ee.0123456789abcdef.new";
+
+/// Where links lead to.
+const IN_OTHER: &str =
+    "other/sha256/6e340b9cffb37a989ca544e6bb780a2c78901d3fb33738768511a30617afa01d.0123456789abcdef.new";
+
+const IN_NO_ROOM: &str =
+    "other/b8244d028981d693af7b456af8efa4cad63d282e19ff14942c246e50d9351d22704a802a71c3580b6370de4ceb293c324a8423342557d4e5c38438f0e36910ee.0123456789abcdef.new";
+
+const BLOBS_LINKED: &[Row] = &[
+    Row(In(IN_OTHER, Put("a")), "put"),
+    Row(In("index.json.0123456789abcdef.new", Put("a")), "put"),
+    Row(At("linked/blobs", Link("other")), "linked"),
+    Row(In(IN_SHA256, Exists), "true"),
+    Row(At("linked", RemoveLeftovers), "removed"),
+    Row(In(IN_SHA256, Exists), "true"),
+    Row(In("index.json.0123456789abcdef.new", Exists), "false"),
+];
+
+const SHA256_LINKED: &[Row] = &[
+    Row(In(IN_OTHER, Put("a")), "put"),
+    Row(In(IN_SHA512, Put("a")), "put"),
+    Row(At("linked/blobs/sha256", Link("../other/sha256")), "linked"),
+    Row(At("linked", RemoveLeftovers), "removed"),
+    Row(In(IN_SHA256, Exists), "true"),
+    Row(In(IN_SHA512, Exists), "false"),
+];
+
+const SHA512_LINKED: &[Row] = &[
+    Row(In(IN_NO_ROOM, Put("a")), "put"),
+    Row(In(IN_SHA256, Put("a")), "put"),
+    Row(At("linked/blobs/sha512", Link("../other")), "linked"),
+    Row(At("linked", RemoveLeftovers), "removed"),
+    Row(In(IN_SHA512, Exists), "true"),
+    Row(In(IN_SHA256, Exists), "false"),
+];
+
+/// Nothing is removed through a link in the place of a folder of blobs, and the rest is.
+#[test]
+fn leftovers_behind_links(rt: HostRuntime) -> Result<(), Fail> {
+    for rows in [BLOBS_LINKED, SHA256_LINKED, SHA512_LINKED] {
+        assert_run(&rt, Ground::Folder("linked"), rows)?;
+    }
+    Ok(())
+}
+
+const OTHER_KINDS: &[Row] = &[
+    Row(In("index.json.0123456789abcdef.new/file", Put("a")), "put"),
+    Row(In("file", Put("a")), "put"),
+    Row(
+        At("kinds/oci-layout.0123456789abcdef.new", Link("file")),
+        "linked",
+    ),
+    Row(In(IN_SHA256, Put("a")), "put"),
+    Row(At("kinds", RemoveLeftovers), "removed"),
+    Row(In("index.json.0123456789abcdef.new/file", Exists), "true"),
+    Row(At("kinds/oci-layout.0123456789abcdef.new", IsLink), "true"),
+    Row(In(IN_SHA256, Exists), "false"),
+];
+
+/// A folder or a link that has such a name stays: what was written beside a file is a file.
+#[test]
+fn leftovers_of_other_kinds(rt: HostRuntime) -> Result<(), Fail> {
+    assert_run(&rt, Ground::Folder("kinds"), OTHER_KINDS)
+}
