@@ -52,7 +52,7 @@ def wrong_copied(ended):
 
 
 def wrong_end(process):
-    """Lets a stopped copy go on: what is wrong with how it ends. It is done, or is told that it could not write."""
+    """Lets a stopped copy go on: what is wrong with how it ends. The other copy leaves alone what this one is writing, so it is done."""
     os.kill(process.pid, signal.SIGCONT)
     try:
         _, err = process.communicate(timeout=10)
@@ -60,9 +60,7 @@ def wrong_end(process):
         process.kill()
         process.communicate()
         return "it does not end"
-    if process.returncode == 0 or process.returncode == 1 and " 43 Device" in err:
-        return None
-    return "status %d, %s" % (process.returncode, err.strip())
+    return None if process.returncode == 0 else "status %d, %s" % (process.returncode, err.strip())
 
 
 def stopped_before_each(room, library, slow, quick):

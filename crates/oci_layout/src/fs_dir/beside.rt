@@ -1,5 +1,6 @@
 use crate::fault::DirFault;
-use crate::fs_dir::files::{failed, part_of_file};
+use crate::fs_dir::files::{failed, is_absence, part_of_file};
+use crate::fs_dir::lock::{Lockable, is_at};
 use std::io::{ErrorKind, Write};
 use std::random::RandomSource;
 use std::rt::Files;
@@ -13,8 +14,9 @@ const PART: u64 = 1_048_576;
 const TRIES: u32 = 16;
 
 /// A file beside the place that it is to have. Its name is the place's, 16 random hexadecimal digits and `.new`, which no file had
-/// before, and it is open from its first byte until it is renamed. So nobody else writes into it, and if somebody removes it,
-/// its renaming fails. It is removed if it is dropped before that.
+/// before. It is open and locked from before its first byte until after it is renamed. So nobody else writes into it, and no other
+/// process takes it for what a killed one left. If somebody removes it all the same, its renaming fails. It is removed if it is
+/// dropped before it is renamed.
 pub(crate) struct Beside<'r, R: Files + AllocGlobal> {
     rt: &'r R,
     path: String,
@@ -24,8 +26,8 @@ pub(crate) struct Beside<'r, R: Files + AllocGlobal> {
 impl<'r, R: Files + AllocGlobal> Drop for Beside<'r, R> {
     fn drop(self) {
         let Beside { rt, path, file } = self;
-        drop(file);
         let _ = fs::remove_file(rt, &path);
+        drop(file);
     }
 }
 
@@ -38,15 +40,19 @@ impl<'r, R: Files + AllocGlobal> Beside<'r, R> {
     /// Renames the file to the place.
     pub(crate) fn rename(self, place: &str) -> Result<(), DirFault> {
         let Beside { rt, path, file } = self;
-        drop(file);
-        fs::rename(rt, &path, place).map_err(|error| {
+        let renamed = fs::rename(rt, &path, place).map_err(|error| {
             let _ = fs::remove_file(rt, &path);
             failed(&error)
-        })
+        });
+        drop(file);
+        renamed
     }
 }
 
-impl<'r, R: Files + AllocGlobal + RandomSource> Beside<'r, R> {
+impl<'r, R: Files + AllocGlobal + RandomSource> Beside<'r, R>
+where
+    R::File: Lockable,
+{
     /// A file of these bytes. Its folder is made if it is missing.
     pub(crate) fn with(rt: &'r R, place: &str, bytes: &[u8]) -> Result<Beside<'r, R>, DirFault> {
         let mut beside = Beside::empty(rt, place)?;
@@ -74,13 +80,35 @@ impl<'r, R: Files + AllocGlobal + RandomSource> Beside<'r, R> {
         for _ in 0..TRIES {
             let path = new_path(rt, place)?;
             match made(rt, &path) {
-                Ok(file) => return Ok(Beside { rt, path, file }),
+                Ok(file) => {
+                    let beside = Beside { rt, path, file };
+                    if beside.lock()? {
+                        return Ok(beside);
+                    }
+                }
                 Err(error) if error.kind() == ErrorKind::AlreadyExists => {}
                 Err(error) => return Err(failed(&error)),
             }
         }
         Err(DirFault::Failed)
     }
+
+    /// Locks the file. Returns false if another process takes it for a leftover and removes it first.
+    fn lock(&self) -> Result<bool, DirFault> {
+        match lock_at(self.rt, &self.file, &self.path) {
+            Ok(is_locked) => Ok(is_locked),
+            Err(error) if is_absence(&error) => Ok(false),
+            Err(error) => Err(failed(&error)),
+        }
+    }
+}
+
+/// Locks an open file, and returns whether that was had and the file is still at its path.
+fn lock_at<R: Files>(rt: &R, file: &R::File, path: &str) -> io::Result<bool>
+where
+    R::File: Lockable,
+{
+    Ok(file.try_take()? && is_at(rt, file, path)?)
 }
 
 /// The path of a file beside a place, by a random number.

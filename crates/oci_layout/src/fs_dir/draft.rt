@@ -1,6 +1,7 @@
 use crate::fault::DirFault;
 use crate::fs_dir::beside::Beside;
 use crate::fs_dir::files::{failed, length_of, part_of_file};
+use crate::fs_dir::lock::Lockable;
 use oci_digest::NoMemory;
 use oci_store::Drafting;
 use std::io::ErrorKind;
@@ -50,7 +51,10 @@ impl<'r, R: Files + AllocGlobal> FsDraft<'r, R> {
     }
 }
 
-impl<'r, R: Files + AllocGlobal + RandomSource> FsDraft<'r, R> {
+impl<'r, R: Files + AllocGlobal + RandomSource> FsDraft<'r, R>
+where
+    R::File: Lockable,
+{
     /// Adds bytes at the end.
     fn add(&mut self, part: &[u8]) -> Result<(), DirFault> {
         match &mut self.stage {
@@ -65,7 +69,10 @@ impl<'r, R: Files + AllocGlobal + RandomSource> FsDraft<'r, R> {
 }
 
 /// No code can show what a file has, so a draft in a folder may be said to have any bytes.
-impl<'r, R: Files + AllocGlobal + RandomSource> Drafting for FsDraft<'r, R> {
+impl<'r, R: Files + AllocGlobal + RandomSource> Drafting for FsDraft<'r, R>
+where
+    R::File: Lockable,
+{
     ghost use Rattle.std.specs.Prelude.{⊤};
 
     ghost drafted = { λ d bytes. ⊤ };
@@ -88,7 +95,10 @@ fn added<'r, R: Files + AllocGlobal + RandomSource>(
     place: &str,
     length: u64,
     part: &[u8],
-) -> Result<Stage<'r, R>, DirFault> {
+) -> Result<Stage<'r, R>, DirFault>
+where
+    R::File: Lockable,
+{
     if has_part(rt, place, length, part)? {
         return Ok(Stage::Found(length.saturating_add(part.len() as u64)));
     }
@@ -119,7 +129,10 @@ fn has_part<R: Files + AllocGlobal>(
 pub(crate) fn finish<R: Files + AllocGlobal + RandomSource>(
     draft: FsDraft<'_, R>,
     place: &str,
-) -> Result<(), DirFault> {
+) -> Result<(), DirFault>
+where
+    R::File: Lockable,
+{
     let FsDraft {
         rt,
         place: drafted,

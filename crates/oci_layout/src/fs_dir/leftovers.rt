@@ -1,5 +1,6 @@
 use crate::fault::DirFault;
 use crate::fs_dir::files::{failed, is_absence};
+use crate::fs_dir::lock::Lockable;
 use std::io::ErrorKind;
 use std::rt::Files;
 use std::{fs, io};
@@ -55,7 +56,10 @@ fn is_hexadecimal(text: &str, digits: usize) -> bool {
 pub(crate) fn remove_leftovers<R: Files + AllocGlobal>(
     rt: &R,
     folder: &str,
-) -> Result<(), DirFault> {
+) -> Result<(), DirFault>
+where
+    R::File: Lockable,
+{
     let mut answer = Ok(());
     for room in [Room::Top, Room::Sha256, Room::Sha512] {
         match remove_from(rt, folder, room) {
@@ -67,7 +71,10 @@ pub(crate) fn remove_leftovers<R: Files + AllocGlobal>(
     answer
 }
 
-fn remove_from<R: Files + AllocGlobal>(rt: &R, folder: &str, room: Room) -> Result<(), DirFault> {
+fn remove_from<R: Files + AllocGlobal>(rt: &R, folder: &str, room: Room) -> Result<(), DirFault>
+where
+    R::File: Lockable,
+{
     match leftovers(rt, folder, room) {
         Ok(paths) => remove(rt, &paths),
         Err(error) if is_absence(&error) => Ok(()),
@@ -112,7 +119,10 @@ fn path_below<R: AllocGlobal>(rt: &R, folder: &str, path: &str) -> io::Result<St
 }
 
 /// Removes files, as far as that can be done.
-fn remove<R: Files>(rt: &R, paths: &[String]) -> Result<(), DirFault> {
+fn remove<R: Files>(rt: &R, paths: &[String]) -> Result<(), DirFault>
+where
+    R::File: Lockable,
+{
     let mut answer = Ok(());
     for path in paths {
         match remove_file(rt, path.as_str()) {
@@ -123,11 +133,17 @@ fn remove<R: Files>(rt: &R, paths: &[String]) -> Result<(), DirFault> {
     answer
 }
 
-/// Removes a regular file. What is none stays.
-fn remove_file<R: Files>(rt: &R, path: &str) -> io::Result<()> {
-    if fs::symlink_metadata(rt, path)?.is_file() {
-        fs::remove_file(rt, path)
-    } else {
-        Ok(())
+/// Removes a regular file, unless somebody has locked it: a process is still writing it. Anything else stays too.
+fn remove_file<R: Files>(rt: &R, path: &str) -> io::Result<()>
+where
+    R::File: Lockable,
+{
+    if !fs::symlink_metadata(rt, path)?.is_file() {
+        return Ok(());
     }
+    let file = fs::File::open(rt, path)?;
+    if file.try_take()? {
+        fs::remove_file(rt, path)?;
+    }
+    Ok(())
 }

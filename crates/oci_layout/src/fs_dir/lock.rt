@@ -77,7 +77,10 @@ where
     }
 }
 
-impl<R: Files + AllocGlobal> FolderLock<R> {
+impl<R: Files + AllocGlobal> FolderLock<R>
+where
+    R::File: Lockable,
+{
     /// Removes from the locked folder the files that a process left which was ended while it wrote into a layout there.
     ///
     /// These are the regular files with the names that [`FsDir`](crate::FsDir) gives to what it writes, in the folders in which it
@@ -86,8 +89,8 @@ impl<R: Files + AllocGlobal> FolderLock<R> {
     /// lower case. Nothing is removed through a link in the place of `blobs`, `blobs/sha256` or `blobs/sha512`, since what lies
     /// there has no lock here.
     ///
-    /// A file of a process that writes there without the lock is removed too: its write is then refused. What cannot be removed
-    /// stays, and makes the answer `Failed` once the others are removed.
+    /// A file that is still being written stays, also if its process does not have this lock: the file itself is locked. What cannot
+    /// be removed stays too, and makes the answer `Failed` once the others are removed.
     pub fn remove_leftovers(&self, rt: &R) -> Result<(), DirFault> {
         remove_leftovers(rt, &self.folder)
     }
@@ -139,10 +142,15 @@ fn opened<R: Files>(rt: &R, place: &str) -> io::Result<R::File> {
 /// The lock of a folder that was locked, if that is still what is at the place: another process may have removed it and made it
 /// anew before it was locked here.
 fn held<R: Files + AllocGlobal>(rt: &R, locked: R::File, place: &str) -> io::Result<FolderLock<R>> {
-    let (ours, theirs) = (locked.metadata()?, fs::metadata(rt, place)?);
-    if ours.dev() != theirs.dev() || ours.ino() != theirs.ino() {
+    if !is_at(rt, &locked, place)? {
         return Err(io::Error::from(ErrorKind::NotFound));
     }
     let folder = String::from_str(rt.alloc(), place)?;
     Ok(FolderLock { locked, folder })
+}
+
+/// Whether an open file or folder is what is at a path.
+pub(crate) fn is_at<R: Files>(rt: &R, file: &R::File, path: &str) -> io::Result<bool> {
+    let (open, there) = (file.metadata()?, fs::metadata(rt, path)?);
+    Ok(open.dev() == there.dev() && open.ino() == there.ino())
 }

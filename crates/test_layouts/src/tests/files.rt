@@ -35,6 +35,9 @@ pub(crate) enum FileStep<'a> {
     /// Drafts some parts, removes each file of a folder whose name ends in `.new`, drafts other parts, and keeps the draft:
     /// `kept`, or the fault.
     KeepLost(&'a [&'a str], &'a str, &'a [&'a str]),
+    /// Drafts these parts, locks a folder and removes what was left in it, and keeps the draft: `removed` or the fault, and the
+    /// text that the file then has.
+    KeepBesideRemoval(&'a [&'a str], &'a str),
     /// Drafts these parts: the names in a folder that end in `.new`, with `x` for each lower-case hexadecimal digit of their
     /// numbers.
     DraftNames(&'a [&'a str], &'a str),
@@ -89,6 +92,9 @@ fn in_file<D: Dir, R: Host>(
         FileStep::KeepSecond(parts) => keep_second(rt.alloc(), dir, path, parts),
         FileStep::KeepLost(before, folder, after) => keep_lost(
             rt, dir, path, before, folder, after,
+        ),
+        FileStep::KeepBesideRemoval(parts, folder) => keep_beside_removal(
+            rt, dir, path, parts, folder,
         ),
         FileStep::DraftNames(parts, folder) => draft_names(rt, dir, path, parts, folder),
         FileStep::DropDraft(parts, folder) => drop_draft(rt, dir, path, parts, folder),
@@ -243,6 +249,20 @@ fn keep_lost<D: Dir, R: Host>(
         Ok(()) => Ok(String::from_str(rt.alloc(), "kept")?),
         Err(fault) => Ok(format!(in rt.alloc(); "{fault}")?),
     }
+}
+
+fn keep_beside_removal<D: Dir, R: Host>(
+    rt: &R,
+    dir: &mut D,
+    path: &str,
+    parts: &[&str],
+    folder: &str,
+) -> Result<String, Fail> {
+    let draft = drafted(dir, path, parts)?;
+    let told = remove_leftovers(rt, folder)?;
+    dir.keep(path, draft)?;
+    let text = text(rt.alloc(), dir, path)?;
+    Ok(format!(in rt.alloc(); "{told} {text}")?)
 }
 
 /// Adds a character, or `x` for a lower-case hexadecimal digit.

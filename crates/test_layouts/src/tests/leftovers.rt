@@ -1,7 +1,7 @@
 //! What is removed from a folder of what a process left that was ended while it wrote.
 
-use crate::tests::files::FileStep::{Exists, Put};
-use crate::tests::files::FolderStep::{IsLink, Link, RemoveLeftovers};
+use crate::tests::files::FileStep::{Exists, KeepBesideRemoval, Put};
+use crate::tests::files::FolderStep::{Count, IsLink, Link, RemoveLeftovers};
 use crate::tests::host::Host;
 use crate::tests::steps::Step::{At, In};
 use crate::tests::steps::{Ground, Row, assert_run};
@@ -171,4 +171,21 @@ const OTHER_KINDS: &[Row] = &[
 #[test]
 fn leftovers_of_other_kinds(rt: HostRuntime) -> Result<(), Fail> {
     assert_run(&rt, Ground::Folder("kinds"), OTHER_KINDS)
+}
+
+const IN_WORK: &[Row] = &[
+    Row(
+        In(
+            "blobs/sha256/6e340b9cffb37a989ca544e6bb780a2c78901d3fb33738768511a30617afa01d",
+            KeepBesideRemoval(&["fo", "o"], "in_work"),
+        ),
+        "removed foo",
+    ),
+    Row(At("in_work/blobs/sha256", Count), "1"),
+];
+
+/// A file that is still being written stays, and is then kept.
+#[test]
+fn leftovers_beside_a_draft_in_work(rt: HostRuntime) -> Result<(), Fail> {
+    assert_run(&rt, Ground::Folder("in_work"), IN_WORK)
 }
