@@ -17,7 +17,7 @@ use Rattle.oci_store.specs.Tags.{by_bytes}
 use Rattle.oci_store.specs.Visiting.{with_key, with_keys}
 use Rattle.oci_store.specs.declared.fault.RefFault.{RefFault}
 use Rattle.oci_store.specs.declared.fault.RefFault.TheVariants as fault
-use Rattle.oci_store.proofs.Membership.{Keys, Contains-from_among, among_from_Contains, among-append_left, among-append_right, with_keys-grows}
+use Rattle.oci_store.proofs.Membership.{Keys, Contains-from_among, among_from_Contains, stays-with_keys, there-with_keys}
 use Rattle.oci_copy.proofs.Places.{Contains-from_slice_get}
 use Rattle.oci_copy_commands.specs.Selected.{AreRoots}
 
@@ -30,36 +30,12 @@ pub root_there : (graph : List Node) (referrers : Option ℕ) (k : Descriptor) (
 root_there graph None k roots is = rw is (Contains-from_slice_get (k ∷ []) 0 k refl)
 root_there graph (Some depth) k roots up = (up.each k).1 (0, (λ limited. omega arith), refl)
 
-there-with_key : (ks : Keys) (k : Descriptor) → is_among (with_key ks k) k ≡ true
-there-with_key ks k =
-    elim (cases (is_among ks k)) [
-      | inl there ↦
-          let same : with_key ks k ≡ ks = rw there refl in
-          subst (λ (t : Keys). is_among t k ≡ true) (sym same) there
-      | inr new ↦
-          let more : with_key ks k ≡ ks ++ k ∷ [] = rw new refl in
-          subst (λ (t : Keys). is_among t k ≡ true) (sym more) (among-append_right ks (k ∷ []) k (or_left (same_key k k) (is_among [] k) ((Decides-same_key k k).1 refl)))
-    ]
-
-among-stays : (ks more : Keys) (k : Descriptor) → is_among ks k ≡ true → is_among (with_keys ks more) k ≡ true
-among-stays ks more k h =
-    let r = with_keys-grows ks more in
-    subst (λ (t : Keys). is_among t k ≡ true) (sym r.1) (among-append_left ks r.0 k h)
-
-among-comes : (ks more : Keys) (k : Descriptor) → is_among more k ≡ true → is_among (with_keys ks more) k ≡ true
-among-comes ks [] k h = cc h
-among-comes ks (j ∷ more) k h =
-    elim (or_cases (same_key j k) (is_among more k) h) [
-      | inl same ↦ among-stays (with_key ks j) more k (subst (λ (x : Descriptor). is_among (with_key ks j) x ≡ true) ((Decides-same_key j k).0 same) (there-with_key ks j))
-      | inr later ↦ among-comes (with_key ks j) more k later
-    ]
-
 -- what is in a list stays there as keys are added, and what is added is there
 pub stays : (ks more : Keys) (k : Descriptor) → Contains ks k → Contains (with_keys ks more) k
-stays ks more k there = Contains-from_among (with_keys ks more) k (among-stays ks more k (among_from_Contains ks k there))
+stays ks more k there = Contains-from_among (with_keys ks more) k (stays-with_keys ks more k (among_from_Contains ks k there))
 
 pub comes : (ks more : Keys) (k : Descriptor) → Contains more k → Contains (with_keys ks more) k
-comes ks more k there = Contains-from_among (with_keys ks more) k (among-comes ks more k (among_from_Contains more k there))
+comes ks more k there = Contains-from_among (with_keys ks more) k (there-with_keys ks more k (among_from_Contains more k there))
 
 -- a tag of a held key that has a name is refused for want of memory alone
 pub only_memory : {X : Type 0} (r : Result X RefFault) (name : List ℕ) (graph : List Node) (k : Descriptor)

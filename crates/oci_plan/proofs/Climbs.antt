@@ -11,34 +11,7 @@ use Rattle.oci_store.specs.Graph.{Node, IsEdge}
 use Rattle.oci_plan.specs.Climb.{IsFoundWithin, IsClimbed, IsRaised, IsStep}
 use Rattle.oci_plan.specs.Up.{HasPath, IsWithinDepth, IsUp}
 use Rattle.oci_store.specs.Visiting.{with_key, with_keys}
-use Rattle.oci_store.proofs.Membership.{Keys, Contains-from_among, among_from_Contains, among-append_left, among-append_right, among-with_keys, among_from_place, place_from_among, slice_get-with_keys, with_keys-grows}
-
--- ---- more keys
-
--- a key that came is there
-there-with_key : (ks : Keys) (k : Descriptor) → is_among (with_key ks k) k ≡ true
-there-with_key ks k =
-    elim (cases (is_among ks k)) [
-      | inl there ↦
-          let same : with_key ks k ≡ ks = rw there refl in
-          subst (λ (t : Keys). is_among t k ≡ true) (sym same) there
-      | inr new ↦
-          let more : with_key ks k ≡ ks ++ k ∷ [] = rw new refl in
-          subst (λ (t : Keys). is_among t k ≡ true) (sym more) (among-append_right ks (k ∷ []) k (or_left (same_key k k) (is_among [] k) ((Decides-same_key k k).1 refl)))
-    ]
-
-stays-with_keys : (ks more : Keys) (k : Descriptor) → is_among ks k ≡ true → is_among (with_keys ks more) k ≡ true
-stays-with_keys ks more k h =
-    let r = with_keys-grows ks more in
-    subst (λ (t : Keys). is_among t k ≡ true) (sym r.1) (among-append_left ks r.0 k h)
-
-there-with_keys : (ks more : Keys) (k : Descriptor) → is_among more k ≡ true → is_among (with_keys ks more) k ≡ true
-there-with_keys ks [] k h = cc h
-there-with_keys ks (j ∷ more) k h =
-    elim (or_cases (same_key j k) (is_among more k) h) [
-      | inl same ↦ stays-with_keys (with_key ks j) more k (subst (λ (x : Descriptor). is_among (with_key ks j) x ≡ true) ((Decides-same_key j k).0 same) (there-with_key ks j))
-      | inr later ↦ there-with_keys (with_key ks j) more k later
-    ]
+use Rattle.oci_store.proofs.Membership.{Keys, Contains-from_among, among_from_Contains, among-with_keys, among_from_place, place_from_among, slice_get-with_keys, stays-with_keys, there-with_keys}
 
 -- ---- a step
 

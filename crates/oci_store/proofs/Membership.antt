@@ -149,6 +149,31 @@ with_keys-grows ks (k ∷ more) =
           (k ∷ r.0, r.1 ∙ ap (λ (t : Keys). t ++ r.0) e ∙ append_assoc ks (k ∷ []) r.0)
     ]
 
+-- a key that was added is there, and so is each that was there before
+there-with_key : (ks : Keys) (k : Descriptor) → is_among (with_key ks k) k ≡ true
+there-with_key ks k =
+    elim (cases (is_among ks k)) [
+      | inl there ↦
+          let same : with_key ks k ≡ ks = rw there refl in
+          subst (λ (t : Keys). is_among t k ≡ true) (sym same) there
+      | inr new ↦
+          let more : with_key ks k ≡ ks ++ k ∷ [] = rw new refl in
+          subst (λ (t : Keys). is_among t k ≡ true) (sym more) (among-append_right ks (k ∷ []) k (or_left (same_key k k) (is_among [] k) ((Decides-same_key k k).1 refl)))
+    ]
+
+pub stays-with_keys : (ks more : Keys) (k : Descriptor) → is_among ks k ≡ true → is_among (with_keys ks more) k ≡ true
+stays-with_keys ks more k h =
+    let r = with_keys-grows ks more in
+    subst (λ (t : Keys). is_among t k ≡ true) (sym r.1) (among-append_left ks r.0 k h)
+
+pub there-with_keys : (ks more : Keys) (k : Descriptor) → is_among more k ≡ true → is_among (with_keys ks more) k ≡ true
+there-with_keys ks [] k h = cc h
+there-with_keys ks (j ∷ more) k h =
+    elim (or_cases (same_key j k) (is_among more k) h) [
+      | inl same ↦ stays-with_keys (with_key ks j) more k (subst (λ (x : Descriptor). is_among (with_key ks j) x ≡ true) ((Decides-same_key j k).0 same) (there-with_key ks j))
+      | inr later ↦ there-with_keys (with_key ks j) more k later
+    ]
+
 -- ---- the first that passes
 
 pub find-Some : (p : Descriptor → Bool) (ks : Keys) (k : Descriptor) → find p ks ≡ Some k → (p k ≡ true) × (is_among ks k ≡ true)
