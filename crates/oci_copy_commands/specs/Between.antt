@@ -7,6 +7,8 @@ use Rattle.oci_store.specs.Graph.{Node, Reaches}
 use Rattle.oci_store.specs.Keyed.{has_key, HasAll}
 use Rattle.oci_store.specs.Push.{IsCalm}
 use Rattle.oci_store.specs.State.{State}
+use Rattle.oci_plan.specs.Met.{IsMet}
+use Rattle.oci_plan.specs.declared.existing.Existing.TheVariants.{Descend}
 use Rattle.oci_copy.specs.Grown.{graph_of, SameByDigest}
 
 -- What is known of the bytes of a copy between two layouts needs this: nobody else writes into either folder, each file that the
@@ -21,6 +23,10 @@ pub record IsTrusted (source old new : State) : Type 0 where
 -- what came is held with all that it lists
 abbrev pub HoldsWhatCame : List Node → List Node → Type 0
 HoldsWhatCame old new = (added : List Node) × (new ≡ old ++ added) × All (λ (n : Node). HasAll new n.1) added
+
+-- each key that came is a root, or is listed by bytes that match such a key, which the source has
+abbrev pub BringsOnlyMet : State → List Node → List Descriptor → List Node → Type 0
+BringsOnlyMet source old roots new = (added : List Node) × (new ≡ old ++ added) × All (λ (n : Node). IsMet Descend source.entries old roots n.0) added
 
 -- the destination has exactly what it had, and what the source reaches from the roots, each with the bytes that its file has
 abbrev pub IsCopiedBetween : State → State → List Descriptor → State → Type 0

@@ -11,7 +11,7 @@ ghost use Rattle.oci_copy.specs.Report.{IsReport};
 ghost use Rattle.oci_copy.specs.Work.{CanFail};
 ghost use Rattle.oci_layout.specs.Files.{HasFiles};
 ghost use Rattle.oci_layout.specs.Refusal.{IsPutFault};
-ghost use Rattle.oci_copy_commands.specs.Between.{HasReached, HoldsWhatCame, IsCopiedBetween, IsSaved, IsTrusted};
+ghost use Rattle.oci_copy_commands.specs.Between.{BringsOnlyMet, HasReached, HoldsWhatCame, IsCopiedBetween, IsSaved, IsTrusted};
 ghost use Rattle.oci_copy_commands.specs.Refusal.{AfterRefusedCopy, IsRefusedBetween, IsRunCause, IsSaveFault};
 ghost use Rattle.oci_copy_commands.specs.Selected.{set_tags};
 
@@ -57,6 +57,8 @@ where
     ensures held { OnOk result.1 (HasAll result.0.1 selected.now.0) }
     ensures begins { BeginsWith destination.1 result.0.1 }
     ensures came { HoldsWhatCame destination.1 result.0.1 }
+    ensures met { BringsOnlyMet (⟦<Layout<S> as Store>⟧.state source.now) destination.1
+        selected.now.0 result.0.1 }
     ensures closed { IsClosed destination.1 → IsClosed result.0.1 }
     ensures report { IfOk result.1 (IsReport options.now.existing
         (⟦<Layout<S> as Store>⟧.state source.now) (⟦<Layout<D> as Store>⟧.state destination)

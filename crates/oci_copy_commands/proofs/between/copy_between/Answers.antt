@@ -2,7 +2,7 @@ use Rattle.std.proofs.Common.{List}
 use Rattle.oci_store.specs.Content.{Entry}
 use Rattle.oci_layout.specs.Files.{HasFiles}
 use Rattle.oci_layout.proofs.Law.{keys_of_one_digest}
-use Rattle.oci_copy_commands.proofs.Saved.{after_ok, after_report, sound_after, came_after, report_after, copied_after, files_after}
+use Rattle.oci_copy_commands.proofs.Saved.{after_ok, after_report, sound_after, came_after, met_after, report_after, copied_after, files_after}
 use Rattle.oci_copy_commands.proofs.between.copy_between.Goals as goal
 
 pub returns-clause-report : goal.returns-clause-report
@@ -30,6 +30,13 @@ pub returns-clause-came : goal.returns-clause-came
 returns-clause-came g c =
     let from = c.args.source.now in
     came_after (keys_of_one_digest (g.S.Dir.file from.0) from.1) c.copy_plan-destination.ensures.grows c.finish.ensures.saved
+
+pub returns-clause-met : goal.returns-clause-met
+returns-clause-met g c =
+    let from = c.args.source.now in
+    let left = c.copy_plan-destination in
+    let grows = rw c.roots-roots.ensures at left.ensures.grows in
+    met_after (keys_of_one_digest (g.S.Dir.file from.0) from.1) grows c.finish.ensures.saved
 
 pub returns-clause-files : goal.returns-clause-files
 returns-clause-files g c =
