@@ -1,6 +1,7 @@
 mod algorithms;
 mod changing;
 mod copies;
+mod drafting;
 mod drafts;
 mod failing;
 mod faulty;

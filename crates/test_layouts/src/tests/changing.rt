@@ -14,21 +14,22 @@ use std::thread::Threads;
 use test_support::Sample::{Empty, Image0};
 use test_support::{closed, is_closed};
 
-/// The manifest of the image has other bytes after so many reads.
+/// The manifest of the image has other bytes after `right` reads.
 fn change(alloc: Global, right: u64) -> Result<Change, Fail> {
     let path = blob(alloc, &Image0.key(alloc)?)?;
     let other = Bytes::copy_from_slice(alloc, b"{}")?;
     Ok(Change { path, other, right })
 }
 
-/// The directory of a layout of one image, the manifest of which changes after so many reads.
+/// The directory of a layout of one image, whose manifest changes after `right` reads.
 fn changing(alloc: Global, right: u64) -> Result<FaultyDir, Fail> {
     let change = change(alloc, right)?;
     let dir = saved(alloc, &[Empty, Image0], Image0)?;
     Ok(FaultyDir::changing(dir, change))
 }
 
-/// Copies the image of a layout by so many workers, or on the calling thread: what is told, and whether the destination is closed.
+/// Copies the image of a layout by this many workers, or on the calling thread. Returns what is told, and whether the destination
+/// is closed.
 fn told_of_copy<R: AllocGlobal + Threads + Wait + Sync>(
     rt: &R,
     source: &Layout<FaultyDir>,
@@ -51,7 +52,7 @@ fn told_of_run<R: AllocGlobal + Threads + Wait + Sync>(
     }
 }
 
-/// With so many reads answered right this is told, and the destination is closed.
+/// If the first `right` reads return the right bytes, this is told, and the destination is closed.
 fn assert_changing<R: AllocGlobal + Threads + Wait + Sync + Abort>(
     rt: &R,
     right: usize,
@@ -63,9 +64,9 @@ fn assert_changing<R: AllocGlobal + Threads + Wait + Sync + Abort>(
     assert_told(rt, right, told.as_str(), want)
 }
 
-/// What is told for each number of reads that are answered right, up to the first run without a fault: `open` reads three files; the
-/// copy reads the manifest for its plan, and then the config and the manifest again.
-const TOLD: [&str; 7] = [
+/// What is told for each number of right reads, up to the first run without a fault. `open` reads three files. The copy reads the
+/// manifest for its plan, and then the config and the manifest.
+static TOLD: [&str; 7] = [
     "75 Corrupt <key Image0>",
     "75 Corrupt <key Image0>",
     "75 Corrupt <key Image0>",

@@ -1,9 +1,10 @@
-//! Drafts of files: where they are dropped, where an old file stands in their place, and where two are open at once.
+//! Drafts of files: drafts that are dropped, drafts of files that are there already, and two drafts of one file at once.
 
 use crate::tests::copies::Copying::Layout;
-use crate::tests::files::FileStep::{
-    DraftNames, DropDraft, Exists, Failures, Keep, KeepBoth, KeepLost, KeepSecond, Put, Text,
+use crate::tests::drafting::DraftStep::{
+    DraftNames, DropDraft, Keep, KeepBoth, KeepLost, KeepSecond,
 };
+use crate::tests::files::FileStep::{Draft, Exists, Failures, Put, Text};
 use crate::tests::files::FolderStep::{Count, IsLink, Link};
 use crate::tests::layouts::LayoutStep::Held;
 use crate::tests::parts::{Folder, PART, assert_layer_copied_into};
@@ -17,7 +18,7 @@ const DROPPED: &[Row] = &[
     Row(
         In(
             "blobs/sha256/a",
-            DropDraft(&["fo", "x"], "drafts/blobs/sha256"),
+            Draft(DropDraft(&["fo", "x"], "drafts/blobs/sha256")),
         ),
         "2",
     ),
@@ -25,7 +26,7 @@ const DROPPED: &[Row] = &[
     Row(
         In(
             "blobs/sha256/b",
-            DropDraft(&["fo", "x"], "drafts/blobs/sha256"),
+            Draft(DropDraft(&["fo", "x"], "drafts/blobs/sha256")),
         ),
         "2",
     ),
@@ -33,7 +34,7 @@ const DROPPED: &[Row] = &[
     Row(In("", Failures), "0"),
 ];
 
-/// A draft that is dropped leaves no file, also where its first bytes were those of a file that is there.
+/// A draft that is dropped leaves no file, also if its first bytes are those of a file that is there.
 #[test]
 fn dropped_drafts(rt: HostRuntime) -> Result<(), Fail> {
     assert_run(&rt, Ground::Folder("drafts"), DROPPED)
@@ -42,23 +43,23 @@ fn dropped_drafts(rt: HostRuntime) -> Result<(), Fail> {
 const OLD: &[Row] = &[
     Row(In("foobar", Put("foobar")), "put"),
     Row(At("old/link", Link("foobar")), "linked"),
-    Row(In("link", Keep(&["foo", "bar"])), "foobar"),
+    Row(In("link", Draft(Keep(&["foo", "bar"]))), "foobar"),
     Row(At("old/link", IsLink), "true"),
-    Row(In("link", Keep(&["foo", "baz"])), "foobaz"),
+    Row(In("link", Draft(Keep(&["foo", "baz"]))), "foobaz"),
     Row(At("old/link", IsLink), "false"),
-    Row(In("foobar", Keep(&["fo", "o"])), "foo"),
-    Row(In("new", Keep(&["", ""])), ""),
+    Row(In("foobar", Draft(Keep(&["fo", "o"]))), "foo"),
+    Row(In("new", Draft(Keep(&["", ""]))), ""),
     Row(At("old", Count), "3"),
 ];
 
-/// A file that has the drafted bytes already is not written again: the link that leads to it stays. One that only begins with
-/// them, or differs later, is replaced.
+/// A file that has the drafted bytes already is not written again, so a link to it stays a link. A file that goes on after them,
+/// or differs in a later byte, is replaced.
 #[test]
 fn drafts_of_old_files(rt: HostRuntime) -> Result<(), Fail> {
     assert_run(&rt, Ground::Folder("old"), OLD)
 }
 
-/// The layer of two parts and one byte replaces the old file, and nothing else is there.
+/// The layer of two parts and one byte replaces the old file, and no other file is there.
 const ANOTHER_END: Folder = Folder {
     folder: "another_end",
     old: Some(2 * PART),
@@ -66,7 +67,7 @@ const ANOTHER_END: Folder = Folder {
     files: 1,
 };
 
-/// An old file that differs in its last byte, after two parts that are right.
+/// The old file differs in its last byte, after two parts that are right.
 #[test]
 fn old_file_with_another_end(rt: HostRuntime) -> Result<(), Fail> {
     assert_layer_copied_into(&rt, 2 * PART + 1, ANOTHER_END)
@@ -79,28 +80,37 @@ const LONGER: Folder = Folder {
     files: 1,
 };
 
-/// An old file that has all the bytes, and one more.
+/// The old file has all the bytes, and one more.
 #[test]
 fn old_file_that_is_longer(rt: HostRuntime) -> Result<(), Fail> {
     assert_layer_copied_into(&rt, 2 * PART + 1, LONGER)
 }
 
-/// Both drafts of a file that are open at once can be kept, and only that file is there afterwards.
+/// There is no file at first, then one that has the bytes, and then one that differs after the first part.
 const TWICE: &[Row] = &[
-    Row(In("foobar", KeepBoth(&["foo", "bar"])), "foobar foobar"),
+    Row(
+        In("foobar", Draft(KeepBoth(&["foo", "bar"]))),
+        "foobar foobar",
+    ),
     Row(At("drafted_twice", Count), "1"),
-    Row(In("foobar", KeepBoth(&["foo", "bar"])), "foobar foobar"),
+    Row(
+        In("foobar", Draft(KeepBoth(&["foo", "bar"]))),
+        "foobar foobar",
+    ),
     Row(At("drafted_twice", Count), "1"),
     Row(In("foobar", Put("foobaz")), "put"),
-    Row(In("foobar", KeepBoth(&["foo", "bar"])), "foobar foobar"),
+    Row(
+        In("foobar", Draft(KeepBoth(&["foo", "bar"]))),
+        "foobar foobar",
+    ),
     Row(At("drafted_twice", Count), "1"),
     Row(In("foobar", Put("foobaz")), "put"),
-    Row(In("foobar", KeepSecond(&["foo", "bar"])), "foobar"),
+    Row(In("foobar", Draft(KeepSecond(&["foo", "bar"]))), "foobar"),
     Row(At("drafted_twice", Count), "1"),
     Row(In("", Failures), "0"),
 ];
 
-/// The same where there is no file, where it has the bytes, and where it differs after the first part.
+/// Two drafts of one file that are open at once can both be kept, and only that file is there afterwards.
 #[test]
 fn two_drafts_of_one_file(rt: HostRuntime) -> Result<(), Fail> {
     assert_run(&rt, Ground::Folder("drafted_twice"), TWICE)
@@ -108,35 +118,44 @@ fn two_drafts_of_one_file(rt: HostRuntime) -> Result<(), Fail> {
 
 const NAMES: &[Row] = &[
     Row(
-        In("foo", DraftNames(&["foo"], "draft_names")),
+        In("foo", Draft(DraftNames(&["foo"], "draft_names"))),
         " foo.xxxxxxxxxxxxxxxx.new",
     ),
     Row(In("foo", Put("foo")), "put"),
-    Row(In("foo", DraftNames(&["foo"], "draft_names")), ""),
+    Row(In("foo", Draft(DraftNames(&["foo"], "draft_names"))), ""),
     Row(
-        In("foo", DraftNames(&["foo", "bar"], "draft_names")),
+        In("foo", Draft(DraftNames(&["foo", "bar"], "draft_names"))),
         " foo.xxxxxxxxxxxxxxxx.new",
     ),
     Row(At("draft_names", Count), "1"),
 ];
 
-/// A draft is in a file beside the place, whose name has 16 lower-case hexadecimal digits.
+/// A draft is in a file beside its place. The name of that file has 16 lower-case hexadecimal digits.
 #[test]
 fn names_of_drafts(rt: HostRuntime) -> Result<(), Fail> {
     assert_run(&rt, Ground::Folder("draft_names"), NAMES)
 }
 
 const LOST: &[Row] = &[
-    Row(In("foo", KeepLost(&["fo"], "lost", &["o"])), "90 Failed"),
+    Row(
+        In("foo", Draft(KeepLost(&["fo"], "lost", &["o"]))),
+        "90 Failed",
+    ),
     Row(At("lost", Count), "0"),
-    Row(In("foo", KeepLost(&["fo", "o"], "lost", &[])), "90 Failed"),
+    Row(
+        In("foo", Draft(KeepLost(&["fo", "o"], "lost", &[]))),
+        "90 Failed",
+    ),
     Row(At("lost", Count), "0"),
     Row(In("foo", Exists), "false"),
     Row(In("foo", Put("old")), "put"),
-    Row(In("foo", KeepLost(&["fo"], "lost", &["o"])), "90 Failed"),
+    Row(
+        In("foo", Draft(KeepLost(&["fo"], "lost", &["o"]))),
+        "90 Failed",
+    ),
     Row(In("foo", Text), "old"),
     Row(
-        In("foo", KeepLost(&["ol", "e"], "lost", &["r"])),
+        In("foo", Draft(KeepLost(&["ol", "e"], "lost", &["r"]))),
         "90 Failed",
     ),
     Row(In("foo", Text), "old"),
@@ -144,7 +163,7 @@ const LOST: &[Row] = &[
     Row(In("", Failures), "4"),
 ];
 
-/// A draft whose file somebody removed, between two parts or after the last one, is not kept, and leaves what was there.
+/// A draft whose file is removed, between two parts or after the last one, is not kept, and what was there stays.
 #[test]
 fn drafts_that_somebody_removed(rt: HostRuntime) -> Result<(), Fail> {
     assert_run(&rt, Ground::Folder("lost"), LOST)
@@ -157,7 +176,7 @@ const FUSE: &[Row] = &[
     Row(With(Held), "held 1"),
 ];
 
-/// Each draft that is kept is a put of the fuse: it passes the two files of a new layout and one layer, and fails the next one.
+/// A draft that is kept counts as a put. The directory passes the two files of a new layout and one layer, and fails the next put.
 #[test]
 fn fuse_of_drafts(rt: HostRuntime) -> Result<(), Fail> {
     assert_run(&rt, Ground::Fuse(3), FUSE)

@@ -1,4 +1,4 @@
-//! Copies between layouts of which a directory fails one read or one put.
+//! Copies between two layouts. The directory of one of them fails one read or one put.
 
 use crate::tests::copies::copied_samples;
 use crate::tests::faulty::{Failing, FaultyDir};
@@ -17,7 +17,7 @@ use test_support::Sample::{Bar, Empty, Foo, Image2, Image3, Index1};
 use test_support::{Sample, holds, is_closed};
 
 /// The two images, and what they reach.
-const ALL: [Sample; 6] = [Empty, Foo, Bar, Image2, Image3, Index1];
+static ALL: [Sample; 6] = [Empty, Foo, Bar, Image2, Image3, Index1];
 
 /// How many files `create` puts.
 const CREATED: u64 = 2;
@@ -50,13 +50,13 @@ struct Twice {
     second: Outcome,
 }
 
-/// The directory of a layout of the two images, of which this fails.
+/// The directory of a layout of the two images, with this failure.
 fn images(alloc: Global, failing: Failing) -> Result<FaultyDir, Fail> {
     let dir = saved(alloc, &ALL, Index1)?;
     Ok(FaultyDir::failing(dir, failing))
 }
 
-/// A new layout in a directory of which this fails.
+/// A new layout in a directory with this failure.
 fn destination(alloc: Global, failing: Failing) -> Result<Layout<FaultyDir>, Fail> {
     created(alloc, FaultyDir::failing(MemDir::new(alloc), failing))
 }
@@ -83,8 +83,8 @@ fn without_lacking(
     told: String,
 ) -> Result<String, Fail> {
     let mut told = told;
-    for sample in ALL {
-        told = without(alloc, layout, told, sample)?;
+    for sample in &ALL {
+        told = without(alloc, layout, told, *sample)?;
     }
     Ok(told)
 }
@@ -102,7 +102,7 @@ fn left_by(alloc: Global, layout: &Layout<FaultyDir>, told: String) -> Result<Ou
     })
 }
 
-/// Copies the index of a layout into another one, and gives that one and what the copy tells and leaves.
+/// Copies the index of a layout into another layout. Returns that layout, and what the copy tells and leaves.
 fn copied<R: AllocGlobal + Threads + Wait + Sync>(
     rt: &R,
     source: &Layout<FaultyDir>,
@@ -125,7 +125,7 @@ fn copied_again<R: AllocGlobal + Threads + Wait + Sync>(
     Ok(Twice { first, second })
 }
 
-/// Copies the images twice, from a directory of which the one fails into a directory of which the other fails.
+/// Copies the images twice, from a directory with the first failure into a directory with the second.
 fn copied_twice<R: AllocGlobal + Threads + Wait + Sync>(
     rt: &R,
     reading: Failing,
@@ -136,7 +136,7 @@ fn copied_twice<R: AllocGlobal + Threads + Wait + Sync>(
     copied_again(rt, &source, destination(rt.alloc(), putting)?, workers)
 }
 
-/// The same where the put after those of `create` and so many more fails.
+/// Copies the images twice. After the puts of `create`, `passing` more pass, and the next one fails.
 fn copied_with_put<R: AllocGlobal + Threads + Wait + Sync>(
     rt: &R,
     passing: u64,
@@ -146,7 +146,7 @@ fn copied_with_put<R: AllocGlobal + Threads + Wait + Sync>(
     copied_twice(rt, Failing::Nothing, failing, workers)
 }
 
-/// The same where the read after those of `open` and so many more fails.
+/// Copies the images twice. After the reads of `open`, `passing` more pass, and the next one fails.
 fn copied_with_read<R: AllocGlobal + Threads + Wait + Sync>(
     rt: &R,
     passing: u64,
@@ -156,7 +156,7 @@ fn copied_with_read<R: AllocGlobal + Threads + Wait + Sync>(
     copied_twice(rt, failing, Failing::Nothing, workers)
 }
 
-/// The copy told this, and what it left is closed.
+/// The copy told this, and the destination is closed.
 fn assert_refused<R: AllocGlobal + Abort>(
     rt: &R,
     outcome: &Outcome,
@@ -177,7 +177,7 @@ fn assert_brings_rest<R: AllocGlobal + Abort>(rt: &R, twice: &Twice) -> Result<(
     Ok(())
 }
 
-/// A copy into a directory that fails the put after so many, and the same copy again: how many contents the first one left.
+/// After `passing` puts of a copy the next one fails, and the same copy is made again. Returns how many contents the first one left.
 fn left_by_failed<R: AllocGlobal + Threads + Wait + Sync + Abort>(
     rt: &R,
     passing: u64,
@@ -190,8 +190,9 @@ fn left_by_failed<R: AllocGlobal + Threads + Wait + Sync + Abort>(
     Ok(twice.first.count as u64)
 }
 
-/// One put fails, at each place in turn, and the copy is refused; the same copy into what came back brings the rest, over the bytes
-/// that the put left. On one thread what was pushed before is there; workers may have gone on with what was begun.
+/// Each put of a copy fails in turn, and the copy is refused. A second copy into the destination that came back brings the rest, over
+/// the bytes that the failed put left. On one thread the destination has what was pushed before the failure. Workers may have
+/// finished what they had begun.
 #[test]
 fn failing_put(rt: HostRuntime) -> Result<(), Fail> {
     for passing in 0..6u64 {
@@ -203,7 +204,7 @@ fn failing_put(rt: HostRuntime) -> Result<(), Fail> {
     Ok(())
 }
 
-/// A copy into a directory that passes so many puts brings all, and no put fails.
+/// A copy into a directory that passes this many puts brings all, and no put fails.
 fn assert_puts<R: AllocGlobal + Threads + Wait + Sync + Abort>(
     rt: &R,
     passing: u64,
@@ -224,7 +225,7 @@ fn puts_of_a_copy(rt: HostRuntime) -> Result<(), Fail> {
     Ok(())
 }
 
-/// A read failed, for the plan or at a push, and what was pushed is closed.
+/// A read failed, for the plan or for a push, and what was pushed is closed.
 fn assert_not_read<R: AllocGlobal + Abort>(rt: &R, outcome: &Outcome) -> Result<(), Fail> {
     if !outcome.told.starts_with("81") {
         return assert_refused(rt, outcome, "88 Fetch <lacking> 22 Device");
@@ -233,7 +234,7 @@ fn assert_not_read<R: AllocGlobal + Abort>(rt: &R, outcome: &Outcome) -> Result<
     assert_refused(rt, outcome, "81 Plan 57 Fetch <lacking> 22 Device")
 }
 
-/// A copy from a directory that fails the read after so many, and the same copy again: whether the first was refused.
+/// After `passing` reads of a copy the next one fails, and the same copy is made again. Returns whether the first one was refused.
 fn is_refused<R: AllocGlobal + Threads + Wait + Sync + Abort>(
     rt: &R,
     passing: u64,
@@ -248,8 +249,8 @@ fn is_refused<R: AllocGlobal + Threads + Wait + Sync + Abort>(
     Ok(is_refused)
 }
 
-/// One read fails, at each place in turn, until a copy meets no failure: that is after the three manifests for the plan and the six
-/// contents.
+/// Each read of a copy fails in turn. The copy reads three manifests for its plan and then six contents, so after nine reads there is
+/// no failure.
 #[test]
 fn failing_read(rt: HostRuntime) -> Result<(), Fail> {
     for passing in 0..10u64 {
@@ -261,13 +262,13 @@ fn failing_read(rt: HostRuntime) -> Result<(), Fail> {
     Ok(())
 }
 
-/// What is told where the read of this number fails while the layout is opened.
+/// If the read of this number fails, the layout is not opened.
 fn assert_not_opened<R: Host + Threads + Wait + Abort>(rt: &R, read: u64) -> Result<(), Fail> {
     let dir = images(rt.alloc(), Failing::Read(read))?;
     assert_steps(rt, dir, &[Row(Open, "74 Device")])
 }
 
-/// A read that fails while the layout is opened is told.
+/// Each read of `open` fails in turn, and the failure is reported.
 #[test]
 fn failing_read_of_open(rt: HostRuntime) -> Result<(), Fail> {
     for read in 0..OPENED {

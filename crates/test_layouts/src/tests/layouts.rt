@@ -1,6 +1,6 @@
 //! Steps with a layout, and layouts of samples.
 
-use crate::tests::texts::expanded;
+use crate::tests::texts::{expanded, utf8};
 use bytes::Bytes;
 use oci_layout::{Dir, Layout, LayoutFault, MemDir};
 use oci_manifest::Key;
@@ -34,7 +34,7 @@ pub(crate) enum LayoutStep<'a> {
     Holders(Sample),
 }
 
-/// Takes a step with a layout, and gives what it tells.
+/// Takes a step with a layout, and returns what it tells.
 pub(crate) fn with_layout<D: Dir>(
     alloc: Global,
     layout: &mut Layout<D>,
@@ -175,7 +175,7 @@ fn tag<T: Tagger>(
 
 fn fetch<A: Source>(alloc: Global, layout: &A, sample: Sample) -> Result<String, Fail> {
     match layout.fetch(&sample.key(alloc)?) {
-        Ok(bytes) => Ok(String::from_str(alloc, str::from_utf8(bytes.as_slice())?)?),
+        Ok(bytes) => utf8(alloc, bytes.as_slice()),
         Err(fault) => Ok(format!(in alloc; "{fault}")?),
     }
 }

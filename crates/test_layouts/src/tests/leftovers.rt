@@ -1,6 +1,7 @@
-//! What is removed from a folder of what a process left that was ended while it wrote.
+//! The leftovers of a folder: the files that a process leaves if it is ended while it writes. They are removed, and nothing else.
 
-use crate::tests::files::FileStep::{Exists, KeepBesideRemoval, Put};
+use crate::tests::drafting::DraftStep::KeepBesideRemoval;
+use crate::tests::files::FileStep::{Draft, Exists, Put};
 use crate::tests::files::FolderStep::{Count, IsLink, Link, RemoveLeftovers};
 use crate::tests::host::Host;
 use crate::tests::steps::Step::{At, In};
@@ -10,8 +11,8 @@ use std::sync::Wait;
 use std::test::Fail;
 use std::thread::Threads;
 
-/// Files, and whether they are removed. The digits of blobs are those of `sha256sum` and `sha512sum` of a zero byte.
-const FILES: [(&str, bool); 30] = [
+/// Files, and whether they are removed. The digits of blobs are those that `sha256sum` and `sha512sum` print for a zero byte.
+static FILES: [(&str, bool); 30] = [
     ("index.json.0123456789abcdef.new", true),
     ("oci-layout.0123456789abcdef.new", true),
     (
@@ -94,11 +95,11 @@ fn assert_removed<R: Host + Threads + Wait + Abort>(
     assert_run(rt, Ground::Folder("leftovers"), &rows)
 }
 
-/// What was written beside a file of a layout is removed, and nothing else.
+/// A file that was written beside a file of a layout is removed, and no other.
 #[test]
 fn leftovers_of_a_folder(rt: HostRuntime) -> Result<(), Fail> {
-    for (file, is_removed) in FILES {
-        assert_removed(&rt, file, is_removed)?;
+    for (file, is_removed) in &FILES {
+        assert_removed(&rt, file, *is_removed)?;
     }
     Ok(())
 }
@@ -109,7 +110,7 @@ const IN_SHA256: &str =
 const IN_SHA512: &str =
     "blobs/sha512/b8244d028981d693af7b456af8efa4cad63d282e19ff14942c246e50d9351d22704a802a71c3580b6370de4ceb293c324a8423342557d4e5c38438f0e36910ee.0123456789abcdef.new";
 
-/// Where links lead to.
+/// Files in the folder that the links lead to.
 const IN_OTHER: &str =
     "other/sha256/6e340b9cffb37a989ca544e6bb780a2c78901d3fb33738768511a30617afa01d.0123456789abcdef.new";
 
@@ -144,7 +145,7 @@ const SHA512_LINKED: &[Row] = &[
     Row(In(IN_SHA256, Exists), "false"),
 ];
 
-/// Nothing is removed through a link in the place of a folder of blobs, and the rest is.
+/// Nothing is removed through a link in the place of a folder of blobs. Leftovers elsewhere are removed.
 #[test]
 fn leftovers_behind_links(rt: HostRuntime) -> Result<(), Fail> {
     for rows in [BLOBS_LINKED, SHA256_LINKED, SHA512_LINKED] {
@@ -167,7 +168,7 @@ const OTHER_KINDS: &[Row] = &[
     Row(In(IN_SHA256, Exists), "false"),
 ];
 
-/// A folder or a link that has such a name stays: what was written beside a file is a file.
+/// A folder or a link that has such a name stays: only a regular file can be a leftover.
 #[test]
 fn leftovers_of_other_kinds(rt: HostRuntime) -> Result<(), Fail> {
     assert_run(&rt, Ground::Folder("kinds"), OTHER_KINDS)
@@ -177,14 +178,14 @@ const IN_WORK: &[Row] = &[
     Row(
         In(
             "blobs/sha256/6e340b9cffb37a989ca544e6bb780a2c78901d3fb33738768511a30617afa01d",
-            KeepBesideRemoval(&["fo", "o"], "in_work"),
+            Draft(KeepBesideRemoval(&["fo", "o"], "in_work")),
         ),
         "removed foo",
     ),
     Row(At("in_work/blobs/sha256", Count), "1"),
 ];
 
-/// A file that is still being written stays, and is then kept.
+/// The file of a draft that is still open stays, and the draft is then kept.
 #[test]
 fn leftovers_beside_a_draft_in_work(rt: HostRuntime) -> Result<(), Fail> {
     assert_run(&rt, Ground::Folder("in_work"), IN_WORK)

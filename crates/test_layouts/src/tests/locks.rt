@@ -7,69 +7,137 @@ use std::process::Abort;
 use std::test::Fail;
 use std::{fs, rt};
 
-/// Whether a try gives the lock of a folder.
+/// Whether a try gets the lock of a folder.
 fn is_free<R: Host>(rt: &R, folder: &str) -> Result<bool, Fail> {
     Ok(FolderLock::try_lock(rt, folder)?.is_some())
 }
 
-/// The folder under each of these paths is locked by another, and no second lock of it is had.
+/// Whether a try that makes a missing folder gets the lock.
+fn is_free_or_made<R: Host>(rt: &R, folder: &str) -> Result<bool, Fail> {
+    Ok(FolderLock::make_and_try_lock(rt, folder)?.is_some())
+}
+
+fn assert_free<R: Host + Abort>(rt: &R, folder: &str) -> Result<(), Fail> {
+    assert!(rt; is_free(rt, folder)?);
+    Ok(())
+}
+
+fn assert_taken_at<R: Host + Abort>(rt: &R, folder: &str) -> Result<(), Fail> {
+    assert!(rt; !is_free(rt, folder)?);
+    assert!(rt; !is_free_or_made(rt, folder)?);
+    Ok(())
+}
+
+/// The folder at each of these paths is locked already: no try gets its lock.
 fn assert_taken<R: Host + Abort>(rt: &R, folders: &[&str]) -> Result<(), Fail> {
     for folder in folders {
-        assert!(rt; !is_free(rt, folder)?);
-        assert!(rt; FolderLock::make_and_try_lock(rt, folder)?.is_none());
+        assert_taken_at(rt, folder)?;
     }
     Ok(())
 }
 
-/// One lock at a time is had of a folder, under whichever path, until the lock is dropped. It changes no file.
+fn assert_empty<R: Host + Abort>(rt: &R, folder: &str) -> Result<(), Fail> {
+    assert_eq!(rt; files_in(rt, folder)?, 0);
+    Ok(())
+}
+
+/// The lock of a folder that is free.
+fn made_and_tried<R: Host>(rt: &R, folder: &str) -> Result<FolderLock<R>, Fail> {
+    match FolderLock::make_and_try_lock(rt, folder)? {
+        Some(lock) => Ok(lock),
+        None => Err(Fail::from("the folder is locked already")),
+    }
+}
+
+/// While `locked/folder` is locked, nobody gets a second lock of it by any path, and the folder above it is free.
+fn assert_one<R: Host + Abort>(rt: &R) -> Result<(), Fail> {
+    rt::Files::symlink(rt, "folder", "locked/link")?;
+    assert_taken(
+        rt,
+        &["locked/folder", "locked/../locked/folder/", "locked/link"],
+    )?;
+    assert_free(rt, "locked")
+}
+
+fn assert_one_of_a_new_folder<R: Host + Abort>(rt: &R) -> Result<(), Fail> {
+    let lock = FolderLock::make_and_lock(rt, "locked/folder")?;
+    let found = assert_one(rt);
+    drop(lock);
+    found
+}
+
+fn assert_one_by_a_link<R: Host + Abort>(rt: &R) -> Result<(), Fail> {
+    let lock = FolderLock::lock(rt, "locked/link")?;
+    let found = assert_taken(rt, &["locked/folder"]);
+    drop(lock);
+    found
+}
+
+fn assert_taken_and_empty<R: Host + Abort>(rt: &R, folder: &str) -> Result<(), Fail> {
+    assert_taken(rt, &[folder])?;
+    assert_empty(rt, folder)
+}
+
+fn assert_one_by_a_try<R: Host + Abort>(rt: &R) -> Result<(), Fail> {
+    let lock = made_and_tried(rt, "locked/folder")?;
+    let found = assert_taken_and_empty(rt, "locked/folder");
+    drop(lock);
+    found
+}
+
+/// A folder has one lock at a time, by whichever path, until the lock is dropped. A lock changes no file.
 #[test]
 fn one_lock_at_a_time(rt: HostRuntime) -> Result<(), Fail> {
     let _ = fs::remove_dir_all(&rt, "locked");
-    let lock = FolderLock::make_and_lock(&rt, "locked/folder")?;
-    rt::Files::symlink(&rt, "folder", "locked/link")?;
-    assert_taken(
-        &rt,
-        &["locked/folder", "locked/../locked/folder/", "locked/link"],
-    )?;
-    assert!(&rt; is_free(&rt, "locked")?);
-    drop(lock);
-    assert!(&rt; is_free(&rt, "locked/folder")?);
-    let lock = FolderLock::lock(&rt, "locked/link")?;
-    assert_taken(&rt, &["locked/folder"])?;
-    drop(lock);
-    let lock = FolderLock::make_and_try_lock(&rt, "locked/folder")?;
-    assert!(&rt; lock.is_some());
-    assert_taken(&rt, &["locked/folder"])?;
-    assert_eq!(&rt; files_in(&rt, "locked/folder")?, 0);
+    assert_one_of_a_new_folder(&rt)?;
+    assert_free(&rt, "locked/folder")?;
+    assert_one_by_a_link(&rt)?;
+    assert_one_by_a_try(&rt)?;
     Ok(fs::remove_dir_all(&rt, "locked")?)
 }
 
-/// A try to lock what is at a path is refused with `Failed`, and so is a lock that waits.
-fn assert_refused<R: Host + Abort>(rt: &R, folder: &str) {
-    assert!(rt; matches!(FolderLock::try_lock(rt, folder), Err(DirFault::Failed)));
-    assert!(rt; matches!(FolderLock::lock(rt, folder), Err(DirFault::Failed)));
+fn is_failed<T: Drop>(answer: Result<T, DirFault>) -> bool {
+    match answer {
+        Err(DirFault::Failed) => true,
+        _ => false,
+    }
 }
 
-/// No folder is made for a lock unless that is asked for, and no file is locked in the place of one.
+/// What is at a path cannot be locked, by a try or by a lock that waits.
+fn assert_refused<R: Host + Abort>(rt: &R, folder: &str) {
+    assert!(rt; is_failed(FolderLock::try_lock(rt, folder)));
+    assert!(rt; is_failed(FolderLock::lock(rt, folder)));
+}
+
+/// A missing folder is not made.
+fn assert_missing_refused<R: Host + Abort>(rt: &R) -> Result<(), Fail> {
+    fs::create_dir(rt, "unlocked")?;
+    assert_refused(rt, "unlocked/missing");
+    assert_empty(rt, "unlocked")
+}
+
+fn assert_file_refused<R: Host + Abort>(rt: &R) -> Result<(), Fail> {
+    fs::write(rt, "unlocked/file", b"foo")?;
+    assert_refused(rt, "unlocked/file");
+    assert!(rt; is_failed(FolderLock::make_and_try_lock(rt, "unlocked/file")));
+    assert!(rt; is_failed(FolderLock::make_and_lock(rt, "unlocked/file/below")));
+    Ok(())
+}
+
+/// A lock makes no folder unless that is asked for, and a file cannot be locked.
 #[test]
 fn locks_that_are_refused(rt: HostRuntime) -> Result<(), Fail> {
     let _ = fs::remove_dir_all(&rt, "unlocked");
-    fs::create_dir(&rt, "unlocked")?;
-    assert_refused(&rt, "unlocked/missing");
-    assert_eq!(&rt; files_in(&rt, "unlocked")?, 0);
-    fs::write(&rt, "unlocked/file", b"foo")?;
-    assert_refused(&rt, "unlocked/file");
-    let made = FolderLock::make_and_try_lock(&rt, "unlocked/file");
-    assert!(&rt; matches!(made, Err(DirFault::Failed)));
-    let made = FolderLock::make_and_lock(&rt, "unlocked/file/below");
-    assert!(&rt; matches!(made, Err(DirFault::Failed)));
+    assert_missing_refused(&rt)?;
+    assert_file_refused(&rt)?;
     Ok(fs::remove_dir_all(&rt, "unlocked")?)
 }
 
 /// The empty path is the current folder.
 #[test]
 fn lock_of_the_current_folder(rt: HostRuntime) -> Result<(), Fail> {
-    let lock = FolderLock::make_and_try_lock(&rt, "")?;
-    assert!(&rt; lock.is_some());
-    assert_taken(&rt, &["", "."])
+    let lock = made_and_tried(&rt, "")?;
+    let found = assert_taken(&rt, &["", "."]);
+    drop(lock);
+    found
 }

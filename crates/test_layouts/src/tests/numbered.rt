@@ -1,34 +1,39 @@
-//! Drafts with random numbers that are refused, or that other files have already.
+//! Drafts whose random numbers are refused, or are in the names of other files already.
 
-use crate::tests::files::{FileStep, files_in, in_dir};
+use crate::tests::drafting::DraftStep::{Keep, KeepLost};
+use crate::tests::files::FileStep::{Draft, Exists, Failures, Put, Text};
+use crate::tests::files::files_in;
 use crate::tests::host::Host;
-use crate::tests::texts::assert_told;
+use crate::tests::steps::Step::In;
+use crate::tests::steps::{Row, assert_steps};
 use oci_layout::FsDir;
 use std::alloc::Allocator;
-use std::cell::Cell;
 use std::fs::{Metadata, OpenOptions};
 use std::process::Abort;
 use std::random::RandomSource;
 use std::rt::Files;
+use std::sync::Wait;
+use std::sync::atomic::{AtomicU64, Ordering};
 use std::test::Fail;
+use std::thread::Threads;
 use std::{fs, io};
 
-/// A runtime whose random bytes are `next`, and after that each time greater by `step`. From `end` on they are refused.
+/// A runtime with chosen random bytes. All bytes of the first call are 0, and those of each later call are greater by `step`. A call
+/// whose bytes would be `end` or more is refused.
 #[derive(Drop)]
 struct Numbered<'r, R: Files> {
     rt: &'r R,
-    next: Cell<u8>,
-    step: u8,
+    next: AtomicU64,
+    step: u64,
     end: u8,
 }
 
 impl<'r, R: Files> RandomSource for Numbered<'r, R> {
     fn fill_bytes(&self, buf: &mut [u8]) -> io::Result<()> {
-        let number = self.next.get();
+        let number = self.next.fetch_add(self.step, Ordering::SeqCst).min(255) as u8;
         if number >= self.end {
             return Err(io::Error::from(io::ErrorKind::Unsupported));
         }
-        self.next.set(number.saturating_add(self.step));
         buf.fill(number);
         Ok(())
     }
@@ -88,55 +93,57 @@ impl<'r, R: Files> Files for Numbered<'r, R> {
     }
 }
 
-/// A step with a file of a directory, and what it tells.
-#[derive(Clone, Copy)]
-struct Row<'a>(&'a str, FileStep<'a>, &'a str);
-
-fn assert_row<R: Host + Abort>(
-    rt: &R,
-    dir: &mut FsDir<'_, Numbered<'_, R>>,
-    number: usize,
-    row: Row<'_>,
-) -> Result<(), Fail> {
-    let told = in_dir(rt, dir, row.0, row.1)?;
-    assert_told(rt, number, told.as_str(), row.2)
-}
-
-/// Takes these steps in a folder with these random numbers. The folder has two files, which are called as the first two drafts of
-/// `foo` would be, and an empty folder. Each step tells what stands beside it, and there are so many entries afterwards.
-fn assert_rows<R: Host + Abort>(
-    rt: &R,
-    numbers: &Numbered<'_, R>,
-    rows: &[Row<'_>],
-    files: usize,
-) -> Result<(), Fail> {
-    let _ = fs::remove_dir_all(rt, "numbered");
+/// Makes a folder with three entries: two files whose names are those of the first two drafts of `foo`, and an empty folder.
+fn prepare<R: Host>(rt: &R) -> Result<(), Fail> {
     fs::create_dir_all(rt, "numbered/empty")?;
     fs::write(rt, "numbered/foo.0000000000000000.new", b"0")?;
     fs::write(rt, "numbered/foo.0101010101010101.new", b"1")?;
-    let mut dir = FsDir::new(numbers, "numbered")?;
-    for (number, row) in rows.iter().enumerate() {
-        assert_row(rt, &mut dir, number, *row)?;
-    }
-    assert_eq!(rt; files_in(rt, "numbered")?, files);
+    Ok(())
+}
+
+/// Takes these steps in the folder with these random numbers, and checks what each of them tells.
+fn assert_steps_with<R: Host + Threads + Wait + Abort>(
+    rt: &R,
+    numbers: &Numbered<'_, R>,
+    rows: &[Row<'_>],
+) -> Result<(), Fail> {
+    assert_steps(rt, FsDir::new(numbers, "numbered")?, rows)
+}
+
+/// The folder has this many entries. Removes it.
+fn assert_entries<R: Host + Abort>(rt: &R, entries: usize) -> Result<(), Fail> {
+    assert_eq!(rt; files_in(rt, "numbered")?, entries);
     Ok(fs::remove_dir_all(rt, "numbered")?)
 }
 
+/// Takes these steps in the folder with these random numbers. The folder then has this many entries.
+fn assert_rows<R: Host + Threads + Wait + Abort>(
+    rt: &R,
+    numbers: &Numbered<'_, R>,
+    rows: &[Row<'_>],
+    entries: usize,
+) -> Result<(), Fail> {
+    let _ = fs::remove_dir_all(rt, "numbered");
+    prepare(rt)?;
+    assert_steps_with(rt, numbers, rows)?;
+    assert_entries(rt, entries)
+}
+
 const TAKEN: &[Row] = &[
-    Row("foo", FileStep::Keep(&["f", "oo"]), "foo"),
-    Row("foo", FileStep::Put("bar"), "put"),
-    Row("foo", FileStep::Text, "bar"),
-    Row("foo.0000000000000000.new", FileStep::Text, "0"),
-    Row("foo.0101010101010101.new", FileStep::Text, "1"),
-    Row("", FileStep::Failures, "0"),
+    Row(In("foo", Draft(Keep(&["f", "oo"]))), "foo"),
+    Row(In("foo", Put("bar")), "put"),
+    Row(In("foo", Text), "bar"),
+    Row(In("foo.0000000000000000.new", Text), "0"),
+    Row(In("foo.0101010101010101.new", Text), "1"),
+    Row(In("", Failures), "0"),
 ];
 
-/// Where files have the first two names, a draft takes the third one and leaves these files.
+/// If files have the first two names, a draft takes the third name and leaves those files.
 #[test]
 fn names_that_are_taken(rt: HostRuntime) -> Result<(), Fail> {
     let counted = Numbered {
         rt: &rt,
-        next: Cell::new(0),
+        next: AtomicU64::new(0),
         step: 1,
         end: 255,
     };
@@ -144,26 +151,25 @@ fn names_that_are_taken(rt: HostRuntime) -> Result<(), Fail> {
 }
 
 const NONE: &[Row] = &[
-    Row("foo", FileStep::Put("foo"), "90 Failed"),
-    Row("foo", FileStep::Exists, "false"),
+    Row(In("foo", Put("foo")), "90 Failed"),
+    Row(In("foo", Exists), "false"),
     Row(
-        "foo",
-        FileStep::KeepLost(&["foo"], "numbered/empty", &[]),
+        In("foo", Draft(KeepLost(&["foo"], "numbered/empty", &[]))),
         "90 Failed",
     ),
-    Row("foo", FileStep::Exists, "false"),
-    Row("foo.0000000000000000.new", FileStep::Text, "0"),
-    Row("foo.0101010101010101.new", FileStep::Text, "1"),
-    Row("", FileStep::Failures, "2"),
+    Row(In("foo", Exists), "false"),
+    Row(In("foo.0000000000000000.new", Text), "0"),
+    Row(In("foo.0101010101010101.new", Text), "1"),
+    Row(In("", Failures), "2"),
 ];
 
-/// Where random numbers are refused, or are always one that is taken, nothing is written.
+/// If random numbers are refused, or each is in the name of a file already, nothing is written.
 #[test]
 fn names_that_are_refused(rt: HostRuntime) -> Result<(), Fail> {
-    for (step, end) in [(1u8, 0u8), (0, 1)] {
+    for (step, end) in [(1u64, 0u8), (0, 1)] {
         let numbers = Numbered {
             rt: &rt,
-            next: Cell::new(0),
+            next: AtomicU64::new(0),
             step,
             end,
         };

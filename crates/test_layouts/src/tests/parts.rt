@@ -1,4 +1,4 @@
-//! Blobs of sizes at which the reading in parts ends in different ways, copied between layouts.
+//! Copies of blobs that are read in parts: blobs of no bytes, of less than a part, of exactly one part, and of more.
 
 use crate::tests::copies::copied_keys;
 use crate::tests::faulty::{Change, FaultyDir};
@@ -22,16 +22,16 @@ use test_support::{LAYER, closed};
 pub(crate) const PART: usize = 1_048_576;
 
 /// No bytes, one, exactly a part, a part and one byte, and five parts.
-const SIZES: [usize; 5] = [0, 1, PART, PART + 1, 5 * PART];
+static SIZES: [usize; 5] = [0, 1, PART, PART + 1, 5 * PART];
 
-/// A layer of so many bytes, no two parts of which are alike, and which differ from those of another seed in each byte: at place `n`
-/// stands the rest of `n` by 251, changed by the seed.
+/// A layer. Byte `n` of it is `n % 251`, changed by the seed. So no two parts of a layer are alike, and two layers with different
+/// seeds differ in each byte.
 #[derive(Clone, Copy)]
 pub(crate) struct Layer {
     pub(crate) size: usize,
     pub(crate) seed: u8,
     pub(crate) media_type: &'static str,
-    /// The digest; by SHA-256 where there is none.
+    /// The digest; if there is none, it is the SHA-256 digest.
     pub(crate) digest: Option<&'static str>,
 }
 
@@ -121,7 +121,7 @@ fn layers_of(alloc: Global, layers: &[Layer]) -> Result<Layers, Fail> {
     Ok(made)
 }
 
-/// A layout in memory of one layer, which was opened.
+/// A layout in memory that was opened and has one layer.
 fn layer_of(alloc: Global, size: usize) -> Result<Layers, Fail> {
     layers_of(alloc, &[first_layer(size)])?.reopened(alloc)
 }
@@ -148,13 +148,13 @@ fn assert_all_there<D: Dir, R: AllocGlobal + Abort>(
     Ok(())
 }
 
-/// What a copy told, and what the layout then holds.
+/// What a copy told, and what the layout holds.
 fn told_and_held<D: Dir>(alloc: Global, layout: &Layout<D>, told: &str) -> Result<String, Fail> {
     let held = summary(alloc, layout)?;
     Ok(format!(in alloc; "{told}, {held}")?)
 }
 
-/// Copies the layers of a layout into one that is made in a directory, and gives the directory, and what is told and then held.
+/// Copies the layers of a layout into a new layout in a directory. Returns the directory, and what is told and held.
 fn copied<D: Dir + Drop + Send, R: AllocGlobal + Threads + Wait + Sync>(
     rt: &R,
     source: &Layers,
@@ -170,14 +170,14 @@ where
     Ok((layout.into_dir(), told))
 }
 
-/// So many layers came, and are held.
+/// This many layers are copied and held.
 fn assert_held<R: AllocGlobal + Abort>(rt: &R, told: &str, count: usize) -> Result<(), Fail> {
     let want = format!(in rt.alloc(); "planned {count} pushed {count} skipped 0, held {count}")?;
     assert_eq!(rt; told, want.as_str());
     Ok(())
 }
 
-/// Copies the layers of a layout into one that is made in a directory: all are held, and have their bytes in the directory.
+/// Copies the layers of a layout into a new layout in a directory: all are held, and have their bytes in the directory.
 fn assert_copied<D: Dir + Drop + Send, R: AllocGlobal + Threads + Wait + Sync + Abort>(
     rt: &R,
     source: &Layers,
@@ -192,8 +192,8 @@ where
     assert_all_there(rt, &dir, &source.keys)
 }
 
-/// The same into a folder, where an old file of so many right bytes and a wrong one may stand in place of the first layer. `below` is then
-/// the path of so many files.
+/// A folder into which layers are copied. An old file of `old` right bytes and a wrong one may stand in place of the first layer.
+/// After the copy the folder `below` has this many files.
 #[derive(Clone, Copy)]
 pub(crate) struct Folder {
     pub(crate) folder: &'static str,
@@ -202,7 +202,7 @@ pub(crate) struct Folder {
     pub(crate) files: usize,
 }
 
-/// So many bytes of a layer, and one that it does not have.
+/// The first bytes of a layer, and one that it does not have.
 fn old_bytes(alloc: Global, size: usize) -> Result<Vec<u8>, Fail> {
     let mut old = bytes_of(alloc, size, 0)?;
     old.push(255)?;
@@ -216,7 +216,7 @@ fn put_old<D: Dir>(alloc: Global, dir: &mut D, key: &Key, size: usize) -> Result
     Ok(())
 }
 
-/// Puts the old file where there is to be one.
+/// Puts the old file, if there is to be one.
 fn prepare<D: Dir>(
     alloc: Global,
     dir: &mut D,
@@ -239,6 +239,21 @@ fn folder_of<'r, R: Host>(
     Ok(dir)
 }
 
+fn assert_copied_into_folder<R: Host + Threads + Wait + Abort>(
+    rt: &R,
+    source: &Layers,
+    folder: Folder,
+    workers: Option<u32>,
+) -> Result<(), Fail> {
+    assert_copied(rt, source, folder_of(rt, source, folder)?, workers)
+}
+
+/// The folder has the files that it should have. Removes it.
+fn assert_files<R: Host + Abort>(rt: &R, folder: Folder) -> Result<(), Fail> {
+    assert_eq!(rt; files_in(rt, folder.below)?, folder.files);
+    Ok(fs::remove_dir_all(rt, folder.folder)?)
+}
+
 fn assert_copied_into<R: Host + Threads + Wait + Abort>(
     rt: &R,
     source: &Layers,
@@ -246,12 +261,11 @@ fn assert_copied_into<R: Host + Threads + Wait + Abort>(
     workers: Option<u32>,
 ) -> Result<(), Fail> {
     let _ = fs::remove_dir_all(rt, folder.folder);
-    assert_copied(rt, source, folder_of(rt, source, folder)?, workers)?;
-    assert_eq!(rt; files_in(rt, folder.below)?, folder.files);
-    Ok(fs::remove_dir_all(rt, folder.folder)?)
+    assert_copied_into_folder(rt, source, folder, workers)?;
+    assert_files(rt, folder)
 }
 
-/// Copies layers by so many workers into memory, or into a folder.
+/// Copies layers by this many workers into memory, or into a folder.
 pub(crate) fn assert_copied_by<R: Host + Threads + Wait + Abort>(
     rt: &R,
     layers: &[Layer],
@@ -283,11 +297,11 @@ fn assert_layer_copied<R: AllocGlobal + Threads + Wait + Sync + Abort>(
     assert_copied(rt, &source, MemDir::with_fuse(rt.alloc(), puts), None)
 }
 
-/// A copy of a layer of each size into a directory whose fuse passes the two files of a new layout, and the blob.
+/// Copies a layer of each size into a directory that passes three puts: the two files of a new layout, and the blob.
 #[test]
 fn layers_of_parts(rt: HostRuntime) -> Result<(), Fail> {
-    for size in SIZES {
-        assert_layer_copied(&rt, size, 3)?;
+    for size in &SIZES {
+        assert_layer_copied(&rt, *size, 3)?;
     }
     Ok(())
 }
@@ -305,7 +319,7 @@ fn assert_fault<R: AllocGlobal + Abort>(
     Ok(())
 }
 
-/// Nothing is held by the layout that a directory is.
+/// The layout in this directory holds nothing.
 fn assert_empty<R: AllocGlobal + Abort>(rt: &R, dir: MemDir) -> Result<(), Fail> {
     let layout = opened(rt.alloc(), dir)?;
     let held = summary(rt.alloc(), &layout)?;
@@ -313,7 +327,7 @@ fn assert_empty<R: AllocGlobal + Abort>(rt: &R, dir: MemDir) -> Result<(), Fail>
     Ok(())
 }
 
-/// The blob is not put: the layout holds nothing, and nothing is opened of its directory.
+/// If the put of the blob fails, the layout holds nothing, also after it is opened again.
 fn assert_refused<R: AllocGlobal + Threads + Wait + Sync + Abort>(
     rt: &R,
     source: &Layers,
@@ -331,16 +345,16 @@ fn assert_not_put<R: AllocGlobal + Threads + Wait + Sync + Abort>(
     assert_refused(rt, &layer_of(rt.alloc(), size)?)
 }
 
-/// The same where the fuse does not pass the blob: it is told as a push that the device failed, and nothing is held.
+/// If the directory fails the put of a layer, that is told as a push that the device failed, and nothing is held.
 #[test]
 fn fuse_at_a_layer_of_parts(rt: HostRuntime) -> Result<(), Fail> {
-    for size in SIZES {
-        assert_not_put(&rt, size)?;
+    for size in &SIZES {
+        assert_not_put(&rt, *size)?;
     }
     Ok(())
 }
 
-/// The blob of a layer of a part and one byte has other bytes after so many reads.
+/// The blob of a layer of a part and one byte has other bytes after `right` reads.
 fn change(alloc: Global, key: &Key, right: u64) -> Result<Change, Fail> {
     let path = blob(alloc, key)?;
     let other = Bytes::from_vec(bytes_of(alloc, PART + 1, 1)?)?;
@@ -357,7 +371,7 @@ fn told_of_copy<R: AllocGlobal + Threads + Wait + Sync>(
     Ok(told)
 }
 
-/// What a copy of these keys tells where the file of the first one changes after so many reads of the directory.
+/// What a copy of these keys tells if the file of the first one changes after `right` reads of the directory.
 fn told_of_changing<R: AllocGlobal + Threads + Wait + Sync>(
     rt: &R,
     dir: MemDir,
@@ -384,8 +398,8 @@ fn assert_changing<R: AllocGlobal + Threads + Wait + Sync + Abort>(
     )
 }
 
-/// The bytes of a source change between its first part and its second one: `open` reads the layout file and the index, and the
-/// copy then the first part.
+/// A blob of the source changes between its first part and its second one: `open` reads the layout file and the index, and the copy
+/// then reads the first part.
 #[test]
 fn changing_parts(rt: HostRuntime) -> Result<(), Fail> {
     assert_changing(&rt, 3)
@@ -401,8 +415,8 @@ const LAYERS_FOLDER: Folder = Folder {
 /// Copies a layer of each size into a folder.
 #[test]
 fn layers_in_a_folder(rt: HostRuntime) -> Result<(), Fail> {
-    for size in SIZES {
-        assert_layer_copied_into(&rt, size, LAYERS_FOLDER)?;
+    for size in &SIZES {
+        assert_layer_copied_into(&rt, *size, LAYERS_FOLDER)?;
     }
     Ok(())
 }

@@ -9,7 +9,7 @@ use test_support::Sample::{
     Bar, Empty, Foo, FooBySha512, Image0, Image2, Image3, Index1, Index3, Referrer,
 };
 
-/// What a mark gives of a sample.
+/// What a mark stands for.
 #[derive(Clone, Copy)]
 enum Form {
     /// The key.
@@ -27,7 +27,7 @@ enum Form {
 }
 
 /// The marks, and what they stand for.
-const MARKS: [(&str, Form, Sample); 22] = [
+static MARKS: [(&str, Form, Sample); 22] = [
     ("<key Empty>", Form::Whole, Empty),
     ("<key Foo>", Form::Whole, Foo),
     ("<key FooBySha512>", Form::Whole, FooBySha512),
@@ -56,6 +56,12 @@ const MARKS: [(&str, Form, Sample); 22] = [
 pub(crate) fn blob(alloc: Global, key: &Key) -> Result<String, Fail> {
     let (algorithm, digits) = (key.digest().algorithm(), key.digest().encoded(alloc)?);
     Ok(format!(in alloc; "blobs/{algorithm}/{digits}")?)
+}
+
+/// Bytes that are text.
+pub(crate) fn utf8(alloc: Global, bytes: &[u8]) -> Result<String, Fail> {
+    let text = str::from_utf8(bytes)?;
+    Ok(String::from_str(alloc, text)?)
 }
 
 /// The text of a sample.
@@ -105,13 +111,13 @@ fn marked(
 /// The text with what each mark stands for in its place.
 pub(crate) fn expanded(alloc: Global, text: &str) -> Result<String, Fail> {
     let mut text = String::from_str(alloc, text)?;
-    for (mark, form, sample) in MARKS {
-        text = marked(alloc, text, mark, form, sample)?;
+    for (mark, form, sample) in &MARKS {
+        text = marked(alloc, text, mark, *form, *sample)?;
     }
     Ok(text)
 }
 
-/// The text is the wanted one, in which marks may stand. Where it is not, the step that told it is named.
+/// A step tells the wanted text, in which marks may stand. If it does not, the failure names the step.
 pub(crate) fn assert_told<R: AllocGlobal + Abort>(
     rt: &R,
     step: usize,
