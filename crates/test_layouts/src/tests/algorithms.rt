@@ -8,8 +8,8 @@ use crate::tests::steps::{Ground, Row, assert_run};
 use std::test::Fail;
 use test_support::Sample::{Empty, Foo, FooBySha512, Image5};
 
-/// A layer with a digest by SHA-512 is pushed into a new layout, which is saved and opened again. The digests are by `sha512sum` and
-/// `sha256sum`.
+/// A layer with a SHA-512 digest is pushed into a new layout, which is saved and opened again. The digests are those that
+/// `sha512sum` and `sha256sum` print.
 const SHA512_BLOB: &[Row] = &[
     Row(Create, "made"),
     Row(With(Push(FooBySha512)), "place 0"),
@@ -50,14 +50,14 @@ fn sha512_blob(rt: HostRuntime) -> Result<(), Fail> {
     assert_run(&rt, Ground::Memory, SHA512_BLOB)
 }
 
-/// The same in a folder, in which the folder of the algorithm is made.
+/// In a folder, the folder of the algorithm is made.
 #[test]
 fn sha512_blob_in_a_folder(rt: HostRuntime) -> Result<(), Fail> {
     assert_run(&rt, Ground::Folder("sha512_blob"), SHA512_BLOB)
 }
 
-/// An image with the layer by SHA-512 is copied into a new layout, and the same layer by SHA-256: there is a file for each of the two
-/// keys. Both keys are held, with the image and its config.
+/// An image whose layer has a SHA-512 digest is copied into a new layout, and so is that layer with its SHA-256 digest. Each of the
+/// two keys has a file. Both are held, with the image and its config.
 const TWO_ALGORITHMS: &[Row] = &[
     Row(Create, "made"),
     Row(
@@ -95,7 +95,7 @@ const TWO_ALGORITHMS: &[Row] = &[
     ),
 ];
 
-/// One content under both algorithms is two keys with a file each, and stays so when it is opened again.
+/// One content with a digest by each algorithm is two keys with a file each, also after the layout is opened again.
 #[test]
 fn foo_by_two_algorithms(rt: HostRuntime) -> Result<(), Fail> {
     assert_run(&rt, Ground::Memory, TWO_ALGORITHMS)

@@ -15,13 +15,13 @@ use test_support::{Sample, keys, memory};
 /// A copy into a layout.
 #[derive(Clone, Copy)]
 pub(crate) enum Copying<'a> {
-    /// From a store in memory that has these samples, so many of them.
+    /// The last samples, from a store in memory that has the first ones.
     Memory(&'a [Sample], &'a [Sample]),
-    /// From a layout that has the one sample.
+    /// The sample, from a layout that has no other.
     Layout(Sample),
-    /// From a store in memory that has these samples, and calls this one `m`, as `v1`.
+    /// The last sample by reference, from a store in memory that has the first ones and calls it `m`. The layout calls it `v1`.
     Named(&'a [Sample], Sample),
-    /// From a store in memory that has these samples, this one and what lists it.
+    /// The last sample and what lists it, from a store in memory that has the first ones.
     Extended(&'a [Sample], Sample),
 }
 
@@ -47,7 +47,7 @@ fn answered<A: Source, D: Dest + Drop>(
     copy_one(alloc, source, destination, roots, &Options::default())
 }
 
-/// Copies some keys by so many workers.
+/// Copies some keys by this many workers.
 fn answered_by<A: Source + Sync, D: Dest + Drop + Send, R: AllocGlobal + Threads + Wait + Sync>(
     rt: &R,
     source: &A,
@@ -83,7 +83,7 @@ fn told_of<D: Dest + Drop>(
     Ok((destination, told))
 }
 
-/// Copies some keys by so many workers, or on the calling thread, and gives the destination and what is told.
+/// Copies some keys by this many workers, or on the calling thread. Returns the destination and what is told.
 pub(crate) fn copied_keys<
     A: Source + Sync,
     D: Dest + Drop + Send,
@@ -105,7 +105,7 @@ where
     }
 }
 
-/// The same of some samples.
+/// Copies some samples, as [`copied_keys`] copies keys.
 pub(crate) fn copied_samples<
     A: Source + Sync,
     D: Dest + Drop + Send,
@@ -261,7 +261,7 @@ where
     )
 }
 
-/// Copies into a layout, and gives it and what is told.
+/// Copies into a layout, and returns it and what is told.
 pub(crate) fn copied<D: Dest + Tagger + Drop + Send, R: AllocGlobal + Threads + Wait + Sync>(
     rt: &R,
     destination: D,

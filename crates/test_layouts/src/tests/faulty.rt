@@ -15,22 +15,22 @@ pub(crate) enum Failing {
     Nothing,
     /// The read of this number.
     Read(u64),
-    /// Each read after so many. Here a look whether there is a file is counted, and fails, as a read.
+    /// Each read after this many. To look whether there is a file counts as a read.
     LaterReads(u64),
     /// The put of this number, which leaves other bytes.
     Put(u64),
 }
 
-/// A file that has other bytes after so many reads of the directory.
+/// A file that has other bytes after some reads of the directory.
 #[derive(Drop)]
 pub(crate) struct Change {
     pub(crate) path: String,
     pub(crate) other: Bytes,
-    /// How many reads are answered right.
+    /// How many reads return the right bytes.
     pub(crate) right: u64,
 }
 
-/// A directory of which something fails, or a file changes while it is read. It is honest where no file changes.
+/// A directory that fails reads or puts, or whose file changes while it is read. It is honest if no file changes.
 #[derive(Drop)]
 pub(crate) struct FaultyDir {
     dir: MemDir,
@@ -44,7 +44,7 @@ pub(crate) struct FaultyDir {
 }
 
 impl FaultyDir {
-    /// One of which this fails.
+    /// A directory with this failure.
     pub(crate) fn failing(dir: MemDir, failing: Failing) -> FaultyDir {
         FaultyDir {
             dir,
@@ -56,7 +56,7 @@ impl FaultyDir {
         }
     }
 
-    /// One a file of which changes.
+    /// A directory of which a file changes.
     pub(crate) fn changing(dir: MemDir, change: Change) -> FaultyDir {
         FaultyDir {
             dir,
@@ -68,7 +68,7 @@ impl FaultyDir {
         }
     }
 
-    /// Counts a read, and gives its number.
+    /// Counts a read, and returns its number.
     fn next_read(&self) -> u64 {
         self.reads.fetch_add(1, Ordering::SeqCst)
     }
@@ -138,7 +138,7 @@ impl Dir for FaultyDir {
         self.dir.exists(path)
     }
 
-    /// Leaves the first half of the bytes where it fails.
+    /// If it fails, it leaves the first half of the bytes.
     fn put(&mut self, path: &str, bytes: &[u8]) -> Result<(), DirFault> {
         let fails = self.fails_put();
         self.puts = self.puts.saturating_add(1);
@@ -163,7 +163,7 @@ impl Dir for FaultyDir {
         self.dir.draft(path)
     }
 
-    /// Leaves one byte where it fails.
+    /// If it fails, it leaves one byte.
     fn keep(&mut self, path: &str, draft: MemoryDraft) -> Result<(), DirFault> {
         let fails = self.fails_put();
         self.puts = self.puts.saturating_add(1);

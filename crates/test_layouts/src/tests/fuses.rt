@@ -1,4 +1,4 @@
-//! Directories that pass so many puts and fail the next, of which half is then there.
+//! Directories that pass some puts and fail the next one, of which half is then there.
 
 use crate::tests::files::FileStep::Length;
 use crate::tests::layouts::LayoutStep::{Held, Push, Save, Tag};
@@ -26,7 +26,7 @@ fn fuse_at_create(rt: HostRuntime) -> Result<(), Fail> {
     assert_run(&rt, Ground::Fuse(1), AT_FIRST_INDEX)
 }
 
-/// Half of `oci-layout` is a layout file too, so the directory is no place for another layout.
+/// No layout is made in a directory that has half of `oci-layout`.
 #[test]
 fn create_after_a_fuse(rt: HostRuntime) -> Result<(), Fail> {
     let rows = [Row(Create, "74 Device"), Row(Create, "78 AlreadyLayout")];
@@ -54,7 +54,7 @@ fn fuse_at_push(rt: HostRuntime) -> Result<(), Fail> {
     assert_run(&rt, Ground::Fuse(3), AT_IMAGE)
 }
 
-/// What the layout in memory holds stays.
+/// If a save fails, the layout in memory still holds what it held.
 const AT_INDEX: &[Row] = &[
     Row(Create, "made"),
     Row(With(Push(Empty)), "place 0"),

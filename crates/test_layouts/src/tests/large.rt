@@ -27,8 +27,7 @@ const FIRST_AS_TEXT: Layer = Layer {
     digest: None,
 };
 
-/// The first layer with its digest by SHA-512: that of bytes of which the one at place `n` is the rest of `n` by 251, by Python's
-/// `hashlib`.
+/// The first layer with its SHA-512 digest, which is that of Python's `hashlib` for bytes of which number `n` is `n % 251`.
 const FIRST_BY_SHA512: Layer = Layer {
     size: PART + 1,
     seed: 0,
@@ -54,7 +53,7 @@ const LARGE_LAYERS: Folder = Folder {
     files: 2,
 };
 
-/// The same into a folder.
+/// Two layers over a part, by one worker and by three, into a folder.
 #[test]
 fn large_layers_in_a_folder(rt: HostRuntime) -> Result<(), Fail> {
     for workers in [1, 3] {

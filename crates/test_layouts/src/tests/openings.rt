@@ -64,7 +64,7 @@ fn index_files(rt: HostRuntime) -> Result<(), Fail> {
     assert_run(&rt, Ground::Memory, INDEX_FILES)
 }
 
-/// The one entry is an image that has the bytes of the empty JSON object, with a size that they do not have, and with theirs.
+/// The one entry is an image whose bytes are the empty JSON object, first with a wrong size and then with the right one.
 const AT_FAULT: &[Row] = &[
     Row(
         In("oci-layout", Put("{\"imageLayoutVersion\":\"1.0.0\"}")),

@@ -58,13 +58,13 @@ const TWO_KEYS: &[Row] = &[
     Row(With(Push(Empty)), "43 Device"),
 ];
 
-/// A file that has the bytes is not put again: the directory would fail one put more.
+/// A file that has the bytes is not put again: the directory would fail another put.
 #[test]
 fn file_of_two_keys(rt: HostRuntime) -> Result<(), Fail> {
     assert_run(&rt, Ground::Fuse(3), TWO_KEYS)
 }
 
-/// The file of a layer that a layout holds then has each of three texts.
+/// Each of three texts is put in place of the file of a layer.
 const CHANGED: &[Row] = &[
     Row(Create, "made"),
     Row(With(Push(Foo)), "place 0"),

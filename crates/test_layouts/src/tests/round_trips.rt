@@ -9,8 +9,8 @@ use crate::tests::steps::{Ground, Row, assert_run};
 use std::test::Fail;
 use test_support::Sample::{Empty, Image0};
 
-/// A layout is made, an image is copied into it, and it is saved: the directory has the four files, byte for byte. It is opened again, and
-/// holds the image and its config, and each reference resolves to what it should; then it is no place for another one.
+/// A layout is made, an image is copied into it, and it is saved: the directory has the four files, byte for byte. It is opened
+/// again: it holds the image and its config, and each reference resolves to its key. No other layout is made there.
 const ROUND_TRIP: &[Row] = &[
     Row(Create, "made"),
     Row(
@@ -43,7 +43,7 @@ fn layout_round_trip(rt: HostRuntime) -> Result<(), Fail> {
     assert_run(&rt, Ground::Memory, ROUND_TRIP)
 }
 
-/// A held key whose file is removed is told by its fetch; where the folder is opened again, it is not held.
+/// The file of a held key is removed: the fetch finds that, and when the folder is opened again, the key is not held.
 const GONE: &[Row] = &[
     Row(Create, "made"),
     Row(
@@ -59,7 +59,7 @@ const GONE: &[Row] = &[
     Row(With(Fetch(Empty)), "20 NotFound"),
 ];
 
-/// The same in a folder, which is made with it.
+/// In a folder, which is made with the layout, the round trip is the same.
 #[test]
 fn layout_round_trip_in_a_folder(rt: HostRuntime) -> Result<(), Fail> {
     assert_run(&rt, Ground::Folder("round_trip"), ROUND_TRIP)?;
@@ -85,7 +85,7 @@ const PATHS: &[Row] = &[
     Row(In("", Failures), "5"),
 ];
 
-/// No path leaves the folder, and one through a file is absent. The folder under an empty path is the current one.
+/// No path leaves the folder, and there is nothing at a path through a file. The empty path is the current folder.
 #[test]
 fn paths_of_a_folder(rt: HostRuntime) -> Result<(), Fail> {
     assert_run(&rt, Ground::Folder("paths"), PATHS)

@@ -43,11 +43,11 @@ pub(crate) struct Row<'a>(pub(crate) Step<'a>, pub(crate) &'a str);
 pub(crate) enum Ground<'a> {
     /// A directory in memory.
     Memory,
-    /// One that passes so many puts, and fails the next.
+    /// A directory in memory that passes this many puts, and fails the next.
     Fuse(u64),
     /// A folder, which is removed before and afterwards.
     Folder(&'a str),
-    /// A directory in memory after these steps, which then passes so many reads, and fails each later one.
+    /// A directory in memory after these steps. It then passes this many reads, and fails each later one.
     Unreadable(&'a [Row<'a>], u64),
 }
 
@@ -78,7 +78,7 @@ impl<D: Dir + Drop> Place<D> {
     }
 }
 
-/// Puts what a making or an opening answers in its place, and gives the fault.
+/// Keeps the layout, or the directory that came back with a fault. Returns the fault.
 fn settle<D: Dir + Drop>(
     place: &mut Place<D>,
     answer: Result<Layout<D>, (D, LayoutFault)>,
@@ -165,7 +165,7 @@ fn in_place<D: Dir + Drop, R: Host>(
     told
 }
 
-/// Takes a step, and gives what it tells.
+/// Takes a step, and returns what it tells.
 fn taken<D: Dir + Drop + Send, R: Host + Threads + Wait + Abort>(
     rt: &R,
     place: &mut Place<D>,
@@ -212,7 +212,7 @@ where
     Ok(())
 }
 
-/// Takes these steps with a directory, of which each tells what stands beside it, and gives the directory.
+/// Takes these steps with a directory, checks what each of them tells, and returns the directory.
 fn dir_after<D: Dir + Drop + Send, R: Host + Threads + Wait + Abort>(
     rt: &R,
     dir: D,
@@ -229,7 +229,7 @@ where
     place.take_dir()
 }
 
-/// Takes these steps with a directory, of which each tells what stands beside it.
+/// Takes these steps with a directory, and checks what each of them tells.
 pub(crate) fn assert_steps<D: Dir + Drop + Send, R: Host + Threads + Wait + Abort>(
     rt: &R,
     dir: D,
@@ -263,7 +263,7 @@ fn assert_steps_unreadable<R: Host + Threads + Wait + Abort>(
     assert_steps(rt, dir, rows)
 }
 
-/// Takes these steps somewhere: each tells what stands beside it.
+/// Takes these steps on this ground, and checks what each of them tells.
 pub(crate) fn assert_run<R: Host + Threads + Wait + Abort>(
     rt: &R,
     ground: Ground<'_>,

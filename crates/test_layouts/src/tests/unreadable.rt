@@ -9,14 +9,14 @@ use std::process::Abort;
 use std::test::Fail;
 use test_support::Sample::{Empty, Foo, Image0};
 
-/// A layout is made, none of whose files can be read any more.
+/// A layout is made, and then none of its files can be read.
 const BLOB: &[Row] = &[
     Row(Create, "made"),
     Row(With(Push(Foo)), "place 0"),
     Row(With(Fetch(Foo)), "22 Device"),
 ];
 
-/// A push goes on without the look at an old file, and a fetch is refused.
+/// A push does not need to look for an old file, and a fetch is refused.
 #[test]
 fn unreadable_blob(rt: HostRuntime) -> Result<(), Fail> {
     assert_run(&rt, Ground::Unreadable(&[], 1), BLOB)
@@ -30,7 +30,7 @@ const NEW_LAYOUT: &[Row] = &[Row(Create, "made")];
 
 const REFUSED: &[Row] = &[Row(Open, "74 Device")];
 
-/// No layout is made or opened where the layout file, or then the index, cannot be read.
+/// No layout is made or opened if the layout file cannot be read, and none is opened if the index cannot.
 #[test]
 fn unreadable_directory(rt: HostRuntime) -> Result<(), Fail> {
     assert_run(&rt, Ground::Unreadable(&[], 0), LAYOUT_FILE)?;
@@ -46,7 +46,7 @@ const IMAGE: &[Row] = &[
     Row(With(Save), "saved"),
 ];
 
-/// Nor where both can, and the manifest that the index lists cannot.
+/// No layout is opened if the manifest that the index lists cannot be read.
 #[test]
 fn unreadable_manifest(rt: HostRuntime) -> Result<(), Fail> {
     assert_run(&rt, Ground::Unreadable(IMAGE, 2), REFUSED)
