@@ -53,10 +53,7 @@ fn is_hexadecimal(text: &str, digits: usize) -> bool {
 }
 
 /// Removes from the folder of a layout the files that were written beside others and never renamed. What cannot be removed stays.
-pub(crate) fn remove_leftovers<R: Files + AllocGlobal>(
-    rt: &R,
-    folder: &str,
-) -> Result<(), DirFault>
+pub(crate) fn remove_leftovers<R: Files + AllocGlobal>(rt: &R, folder: &str) -> Result<(), DirFault>
 where
     R::File: Lockable,
 {
