@@ -1,5 +1,5 @@
 -- A push keeps what a run keeps.
-use Rattle.std.proofs.Common.{◌≡◌, ◌<◌, ◌-◌, ◌^◌, inl, inr, ℕ, true, false, List, [], ◌∷◌, ◌++◌, Some, Result, Ok, Err, refl, sym, ap, ◌∙◌, append_assoc, append-nil, subst, arith}
+use Rattle.std.proofs.Common.{◌≡◌, ◌<◌, ◌≤◌, ◌-◌, ◌^◌, inl, inr, ℕ, true, false, List, [], ◌∷◌, ◌++◌, Some, Result, Ok, Err, refl, sym, ap, ◌∙◌, append_assoc, append-nil, subst, arith}
 use Rattle.std.specs.Prelude.{Contains, option_map}
 use Rattle.std.specs.List.{All}
 use Rattle.std.proofs.lemmas.List.Elements.{All-nil, All-weaker, All-push}
@@ -10,6 +10,7 @@ use Rattle.oci_store.specs.Keyed.{value_at, has_key, HasAll}
 use Rattle.oci_store.specs.Content.{Entry, IsChecked, successors_in}
 use Rattle.oci_store.specs.Graph.{Node, node_of}
 use Rattle.oci_store.specs.Push.{IsCalm, IsUndisturbed, AgreesAt, IsPush}
+use Rattle.oci_store.specs.Parts.{IsLostPush}
 use Rattle.oci_store.specs.declared.fault.PushFault.{PushFault}
 use Rattle.oci_store.specs.State.{State}
 use Rattle.oci_store.proofs.Lookups.{All-value_at, value_at-append_cases, has_key-append_left}
@@ -47,19 +48,18 @@ keeps_start shares source planned opening = record {
   name = refl;
 }
 
+-- bytes that are known after a push were known before it, and no put failed meanwhile
+known_before : {shares : Type 0} {source opening before after : State} → opening.failures ≤ before.failures → before.failures ≤ after.failures
+    → HasKnownBytes shares source opening after → HasKnownBytes shares source opening before × IsCalm before.failures after.failures
+known_before {opening = opening} {before = before} {after = after} up rises known =
+    let calm = known.is_calm in
+    let same : before.failures ≡ opening.failures = (let e = calm.0 in omega arith) in
+    let less : before.failures < 2 ^ 64 - 1 = (let e = calm.0 in let l = calm.1 in omega arith) in
+    let now : after.failures ≡ before.failures = (let e = calm.0 in omega arith) in
+    (record { is_honest = known.is_honest; is_sound = known.is_sound; is_calm = (same, less); same_old = known.same_old; same_source = known.same_source }, (now, calm.1))
+
 module _ {shares : Type 0} {source : State} {planned : List Descriptor} {opening before after : State} {e : Entry} {pushed : Result ℕ PushFault}
     (did : IsPush shares before after e pushed) (own : source.is_honest → value_at source.entries e.0 ≡ Some e.1) (keeps : Keeps shares source planned opening before) where
-  -- bytes that are known after a push were known before it, and nothing disturbed it
-  known_before : HasKnownBytes shares source opening after → HasKnownBytes shares source opening before × IsCalm before.failures after.failures
-  known_before known =
-      let calm = known.is_calm in
-      let up = keeps.rising in
-      let rises = did.failures in
-      let same : before.failures ≡ opening.failures = (let e = calm.0 in omega arith) in
-      let less : before.failures < 2 ^ 64 - 1 = (let e = calm.0 in let l = calm.1 in omega arith) in
-      let now : after.failures ≡ before.failures = (let e = calm.0 in omega arith) in
-      (record { is_honest = known.is_honest; is_sound = known.is_sound; is_calm = (same, less); same_old = known.same_old; same_source = known.same_source }, (now, calm.1))
-
   -- the pairs of the pushed key's digest have its bytes
   agrees_at : HasKnownBytes shares source opening before → IsOpeningAnd source.entries planned opening.entries before.entries → shares → AgreesAt before.entries e.0 e.1
   agrees_at known grown shared other found there same =
@@ -72,7 +72,7 @@ module _ {shares : Type 0} {source : State} {planned : List Descriptor} {opening
 
   undisturbed : HasKnownBytes shares source opening after → IsUndisturbed shares before after e
   undisturbed known =
-      let b = known_before known in
+      let b = known_before {before = before} keeps.rising did.failures known in
       let was = keeps.known b.0 in
       record { is_sound = was.0; is_calm = b.1; agrees = agrees_at b.0 was.1 }
 
@@ -95,7 +95,7 @@ module _ {shares : Type 0} {source : State} {planned : List Descriptor} {opening
             (value_at-nodes_of source.entries e.0 ∙ ap (option_map (successors_in e.0)) (own h));
         known = λ t.
             let calm = undisturbed t in
-            let was = (keeps.known (known_before t).0).1 in (
+            let was = (keeps.known (known_before {before = before} keeps.rising did.failures t).0).1 in (
               did.bytes.sound calm,
               record {
                 added = was.added ++ e ∷ [];
@@ -119,7 +119,7 @@ module _ {shares : Type 0} {source : State} {planned : List Descriptor} {opening
     own = keeps.own;
     known = λ t.
         let calm = undisturbed t in
-        let was = (keeps.known (known_before t).0).1 in
+        let was = (keeps.known (known_before {before = before} keeps.rising did.failures t).0).1 in
         (did.bytes.sound calm, record { added = was.added; is = bytes_are calm ∙ was.is; each = was.each });
     rising = (let u = keeps.rising in let rises = did.failures in omega arith);
     tags = did.tags ∙ keeps.tags;
@@ -133,3 +133,22 @@ pub keeps_answered : {shares : Type 0} {source : State} {planned : List Descript
 keeps_answered {before = before} {e = e} {listed = listed} (Ok place) did own plan fresh read keeps =
     keeps_pushed did own keeps plan did.keys.pushed (held-from_check before.nodes e.0 e.1 did.keys.checked.0 fresh read.matching did.keys.checked.1) (lists_by_bytes e.0 e.1 listed read) did.bytes.pushed
 keeps_answered (Err fault) did own plan fresh read keeps = keeps_refused did own keeps did.keys.refused did.bytes.refused
+
+-- so does a push of a lost draft
+pub keeps_lost : {shares : Type 0} {source : State} {planned : List Descriptor} {opening before after : State} {k : Descriptor} {pushed : Result ℕ PushFault}
+    → IsLostPush before after k pushed → Keeps shares source planned opening before → Keeps shares source planned opening after
+keeps_lost {before = before} did keeps = record {
+  added = keeps.added;
+  is = did.keys.same ∙ keeps.is;
+  planned_keys = keeps.planned_keys;
+  supported = subst (λ (graph : List Node). All (λ (n : Node). HasAll graph n.1) keeps.added) (sym did.keys.same) keeps.supported;
+  checked = keeps.checked;
+  own = keeps.own;
+  known = λ t.
+      let was = known_before {before = before} keeps.rising did.failures t in
+      let known = keeps.known was.0 in
+      (did.sound known.0 was.1, record { added = known.1.added; is = did.entries known.0 was.1 ∙ known.1.is; each = known.1.each });
+  rising = (let u = keeps.rising in let rises = did.failures in omega arith);
+  tags = did.tags ∙ keeps.tags;
+  name = did.name ∙ keeps.name;
+}

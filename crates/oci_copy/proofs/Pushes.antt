@@ -5,14 +5,16 @@ use Rattle.oci_manifest.specs.Descriptor.{Descriptor}
 use Rattle.oci_store.specs.Content.{IsChecked}
 use Rattle.oci_store.specs.Graph.{node_of}
 use Rattle.oci_store.specs.Keyed.{value_at}
+use Rattle.oci_store.specs.Parts.{IsLostPush}
 use Rattle.oci_store.specs.Push.{IsPush}
 use Rattle.oci_store.specs.State.{State}
 use Rattle.oci_store.specs.declared.fault.PushFault.{PushFault}
 use Rattle.oci_copy.specs.Brought.{CanBring, IsBrought}
+use Rattle.oci_copy.specs.Cause.{HasFailed}
 use Rattle.oci_copy.specs.Fault.{ReportsPush}
 use Rattle.oci_copy.specs.declared.fault.CopyFault.{CopyFault}
 use Rattle.oci_copy.proofs.Causes.{step_cause, HasFailed-raised}
-use Rattle.oci_copy.proofs.Workers.{keys_of-append}
+use Rattle.oci_copy.proofs.Workers.{keys_of-append, work_from_lost, step_from_work}
 
 -- content of the key is pushed that was checked, and is the source's where that is honest
 module _ {X : Type 0} {shares : Type 0} {source old new : State} {k : Descriptor} {bytes : List ℕ} {listed : List Descriptor}
@@ -33,3 +35,14 @@ module _ {X : Type 0} {shares : Type 0} {source old new : State} {k : Descriptor
         (λ same. HasFailed-raised old new (did.device (cc))) (λ same. did.halted (cc)) tells;
     running = tt;
   }
+
+-- a draft of the key is pushed that is lost
+pub refused_lost : {X : Type 0} {source old new : State} {k : Descriptor} {e : PushFault} {reported : CopyFault} → CanBring source old k → IsLostPush old new k (Err e) → ReportsPush k e reported
+    → IsBrought {X = X} source old new k (Err reported)
+refused_lost {source = source} {old = old} {new = new} {k = k} {e = e} {reported = reported} can did tells = record {
+  pushed = tt;
+  refused = did.keys.same;
+  cause = step_from_work source old new k reported (work_from_lost (HasFailed old new) source old old.nodes k can.fresh e reported did.keys.checked
+      (λ same. HasFailed-raised old new (did.device (cc))) (λ same. did.halted (cc)) tells);
+  running = tt;
+}

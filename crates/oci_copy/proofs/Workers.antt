@@ -14,17 +14,19 @@ use Rattle.oci_manifest.proofs.Keys.{Decides-same_key}
 use Rattle.oci_store.specs.Keyed.{value_at, has_key, HasAll, HasDistinctKeys}
 use Rattle.oci_store.specs.Content.{IsChecked, successors_in}
 use Rattle.oci_store.specs.Graph.{Node}
+use Rattle.oci_store.specs.Parts.{leaf_check}
 use Rattle.oci_store.specs.State.{State}
 use Rattle.oci_store.specs.Push.{Refusal, Refused, closed_check, held_check, already_exists, size_mismatch, digest_mismatch, bad_manifest, missing_successor}
 use Rattle.oci_store.specs.declared.fault.PushFault.{PushFault}
 use Rattle.oci_store.specs.declared.fault.PushFault.TheVariants as push
 use Rattle.oci_store.proofs.KeyOrder.{same_key_laws}
+use Rattle.oci_store.proofs.Leaves.{leaf_check-fresh}
 use Rattle.oci_store.proofs.Lookups.{found, has_key-from_value, All-value_at, value_at-append_cases, has_key-from_Contains, Contains-from_has_key, has_key-from_HasAll, first_missing-from_HasAll}
 use Rattle.oci_plan.specs.Plan.{Planned}
 use Rattle.oci_copy.specs.declared.options.Options.{Options}
 use Rattle.oci_copy.specs.declared.fault.CopyFault.{CopyFault}
 use Rattle.oci_copy.specs.declared.fault.CopyFault.TheVariants as fault
-use Rattle.oci_copy.specs.Cause.{IsFetchCause, IsContentCause, IsReadCause, IsPushCauseIf, IsStartCause}
+use Rattle.oci_copy.specs.Cause.{HasFailed, IsFetchCause, IsContentCause, IsReadCause, IsPushCauseIf, IsStepCause, IsStartCause}
 use Rattle.oci_copy.specs.Fault.{ReportsPush, IsStuck, IsOtherPush}
 use Rattle.oci_copy.specs.Destination.{IsClosedWhenSkipping}
 use Rattle.oci_copy.specs.Kept.{Keeps}
@@ -89,23 +91,16 @@ as_many_pushed {planned = planned} {opening = opening} {now = now} keeps distinc
 pub reported_memory : (pushed reported : Result ℕ PushFault) (ran_out : Bool) → IsReportedHalt pushed ran_out reported → IsErrOf pushed push.Memory → IsErrOf reported push.Memory
 reported_memory pushed reported ran_out tells memory = let it : IsReportedHalt (Err push.Memory) ran_out reported = subst (λ (r : Result ℕ PushFault). IsReportedHalt r ran_out reported) memory tells in it
 
-module _ (failed : Type 0) (source opening : State) (graph : List Node) (k : Descriptor) (bytes : List ℕ) (listed : List Descriptor)
-    (fresh : has_key graph k ≡ false) (checked : IsChecked k bytes listed) (held : HasAll graph (successors_in k bytes)) where
-  -- nothing is left against the push
-  passes : closed_check graph k bytes ≡ Ok listed
-  passes =
-      let all : HasAll graph listed = subst (HasAll graph) (ap (λ (r : Result (List Descriptor) Fault). result_unwrap_or r []) checked.reads) held in
-      closed_check-read graph k bytes listed fresh checked ∙ ap (held_check listed) (first_missing-from_HasAll graph listed all)
-
-  no_cause : (r : Refusal) → closed_check graph k bytes ≡ Err r → ⊥
+module _ (failed : Type 0) (source opening : State) (k : Descriptor) (check : Result (List Descriptor) Refusal) (listed : List Descriptor) (passes : check ≡ Ok listed) where
+  no_cause : (r : Refusal) → check ≡ Err r → ⊥
   no_cause r e = let both : Ok listed ≡ Err r = sym passes ∙ e in cc both
 
-  stuck : (e : PushFault) → Refused e (closed_check graph k bytes) → IsStuck e → ⊥
+  stuck : (e : PushFault) → Refused e check → IsStuck e → ⊥
   stuck push.AlreadyExists refused is = no_cause already_exists refused
   stuck (push.MissingSuccessor m) refused is = no_cause (missing_successor m) refused
   stuck other refused is = is
 
-  lock_cause : (e : PushFault) → Refused e (closed_check graph k bytes) → (e ≡ push.Device → failed) → (e ≡ push.Halted → opening.is_halted) → IsOtherPush e → IsPushCauseIf failed source opening k e
+  lock_cause : (e : PushFault) → Refused e check → (e ≡ push.Device → failed) → (e ≡ push.Halted → opening.is_halted) → IsOtherPush e → IsPushCauseIf failed source opening k e
   lock_cause push.AlreadyExists refused device halt other = other
   lock_cause push.SizeMismatch refused device halt other = no_cause size_mismatch refused
   lock_cause push.DigestMismatch refused device halt other = no_cause digest_mismatch refused
@@ -115,13 +110,44 @@ module _ (failed : Type 0) (source opening : State) (graph : List Node) (k : Des
   lock_cause push.Device refused device halt other = device refl
   lock_cause push.Halted refused device halt other = halt refl
 
-  -- why a push under the lock is refused, once all that the content lists is held
-  pub work_from_push : (e : PushFault) (reported : CopyFault) → Refused e (closed_check graph k bytes) → (e ≡ push.Device → failed) → (e ≡ push.Halted → opening.is_halted) → ReportsPush k e reported
+  -- why a push is refused that its check lets through
+  work_from_passed : (e : PushFault) (reported : CopyFault) → Refused e check → (e ≡ push.Device → failed) → (e ≡ push.Halted → opening.is_halted) → ReportsPush k e reported
       → IsWorkCause failed source opening k reported
-  work_from_push e (fault.Push named t) refused device halt tells = (tells.0, subst (IsPushCauseIf failed source opening k) (sym tells.1) (lock_cause e refused device halt tells.2))
-  work_from_push e (fault.Stuck named) refused device halt tells = absurd (stuck e refused tells.1)
-  work_from_push e fault.Memory refused device halt tells = tt
-  work_from_push e other refused device halt tells = absurd tells
+  work_from_passed e (fault.Push named t) refused device halt tells = (tells.0, subst (IsPushCauseIf failed source opening k) (sym tells.1) (lock_cause e refused device halt tells.2))
+  work_from_passed e (fault.Stuck named) refused device halt tells = absurd (stuck e refused tells.1)
+  work_from_passed e fault.Memory refused device halt tells = tt
+  work_from_passed e other refused device halt tells = absurd tells
+
+-- why a push under the lock is refused, once all that the content lists is held
+pub work_from_push : (failed : Type 0) (source opening : State) (graph : List Node) (k : Descriptor) (bytes : List ℕ) (listed : List Descriptor)
+    → has_key graph k ≡ false → IsChecked k bytes listed → HasAll graph (successors_in k bytes)
+    → (e : PushFault) (reported : CopyFault) → Refused e (closed_check graph k bytes) → (e ≡ push.Device → failed) → (e ≡ push.Halted → opening.is_halted) → ReportsPush k e reported
+    → IsWorkCause failed source opening k reported
+work_from_push failed source opening graph k bytes listed fresh checked held =
+    let all : HasAll graph listed = subst (HasAll graph) (ap (λ (r : Result (List Descriptor) Fault). result_unwrap_or r []) checked.reads) held in
+    work_from_passed failed source opening k (closed_check graph k bytes) listed
+    (closed_check-read graph k bytes listed fresh checked ∙ ap (held_check listed) (first_missing-from_HasAll graph listed all))
+
+-- and one of a lost draft
+pub work_from_lost : (failed : Type 0) (source opening : State) (graph : List Node) (k : Descriptor) → has_key graph k ≡ false
+    → (e : PushFault) (reported : CopyFault) → Refused e (leaf_check graph k) → (e ≡ push.Device → failed) → (e ≡ push.Halted → opening.is_halted) → ReportsPush k e reported
+    → IsWorkCause failed source opening k reported
+work_from_lost failed source opening graph k fresh = work_from_passed failed source opening k (leaf_check graph k) [] (leaf_check-fresh graph k fresh)
+
+-- a worker's cause is one at the key's turn, where the failed put is counted
+pub step_from_work : (source before now : State) (k : Descriptor) (reported : CopyFault) → IsWorkCause (HasFailed before now) source before k reported → IsStepCause source before now k reported
+step_from_work source before now k (fault.Fetch named e) cause = cause
+step_from_work source before now k (fault.Push named e) cause = cause
+step_from_work source before now k fault.Memory cause = tt
+step_from_work source before now k other cause = absurd cause
+
+-- a halt after a push was there at the opening, or a push ran out of memory
+pub halted_after : {opening before after ran_out memory noted : Type 0} → (before → opening ⊎ ran_out) → (after → before ⊎ memory) → (ran_out → noted) → (memory → noted) → after → opening ⊎ noted
+halted_after was running earlier now halted =
+    elim (running halted) [
+      | inl before ↦ elim (was before) [ inl opening ↦ inl opening | inr ran_out ↦ inr (earlier ran_out) ]
+      | inr memory ↦ inr (now memory)
+    ]
 
 -- a key whose content is not to be had is a worker's cause, of what was noted of the source
 pub work_from_content : (failed : Type 0) (noted now opening : State) (k : Descriptor) (reported : CopyFault) → IsNoted noted now → IsContentCause now k reported → IsWorkCause failed noted opening k reported

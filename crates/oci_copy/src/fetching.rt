@@ -1,4 +1,4 @@
-ghost use Rattle.std.specs.Prelude.{◌≡◌, true, [], List, ℕ, Some, IfOk, OnOk, IfErr, IsTrue};
+ghost use Rattle.std.specs.Prelude.{◌≡◌, ◌⊎◌, true, [], List, ℕ, Some, IfOk, OnOk, IfErr, IsTrue};
 ghost use Rattle.oci_manifest.specs.Descriptor.{Descriptor};
 ghost use Rattle.oci_store.specs.Content.{IsChecked};
 ghost use Rattle.oci_store.specs.Keyed.{value_at, has_key};
@@ -42,7 +42,7 @@ pub(crate) fn goes_by_parts<A: Source>(source: &A, key: &Key) -> bool
     Kind::of(key.media_type()) == Kind::Leaf && source.may_fail(key)
 }
 
-/// The content of a planned key, read into a draft.
+/// The content of a planned key, read into a draft, up to the first write that fails.
 pub(crate) fn draft_planned<A: Source, W: Drafting>(
     source: &A,
     key: &Key,
@@ -51,9 +51,9 @@ pub(crate) fn draft_planned<A: Source, W: Drafting>(
     requires empty { W.drafted draft.old [] }
     requires fails { (A.state source.now).fails_at key.now ≡ true }
     requires there { has_key (A.state source.now).entries key.now ≡ true }
-    ensures drafted { OnOk result ((bytes : List ℕ)
+    ensures drafted { OnOk result (W.is_lost draft.new ⊎ ((bytes : List ℕ)
         × IsDraftOf (W.drafted draft.new) key.now (A.state source.now).is_honest
-        (value_at (A.state source.now).entries key.now) bytes) }
+        (value_at (A.state source.now).entries key.now) bytes)) }
     ensures cause { IfErr result (IsContentCause (A.state source.now) key.now) }
 {
     match fetch_into(source, key, draft) {

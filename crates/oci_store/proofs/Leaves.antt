@@ -1,5 +1,5 @@
 -- Leaves, and contents that come part by part.
-use Rattle.std.proofs.Common.{◌≡◌, ℕ, zero, suc, ◌+◌, ◌-◌, ◌<◌, ◌≤◌, true, false, inl, inr, List, [], ◌∷◌, ◌++◌, length, Option, Some, Result, Ok, Err, refl, sym, ap, subst, ◌∙◌, arith}
+use Rattle.std.proofs.Common.{◌≡◌, ◌⊎◌, ℕ, zero, suc, ◌+◌, ◌-◌, ◌<◌, ◌≤◌, true, false, inl, inr, List, [], ◌∷◌, ◌++◌, length, Option, Some, Result, Ok, Err, refl, sym, ap, subst, ◌∙◌, arith}
 use Rattle.std.specs.Prelude.{take, drop, min}
 use Rattle.std.proofs.lemmas.List.{length-take, take_min, take_all, length-drop, length-append}
 use Rattle.oci_digest.specs.Digest.{Verifies}
@@ -10,9 +10,11 @@ use Rattle.oci_manifest.specs.Reading.{successors_of}
 use Rattle.oci_store.specs.Content.{Matches, IsChecked, succ_of, successors_in}
 use Rattle.oci_store.specs.Graph.{Node, node_of}
 use Rattle.oci_store.specs.Keyed.{has_key, HasAll}
-use Rattle.oci_store.specs.Parts.{IsLeaf, IsPart, IsBeginning, IsReading, IsDraftOf, leaf_check}
-use Rattle.oci_store.specs.Push.{already_exists, closed_check, Answers}
+use Rattle.oci_store.specs.Parts.{IsLeaf, IsPart, IsBeginning, IsReading, IsDraftOf, leaf_check, IsLostPush}
+use Rattle.oci_store.specs.Push.{already_exists, closed_check, Answers, Refused, IsPlain}
+use Rattle.oci_store.specs.State.{State}
 use Rattle.oci_store.specs.declared.fault.PushFault.{PushFault}
+use Rattle.oci_store.specs.declared.fault.PushFault.TheVariants as fault
 use Rattle.oci_manifest.proofs.Keys.{cases}
 use Rattle.std.proofs.lemmas.List.Elements.{All-nil}
 use Rattle.oci_store.proofs.Checks.{closed_check-held, closed_check-fresh}
@@ -129,3 +131,32 @@ Answers-leaf r graph k bytes leaf m h = subst (Answers r) (sym (closed_check-lea
 pub HasAll-leaf : (graph : List Node) (k : Descriptor) (bytes : List ℕ) → IsLeaf k → HasAll graph (successors_in k bytes)
 HasAll-leaf graph k bytes leaf =
     subst (HasAll graph) (sym (ap (λ (n : Node). n.1) (node_of-leaf k bytes leaf))) (All-nil (λ (d : Descriptor). has_key graph d ≡ true))
+
+-- ---- drafts
+
+-- what was read may be pushed
+pub drafted-from_read : {lost honest : Type 0} {drafted : List ℕ → Type 0} {k : Descriptor} {found : Option (List ℕ)}
+    → lost ⊎ ((bytes : List ℕ) × IsDraftOf drafted k honest found bytes) → lost ⊎ ((bytes : List ℕ) × drafted bytes × Matches k bytes)
+drafted-from_read (inl lost) = inl lost
+drafted-from_read (inr own) = inr (own.0, own.1.is_drafted, own.1.matching)
+
+-- a draft in memory is never lost, so what it has matches
+pub Matches-drafted : (k : Descriptor) (items : List ℕ) → ⊥ ⊎ ((bytes : List ℕ) × (items ≡ bytes) × Matches k bytes) → Matches k items
+Matches-drafted k items (inl lost) = absurd lost
+Matches-drafted k items (inr own) = subst (Matches k) (sym own.1) own.2
+
+-- a push of a lost draft that is refused for its key or for memory leaves all as it was
+pub IsLostPush-refused : (s : State) (k : Descriptor) (f : PushFault) → IsPlain f → Refused f (leaf_check s.nodes k) → IsLostPush s s k (Err f)
+IsLostPush-refused s k f plain refused = record {
+  keys = record { refused = tt; checked = refused; same = refl };
+  entries = λ sound calm. refl;
+  sound = λ sound calm. sound;
+  failures = omega arith;
+  device = λ is. let same : f ≡ fault.Device = cc is in absurd (subst IsPlain same plain);
+  calm = λ less. absurd (omega arith);
+  halted = λ is. let same : f ≡ fault.Halted = cc is in absurd (subst IsPlain same plain);
+  running = λ halted. inl halted;
+  stays = λ halted. halted;
+  tags = refl;
+  name = refl;
+}

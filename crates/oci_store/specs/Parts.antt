@@ -1,5 +1,5 @@
 -- Contents that come part by part.
-use Rattle.std.specs.Prelude.{◌≡◌, ℕ, ◌+◌, List, [], take, drop, length, Option, Some, Result, Ok, Err, if◌then◌else◌}
+use Rattle.std.specs.Prelude.{◌≡◌, ◌≤◌, ◌<◌, ◌⊎◌, ℕ, ◌+◌, List, [], take, drop, length, Option, Some, Result, Ok, Err, if◌then◌else◌, OnOk, IsErrOf}
 use Rattle.oci_digest.specs.Hashing.{IsHashing}
 use Rattle.oci_digest.specs.declared.hasher.Hasher.{Hasher}
 use Rattle.oci_manifest.specs.Descriptor.{Descriptor}
@@ -8,7 +8,10 @@ use Rattle.oci_manifest.specs.declared.kind.Kind.TheVariants.{Leaf}
 use Rattle.oci_store.specs.Content.{Matches}
 use Rattle.oci_store.specs.Graph.{Node}
 use Rattle.oci_store.specs.Keyed.{has_key}
-use Rattle.oci_store.specs.Push.{Refusal, already_exists}
+use Rattle.oci_store.specs.Push.{Refusal, already_exists, Answers, IsCalm, IsRaised}
+use Rattle.oci_store.specs.State.{State}
+use Rattle.oci_store.specs.declared.fault.PushFault.{PushFault}
+use Rattle.oci_store.specs.declared.fault.PushFault.TheVariants as fault
 
 -- the content of the key is opaque, and lists nothing
 abbrev pub IsLeaf : Descriptor → Type 0
@@ -38,3 +41,29 @@ pub record IsDraftOf (drafted : List ℕ → Type 0) (k : Descriptor) (honest : 
 -- a leaf may be pushed where its key is not held
 unfoldable pub leaf_check : List Node → Descriptor → Result (List Descriptor) Refusal
 leaf_check graph k = if has_key graph k then Err already_exists else Ok []
+
+-- what a push of a lost draft did to the held keys, by what it answered
+pub record LeavesKeys (old new : List Node) (k : Descriptor) (answer : Result ℕ PushFault) : Type 0 where
+  pub refused : OnOk answer ⊥
+  -- it is refused for what the check finds, or for memory, a device or a halt
+  pub checked : Answers answer (leaf_check old k)
+  pub same : new ≡ old
+
+-- what a push of a lost draft did to a store, by what it answered
+pub record IsLostPush (old new : State) (k : Descriptor) (answer : Result ℕ PushFault) : Type 0 where
+  pub keys : LeavesKeys old.nodes new.nodes k answer
+  -- the bytes of a sound store stay if no put failed meanwhile, and the store stays sound
+  pub entries : old.is_sound → IsCalm old.failures new.failures → new.entries ≡ old.entries
+  pub sound : old.is_sound → IsCalm old.failures new.failures → new.is_sound
+  -- it is refused for the device if a put failed, which is counted, and no other push is
+  pub failures : old.failures ≤ new.failures
+  pub device : IsErrOf answer fault.Device → IsRaised old.failures new.failures
+  pub calm : old.failures < new.failures → IsErrOf answer fault.Device
+  -- it is refused for a halt if the store had halted, and only a memory error halts a store
+  pub halted : IsErrOf answer fault.Halted → old.is_halted
+  pub running : new.is_halted → old.is_halted ⊎ IsErrOf answer fault.Memory
+  -- a store that had halted remains halted
+  pub stays : old.is_halted → new.is_halted
+  -- its tags stay, and it is the same store
+  pub tags : new.tags ≡ old.tags
+  pub name : new.name ≡ old.name

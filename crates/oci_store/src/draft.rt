@@ -1,4 +1,4 @@
-ghost use Rattle.std.specs.Prelude.{◌≡◌, ◌++◌, [], List, ℕ, OnOk, IfOk};
+ghost use Rattle.std.specs.Prelude.{◌≡◌, ◌++◌, [], List, ℕ, OnOk, IfOk, IsTrue};
 ghost use Rattle.oci_store.specs.Content.{Matches};
 ghost use Rattle.oci_store.specs.Parts.{IsLeaf};
 
@@ -13,10 +13,20 @@ pub trait Drafting {
     // These bytes were appended, and no others. If the device is not trusted, this may hold of any.
     ghost drafted: { Self → List ℕ → Type 0 };
 
+    // A write of it failed, so its push is refused. Unless an impl says otherwise, no write fails.
+    ghost is_lost: { Self → Type 0 } = { λ _. ⊥ };
+
     /// Adds bytes at the end. A device failure is reported by the push.
     fn append(&mut self, part: &[u8]) -> Result<(), NoMemory>
         ensures { OnOk result ((bytes : List ℕ) → drafted self.old bytes
             → drafted self.new (bytes ++ part.now)) };
+
+    /// Whether a write of it failed. If so nothing more need be appended: its push is refused.
+    fn is_broken(&self) -> bool
+        ensures { IsTrue result → is_lost self.now }
+    {
+        false
+    }
 }
 
 /// A draft in memory.

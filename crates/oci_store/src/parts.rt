@@ -1,4 +1,4 @@
-ghost use Rattle.std.specs.Prelude.{◌≡◌, ◌↔◌, ◌≤◌, [], List, ℕ, true, false, OnOk, IsErrOf};
+ghost use Rattle.std.specs.Prelude.{◌≡◌, ◌↔◌, ◌≤◌, ◌⊎◌, [], List, ℕ, true, false, OnOk, IsErrOf};
 ghost use Rattle.oci_store.specs.Keyed.{value_at, has_key};
 ghost use Rattle.oci_store.specs.Parts.{IsDraftOf};
 
@@ -27,6 +27,9 @@ fn part_size(left: u64) -> usize
 /// Reads the content of a key part by part into a draft, and verifies it. It asks for at most one byte more than the key's
 /// size: that is by how it is written, and no clause says it.
 ///
+/// If a write of the draft fails, the rest is not read, nothing is verified, and the answer is Ok: the push of the draft reports
+/// the failure.
+///
 /// Refused as a fetch is. What the draft has then is unspecified: drop it.
 pub fn fetch_into<A: Source, W: Drafting>(
     source: &A,
@@ -36,9 +39,9 @@ pub fn fetch_into<A: Source, W: Drafting>(
     requires empty { W.drafted draft.old [] }
     requires fails { (A.state source.now).fails_at key.now ≡ true }
     ensures held { OnOk result (has_key (A.state source.now).entries key.now ≡ true) }
-    ensures drafted { OnOk result ((bytes : List ℕ)
+    ensures drafted { OnOk result (W.is_lost draft.new ⊎ ((bytes : List ℕ)
         × IsDraftOf (W.drafted draft.new) key.now (A.state source.now).is_honest
-        (value_at (A.state source.now).entries key.now) bytes) }
+        (value_at (A.state source.now).entries key.now) bytes)) }
     ensures not_found { IsErrOf result FetchFault.NotFound
         ↔ (has_key (A.state source.now).entries key.now ≡ false) }
 {
@@ -55,6 +58,9 @@ pub fn fetch_into<A: Source, W: Drafting>(
         let Ok(()) = draft.append(part.as_slice()) else {
             return Err(FetchFault::Memory);
         };
+        if draft.is_broken() {
+            return Ok(());
+        }
         left -= length as u64;
         if length < most {
             break;

@@ -4,7 +4,7 @@ ghost use Rattle.oci_store.specs.Closed.{IsClosed};
 ghost use Rattle.oci_store.specs.Content.{IsChecked, Matches};
 ghost use Rattle.oci_store.specs.Graph.{Node};
 ghost use Rattle.oci_store.specs.Keyed.{has_key, value_at, HasAll};
-ghost use Rattle.oci_store.specs.Parts.{IsLeaf, IsDraftOf};
+ghost use Rattle.oci_store.specs.Parts.{IsLeaf, IsDraftOf, LeavesKeys};
 ghost use Rattle.oci_store.specs.Push.{PushesKey};
 ghost use Rattle.oci_copy.specs.Grown.{graph_of, HasKnownBytes};
 ghost use Rattle.oci_copy.specs.Kept.{Keeps, IsOpeningAnd};
@@ -106,11 +106,12 @@ impl<D: Dest, T: CopyStart> LockedDestination<D, T> {
         requires planned { Contains T.planned key.now }
         requires fresh { has_key self.old key.now ≡ false }
         requires leaf { IsLeaf key.now }
-        requires own { (bytes : List ℕ)
+        requires own { D.Draft.is_lost draft ⊎ ((bytes : List ℕ)
             × IsDraftOf (D.Draft.drafted draft) key.now T.source.is_honest
-            (value_at T.source.entries key.now) bytes }
+            (value_at T.source.entries key.now) bytes) }
         ensures keys { (bytes : List ℕ) → D.Draft.drafted draft bytes → Matches key.now bytes
             → PushesKey self.old self.new (key.now, bytes) result }
+        ensures lost { D.Draft.is_lost draft → LeavesKeys self.old self.new key.now result }
         ensures device { IsErrOf result PushFault.Device → CanFail D.state T.opening }
         ensures halted { IsErrOf result PushFault.Halted → T.opening.is_halted }
     {

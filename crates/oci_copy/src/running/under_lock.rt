@@ -1,4 +1,4 @@
-ghost use Rattle.std.specs.Prelude.{◌≡◌, ◌↔◌, ⊤, [], List, ℕ, Some, Contains, IfOk, IfErr, IsSomeAnd, IsTrue, true, OnOk};
+ghost use Rattle.std.specs.Prelude.{◌≡◌, ◌↔◌, ◌⊎◌, ⊤, [], List, ℕ, Some, Contains, IfOk, IfErr, IsSomeAnd, IsTrue, true, OnOk};
 ghost use Rattle.std.specs.Sync.Mutex.{mutex_guard_value};
 ghost use Rattle.oci_store.specs.Keyed.{value_at, HasAll, has_key};
 ghost use Rattle.oci_store.specs.Parts.{IsLeaf, IsDraftOf};
@@ -112,7 +112,7 @@ pub(crate) fn begin_draft<D: Dest + Drop, T: CopyStart, R: Wait>(
 }
 
 /// Pushes what was drafted of a key that lists nothing, and answers that it is held. It was read,
-/// hashed and written before.
+/// hashed and written before. If a write failed, the push is refused.
 ///
 /// The push is under the lock. A layout only renames a file there, unless the old file of that
 /// digest begins with the content and is longer: then it copies the content there.
@@ -125,9 +125,9 @@ pub(crate) fn push_draft_now<'k, D: Dest + Drop, T: CopyStart, R: Wait>(
 ) -> Result<Held<'k>, CopyFault>
     requires planned { Contains T.planned key.now }
     requires leaf { IsLeaf key.now }
-    requires own { (bytes : List ℕ)
+    requires own { D.Draft.is_lost draft ⊎ ((bytes : List ℕ)
         × IsDraftOf (D.Draft.drafted draft) key.now T.source.is_honest
-        (value_at T.source.entries key.now) bytes }
+        (value_at T.source.entries key.now) bytes) }
     ensures held { IfOk result (λ held. held ≡ key.now) }
     ensures cause { IfErr result (IsWorkCause (CanFail D.state T.opening) T.source T.opening
         key.now) }
@@ -237,9 +237,9 @@ fn push_draft_ready<D: Dest, T: CopyStart>(
 ) -> Result<(), CopyFault>
     requires planned { Contains T.planned key.now }
     requires leaf { IsLeaf key.now }
-    requires own { (bytes : List ℕ)
+    requires own { D.Draft.is_lost draft ⊎ ((bytes : List ℕ)
         × IsDraftOf (D.Draft.drafted draft) key.now T.source.is_honest
-        (value_at T.source.entries key.now) bytes }
+        (value_at T.source.entries key.now) bytes) }
     ensures held { OnOk result (has_key locked.new key.now ≡ true) }
     ensures cause { IfErr result (IsWorkCause (CanFail D.state T.opening) T.source T.opening
         key.now) }
@@ -262,9 +262,9 @@ pub(crate) fn push_draft_there<'k, D: Dest, T: CopyStart>(
     requires there { IsSomeAnd locked.old (λ g. ⊤) }
     requires planned { Contains T.planned key.now }
     requires leaf { IsLeaf key.now }
-    requires own { (bytes : List ℕ)
+    requires own { D.Draft.is_lost draft ⊎ ((bytes : List ℕ)
         × IsDraftOf (D.Draft.drafted draft) key.now T.source.is_honest
-        (value_at T.source.entries key.now) bytes }
+        (value_at T.source.entries key.now) bytes) }
     ensures held { OnOk result (IsSomeAnd locked.new (λ g. has_key g key.now ≡ true)) }
     ensures answer { IfOk result (λ held. held ≡ key.now) }
     ensures cause { IfErr result (IsWorkCause (CanFail D.state T.opening) T.source T.opening

@@ -1,3 +1,6 @@
+ghost use Rattle.std.specs.Prelude.{◌≡◌, OnOk};
+ghost use Rattle.oci_layout.specs.declared.fs_dir.draft.Stage.TheVariants.{Failed};
+
 use crate::fault::DirFault;
 use crate::fs_dir::beside::Beside;
 use crate::fs_dir::files::{failed, length_of, part_of_file};
@@ -73,9 +76,12 @@ impl<'r, R: Files + AllocGlobal + RandomSource> Drafting for FsDraft<'r, R>
 where
     R::File: Lockable,
 {
-    ghost use Rattle.std.specs.Prelude.{⊤};
+    ghost use Rattle.std.specs.Prelude.{◌≡◌, ⊤};
+    ghost use Rattle.oci_layout.specs.declared.fs_dir.draft.Stage.TheVariants.{Failed};
 
     ghost drafted = { λ d bytes. ⊤ };
+
+    ghost is_lost = { λ d. d.stage ≡ Failed };
 
     fn append(&mut self, part: &[u8]) -> Result<(), NoMemory> {
         let Err(fault) = self.add(part) else {
@@ -86,6 +92,10 @@ where
             DirFault::Memory => Err(NoMemory),
             DirFault::Failed => Ok(()),
         }
+    }
+
+    fn is_broken(&self) -> bool {
+        matches!(&self.stage, Stage::Failed)
     }
 }
 
@@ -125,13 +135,14 @@ fn has_part<R: Files + AllocGlobal>(
 }
 
 /// Puts what was drafted at a place. As a rule that is one renaming, or nothing where the file there has these bytes. Where it
-/// goes on after them, they are copied here, since no draft knows how many are to come.
+/// goes on after them, they are copied here, since no draft knows how many are to come. A draft of which a write failed is not put.
 pub(crate) fn finish<R: Files + AllocGlobal + RandomSource>(
     draft: FsDraft<'_, R>,
     place: &str,
 ) -> Result<(), DirFault>
 where
     R::File: Lockable,
+    ensures { draft.entry.stage ≡ Failed → OnOk result ⊥ }
 {
     let FsDraft {
         rt,

@@ -1,4 +1,4 @@
-use Rattle.std.proofs.Common.{◌≡◌, ◌<◌, [], ◌++◌, ◌≤◌, ◌-◌, length, refl, arith}
+use Rattle.std.proofs.Common.{◌≡◌, ◌<◌, [], ◌++◌, ◌≤◌, ◌-◌, length, inr, refl, arith}
 use Rattle.oci_store.specs.Keyed.{value_at}
 use Rattle.oci_store.proofs.Leaves.{IsReading-on, IsDraftOf-end}
 use Rattle.oci_store.proofs.parts.fetch_into.Goals as goal
@@ -58,7 +58,8 @@ returns-clause-drafted g c =
     let le : length part ≤ c.loop-part.left = omega arith in
     let short : length part < c.part_size-most.result = omega arith in
     let none : c.loop-part.left - length part ≡ 0 = omega arith in
-    let hashed = rw c.as_slice.ensures at c.update.ensures c.args.key.now.digest m inv.1.hashed in (
+    let hashed = rw c.as_slice.ensures at c.update.ensures c.args.key.now.digest m inv.1.hashed in
+    inr (
       m ++ part,
       IsDraftOf-end c.loop-part.hasher (g.W.Drafting.drafted c.loop-part.draft) (g.W.Drafting.drafted c.append.new.self)
           c.args.key.now state.is_honest found c.loop-part.left c.part_size-most.result m part inv.1

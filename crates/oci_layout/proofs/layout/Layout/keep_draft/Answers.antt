@@ -8,7 +8,7 @@ use Rattle.oci_store.proofs.References.{AreNames-pushed}
 use Rattle.oci_layout.specs.Blobs.{blob_path}
 use Rattle.oci_layout.proofs.Drafted.{answers_of_device}
 use Rattle.oci_layout.proofs.Files.{HasLayoutFile-stays, blob_layout}
-use Rattle.oci_layout.proofs.Stored.{digests_of, stored-pushed, IsSound-pushed, IsSound-same}
+use Rattle.oci_layout.proofs.Stored.{digests_of, stored-pushed, stored-same, IsSound-pushed, IsSound-same}
 use Rattle.oci_layout.proofs.layout.Layout.keep_draft.Goals as goal
 
 pub invariant_of-self-in-Ok : goal.invariant_of-self-in-Ok
@@ -91,6 +91,33 @@ returns-in-Err-clause-pushed g c =
       halted = search rules;
       running = search rules;
       taken = tt;
+      stays = λ halted. halted;
+      tags = search rules;
+      name = refl;
+    })
+
+pub returns-in-Ok-clause-lost : goal.returns-in-Ok-clause-lost
+returns-in-Ok-clause-lost g c lost = absurd (c.in-Ok.ensures.lost lost)
+
+pub returns-in-Err-clause-lost : goal.returns-in-Err-clause-lost
+returns-in-Err-clause-lost g c =
+    let s = c.self.inside in
+    let k = c.args.key.now in
+    let old = g.D.Dir.file s.dir in
+    let new = g.D.Dir.file c.keep_blob.new.dir in
+    let back : c.take_back.new.self ≡ s.graph = c.take_back.ensures s.graph (c.args.key.now, c.new.result.items) c.in_ok-push.ensures.pushed in
+    let absent : has_key s.graph k ≡ false = rw (← c.self.view_is) at c.requires.new in
+    rw (← c.self.view_is, back)
+    (λ lost. record {
+      keys = record { refused = tt; checked = answers_of_device (Err c.in-Err.fault) _ [] (leaf_check-fresh s.graph k absent) c.in-Err.ensures.fault; same = refl };
+      entries = λ sound calm. stored-same old new s.graph (c.in-Err.ensures.kept sound.is_honest calm);
+      sound = λ sound calm. IsSound-same (g.D.Dir.is_honest s.dir) (g.D.Dir.is_honest c.keep_blob.new.dir) old new s.graph
+          c.keep_blob.ensures.honest.0 (c.in-Err.ensures.kept sound.is_honest calm) sound;
+      failures = search rules;
+      device = search rules;
+      calm = search rules;
+      halted = search rules;
+      running = search rules;
       stays = λ halted. halted;
       tags = search rules;
       name = refl;
