@@ -68,6 +68,11 @@ impl FaultyDir {
         }
     }
 
+    /// How many reads were asked for.
+    pub(crate) fn reads(&self) -> u64 {
+        self.reads.load(Ordering::SeqCst)
+    }
+
     /// Counts a read, and returns its number.
     fn next_read(&self) -> u64 {
         self.reads.fetch_add(1, Ordering::SeqCst)

@@ -4,6 +4,7 @@ use crate::tests::drafting::DraftStep::{Keep, KeepLost};
 use crate::tests::files::FileStep::{Draft, Exists, Failures, Put, Text};
 use crate::tests::files::files_in;
 use crate::tests::host::Host;
+use crate::tests::parts::assert_lost;
 use crate::tests::steps::Step::In;
 use crate::tests::steps::{Row, assert_steps};
 use oci_layout::FsDir;
@@ -176,4 +177,27 @@ fn names_that_are_refused(rt: HostRuntime) -> Result<(), Fail> {
         assert_rows(&rt, &numbers, NONE, 3)?;
     }
     Ok(())
+}
+
+/// Copies a layer into a new layout in a folder. The two files of the layout take the only random numbers.
+fn assert_nameless<R: Host + Threads + Wait + Abort>(
+    rt: &R,
+    workers: Option<u32>,
+) -> Result<(), Fail> {
+    let _ = fs::remove_dir_all(rt, "nameless");
+    let numbers = Numbered {
+        rt,
+        next: AtomicU64::new(0),
+        step: 1,
+        end: 2,
+    };
+    assert_lost(rt, FsDir::new(&numbers, "nameless")?, workers)?;
+    Ok(fs::remove_dir_all(rt, "nameless")?)
+}
+
+/// If the first write of a draft fails, a copy reads one part of the layer and no more.
+#[test]
+fn layers_without_a_name(rt: HostRuntime) -> Result<(), Fail> {
+    assert_nameless(&rt, None)?;
+    assert_nameless(&rt, Some(2))
 }

@@ -1,7 +1,7 @@
 //! Copies of blobs that are read in parts: blobs of no bytes, of less than a part, of exactly one part, and of more.
 
 use crate::tests::copies::copied_keys;
-use crate::tests::faulty::{Change, FaultyDir};
+use crate::tests::faulty::{Change, Failing, FaultyDir};
 use crate::tests::files::files_in;
 use crate::tests::host::Host;
 use crate::tests::layouts::{created, opened, push, save_named, summary};
@@ -351,6 +351,49 @@ fn fuse_at_a_layer_of_parts(rt: HostRuntime) -> Result<(), Fail> {
     for size in &SIZES {
         assert_not_put(&rt, *size)?;
     }
+    Ok(())
+}
+
+/// The layout in a directory that counts its reads, opened again. That takes two reads.
+fn counting(alloc: Global, layout: Layout<MemDir>) -> Result<Layout<FaultyDir>, Fail> {
+    opened(
+        alloc,
+        FaultyDir::failing(layout.into_dir(), Failing::Nothing),
+    )
+}
+
+/// Copies some keys into a new layout in a directory. Returns what is told, and what is held.
+fn told_of_new<D: Dir + Drop + Send, R: AllocGlobal + Threads + Wait + Sync>(
+    rt: &R,
+    source: &Layout<FaultyDir>,
+    dir: D,
+    keys: &[Key],
+    workers: Option<u32>,
+) -> Result<String, Fail>
+where
+    D::Draft: Send,
+{
+    let destination = created(rt.alloc(), dir)?;
+    let (layout, told) = copied_keys(rt, source, destination, keys, workers)?;
+    told_and_held(rt.alloc(), &layout, told.as_str())
+}
+
+/// Copies a layer of five parts into a directory that cannot write a draft. The push is refused with `Device`, nothing is held, and
+/// only one part was read.
+pub(crate) fn assert_lost<D: Dir + Drop + Send, R: AllocGlobal + Threads + Wait + Sync + Abort>(
+    rt: &R,
+    dir: D,
+    workers: Option<u32>,
+) -> Result<(), Fail>
+where
+    D::Draft: Send,
+{
+    let Layers { layout, keys } = layer_of(rt.alloc(), 5 * PART)?;
+    let source = counting(rt.alloc(), layout)?;
+    let told = told_of_new(rt, &source, dir, &keys, workers)?;
+    let (key, held) = (first_key(&keys)?, "43 Device, held 0");
+    assert_fault(rt, told.as_str(), "82 Push", key, held)?;
+    assert_eq!(rt; source.into_dir().reads(), 3);
     Ok(())
 }
 
