@@ -17,6 +17,8 @@
 //! `annotations` and unknown members are not looked at. Member names are matched exactly, and for a repeated member the
 //! reading of `serde_json` decides. Layers of the four types that are not distributed are no successors.
 //!
+//! [`artifact_type`] reads which type a manifest states of itself.
+//!
 //! Bytes come from strangers: any bytes get an answer, and what is wrong gets one numbered refusal, [`ManifestFault`],
 //! which names the first broken rule. Reading takes time by the length of the bytes and n log n by the number of
 //! descriptors, and nothing recurses deeper than the JSON text nests, which is at most 127.
@@ -38,4 +40,4 @@ pub use fault::{KeyFault, ManifestFault};
 pub use key::{Key, MAX_SIZE};
 pub use kind::Kind;
 pub use law::successors_are_what_is_listed;
-pub use manifest::{index_keys, read_json, successors};
+pub use manifest::{artifact_type, index_keys, read_json, successors};

@@ -1,4 +1,4 @@
-ghost use Rattle.std.specs.Prelude.{◌≡◌, List, Ok, Err, IsOk, IfOk, IfErr};
+ghost use Rattle.std.specs.Prelude.{◌≡◌, List, Ok, Err, IsOk, IfOk, IfErr, option_map};
 ghost use Rattle.std.specs.List.{IsDistinct};
 ghost use Rattle.serde_json.specs.View.{view};
 ghost use Rattle.oci_manifest.specs.Descriptor.{Descriptor, same_key};
@@ -7,6 +7,7 @@ ghost use Rattle.oci_manifest.specs.Manifest.{Reads, Breaks};
 ghost use Rattle.oci_manifest.specs.Reading.{reading, or_fault, index_keys, manifest_keys, successors_of};
 ghost use Rattle.oci_manifest.specs.declared.kind.Kind.TheVariants.{Leaf};
 
+mod artifact;
 mod descriptor;
 mod distinct;
 mod member;
@@ -14,8 +15,10 @@ mod member;
 use crate::fault::ManifestFault;
 use crate::key::Key;
 use crate::kind::Kind;
+pub use artifact::artifact_type;
 use distinct::keep_distributed;
 use member::{fields, push_fields, push_manifests};
+use oci_digest::NoMemory;
 use serde_json::Value;
 use std::alloc::Global;
 
@@ -23,13 +26,25 @@ use std::alloc::Global;
 pub fn read_json(alloc: Global, bytes: &[u8]) -> Result<Value, ManifestFault>
     ensures { Gives view result (or_fault not_json (reading bytes.now)) }
 {
+    match read_value(alloc, bytes)? {
+        Some(value) => Ok(value),
+        None => Err(ManifestFault::NotJson),
+    }
+}
+
+/// The value that the bytes are, or none where they are no JSON.
+fn read_value(alloc: Global, bytes: &[u8]) -> Result<Option<Value>, NoMemory>
+    ensures { IfOk result (λ found. option_map view found ≡ reading bytes.now) }
+{
     match Value::from_slice(alloc, bytes) {
-        Ok(value) => Ok(value),
-        Err(error) => Err(if error.is_memory() {
-            ManifestFault::Memory
-        } else {
-            ManifestFault::NotJson
-        }),
+        Ok(value) => Ok(Some(value)),
+        Err(error) => {
+            if error.is_memory() {
+                Err(NoMemory)
+            } else {
+                Ok(None)
+            }
+        }
     }
 }
 

@@ -1,0 +1,32 @@
+-- Which type a manifest states of itself (OCI distribution-spec 1.1, "Listing Referrers"; OCI image-spec 1.1, manifest.md and
+-- image-index.md, `artifactType`).
+use Rattle.std.specs.Prelude.{ℕ, ◌==◌, List, length, codes, Option, Some, None, option_and_then, if◌then◌else◌}
+use Rattle.std.specs.Option.{option_or}
+use Rattle.serde_json.specs.Data.{Data}
+use Rattle.serde_json.specs.Find.{get}
+use Rattle.oci_manifest.specs.Reading.{text_at, reading}
+use Rattle.oci_manifest.specs.declared.kind.Kind.{Kind}
+use Rattle.oci_manifest.specs.declared.kind.Kind.TheVariants.{Image, DockerImage, Leaf}
+
+-- a text, where it is not empty
+abbrev pub not_empty : List ℕ → Option (List ℕ)
+not_empty text = if length text == 0 then None else Some text
+
+-- the text of this member, where it is not empty
+abbrev pub type_at : List ℕ → Data → Option (List ℕ)
+type_at name value = option_and_then not_empty (text_at name value)
+
+-- the media type of an image's `config`
+unfoldable pub config_type : Kind → Data → Option (List ℕ)
+config_type Image manifest = option_and_then (type_at (codes "mediaType")) (get (codes "config") manifest)
+config_type DockerImage manifest = option_and_then (type_at (codes "mediaType")) (get (codes "config") manifest)
+config_type kind manifest = None
+
+-- the type that a manifest states: its `artifactType`, or else the media type of its `config`
+unfoldable pub stated_type : Kind → Data → Option (List ℕ)
+stated_type kind manifest = option_or (type_at (codes "artifactType") manifest) (config_type kind manifest)
+
+-- the type that the bytes of a kind state: none, where they are a leaf or do not read
+unfoldable pub artifact_type_of : Kind → List ℕ → Option (List ℕ)
+artifact_type_of Leaf bytes = None
+artifact_type_of kind bytes = option_and_then (stated_type kind) (reading bytes)

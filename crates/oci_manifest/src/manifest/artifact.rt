@@ -1,0 +1,57 @@
+ghost use Rattle.std.specs.Prelude.{◌≡◌, IfOk, option_map, option_copied, string_bytes};
+ghost use Rattle.serde_json.specs.View.{view};
+ghost use Rattle.oci_manifest.specs.ArtifactType.{type_at, config_type, stated_type, artifact_type_of};
+
+use super::read_value;
+use crate::kind::Kind;
+use oci_digest::NoMemory;
+use serde_json::Value;
+use std::alloc::Global;
+
+/// The type that a manifest states of itself: its `artifactType`, or else the media type of an image's `config` (OCI
+/// distribution-spec 1.1, "Listing Referrers"). A type is a text that is not empty.
+///
+/// None if the manifest states no type, for a leaf, and for bytes that are no JSON.
+#[tactic(auto, unfolding(crate::specs::ArtifactType::artifact_type_of))]
+pub fn artifact_type(alloc: Global, kind: Kind, bytes: &[u8]) -> Result<Option<String>, NoMemory>
+    ensures { IfOk result (λ found. option_map string_bytes found
+        ≡ artifact_type_of kind bytes.now) }
+{
+    if kind == Kind::Leaf {
+        return Ok(None);
+    }
+    let Some(manifest) = read_value(alloc, bytes)? else {
+        return Ok(None);
+    };
+    match stated_type(kind, &manifest) {
+        Some(text) => Ok(Some(String::from_str(alloc, text)?)),
+        None => Ok(None),
+    }
+}
+
+/// The type that a manifest states.
+#[tactic(auto, unfolding(crate::specs::ArtifactType::stated_type))]
+fn stated_type<'v>(kind: Kind, manifest: &'v Value) -> Option<&'v str>
+    ensures { option_copied result ≡ stated_type kind (view manifest.now) }
+{
+    type_at(manifest, "artifactType").or(config_type(kind, manifest))
+}
+
+/// The media type of an image's `config`.
+#[tactic(auto, unfolding(crate::specs::ArtifactType::config_type))]
+fn config_type<'v>(kind: Kind, manifest: &'v Value) -> Option<&'v str>
+    ensures { option_copied result ≡ config_type kind (view manifest.now) }
+{
+    match kind {
+        Kind::Image | Kind::DockerImage => type_at(manifest.get("config")?, "mediaType"),
+        _ => None,
+    }
+}
+
+/// The text of a member, if it is not empty.
+fn type_at<'v>(value: &'v Value, name: &str) -> Option<&'v str>
+    ensures { option_copied result ≡ type_at name.now (view value.now) }
+{
+    let text = value.get(name)?.as_str()?;
+    if text.is_empty() { None } else { Some(text) }
+}
