@@ -80,7 +80,7 @@ const ROWS: &[Row] = &[
 ];
 
 /// The contents, by name.
-#[derive(Clone, Copy)]
+#[derive(Clone, Copy, Debug)]
 pub enum Sample {
     Empty,
     Foo,
