@@ -39,7 +39,7 @@ fn assert_climb<R: AllocGlobal + Abort>(
     (sample, depth, want): Climb,
 ) -> Result<(), Fail> {
     let is_wanted = is_climb(rt.alloc(), source, (sample, depth, want))?;
-    assert!(rt; is_wanted, "depth {depth}");
+    assert!(rt; is_wanted, "row {sample:?} to depth {depth}: not {want:?}");
     Ok(())
 }
 

@@ -287,7 +287,7 @@ fn assert_parts<R: AllocGlobal + Abort>(
     digits: &str,
 ) -> Result<(), Fail> {
     assert_eq!(rt; digest.algorithm(), algorithm);
-    assert_eq!(rt; digest.encoded(rt.alloc())?.as_str(), digits);
+    assert_eq!(rt; digest.encoded(rt.alloc())?.as_str(), digits, "{algorithm}");
     Ok(())
 }
 
@@ -304,7 +304,7 @@ fn assert_fault<R: AllocGlobal + Abort>(
     number: u8,
     text: &str,
 ) -> Result<(), Fail> {
-    assert_eq!(rt; fault.number(), number);
+    assert_eq!(rt; fault.number(), number, "row '{text}'");
     assert_prints(rt, &fault, text)
 }
 

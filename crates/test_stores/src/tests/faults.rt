@@ -33,7 +33,7 @@ fn assert_line<R: AllocGlobal + Abort>(
     rest: &[Part],
 ) -> Result<(), Fail> {
     let want = numbered(rt.alloc(), number, rest)?;
-    assert!(rt; line == want.as_str(), "{line}");
+    assert!(rt; line == want.as_str(), "row '{want}': {line}");
     Ok(())
 }
 

@@ -35,7 +35,7 @@ fn assert_predecessors<R: AllocGlobal + Abort, G: GraphSource>(
 ) -> Result<(), Fail> {
     let got = predecessors(rt.alloc(), store, sample)?;
     let is_wanted = are_keys(rt.alloc(), &got, want)?;
-    assert!(rt; is_wanted);
+    assert!(rt; is_wanted, "row {sample:?}: not {want:?}");
     Ok(())
 }
 
@@ -137,16 +137,11 @@ fn assert_close<R: AllocGlobal + Abort>(
     missed: &[Part],
     fault: &[Part],
 ) -> Result<(), Fail> {
-    assert_text(
-        rt,
-        rt.alloc(),
-        "missing",
-        missing(rt.alloc(), samples)?.as_str(),
-        missed,
-    )?;
+    let got = missing(rt.alloc(), samples)?;
+    assert_text(rt, rt.alloc(), &samples, got.as_str(), missed)?;
     let (held, got) = told(rt.alloc(), samples)?;
-    assert!(rt; held);
-    assert_text(rt, rt.alloc(), "close", got.as_str(), fault)
+    assert!(rt; held, "row {samples:?}");
+    assert_text(rt, rt.alloc(), &samples, got.as_str(), fault)
 }
 
 #[test]

@@ -29,7 +29,8 @@ fn described(alloc: Global, (_, media_type, size, digits): Described) -> Result<
 
 fn assert_described<R: AllocGlobal + Abort>(rt: &R, got: &str, row: Described) -> Result<(), Fail> {
     let want = described(rt.alloc(), row)?;
-    assert!(rt; got == want.as_str(), "{got}");
+    let sample = row.0;
+    assert!(rt; got == want.as_str(), "row {sample:?}: {got}, not {want}");
     Ok(())
 }
 
@@ -181,23 +182,18 @@ const RISING: [Parts; 5] = [
     ("ab", b"bar", 3),
 ];
 
-fn assert_rises<R: AllocGlobal + Abort>(
-    rt: &R,
-    at: usize,
-    lower: Parts,
-    upper: Parts,
-) -> Result<(), Fail> {
+fn assert_rises<R: AllocGlobal + Abort>(rt: &R, lower: Parts, upper: Parts) -> Result<(), Fail> {
     let lower = key(rt.alloc(), lower)?;
     let upper = key(rt.alloc(), upper)?;
-    assert!(rt; lower < upper, "at {at}");
-    assert!(rt; lower != upper, "at {at}");
+    assert!(rt; lower < upper, "row {lower}, {upper}");
+    assert!(rt; lower != upper, "row {lower}, {upper}");
     Ok(())
 }
 
 #[test]
 fn order(rt: HostRuntime) -> Result<(), Fail> {
     for i in 1..5 {
-        assert_rises(&rt, i, RISING[i - 1], RISING[i])?;
+        assert_rises(&rt, RISING[i - 1], RISING[i])?;
     }
     Ok(())
 }
@@ -399,7 +395,10 @@ fn assert_no_beginning<R: AllocGlobal + Abort>(rt: &R, sample: Sample) -> Result
     let kind = Kind::of(content.media_type);
     let bytes = content.bytes.as_bytes();
     for end in 0..bytes.len() {
-        assert!(rt; is_not_json(rt.alloc(), kind, &bytes[..end]), "at {end}");
+        assert!(rt;
+            is_not_json(rt.alloc(), kind, &bytes[..end]),
+            "row {sample:?} at {end}"
+        );
     }
     Ok(())
 }
@@ -431,7 +430,7 @@ fn trailing_bytes(rt: HostRuntime) -> Result<(), Fail> {
 /// Bytes are refused as an index since they are no JSON.
 fn assert_no_json<R: AllocGlobal + Abort>(rt: &R, bytes: &[u8]) -> Result<(), Fail> {
     let got = answer(rt.alloc(), Kind::Index, bytes)?;
-    assert!(rt; got.as_str() == "10 NotJson");
+    assert!(rt; got.as_str() == "10 NotJson", "row {bytes:?}: {got}");
     Ok(())
 }
 

@@ -2,15 +2,7 @@ use oci_plan::{Order, OrderFault, order};
 use std::alloc::{AllocError, Global};
 use std::process::Abort;
 use std::test::Fail;
-
-/// The graph whose list `i` has these numbers.
-fn graph(alloc: Global, lists: &[&[u32]]) -> Result<Vec<Vec<u32>>, AllocError> {
-    let mut made = Vec::new(alloc);
-    for list in lists {
-        made.push(list.to_vec(alloc)?)?;
-    }
-    Ok(made)
-}
+use test_support::{below, graph_of, random_graph};
 
 fn push_place(alloc: Global, text: &mut String, number: u32) -> Result<(), AllocError> {
     text.push_str(format!(in alloc; " {number}")?.as_str())
@@ -27,7 +19,7 @@ fn told(alloc: Global, order: &Order) -> Result<String, AllocError> {
 
 /// The order of a graph, or its fault's line.
 fn line(rt: &impl Abort, alloc: Global, lists: &[&[u32]]) -> Result<String, AllocError> {
-    let lists = graph(alloc, lists)?;
+    let lists = graph_of(alloc, lists)?;
     assert!(rt; lists.len() < 4294967295);
     match order(lists) {
         Ok(order) => told(alloc, &order),
@@ -45,7 +37,7 @@ fn assert_line<R: AllocGlobal + Abort>(
     let line = line(rt, rt.alloc(), lists)?;
     assert!(rt;
         line.as_str() == first || line.as_str() == second,
-        "{line}, not {first}"
+        "row {lists:?}: {line}, not {first}"
     );
     Ok(())
 }
@@ -93,7 +85,7 @@ const DOUBLED: &[&[u32]] = &[&[1, 1], &[]];
 #[test]
 fn doubled_successor(rt: HostRuntime) -> Result<(), Fail> {
     assert_line(&rt, DOUBLED, "order 1 0", "order 1 0")?;
-    let order = found(&rt, graph(rt.alloc(), DOUBLED)?);
+    let order = found(&rt, graph_of(rt.alloc(), DOUBLED)?);
     assert!(rt; !order.is_empty());
     assert_eq!(rt; order.at(2), None);
     let widths = (width(&order, 0), width(&order, 1), width(&order, 2));
@@ -107,7 +99,7 @@ fn assert_fault<R: AllocGlobal + Abort>(
     number: u8,
     text: &str,
 ) -> Result<(), Fail> {
-    assert_eq!(rt; fault.number(), number);
+    assert_eq!(rt; fault.number(), number, "{text}");
     assert_eq!(rt; fault.to_string(rt.alloc())?.as_str(), text);
     Ok(())
 }
@@ -166,43 +158,6 @@ fn wide_star(rt: HostRuntime) -> Result<(), Fail> {
     assert_eq!(rt; order.at(100_000), Some(0));
     assert_eq!(rt; width(&order, 0), Some(100_000));
     Ok(())
-}
-
-/// The next of a fixed row of numbers, below a bound.
-fn below(state: &mut u64, bound: u32) -> u32 {
-    *state = state
-        .wrapping_mul(6364136223846793005)
-        .wrapping_add(1442695040888963407);
-    u32::try_from(*state >> 33)
-        .unwrap_or(0)
-        .checked_rem(bound)
-        .unwrap_or(0)
-}
-
-/// A list of random numbers below a bound; none where the bound is 0.
-fn random_list(alloc: Global, state: &mut u64, bound: u32) -> Result<Vec<u32>, AllocError> {
-    let mut list = Vec::new(alloc);
-    for _ in 0..below(state, 4) {
-        if bound > 0 {
-            list.push(below(state, bound))?;
-        }
-    }
-    Ok(list)
-}
-
-/// A graph with so many numbers; where it is to be tame, each successor is below its number.
-fn random_graph(
-    alloc: Global,
-    state: &mut u64,
-    count: u32,
-    tame: bool,
-) -> Result<Vec<Vec<u32>>, AllocError> {
-    let mut lists = Vec::new(alloc);
-    for number in 0..count {
-        let bound = if tame { number } else { count };
-        lists.push(random_list(alloc, state, bound)?)?;
-    }
-    Ok(lists)
 }
 
 /// Whether each of these numbers is marked.
@@ -334,6 +289,6 @@ fn random_graphs(rt: HostRuntime) -> Result<(), Fail> {
     for round in 0..300u32 {
         count = count.saturating_add(ordered(&rt, &mut state, round)?);
     }
-    assert!(rt; count >= 150 && count < 300);
+    assert!(rt; count >= 150 && count < 300, "{count} ordered");
     Ok(())
 }

@@ -88,7 +88,7 @@ fn line(alloc: Global, answer: &Result<Plan, PlanFault>) -> Result<String, Fail>
 }
 
 /// A plan, and how many fetches it takes, where they are counted.
-#[derive(Clone, Copy)]
+#[derive(Clone, Copy, Debug)]
 struct Row<'a> {
     source: &'a [Sample],
     destination: &'a [Sample],
@@ -152,109 +152,82 @@ fn planned(alloc: Global, row: &Row<'_>) -> Result<(String, u32), Fail> {
 fn assert_row<R: AllocGlobal + Abort>(rt: &R, row: &Row<'_>) -> Result<(), Fail> {
     let (told, fetched) = planned(rt.alloc(), row)?;
     if let Some(fetches) = row.fetches {
-        assert_eq!(rt; fetched, fetches);
+        assert_eq!(rt; fetched, fetches, "fetches of {row:?}");
     }
-    assert_text(rt, rt.alloc(), "plan", told.as_str(), row.want)
+    assert_text(rt, rt.alloc(), row, told.as_str(), row.want)
 }
 
 /// The greatest size of a manifest, where it is not what a test is about.
 const LIMIT: u64 = 4_194_304;
 
-/// What is planned where held keys are passed over.
-fn assert_planned<R: AllocGlobal + Abort>(
-    rt: &R,
-    source: &[Sample],
-    destination: &[Sample],
-    roots: &[Sample],
-    want: &[Part],
-    fetches: u32,
-) -> Result<(), Fail> {
-    assert_row(
-        rt,
-        &Row {
-            source,
-            destination,
-            roots,
-            limit: LIMIT,
-            existing: Existing::Skip,
-            want,
-            fetches: Some(fetches),
-        },
-    )
-}
-
-/// What is planned below held keys too.
-fn assert_descended<R: AllocGlobal + Abort>(
-    rt: &R,
-    source: &[Sample],
-    destination: &[Sample],
-    roots: &[Sample],
-    want: &[Part],
-    fetches: u32,
-) -> Result<(), Fail> {
-    assert_row(
-        rt,
-        &Row {
-            source,
-            destination,
-            roots,
-            limit: LIMIT,
-            existing: Existing::Descend,
-            want,
-            fetches: Some(fetches),
-        },
-    )
-}
-
 /// Each manifest is fetched once, and a layer never.
 #[test]
 fn what_the_destination_lacks(rt: HostRuntime) -> Result<(), Fail> {
-    assert_planned(
-        &rt,
-        &[Empty, Foo, Bar, Image2, Image3, Index1],
-        &[Empty, Foo],
-        &[Index1],
-        &[LineOf(Index1), LineOf(Image2), LineOf(Image3), LineOf(Bar)],
-        3,
-    )
+    static ROW: Row<'static> = Row {
+        source: &[Empty, Foo, Bar, Image2, Image3, Index1],
+        destination: &[Empty, Foo],
+        roots: &[Index1],
+        limit: LIMIT,
+        existing: Existing::Skip,
+        want: &[LineOf(Index1), LineOf(Image2), LineOf(Image3), LineOf(Bar)],
+        fetches: Some(3),
+    };
+    assert_row(&rt, &ROW)
 }
 
 /// Keys are visited first come, first served, and the first one at fault is told.
 #[test]
 fn what_the_source_lacks(rt: HostRuntime) -> Result<(), Fail> {
-    assert_planned(
-        &rt,
-        &[Empty, Image2, Image3, Index1],
-        &[],
-        &[Index1],
-        &[Words("53 NotFound "), KeyOf(Foo)],
-        3,
-    )?;
-    assert_planned(
-        &rt,
-        &[Empty, Bar, Image2, Index1],
-        &[],
-        &[Index1],
-        &[Words("53 NotFound "), KeyOf(Image3)],
-        2,
-    )
+    static ROWS: [Row<'static>; 2] = [
+        Row {
+            source: &[Empty, Image2, Image3, Index1],
+            destination: &[],
+            roots: &[Index1],
+            limit: LIMIT,
+            existing: Existing::Skip,
+            want: &[Words("53 NotFound "), KeyOf(Foo)],
+            fetches: Some(3),
+        },
+        Row {
+            source: &[Empty, Bar, Image2, Index1],
+            destination: &[],
+            roots: &[Index1],
+            limit: LIMIT,
+            existing: Existing::Skip,
+            want: &[Words("53 NotFound "), KeyOf(Image3)],
+            fetches: Some(2),
+        },
+    ];
+    for row in &ROWS {
+        assert_row(&rt, row)?;
+    }
+    Ok(())
 }
 
 #[test]
 fn held_roots(rt: HostRuntime) -> Result<(), Fail> {
-    let want = [Words("skipped "), LineOf(Foo)];
-    assert_planned(&rt, &[], &[Foo], &[Foo, Foo], &want, 0)
+    static ROW: Row<'static> = Row {
+        source: &[],
+        destination: &[Foo],
+        roots: &[Foo, Foo],
+        limit: LIMIT,
+        existing: Existing::Skip,
+        want: &[Words("skipped "), LineOf(Foo)],
+        fetches: Some(0),
+    };
+    assert_row(&rt, &ROW)
 }
 
 /// A held manifest that the source has is fetched once as any other, and a layer never, whoever lists it.
 #[test]
 fn fetches_below_held_keys(rt: HostRuntime) -> Result<(), Fail> {
-    assert_descended(
-        &rt,
-        &[Empty, Foo, Bar, Image2, Image3, Index1],
-        &[Foo, Image2, Index1],
-        &[Index1, Image2, Index1],
-        &[
+    static ROW: Row<'static> = Row {
+        source: &[Empty, Foo, Bar, Image2, Image3, Index1],
+        destination: &[Foo, Image2, Index1],
+        roots: &[Index1, Image2, Index1],
+        limit: LIMIT,
+        existing: Existing::Descend,
+        want: &[
             LineOf(Image3),
             LineOf(Empty),
             LineOf(Bar),
@@ -263,85 +236,114 @@ fn fetches_below_held_keys(rt: HostRuntime) -> Result<(), Fail> {
             Words("skipped "),
             LineOf(Image2),
         ],
-        3,
-    )
+        fetches: Some(3),
+    };
+    assert_row(&rt, &ROW)
 }
 
 /// What the source has and a held image lists is planned.
 #[test]
 fn below_a_held_image(rt: HostRuntime) -> Result<(), Fail> {
-    let want = [LineOf(Empty), Words("skipped "), LineOf(Image0)];
-    assert_descended(&rt, &[Empty, Image0], &[Image0], &[Image0], &want, 1)
+    static ROW: Row<'static> = Row {
+        source: &[Empty, Image0],
+        destination: &[Image0],
+        roots: &[Image0],
+        limit: LIMIT,
+        existing: Existing::Descend,
+        want: &[LineOf(Empty), Words("skipped "), LineOf(Image0)],
+        fetches: Some(1),
+    };
+    assert_row(&rt, &ROW)
 }
 
 /// Nothing is planned for what is open beside the roots.
 #[test]
 fn beside_an_open_image(rt: HostRuntime) -> Result<(), Fail> {
-    assert_descended(&rt, &[Empty, Foo], &[Image0], &[Foo], &[LineOf(Foo)], 0)
+    static ROW: Row<'static> = Row {
+        source: &[Empty, Foo],
+        destination: &[Image0],
+        roots: &[Foo],
+        limit: LIMIT,
+        existing: Existing::Descend,
+        want: &[LineOf(Foo)],
+        fetches: Some(0),
+    };
+    assert_row(&rt, &ROW)
 }
 
 /// What only the destination has is not fetched, and lists nothing.
 #[test]
 fn of_an_image_that_the_source_lacks(rt: HostRuntime) -> Result<(), Fail> {
-    let want = [Words("skipped "), LineOf(Image0)];
-    assert_descended(&rt, &[Empty], &[Image0], &[Image0], &want, 0)
+    static ROW: Row<'static> = Row {
+        source: &[Empty],
+        destination: &[Image0],
+        roots: &[Image0],
+        limit: LIMIT,
+        existing: Existing::Descend,
+        want: &[Words("skipped "), LineOf(Image0)],
+        fetches: Some(0),
+    };
+    assert_row(&rt, &ROW)
 }
 
 /// A layer that only the destination has is no fault.
 #[test]
 fn of_a_layer_that_the_source_lacks(rt: HostRuntime) -> Result<(), Fail> {
-    assert_descended(
-        &rt,
-        &[Empty, Image2],
-        &[Empty, Foo, Image2],
-        &[Image2],
-        &[Words("skipped "), LineOf(Image2)],
-        1,
-    )
+    static ROW: Row<'static> = Row {
+        source: &[Empty, Image2],
+        destination: &[Empty, Foo, Image2],
+        roots: &[Image2],
+        limit: LIMIT,
+        existing: Existing::Descend,
+        want: &[Words("skipped "), LineOf(Image2)],
+        fetches: Some(1),
+    };
+    assert_row(&rt, &ROW)
 }
 
 /// A layer that neither store has is one.
 #[test]
 fn of_a_layer_that_both_lack(rt: HostRuntime) -> Result<(), Fail> {
-    let both = [Empty, Image2];
-    let want = [Words("53 NotFound "), KeyOf(Foo)];
-    assert_descended(&rt, &both, &both, &[Image2], &want, 1)
+    static ROW: Row<'static> = Row {
+        source: &[Empty, Image2],
+        destination: &[Empty, Image2],
+        roots: &[Image2],
+        limit: LIMIT,
+        existing: Existing::Descend,
+        want: &[Words("53 NotFound "), KeyOf(Foo)],
+        fetches: Some(1),
+    };
+    assert_row(&rt, &ROW)
 }
 
-/// What is planned for the image below held keys too, where 240 bytes are the limit. The image has 241.
-fn assert_under_limit<R: AllocGlobal + Abort>(
-    rt: &R,
-    source: &[Sample],
-    destination: &[Sample],
-    want: &[Part],
-) -> Result<(), Fail> {
-    assert_row(
-        rt,
-        &Row {
-            source,
-            destination,
-            roots: &[Image0],
-            limit: 240,
-            existing: Existing::Descend,
-            want,
-            fetches: None,
-        },
-    )
-}
-
-/// A manifest over the limit is a fault where the source has it, held or not.
+/// A manifest over the limit, of 240 bytes where the image has 241, is a fault where the source has it, held or not.
 #[test]
 fn a_held_image_over_the_limit(rt: HostRuntime) -> Result<(), Fail> {
-    let both = [Empty, Image0];
-    let want = [Words("54 TooLarge "), KeyOf(Image0), Words(" 240")];
-    assert_under_limit(&rt, &both, &both, &want)
+    static ROW: Row<'static> = Row {
+        source: &[Empty, Image0],
+        destination: &[Empty, Image0],
+        roots: &[Image0],
+        limit: 240,
+        existing: Existing::Descend,
+        want: &[Words("54 TooLarge "), KeyOf(Image0), Words(" 240")],
+        fetches: None,
+    };
+    assert_row(&rt, &ROW)
 }
 
 /// One over the limit that only the destination has is not asked for, and is no fault.
 #[test]
 fn an_image_over_the_limit_that_the_source_lacks(rt: HostRuntime) -> Result<(), Fail> {
-    let want = [Words("skipped "), LineOf(Image0)];
-    assert_under_limit(&rt, &[Empty], &[Empty, Image0], &want)
+    static ROW: Row<'static> = Row {
+        source: &[Empty],
+        destination: &[Empty, Image0],
+        roots: &[Image0],
+        limit: 240,
+        existing: Existing::Descend,
+        want: &[Words("skipped "), LineOf(Image0)],
+        fetches: None,
+    };
+    assert_row(&rt, &ROW)
 }
 
 /// What is planned of a root into an empty store, as text.
@@ -362,7 +364,7 @@ fn assert_refused<A: Source, R: AllocGlobal + Abort>(
     want: &[Part],
 ) -> Result<(), Fail> {
     let told = told_of(rt.alloc(), source, root)?;
-    assert_text(rt, rt.alloc(), "plan", told.as_str(), want)
+    assert_text(rt, rt.alloc(), root, told.as_str(), want)
 }
 
 /// An image that is no JSON object is a fault, with the reason.

@@ -18,14 +18,15 @@ fn told(alloc: Global, pushed: &Result<usize, PushFault>) -> Result<String, Fail
     }
 }
 
-/// A push answers with these parts.
+/// The push of a key answers with these parts.
 fn assert_told<R: AllocGlobal + Abort>(
     rt: &R,
+    key: &Key,
     pushed: &Result<usize, PushFault>,
     want: &[Part],
 ) -> Result<(), Fail> {
     let got = told(rt.alloc(), pushed)?;
-    assert_text(rt, rt.alloc(), "push", got.as_str(), want)
+    assert_text(rt, rt.alloc(), key, got.as_str(), want)
 }
 
 /// Pushes a sample under its own key.
@@ -36,7 +37,8 @@ fn assert_push<R: AllocGlobal + Abort>(
     want: &[Part],
 ) -> Result<(), Fail> {
     let key = sample.key(rt.alloc())?;
-    assert_told(rt, &store.push(&key, sample.bytes(rt.alloc())?), want)
+    let pushed = store.push(&key, sample.bytes(rt.alloc())?);
+    assert_told(rt, &key, &pushed, want)
 }
 
 fn push_all<R: AllocGlobal + Abort>(
@@ -95,7 +97,7 @@ fn assert_holds<R: AllocGlobal + Abort>(
     store: &MemoryStore,
     held: &[Sample],
 ) -> Result<(), Fail> {
-    assert!(rt; holds(rt.alloc(), store, held)?);
+    assert!(rt; holds(rt.alloc(), store, held)?, "not {held:?}");
     Ok(())
 }
 
@@ -107,11 +109,8 @@ fn assert_refused_by<R: AllocGlobal + Abort>(
     bytes: &'static [u8],
     want: &'static str,
 ) -> Result<(), Fail> {
-    assert_told(
-        rt,
-        &store.push(key, Bytes::from_static(bytes)),
-        &[Words(want)],
-    )?;
+    let pushed = store.push(key, Bytes::from_static(bytes));
+    assert_told(rt, key, &pushed, &[Words(want)])?;
     assert_holds(rt, store, &[])
 }
 
@@ -176,7 +175,7 @@ fn assert_push_closed<R: AllocGlobal + Abort>(
     want: &[Part],
 ) -> Result<(), Fail> {
     let bytes = Image0.bytes(rt.alloc())?;
-    assert_told(rt, &store.push_closed(key, bytes), want)
+    assert_told(rt, key, &store.push_closed(key, bytes), want)
 }
 
 /// The same with an empty closed store. It stays empty.

@@ -39,21 +39,23 @@ fn assert_resolves<R: AllocGlobal + Abort, T: Tagger>(
 ) -> Result<(), Fail> {
     let reference = text(rt.alloc(), reference)?;
     let got = resolve(rt.alloc(), store, reference.as_str())?;
-    assert_text(rt, rt.alloc(), reference.as_str(), got.as_str(), want)
+    assert_text(rt, rt.alloc(), &reference, got.as_str(), want)
 }
 
-/// What `tag` answers of a sample's key and a name of these parts.
-fn tagged<T: Tagger>(
-    alloc: Global,
+/// The tag of a sample's key by a name is taken, or refused.
+fn assert_tag<R: AllocGlobal + Abort, T: Tagger>(
+    rt: &R,
     store: &mut T,
     sample: Sample,
-    name: &[Part],
-) -> Result<String, Fail> {
-    let name = text(alloc, name)?;
-    tag(alloc, store, sample, name.as_str())
+    name: &str,
+    want: &[Part],
+) -> Result<(), Fail> {
+    let got = tag(rt.alloc(), store, sample, name)?;
+    let row = format!(in rt.alloc(); "{sample:?} as {name}")?;
+    assert_text(rt, rt.alloc(), &row, got.as_str(), want)
 }
 
-/// The tag of a sample's key is taken, or refused.
+/// The tag of a sample's key by a name of these parts is taken, or refused.
 fn assert_tagged<R: AllocGlobal + Abort, T: Tagger>(
     rt: &R,
     store: &mut T,
@@ -61,8 +63,7 @@ fn assert_tagged<R: AllocGlobal + Abort, T: Tagger>(
     name: &[Part],
     want: &[Part],
 ) -> Result<(), Fail> {
-    let got = tagged(rt.alloc(), store, sample, name)?;
-    assert_text(rt, rt.alloc(), "tag", got.as_str(), want)
+    assert_tag(rt, store, sample, text(rt.alloc(), name)?.as_str(), want)
 }
 
 fn push_name(alloc: Global, text: &mut String, name: &str, key: &Key) -> Result<(), Fail> {
@@ -86,7 +87,7 @@ fn assert_names<R: AllocGlobal + Abort>(
     want: &[Part],
 ) -> Result<(), Fail> {
     let got = listed(rt.alloc(), store)?;
-    assert_text(rt, rt.alloc(), "names", got.as_str(), want)
+    assert_text(rt, rt.alloc(), &"the names", got.as_str(), want)
 }
 
 /// A step of a test.

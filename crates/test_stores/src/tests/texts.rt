@@ -1,12 +1,13 @@
 //! Texts that are made of words and of what samples print as.
 
 use std::alloc::Global;
+use std::fmt::Debug;
 use std::process::Abort;
 use std::test::Fail;
 use test_support::{Sample, descriptor};
 
 /// A part of a text.
-#[derive(Clone, Copy)]
+#[derive(Clone, Copy, Debug)]
 pub(crate) enum Part {
     /// These words.
     Words(&'static str),
@@ -88,15 +89,15 @@ pub(crate) fn text(alloc: Global, parts: &[Part]) -> Result<String, Fail> {
     Ok(text)
 }
 
-/// What is got is the text of these parts. Where it is not, `what` is told too.
-pub(crate) fn assert_text(
+/// What is got is the text of these parts. If it is not, the failure prints the row too.
+pub(crate) fn assert_text<T: Debug>(
     rt: &impl Abort,
     alloc: Global,
-    what: &str,
+    row: &T,
     got: &str,
     want: &[Part],
 ) -> Result<(), Fail> {
     let want = text(alloc, want)?;
-    assert!(rt; got == want.as_str(), "{what}: {got}, not {want}");
+    assert!(rt; got == want.as_str(), "row {row:?}: {got}, not {want}");
     Ok(())
 }

@@ -72,7 +72,7 @@ fn assert_pushed<R: AllocGlobal + Abort, D: Dest>(
     want: Pushed,
 ) -> Result<(), Fail> {
     let key = key_of(rt.alloc(), content)?;
-    assert_eq!(rt; pushed(store, &key, content.1), want);
+    assert_eq!(rt; pushed(store, &key, content.1), want, "row {key}");
     Ok(())
 }
 
@@ -91,7 +91,7 @@ fn assert_fetched<R: AllocGlobal + Abort, A: Source>(
     want: Fetched,
 ) -> Result<(), Fail> {
     let key = key_of(rt.alloc(), content)?;
-    assert_eq!(rt; fetched(store, &key), want);
+    assert_eq!(rt; fetched(store, &key), want, "row {key}");
     Ok(())
 }
 

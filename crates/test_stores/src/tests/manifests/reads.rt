@@ -39,7 +39,8 @@ fn assert_answer<R: AllocGlobal + Abort>(
     want: &[Part],
 ) -> Result<(), Fail> {
     let got = answer(rt.alloc(), kind, manifest.as_bytes())?;
-    assert_text(rt, rt.alloc(), manifest, got.as_str(), want)
+    let row = format!(in rt.alloc(); "{kind:?} {manifest}")?;
+    assert_text(rt, rt.alloc(), &row, got.as_str(), want)
 }
 
 /// The text of these parts is read as a manifest of this kind, and what is answered.
