@@ -20,7 +20,7 @@ const IMAGES: [Sample; 6] = [Empty, Foo, Bar, Image2, Image3, Index1];
 const REFERRERS: [Sample; 6] = [Empty, Foo, Image2, Referrer, Index3, Index4];
 
 /// One kind of copy.
-#[derive(Clone, Copy)]
+#[derive(Clone, Copy, Debug)]
 enum Call {
     /// On the calling thread.
     One,
@@ -82,8 +82,8 @@ fn assert_arrive<A: Source + Sync, R: Threads + Wait + Abort + Sync + Send + Cop
     alloc: Global,
     source: &A,
 ) -> Result<(), Fail> {
-    for (row, call) in CALLS.iter().enumerate() {
-        assert!(rt; arrive(rt, alloc, source, *call)?, "row {row}");
+    for call in &CALLS {
+        assert!(rt; arrive(rt, alloc, source, *call)?, "row {call:?}");
     }
     Ok(())
 }
@@ -105,7 +105,7 @@ fn is_refused<R: Threads + Wait + Sync + Send + Copy + Drop>(
 fn two_images(rt: HostRuntime) -> Result<(), Fail> {
     let source = memory(rt.alloc(), &IMAGES)?;
     assert_arrive(&rt, rt.alloc(), &source)?;
-    assert!(rt; is_refused(&rt, rt.alloc(), &source, 65)?);
+    assert!(rt; is_refused(&rt, rt.alloc(), &source, 65)?, "row Graph(65)");
     Ok(())
 }
 
@@ -137,6 +137,9 @@ fn referrers_arrive<R: Threads + Wait + Sync + Send + Copy + Drop>(
 #[test]
 fn referrers(rt: HostRuntime) -> Result<(), Fail> {
     let source = memory(rt.alloc(), &REFERRERS)?;
-    assert!(rt; referrers_arrive(&rt, rt.alloc(), &source)?);
+    assert!(rt;
+        referrers_arrive(&rt, rt.alloc(), &source)?,
+        "{REFERRERS:?}"
+    );
     Ok(())
 }

@@ -86,7 +86,7 @@ fn is_told<R: Threads + Wait + Sync + Send + Copy + Drop>(
 }
 
 /// How a look gets to know what a copy brought.
-#[derive(Clone, Copy)]
+#[derive(Clone, Copy, Debug)]
 enum Telling {
     /// It learns a note on another thread.
     ByNote,
@@ -103,12 +103,12 @@ fn assert_looks<R: Threads + Wait + Abort + Sync + Send + Copy + Drop>(
     telling: Telling,
 ) -> Result<(), Fail> {
     let (live, mut look) = looked_at(alloc, *rt, &[Foo])?;
-    assert!(rt; counts(&mut look, 1));
+    assert!(rt; counts(&mut look, 1), "row {telling:?}");
     let shown = match telling {
         Telling::ByNote => is_learned(rt, alloc, source, root, live, &mut look)?,
         Telling::ByCopy => is_told(rt, alloc, source, root, live, &mut look)?,
     };
-    assert!(rt; shown);
+    assert!(rt; shown, "row {telling:?}");
     Ok(())
 }
 

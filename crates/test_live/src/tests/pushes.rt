@@ -39,8 +39,8 @@ fn assert_seen<R: Wait + Abort + Drop>(
     look: &mut Look,
     samples: &[Sample],
 ) -> Result<(), Fail> {
-    for (row, sample) in samples.iter().enumerate() {
-        assert!(rt; is_seen(alloc, live, look, *sample)?, "row {row}");
+    for sample in samples {
+        assert!(rt; is_seen(alloc, live, look, *sample)?, "row {sample:?}");
     }
     Ok(())
 }
