@@ -35,26 +35,50 @@ impl Job for TenTimes {
     }
 }
 
-/// Answers its number, and fails at some numbers with a hundred more.
+/// Where jobs fail.
+#[derive(Clone, Copy)]
+enum Failing {
+    /// At these two numbers.
+    Numbers(u32, u32),
+    /// At each number.
+    Each,
+}
+
+/// Answers its number, and counts its runs. At some numbers it fails with a hundred more.
 #[derive(Drop)]
 pub(crate) struct FailsAt {
-    pub first: u32,
-    pub second: u32,
-    /// How many jobs wait for each other before they end; 0 where none does.
-    pub meets: u64,
-    came: AtomicU64,
+    failing: Failing,
+    /// How many jobs wait for each other before they end; 0 if none does.
+    meets: u64,
+    pub runs: AtomicU64,
     /// How many jobs answered a result.
     pub answered: AtomicU64,
 }
 
 impl FailsAt {
-    pub fn new(first: u32, second: u32, meets: u64) -> FailsAt {
+    fn new(failing: Failing, meets: u64) -> FailsAt {
         FailsAt {
-            first,
-            second,
+            failing,
             meets,
-            came: AtomicU64::new(0),
+            runs: AtomicU64::new(0),
             answered: AtomicU64::new(0),
+        }
+    }
+
+    /// Jobs that fail at two numbers, once `meets` jobs have begun.
+    pub fn numbers(first: u32, second: u32, meets: u64) -> FailsAt {
+        FailsAt::new(Failing::Numbers(first, second), meets)
+    }
+
+    /// Jobs of which each fails.
+    pub fn each() -> FailsAt {
+        FailsAt::new(Failing::Each, 0)
+    }
+
+    fn fails_at(&self, number: u32) -> bool {
+        match self.failing {
+            Failing::Numbers(first, second) => number == first || number == second,
+            Failing::Each => true,
         }
     }
 }
@@ -69,42 +93,13 @@ impl Job for FailsAt {
     ghost fails = { λ job k f. Unit {0} };
 
     fn run(&self, number: u32, _pass: Pass) -> Result<u32, u64> {
-        self.came.fetch_add(1, Ordering::SeqCst);
-        let _ = saw(&self.came, self.meets, MANY_LOOKS);
-        if number == self.first || number == self.second {
+        self.runs.fetch_add(1, Ordering::SeqCst);
+        let _ = saw(&self.runs, self.meets, MANY_LOOKS);
+        if self.fails_at(number) {
             return Err(100 + number as u64);
         }
         self.answered.fetch_add(1, Ordering::SeqCst);
         Ok(number)
-    }
-}
-
-/// Fails at each number, and counts its runs.
-#[derive(Drop)]
-pub(crate) struct Fails {
-    pub runs: AtomicU64,
-}
-
-impl Fails {
-    pub fn new() -> Fails {
-        Fails {
-            runs: AtomicU64::new(0),
-        }
-    }
-}
-
-impl Job for Fails {
-    type Out = u64;
-
-    type Fault = u32;
-
-    ghost answers = { λ job k x. Unit {0} };
-
-    ghost fails = { λ job k f. Unit {0} };
-
-    fn run(&self, number: u32, _pass: Pass) -> Result<u64, u32> {
-        self.runs.fetch_add(1, Ordering::SeqCst);
-        Err(number)
     }
 }
 

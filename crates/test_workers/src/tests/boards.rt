@@ -6,7 +6,7 @@ use std::process::Abort;
 use std::test::Fail;
 
 /// What is asked of a board, and what it answers.
-#[derive(Clone, Copy)]
+#[derive(Clone, Copy, Debug)]
 enum Step {
     /// A job of a number has ended.
     Done(u32, Option<(usize, usize)>),
@@ -54,7 +54,7 @@ fn answers(board: &mut Board, step: Step) -> bool {
 fn assert_steps(rt: &impl Abort, alloc: Global, steps: &[Step]) -> Result<(), Fail> {
     let mut board = board(rt, alloc)?;
     for (place, step) in steps.iter().enumerate() {
-        assert!(rt; answers(&mut board, *step), "step {place}");
+        assert!(rt; answers(&mut board, *step), "step {place}: {step:?}");
     }
     Ok(())
 }

@@ -1,6 +1,6 @@
-use crate::graphs::{DIAMOND, chain, lists_of, order_of, random};
+use crate::graphs::{DIAMOND, order_of};
 use crate::jobs::Flags;
-use crate::tests::flags::Shape::{Chain, Diamond, Random};
+use crate::tests::flags::Graph::{Chain, Diamond, Random};
 use oci_plan::Order;
 use oci_pool::run;
 use std::alloc::{AllocError, Global};
@@ -8,10 +8,11 @@ use std::process::Abort;
 use std::sync::Wait;
 use std::test::Fail;
 use std::thread::Threads;
+use test_support::{Shape, graph, graph_of, random_graph};
 
 /// A graph whose jobs are run.
-#[derive(Clone, Copy)]
-enum Shape {
+#[derive(Clone, Copy, Debug)]
+enum Graph {
     Diamond,
     /// A random one of 2000 numbers, by its seed.
     Random(u64),
@@ -19,11 +20,16 @@ enum Shape {
     Chain(u32),
 }
 
-fn lists(alloc: Global, shape: Shape) -> Result<Vec<Vec<u32>>, AllocError> {
-    match shape {
-        Diamond => lists_of(alloc, DIAMOND),
-        Random(seed) => random(alloc, seed, 2000),
-        Chain(count) => chain(alloc, count),
+fn random(alloc: Global, seed: u64) -> Result<Vec<Vec<u32>>, AllocError> {
+    let mut state = seed;
+    random_graph(alloc, &mut state, 2000, true)
+}
+
+fn lists(alloc: Global, jobs: Graph) -> Result<Vec<Vec<u32>>, AllocError> {
+    match jobs {
+        Diamond => graph_of(alloc, DIAMOND),
+        Random(seed) => random(alloc, seed),
+        Chain(count) => graph(alloc, Shape::Chain, count),
     }
 }
 
@@ -42,29 +48,29 @@ fn in_order<R: Threads + Wait + Sync>(
 }
 
 /// The same of an order of a graph, whose lists are made once more for the jobs.
-fn shape_in_order<R: Threads + Wait + Sync>(
+fn graph_in_order<R: Threads + Wait + Sync>(
     rt: &R,
     alloc: Global,
     order: &Order,
-    shape: Shape,
+    jobs: Graph,
     workers: u32,
     looks: u64,
 ) -> Result<bool, AllocError> {
-    let job = Flags::new(alloc, lists(alloc, shape)?, looks)?;
+    let job = Flags::new(alloc, lists(alloc, jobs)?, looks)?;
     Ok(in_order(rt, alloc, order, workers, &job))
 }
 
 fn assert_in_order<R: Threads + Wait + Sync + Abort>(
     rt: &R,
     alloc: Global,
-    shape: Shape,
+    jobs: Graph,
     workers: u32,
     looks: u64,
 ) -> Result<(), Fail> {
-    let order = order_of(rt, lists(alloc, shape)?);
+    let order = order_of(rt, lists(alloc, jobs)?);
     assert!(rt;
-        shape_in_order(rt, alloc, &order, shape, workers, looks)?,
-        "{workers} workers"
+        graph_in_order(rt, alloc, &order, jobs, workers, looks)?,
+        "row '{jobs:?}' by {workers} workers"
     );
     Ok(())
 }

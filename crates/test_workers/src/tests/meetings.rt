@@ -41,7 +41,7 @@ fn assert_met<R: Threads + Wait + Sync + Abort>(
     for time in 0..times {
         assert!(rt;
             met(rt, alloc, &order, workers, meeting) == meet,
-            "run {time}"
+            "run {time} of {lists:?} by {workers} workers"
         );
     }
     Ok(())
@@ -126,7 +126,7 @@ fn both_fail<R: Threads + Wait + Sync>(
     alloc: Global,
     order: &Order,
 ) -> Result<String, AllocError> {
-    match run(rt, alloc, order, 2, &FailsAt::new(0, 1, 2)) {
+    match run(rt, alloc, order, 2, &FailsAt::numbers(0, 1, 2)) {
         Ok(_) => String::from_str(alloc, "done"),
         Err(stopped) => stopped.into_fault().to_string(alloc),
     }

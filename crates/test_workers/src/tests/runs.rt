@@ -1,5 +1,5 @@
-use crate::graphs::{DIAMOND, leaves, order_of, ordered};
-use crate::jobs::{Fails, FailsAt, TenTimes};
+use crate::graphs::{DIAMOND, order_of, ordered};
+use crate::jobs::{FailsAt, TenTimes};
 use oci_plan::Order;
 use oci_pool::{PoolFault, run};
 use std::alloc::{AllocError, Global};
@@ -9,6 +9,7 @@ use std::sync::Wait;
 use std::sync::atomic::Ordering;
 use std::test::Fail;
 use std::thread::Threads;
+use test_support::{Shape, graph};
 
 /// What is run.
 #[derive(Clone, Copy)]
@@ -57,7 +58,7 @@ fn tell_fails_at_one<R: Threads + Wait + Sync>(
     workers: u32,
     text: &mut String,
 ) -> Result<(), AllocError> {
-    let job = FailsAt::new(1, 1, 0);
+    let job = FailsAt::numbers(1, 1, 0);
     match run(rt, alloc, order, workers, &job) {
         Ok(_) => write!(text, "done"),
         Err(stopped) => {
@@ -101,55 +102,93 @@ fn is_one_of(told: &str, lines: &[&str]) -> bool {
     false
 }
 
-/// One of these lines is told of the run.
+/// Runs of the jobs of a graph, each by a number of workers from the first on to before the last.
+#[derive(Clone, Copy)]
+struct Row<'a> {
+    name: &'a str,
+    lists: &'a [&'a [u32]],
+    workers: (u32, u32),
+    kind: Kind,
+    /// One of these lines is told of each run.
+    lines: &'a [&'a str],
+}
+
 fn assert_run<R: Threads + Wait + Sync + Abort>(
     rt: &R,
     alloc: Global,
     order: &Order,
     workers: u32,
-    kind: Kind,
-    lines: &[&str],
+    row: &Row<'_>,
 ) -> Result<(), Fail> {
-    let told = told(rt, alloc, order, workers, kind)?;
-    assert!(rt; is_one_of(told.as_str(), lines), "{told} by {workers}");
+    let told = told(rt, alloc, order, workers, row.kind)?;
+    let name = row.name;
+    assert!(rt;
+        is_one_of(told.as_str(), row.lines),
+        "row '{name}' by {workers} workers: {told}"
+    );
     Ok(())
 }
 
-/// One of these lines is told of each run by a number of workers from the first on to before the last.
 fn assert_runs<R: Threads + Wait + Sync + Abort>(
     rt: &R,
     alloc: Global,
-    lists: &[&[u32]],
-    (first, last): (u32, u32),
-    kind: Kind,
-    lines: &[&str],
+    row: &Row<'_>,
 ) -> Result<(), Fail> {
-    let order = ordered(rt, alloc, lists)?;
-    for workers in first..last {
-        assert_run(rt, alloc, &order, workers, kind, lines)?;
+    let order = ordered(rt, alloc, row.lists)?;
+    for workers in row.workers.0..row.workers.1 {
+        assert_run(rt, alloc, &order, workers, row)?;
     }
     Ok(())
 }
 
 #[test]
 fn ten_times(rt: HostRuntime) -> Result<(), Fail> {
-    const EMPTY: &[&[u32]] = &[];
-    const ROWS: [(&[&[u32]], (u32, u32), &str); 4] = [
-        (DIAMOND, (0, 3), "4 runs: 0 10 20 30"),
-        (DIAMOND, (64, 65), "4 runs: 0 10 20 30"),
-        (DIAMOND, (65, 66), "0 runs, 0 done: 62 BadWorkers"),
-        (EMPTY, (2, 3), "0 runs:"),
+    static ROWS: [Row<'static>; 4] = [
+        Row {
+            name: "the diamond",
+            lists: DIAMOND,
+            workers: (0, 3),
+            kind: Kind::TenTimes,
+            lines: &["4 runs: 0 10 20 30"],
+        },
+        Row {
+            name: "the diamond by the most workers",
+            lists: DIAMOND,
+            workers: (64, 65),
+            kind: Kind::TenTimes,
+            lines: &["4 runs: 0 10 20 30"],
+        },
+        Row {
+            name: "the diamond by too many workers",
+            lists: DIAMOND,
+            workers: (65, 66),
+            kind: Kind::TenTimes,
+            lines: &["0 runs, 0 done: 62 BadWorkers"],
+        },
+        Row {
+            name: "no jobs",
+            lists: &[],
+            workers: (2, 3),
+            kind: Kind::TenTimes,
+            lines: &["0 runs:"],
+        },
     ];
-    for (lists, workers, line) in ROWS {
-        assert_runs(&rt, rt.alloc(), lists, workers, Kind::TenTimes, &[line])?;
+    for row in &ROWS {
+        assert_runs(&rt, rt.alloc(), row)?;
     }
     Ok(())
 }
 
 #[test]
 fn jobs(rt: HostRuntime) -> Result<(), Fail> {
-    const LINES: &[&str] = &["true 60 Job 1 101: 0 0", "true 60 Job 1 101: 0 0 2 2"];
-    assert_runs(&rt, rt.alloc(), DIAMOND, (0, 65), Kind::FailsAtOne, LINES)
+    static ROW: Row<'static> = Row {
+        name: "the diamond, failing at 1",
+        lists: DIAMOND,
+        workers: (0, 65),
+        kind: Kind::FailsAtOne,
+        lines: &["true 60 Job 1 101: 0 0", "true 60 Job 1 101: 0 0 2 2"],
+    };
+    assert_runs(&rt, rt.alloc(), &ROW)
 }
 
 /// How many jobs are run of an order where each fails; nothing where the run does not tell the fault of a job, or has a result.
@@ -159,7 +198,7 @@ fn runs_of_fails<R: Threads + Wait + Sync>(
     order: &Order,
     workers: u32,
 ) -> Option<u64> {
-    let job = Fails::new();
+    let job = FailsAt::each();
     let Err(stopped) = run(rt, alloc, order, workers, &job) else {
         return None;
     };
@@ -174,12 +213,15 @@ fn runs_of_fails<R: Threads + Wait + Sync>(
 #[test]
 fn none_after_a_stop(rt: HostRuntime) -> Result<(), Fail> {
     let alloc = rt.alloc();
-    let order = order_of(&rt, leaves(alloc, 100)?);
+    let order = order_of(&rt, graph(alloc, Shape::Leaves, 100)?);
     for workers in 1..65 {
         let Some(runs) = runs_of_fails(&rt, alloc, &order, workers) else {
-            panic!(rt; "the run was not stopped by a job");
+            panic!(rt; "the run by {workers} workers was not stopped by a job");
         };
-        assert!(rt; runs >= 1 && runs <= workers as u64, "{runs} by {workers}");
+        assert!(rt;
+            runs >= 1 && runs <= workers as u64,
+            "{runs} runs by {workers} workers"
+        );
     }
     Ok(())
 }
