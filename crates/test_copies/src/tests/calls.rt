@@ -1,6 +1,6 @@
 //! The calls that copy, on the calling thread and by workers, with their answers as text.
 
-use crate::tests::copies::{Call, Word, assert_same, printed, sized, text_of};
+use crate::tests::copies::{Call, Run, Word, assert_same, printed, sized, text_of};
 use oci_copy::{
     CopyFault, Options, Report, copy, copy_graph, copy_memory, copy_memory_by_workers, copy_one,
     copy_plan, extended_copy, extended_copy_graph, plan_copy, repair_memory,
@@ -130,29 +130,14 @@ where
     }
 }
 
-/// The copy told this.
+/// The run told this.
 pub(crate) fn assert_told(
     rt: &impl Abort,
     told: Result<String, Fail>,
     want: &str,
+    run: Run<'_>,
 ) -> Result<(), Fail> {
-    assert_same(rt, told?.as_str(), want);
-    Ok(())
-}
-
-/// A text is the one that is wanted of a copy by so many workers.
-fn assert_same_by(rt: &impl Abort, found: &str, want: &str, workers: Workers) {
-    assert_eq!(rt; found, want, "{workers:?}");
-}
-
-/// The copy by so many workers told this.
-fn assert_told_by(
-    rt: &impl Abort,
-    told: Result<String, Fail>,
-    want: &str,
-    workers: Workers,
-) -> Result<(), Fail> {
-    assert_same_by(rt, told?.as_str(), want, workers);
+    assert_same(rt, told?.as_str(), want, run);
     Ok(())
 }
 
@@ -166,17 +151,17 @@ pub(crate) fn left<
     source: &A,
     destination: D,
     root: &Key,
-    by: (Workers, Existing),
+    by: (Run<'_>, Existing),
     want: &str,
 ) -> Result<D, Fail>
 where
     D::Draft: Send,
 {
-    let (workers, existing) = by;
-    let options = options(workers, existing, 0);
+    let (run, existing) = by;
+    let options = options(run.workers, existing, 0);
     let roots = std::slice::from_ref(root);
-    let (destination, told) = copied(rt, source, destination, roots, workers, &options);
-    assert_told_by(rt, told, want, workers)?;
+    let (destination, told) = copied(rt, source, destination, roots, run.workers, &options);
+    assert_told(rt, told, want, run)?;
     Ok(destination)
 }
 

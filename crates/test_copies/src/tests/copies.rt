@@ -9,7 +9,7 @@ use oci_manifest::Key;
 use oci_plan::Existing;
 use oci_store::{ClosedStore, Dest, MemoryStore, Source, Tagger};
 use std::alloc::Global;
-use std::fmt::Display;
+use std::fmt::{self, Display, Formatter, Write};
 use std::process::Abort;
 use std::sync::Wait;
 use std::test::Fail;
@@ -56,6 +56,8 @@ pub(crate) enum Call<'a> {
 /// A copy, and what comes of it.
 #[derive(Clone, Copy)]
 pub(crate) struct Case<'a> {
+    /// What a failure calls it.
+    pub name: &'a str,
     pub call: Call<'a>,
     pub workers: &'a [Workers],
     pub existing: Existing,
@@ -80,6 +82,7 @@ pub(crate) struct Case<'a> {
 
 /// A copy of nothing into an empty closed store.
 pub(crate) const NOTHING: Case<'static> = Case {
+    name: "nothing",
     call: Call::Graph(&[]),
     workers: &EACH,
     existing: Existing::Skip,
@@ -95,6 +98,31 @@ pub(crate) const NOTHING: Case<'static> = Case {
     is_closed: true,
     copied_tag: None,
 };
+
+/// What is told of a destination that has `image_0` without its config, if held keys are skipped.
+pub(crate) const OPEN_AT_IMAGE_0: &[Word<'static>] = &[
+    Word::Text("80 DestinationOpen "),
+    Word::KeyOf(Sample::Image0),
+    Word::Text(" "),
+    Word::KeyOf(Sample::Empty),
+];
+
+/// One run of a row, as a failure prints it.
+#[derive(Clone, Copy)]
+pub(crate) struct Run<'a> {
+    /// The name of the row.
+    pub name: &'a str,
+    pub workers: Workers,
+}
+
+impl<'a> Display for Run<'a> {
+    fn fmt<W: Write>(&self, f: &mut Formatter<W>) -> fmt::Result {
+        match self.workers {
+            Some(workers) => write!(f, "row '{}' by {workers} workers", self.name),
+            None => write!(f, "row '{}' on the calling thread", self.name),
+        }
+    }
+}
 
 /// The key of an image of this size that has the digest of the empty object.
 pub(crate) fn sized(alloc: Global, size: u64) -> Result<Key, Fail> {
@@ -151,9 +179,9 @@ pub(crate) fn is_text(alloc: Global, found: &str, words: &[Word<'_>]) -> Result<
     Ok(found == text(alloc, words)?.as_str())
 }
 
-/// A text is the one that is wanted.
-pub(crate) fn assert_same(rt: &impl Abort, found: &str, want: &str) {
-    assert_eq!(rt; found, want);
+/// The text of a run is the one that is wanted.
+pub(crate) fn assert_same(rt: &impl Abort, found: &str, want: &str, run: Run<'_>) {
+    assert_eq!(rt; found, want, "{run}");
 }
 
 /// The text is that of these words.
@@ -161,20 +189,22 @@ fn assert_text<R: AllocGlobal + Abort>(
     rt: &R,
     found: &str,
     words: &[Word<'_>],
+    run: Run<'_>,
 ) -> Result<(), Fail> {
     let want = text(rt.alloc(), words)?;
-    assert_same(rt, found, want.as_str());
+    assert_same(rt, found, want.as_str(), run);
     Ok(())
 }
 
-/// The store holds these samples, and nothing else, after a copy that told this.
+/// The store holds these samples, and nothing else, after a run that told this.
 pub(crate) fn assert_holds<R: AllocGlobal + Abort, A: Source + Dest>(
     rt: &R,
     store: &A,
     samples: &[Sample],
     told: &str,
+    run: Run<'_>,
 ) -> Result<(), Fail> {
-    assert!(rt; holds(rt.alloc(), store, samples)?, "{told}");
+    assert!(rt; holds(rt.alloc(), store, samples)?, "{run}: {told}");
     Ok(())
 }
 
@@ -212,10 +242,12 @@ fn assert_entries<R: AllocGlobal + Abort>(
     rt: &R,
     store: &MemoryStore,
     samples: &[Sample],
+    run: Run<'_>,
 ) -> Result<(), Fail> {
-    assert_eq!(rt; store.len(), samples.len());
+    assert_eq!(rt; store.len(), samples.len(), "{run}");
     for (place, sample) in samples.iter().enumerate() {
-        assert!(rt; is_entry(rt.alloc(), store, place, *sample)?, "{place}");
+        let is_entry = is_entry(rt.alloc(), store, place, *sample)?;
+        assert!(rt; is_entry, "{run}: {sample:?} at {place}");
     }
     Ok(())
 }
@@ -234,9 +266,10 @@ fn assert_named<R: AllocGlobal + Abort>(
     name: &str,
     key: &Key,
     tag: Option<Tag<'_>>,
+    run: Run<'_>,
 ) -> Result<(), Fail> {
     let is_tag = is_tag(rt.alloc(), name, key, tag)?;
-    assert!(rt; is_tag, "{name} {key}");
+    assert!(rt; is_tag, "{run}: {name} {key}");
     Ok(())
 }
 
@@ -245,21 +278,13 @@ fn assert_tags<R: AllocGlobal + Abort>(
     rt: &R,
     tags: &[(String, Key)],
     tag: Option<Tag<'_>>,
+    run: Run<'_>,
 ) -> Result<(), Fail> {
-    assert_eq!(rt; tags.len(), usize::from(tag.is_some()));
+    assert_eq!(rt; tags.len(), usize::from(tag.is_some()), "{run}");
     for (name, key) in tags {
-        assert_named(rt, name.as_str(), key, tag)?;
+        assert_named(rt, name.as_str(), key, tag, run)?;
     }
     Ok(())
-}
-
-/// The store has this one tag, or none.
-fn assert_tag<R: AllocGlobal + Abort>(
-    rt: &R,
-    store: &MemoryStore,
-    tag: Option<Tag<'_>>,
-) -> Result<(), Fail> {
-    assert_tags(rt, &store.tags()?, tag)
 }
 
 /// The entries are in the order of the case, where it has one.
@@ -267,9 +292,10 @@ fn assert_order<R: AllocGlobal + Abort>(
     rt: &R,
     store: &MemoryStore,
     case: &Case<'_>,
+    run: Run<'_>,
 ) -> Result<(), Fail> {
     match case.is_in_order {
-        true => assert_entries(rt, store, case.copied),
+        true => assert_entries(rt, store, case.copied, run),
         false => Ok(()),
     }
 }
@@ -279,9 +305,10 @@ fn assert_closed<R: AllocGlobal + Abort>(
     rt: &R,
     store: &MemoryStore,
     want: bool,
+    run: Run<'_>,
 ) -> Result<(), Fail> {
     let is_closed = is_closed(store)?;
-    assert_eq!(rt; is_closed, want);
+    assert_eq!(rt; is_closed, want, "{run}: closed");
     Ok(())
 }
 
@@ -290,22 +317,24 @@ fn assert_left<R: AllocGlobal + Abort>(
     rt: &R,
     store: &MemoryStore,
     case: &Case<'_>,
+    run: Run<'_>,
 ) -> Result<(), Fail> {
-    assert_order(rt, store, case)?;
-    assert_closed(rt, store, case.is_closed)?;
-    assert_tag(rt, store, case.copied_tag)
+    assert_order(rt, store, case, run)?;
+    assert_closed(rt, store, case.is_closed, run)?;
+    assert_tags(rt, &store.tags()?, case.copied_tag, run)
 }
 
 /// What the copy told, and what the destination holds, is that of the case.
-fn assert_told<R: AllocGlobal + Abort, D: Source + Dest>(
+fn assert_held<R: AllocGlobal + Abort, D: Source + Dest>(
     rt: &R,
     destination: &D,
     told: Result<String, Fail>,
     case: &Case<'_>,
+    run: Run<'_>,
 ) -> Result<(), Fail> {
     let told = told?;
-    assert_text(rt, told.as_str(), case.told)?;
-    assert_holds(rt, destination, case.copied, told.as_str())
+    assert_text(rt, told.as_str(), case.told, run)?;
+    assert_holds(rt, destination, case.copied, told.as_str(), run)
 }
 
 /// Names a sample that the store has.
@@ -380,24 +409,24 @@ fn assert_into_closed<R: AllocGlobal + Threads + Wait + Sync + Abort>(
     rt: &R,
     source: &MemoryStore,
     case: &Case<'_>,
-    workers: Workers,
+    run: Run<'_>,
 ) -> Result<(), Fail> {
     let destination = closed_with(rt.alloc(), case.destination, case.destination_tag)?;
-    let (destination, told) = copied_into_closed(rt, source, destination, case, workers);
-    assert_told(rt, &destination, told, case)?;
-    assert_left(rt, destination.memory(), case)
+    let (destination, told) = copied_into_closed(rt, source, destination, case, run.workers);
+    assert_held(rt, &destination, told, case, run)?;
+    assert_left(rt, destination.memory(), case, run)
 }
 
 fn assert_into_memory<R: AllocGlobal + Threads + Wait + Sync + Abort>(
     rt: &R,
     source: &MemoryStore,
     case: &Case<'_>,
-    workers: Workers,
+    run: Run<'_>,
 ) -> Result<(), Fail> {
     let destination = memory_with(rt.alloc(), case.destination, case.destination_tag)?;
-    let (destination, told) = copied_into_memory(rt, source, destination, case, workers);
-    assert_told(rt, &destination, told, case)?;
-    assert_left(rt, &destination, case)
+    let (destination, told) = copied_into_memory(rt, source, destination, case, run.workers);
+    assert_held(rt, &destination, told, case, run)?;
+    assert_left(rt, &destination, case, run)
 }
 
 /// The copy of a case by so many workers.
@@ -406,10 +435,14 @@ pub(crate) fn assert_copied_by<R: AllocGlobal + Threads + Wait + Sync + Abort>(
     case: &Case<'_>,
     workers: Workers,
 ) -> Result<(), Fail> {
+    let run = Run {
+        name: case.name,
+        workers,
+    };
     let source = memory_with(rt.alloc(), case.source, case.source_tag)?;
     match case.into_closed {
-        true => assert_into_closed(rt, &source, case, workers),
-        false => assert_into_memory(rt, &source, case, workers),
+        true => assert_into_closed(rt, &source, case, run),
+        false => assert_into_memory(rt, &source, case, run),
     }
 }
 

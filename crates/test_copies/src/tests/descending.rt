@@ -2,7 +2,7 @@
 //! may be open, on one thread and by workers.
 
 use crate::tests::copies::Word::{KeyOf, Text};
-use crate::tests::copies::{Call, Case, NOTHING, Word, assert_cases};
+use crate::tests::copies::{Call, Case, NOTHING, OPEN_AT_IMAGE_0, Word, assert_cases};
 use oci_plan::Existing;
 use std::process::Abort;
 use std::sync::Wait;
@@ -31,6 +31,7 @@ struct Row<'a> {
 /// The copy that skips held keys.
 fn skipping<'a>(row: &Row<'a>) -> Case<'a> {
     Case {
+        name: "skipping",
         call: Call::Graph(row.roots),
         source: row.source,
         destination: row.destination,
@@ -46,6 +47,7 @@ fn skipping<'a>(row: &Row<'a>) -> Case<'a> {
 /// The copy that descends.
 fn descending<'a>(row: &Row<'a>) -> Case<'a> {
     Case {
+        name: "descending",
         existing: Existing::Descend,
         told: row.descending,
         copied: row.copied,
@@ -57,6 +59,7 @@ fn descending<'a>(row: &Row<'a>) -> Case<'a> {
 /// The repair, which descends, whatever the options say.
 fn repairing<'a>(row: &Row<'a>) -> Case<'a> {
     Case {
+        name: "repairing",
         call: Call::InMemory(row.roots),
         existing: Existing::Skip,
         ..descending(row)
@@ -79,12 +82,7 @@ fn below_a_held_image(rt: HostRuntime) -> Result<(), Fail> {
         destination: &[Image0],
         was_closed: false,
         roots: &[Image0],
-        skipping: &[
-            Text("80 DestinationOpen "),
-            KeyOf(Image0),
-            Text(" "),
-            KeyOf(Empty),
-        ],
+        skipping: OPEN_AT_IMAGE_0,
         descending: &[Text("planned 1 pushed 1 skipped 1")],
         copied: &[Image0, Empty],
         is_closed: true,
@@ -100,12 +98,7 @@ fn beside_an_open_image(rt: HostRuntime) -> Result<(), Fail> {
         destination: &[Image0],
         was_closed: false,
         roots: &[Foo],
-        skipping: &[
-            Text("80 DestinationOpen "),
-            KeyOf(Image0),
-            Text(" "),
-            KeyOf(Empty),
-        ],
+        skipping: OPEN_AT_IMAGE_0,
         descending: &[Text("planned 1 pushed 1 skipped 0")],
         copied: &[Image0, Foo],
         is_closed: false,
@@ -121,12 +114,7 @@ fn of_an_image_that_the_source_lacks(rt: HostRuntime) -> Result<(), Fail> {
         destination: &[Image0],
         was_closed: false,
         roots: &[Image0],
-        skipping: &[
-            Text("80 DestinationOpen "),
-            KeyOf(Image0),
-            Text(" "),
-            KeyOf(Empty),
-        ],
+        skipping: OPEN_AT_IMAGE_0,
         descending: &[Text("planned 0 pushed 0 skipped 1")],
         copied: &[Image0],
         is_closed: false,

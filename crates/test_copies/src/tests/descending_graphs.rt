@@ -3,18 +3,19 @@
 
 use crate::plain::lacking;
 use crate::tests::calls::{Copied, EACH, Workers, copied, left, options};
+use crate::tests::copies::Run;
 use crate::tests::large::{has_all, numbered, push_descriptor};
 use bytes::Bytes;
 use oci_manifest::Key;
 use oci_plan::Existing;
 use oci_store::{Dest, MemoryStore, Source};
-use std::alloc::{AllocError, Global};
+use std::alloc::Global;
 use std::process::Abort;
 use std::sync::Wait;
 use std::test::Fail;
 use std::thread::Threads;
 use test_support::Sample::Empty;
-use test_support::{Content, INDEX, is_closed, memory, put_chain};
+use test_support::{Content, INDEX, below, is_closed, memory, put_chain, random_list};
 
 /// Puts bytes into a store. What is there stays.
 fn put_bytes(store: &mut MemoryStore, key: &Key, bytes: Bytes) {
@@ -46,10 +47,11 @@ fn assert_whole<R: AllocGlobal + Abort>(
     rt: &R,
     repaired: &MemoryStore,
     source: &MemoryStore,
+    run: Run<'_>,
 ) -> Result<(), Fail> {
-    assert_eq!(rt; repaired.len(), source.len());
-    assert!(rt; has_all(repaired, source));
-    assert!(rt; is_closed(repaired)?);
+    assert_eq!(rt; repaired.len(), source.len(), "{run}");
+    assert!(rt; has_all(repaired, source), "{run}");
+    assert!(rt; is_closed(repaired)?, "{run}");
     Ok(())
 }
 
@@ -58,19 +60,12 @@ fn repaired_chain<R: AllocGlobal + Threads + Wait + Sync + Abort>(
     rt: &R,
     source: &MemoryStore,
     root: &Key,
-    workers: Workers,
+    run: Run<'_>,
 ) -> Result<MemoryStore, Fail> {
     let damaged = without_every_third(rt.alloc(), source)?;
-    assert_eq!(rt; damaged.len(), 2_000);
+    assert_eq!(rt; damaged.len(), 2_000, "{run}");
     let want = "planned 1001 pushed 1001 skipped 0";
-    left(
-        rt,
-        source,
-        damaged,
-        root,
-        (workers, Existing::Descend),
-        want,
-    )
+    left(rt, source, damaged, root, (run, Existing::Descend), want)
 }
 
 /// The repair by so many workers.
@@ -78,9 +73,9 @@ fn assert_repaired_by<R: AllocGlobal + Threads + Wait + Sync + Abort>(
     rt: &R,
     source: &MemoryStore,
     root: &Key,
-    workers: Workers,
+    run: Run<'_>,
 ) -> Result<(), Fail> {
-    assert_whole(rt, &repaired_chain(rt, source, root, workers)?, source)
+    assert_whole(rt, &repaired_chain(rt, source, root, run)?, source, run)
 }
 
 /// The repair on the calling thread, and by one worker, by three and by 64.
@@ -90,7 +85,8 @@ fn assert_repaired<R: AllocGlobal + Threads + Wait + Sync + Abort>(
     root: &Key,
 ) -> Result<(), Fail> {
     for workers in EACH {
-        assert_repaired_by(rt, source, root, workers)?;
+        let name = "a long chain";
+        assert_repaired_by(rt, source, root, Run { name, workers })?;
     }
     Ok(())
 }
@@ -110,20 +106,10 @@ fn long_chain(rt: HostRuntime) -> Result<(), Fail> {
     assert_chain(&rt, &mut memory(rt.alloc(), &[Empty])?)
 }
 
-/// The next of a fixed row of numbers, below a bound.
-fn below(state: &mut u64, bound: u32) -> u32 {
-    *state = state
-        .wrapping_mul(6364136223846793005)
-        .wrapping_add(1442695040888963407);
-    u32::try_from(*state >> 33)
-        .unwrap_or(0)
-        .checked_rem(bound)
-        .unwrap_or(0)
-}
-
 /// The contents of a random graph, and which of them the two stores have.
 #[derive(Drop)]
 struct Graph {
+    name: String,
     contents: Vec<Content>,
     in_source: Vec<bool>,
     in_destination: Vec<bool>,
@@ -164,17 +150,6 @@ fn content(
     numbered_index(alloc, number, text.as_str())
 }
 
-/// What a number lists: up to three lesser ones.
-fn random_list(alloc: Global, state: &mut u64, number: u32) -> Result<Vec<u32>, AllocError> {
-    let mut list = Vec::new(alloc);
-    for _ in 0..below(state, 4) {
-        if number > 0 {
-            list.push(below(state, number))?;
-        }
-    }
-    Ok(list)
-}
-
 /// Puts the content of the next number into a graph.
 fn push_content(
     alloc: Global,
@@ -196,8 +171,9 @@ fn push_marks(state: &mut u64, graph: &mut Graph, holes: u32) -> Result<(), Fail
 }
 
 /// A random graph with so many numbers, of which the source lacks some, and the destination more.
-fn random_graph(alloc: Global, state: &mut u64, count: u32) -> Result<Graph, Fail> {
+fn random_graph(alloc: Global, state: &mut u64, round: u32, count: u32) -> Result<Graph, Fail> {
     let mut graph = Graph {
+        name: format!(in alloc; "random graph {round}")?,
         contents: Vec::new(alloc),
         in_source: Vec::new(alloc),
         in_destination: Vec::new(alloc),
@@ -314,9 +290,10 @@ fn assert_begins<R: AllocGlobal + Abort>(
     rt: &R,
     repair: &Repair<'_>,
     told: &str,
+    run: Run<'_>,
 ) -> Result<(), Fail> {
     let begins = beginning(rt.alloc(), repair)?;
-    assert!(rt; told.starts_with(begins.as_str()), "{told}");
+    assert!(rt; told.starts_with(begins.as_str()), "{run}: {told}");
     Ok(())
 }
 
@@ -343,10 +320,11 @@ fn assert_repair<R: AllocGlobal + Abort>(
     repair: &Repair<'_>,
     store: &MemoryStore,
     told: Result<String, Fail>,
+    run: Run<'_>,
 ) -> Result<(), Fail> {
     let told = told?;
-    assert_begins(rt, repair, told.as_str())?;
-    assert!(rt; is_repaired(store, repair), "{told}");
+    assert_begins(rt, repair, told.as_str(), run)?;
+    assert!(rt; is_repaired(store, repair), "{run}: {told}");
     Ok(())
 }
 
@@ -356,9 +334,10 @@ fn assert_wanted_by<R: AllocGlobal + Threads + Wait + Sync + Abort>(
     repair: &Repair<'_>,
     workers: Workers,
 ) -> Result<(), Fail> {
+    let name = repair.graph.name.as_str();
     let opening = opening(rt.alloc(), repair.graph)?;
     let (store, told) = copied_repair(rt, repair, opening, workers);
-    assert_repair(rt, repair, &store, told)
+    assert_repair(rt, repair, &store, told, Run { name, workers })
 }
 
 /// The same on the calling thread, and by one worker, by three and by 64: whether it is refused.
@@ -413,9 +392,10 @@ fn assert_graph<R: AllocGlobal + Threads + Wait + Sync + Abort>(
 fn assert_random<R: AllocGlobal + Threads + Wait + Sync + Abort>(
     rt: &R,
     state: &mut u64,
+    round: u32,
 ) -> Result<bool, Fail> {
     let count = below(state, 40).max(1);
-    assert_graph(rt, &random_graph(rt.alloc(), state, count)?)
+    assert_graph(rt, &random_graph(rt.alloc(), state, round, count)?)
 }
 
 /// Random graphs into destinations with random holes, some of them from sources with holes of their own.
@@ -423,9 +403,9 @@ fn assert_random<R: AllocGlobal + Threads + Wait + Sync + Abort>(
 fn random_graphs(rt: HostRuntime) -> Result<(), Fail> {
     let mut state = 2026;
     let mut refused = 0u32;
-    for _ in 0..40 {
-        refused = refused.saturating_add(u32::from(assert_random(&rt, &mut state)?));
+    for round in 0..40 {
+        refused = refused.saturating_add(u32::from(assert_random(&rt, &mut state, round)?));
     }
-    assert!(&rt; refused > 0 && refused < 40);
+    assert!(&rt; refused > 0 && refused < 40, "{refused} refused");
     Ok(())
 }

@@ -2,7 +2,7 @@
 
 use crate::tests::calls::{Copied, Workers, copied_samples, options};
 use crate::tests::copies::Word::{KeyOf, Text};
-use crate::tests::copies::{assert_holds, assert_same, is_text};
+use crate::tests::copies::{Run, assert_holds, assert_same, is_text};
 use oci_plan::Existing;
 use oci_store::{ClosedStore, Dest, Source};
 use std::alloc::Global;
@@ -15,31 +15,33 @@ use test_support::{Device, DeviceStore, FailingClosedStore, Sample, closed, is_c
 
 const ALL: [Sample; 6] = [Empty, Foo, Bar, Image2, Image3, Index1];
 
+const ONE_AND_THREE: [Workers; 2] = [None, Some(3)];
+
 /// Copies the index.
 fn copied<A: Source + Sync, D: Dest + Drop + Send, R: AllocGlobal + Threads + Wait + Sync>(
     rt: &R,
     source: &A,
     destination: D,
-    workers: Workers,
+    run: Run<'_>,
 ) -> Copied<D>
 where
     D::Draft: Send,
 {
-    let options = options(workers, Existing::Skip, 0);
-    copied_samples(rt, source, destination, &[Index1], workers, &options)
+    let options = options(run.workers, Existing::Skip, 0);
+    copied_samples(rt, source, destination, &[Index1], run.workers, &options)
 }
 
 /// Copies it from a store in memory into a store that fails.
 fn copied_into<D: Dest + Drop + Send, R: AllocGlobal + Threads + Wait + Sync>(
     rt: &R,
     destination: D,
-    workers: Workers,
+    run: Run<'_>,
 ) -> Copied<D>
 where
     D::Draft: Send,
 {
     match closed(rt.alloc(), &ALL) {
-        Ok(source) => copied(rt, &source, destination, workers),
+        Ok(source) => copied(rt, &source, destination, run),
         Err(fault) => (destination, Err(fault)),
     }
 }
@@ -66,9 +68,10 @@ fn names_missing<D: Dest>(alloc: Global, destination: &D, told: &str) -> Result<
 fn assert_failed_once<R: AllocGlobal + Abort, D: Dest>(
     rt: &R,
     destination: &D,
+    run: Run<'_>,
 ) -> Result<(), Fail> {
-    assert_eq!(rt; destination.failures(), 1);
-    assert!(rt; is_closed(destination)?);
+    assert_eq!(rt; destination.failures(), 1, "{run}");
+    assert!(rt; is_closed(destination)?, "{run}");
     Ok(())
 }
 
@@ -77,24 +80,25 @@ fn assert_failed<R: AllocGlobal + Abort, D: Dest>(
     rt: &R,
     destination: &D,
     told: Result<String, Fail>,
+    run: Run<'_>,
 ) -> Result<(), Fail> {
     let told = told?;
     let names_missing = names_missing(rt.alloc(), destination, told.as_str())?;
-    assert!(rt; names_missing, "{told}");
-    assert_failed_once(rt, destination)
+    assert!(rt; names_missing, "{run}: {told}");
+    assert_failed_once(rt, destination, run)
 }
 
 /// A copy into a store of which a push fails, which is refused: what it left.
 fn left_by_refused<D: Dest + Drop + Send, R: AllocGlobal + Threads + Wait + Sync + Abort>(
     rt: &R,
     destination: D,
-    workers: Workers,
+    run: Run<'_>,
 ) -> Result<D, Fail>
 where
     D::Draft: Send,
 {
-    let (destination, told) = copied_into(rt, destination, workers);
-    assert_failed(rt, &destination, told)?;
+    let (destination, told) = copied_into(rt, destination, run);
+    assert_failed(rt, &destination, told, run)?;
     Ok(destination)
 }
 
@@ -104,9 +108,14 @@ fn brought(alloc: Global, count: usize) -> Result<String, Fail> {
 }
 
 /// The copy brought so many keys.
-fn assert_brought<R: AllocGlobal + Abort>(rt: &R, told: &str, count: usize) -> Result<(), Fail> {
+fn assert_brought<R: AllocGlobal + Abort>(
+    rt: &R,
+    told: &str,
+    count: usize,
+    run: Run<'_>,
+) -> Result<(), Fail> {
     let want = brought(rt.alloc(), count)?;
-    assert_same(rt, told, want.as_str());
+    assert_same(rt, told, want.as_str(), run);
     Ok(())
 }
 
@@ -116,38 +125,39 @@ fn assert_rest<A: Dest + Source, R: AllocGlobal + Abort>(
     destination: &A,
     told: Result<String, Fail>,
     count: usize,
+    run: Run<'_>,
 ) -> Result<(), Fail> {
     let told = told?;
-    assert_brought(rt, told.as_str(), count)?;
-    assert_holds(rt, destination, &ALL, told.as_str())
+    assert_brought(rt, told.as_str(), count, run)?;
+    assert_holds(rt, destination, &ALL, told.as_str(), run)
 }
 
 /// The same copy again brings the rest.
 fn assert_finished<A: Dest + Source + Drop + Send, R: AllocGlobal + Threads + Wait + Sync + Abort>(
     rt: &R,
     destination: A,
-    workers: Workers,
+    run: Run<'_>,
 ) -> Result<(), Fail>
 where
     A::Draft: Send,
 {
     let rest = ALL.len().saturating_sub(destination.count());
-    let (destination, told) = copied_into(rt, destination, workers);
-    assert_rest(rt, &destination, told, rest)
+    let (destination, told) = copied_into(rt, destination, run);
+    assert_rest(rt, &destination, told, rest, run)
 }
 
 /// A copy into a store of which a push fails, and the same copy again: how many contents the first one left.
 fn left_by_failed<A: Dest + Source + Drop + Send, R: AllocGlobal + Threads + Wait + Sync + Abort>(
     rt: &R,
     destination: A,
-    workers: Workers,
+    run: Run<'_>,
 ) -> Result<u64, Fail>
 where
     A::Draft: Send,
 {
-    let destination = left_by_refused(rt, destination, workers)?;
+    let destination = left_by_refused(rt, destination, run)?;
     let left = destination.count() as u64;
-    assert_finished(rt, destination, workers)?;
+    assert_finished(rt, destination, run)?;
     Ok(left)
 }
 
@@ -155,9 +165,13 @@ where
 /// third one.
 #[test]
 fn failing_push(rt: HostRuntime) -> Result<(), Fail> {
+    let run = Run {
+        name: "the third push",
+        workers: None,
+    };
     let failing = FailingClosedStore::after(closed(rt.alloc(), &[])?, 2);
-    let left = left_by_failed(&rt, failing, None)?;
-    assert_eq!(&rt; left, 2);
+    let left = left_by_failed(&rt, failing, run)?;
+    assert_eq!(&rt; left, 2, "{run}");
     Ok(())
 }
 
@@ -165,21 +179,39 @@ fn failing_push(rt: HostRuntime) -> Result<(), Fail> {
 fn left_on_device<R: AllocGlobal + Threads + Wait + Sync + Abort>(
     rt: &R,
     device: &Device,
-    workers: Workers,
+    run: Run<'_>,
 ) -> Result<u64, Fail> {
-    left_by_failed(rt, on_device(rt.alloc(), device, &[])?, workers)
+    left_by_failed(rt, on_device(rt.alloc(), device, &[])?, run)
+}
+
+/// What fails once, and after how many others.
+fn name(alloc: Global, failing: &str, passing: u64) -> Result<String, Fail> {
+    Ok(format!(in alloc; "{failing} after {passing}")?)
 }
 
 /// The put after so many fails. On one thread what was pushed before is there; workers may have gone on with what was begun.
 fn assert_put<R: AllocGlobal + Threads + Wait + Sync + Abort>(
     rt: &R,
     passing: u64,
-    workers: Workers,
+    run: Run<'_>,
 ) -> Result<(), Fail> {
     let device = Device::failing(Some(passing), None);
-    let left = left_on_device(rt, &device, workers)?;
-    let most = if workers.is_none() { passing } else { 5 };
-    assert!(rt; left >= passing && left <= most, "{left} after {passing}");
+    let left = left_on_device(rt, &device, run)?;
+    let most = if run.workers.is_none() { passing } else { 5 };
+    assert!(rt; left >= passing && left <= most, "{run}: {left} left");
+    Ok(())
+}
+
+/// The same on one thread, and by three workers.
+fn assert_put_by_each<R: AllocGlobal + Threads + Wait + Sync + Abort>(
+    rt: &R,
+    passing: u64,
+) -> Result<(), Fail> {
+    let name = name(rt.alloc(), "a put", passing)?;
+    for workers in ONE_AND_THREE {
+        let name = name.as_str();
+        assert_put(rt, passing, Run { name, workers })?;
+    }
     Ok(())
 }
 
@@ -188,14 +220,17 @@ fn assert_put<R: AllocGlobal + Threads + Wait + Sync + Abort>(
 #[test]
 fn failing_puts(rt: HostRuntime) -> Result<(), Fail> {
     for passing in 0..6u64 {
-        assert_put(&rt, passing, None)?;
-        assert_put(&rt, passing, Some(3))?;
+        assert_put_by_each(&rt, passing)?;
     }
     Ok(())
 }
 
-fn assert_closed<R: AllocGlobal + Abort>(rt: &R, destination: &ClosedStore) -> Result<(), Fail> {
-    assert!(rt; is_closed(destination)?);
+fn assert_closed<R: AllocGlobal + Abort>(
+    rt: &R,
+    destination: &ClosedStore,
+    run: Run<'_>,
+) -> Result<(), Fail> {
+    assert!(rt; is_closed(destination)?, "{run}");
     Ok(())
 }
 
@@ -204,11 +239,12 @@ fn assert_not_fetched<R: AllocGlobal + Abort>(
     rt: &R,
     destination: &ClosedStore,
     told: &str,
+    run: Run<'_>,
 ) -> Result<(), Fail> {
     let planning = told.starts_with("81 Plan 57 Fetch ");
-    assert!(rt; planning || told.starts_with("88 Fetch "), "{told}");
-    assert!(rt; !planning || destination.count() == 0);
-    assert_closed(rt, destination)
+    assert!(rt; planning || told.starts_with("88 Fetch "), "{run}: {told}");
+    assert!(rt; !planning || destination.count() == 0, "{run}: {told}");
+    assert_closed(rt, destination, run)
 }
 
 /// Whether the copy was refused for a fetch.
@@ -216,11 +252,12 @@ fn is_refused<R: AllocGlobal + Abort>(
     rt: &R,
     destination: &ClosedStore,
     told: Result<String, Fail>,
+    run: Run<'_>,
 ) -> Result<bool, Fail> {
     let told = told?;
     let refused = told.as_str().ends_with(" 22 Device");
     if refused {
-        assert_not_fetched(rt, destination, told.as_str())?;
+        assert_not_fetched(rt, destination, told.as_str(), run)?;
     }
     Ok(refused)
 }
@@ -229,10 +266,10 @@ fn is_refused<R: AllocGlobal + Abort>(
 fn copied_once<R: AllocGlobal + Threads + Wait + Sync + Abort>(
     rt: &R,
     source: &DeviceStore<'_>,
-    workers: Workers,
+    run: Run<'_>,
 ) -> Result<(ClosedStore, bool), Fail> {
-    let (destination, told) = copied(rt, source, closed(rt.alloc(), &[])?, workers);
-    let refused = is_refused(rt, &destination, told)?;
+    let (destination, told) = copied(rt, source, closed(rt.alloc(), &[])?, run);
+    let refused = is_refused(rt, &destination, told, run)?;
     Ok((destination, refused))
 }
 
@@ -241,8 +278,9 @@ fn assert_all<R: AllocGlobal + Abort>(
     rt: &R,
     destination: &ClosedStore,
     told: Result<String, Fail>,
+    run: Run<'_>,
 ) -> Result<(), Fail> {
-    assert_holds(rt, destination, &ALL, told?.as_str())
+    assert_holds(rt, destination, &ALL, told?.as_str(), run)
 }
 
 /// The copy again brings all.
@@ -250,20 +288,20 @@ fn assert_whole<R: AllocGlobal + Threads + Wait + Sync + Abort>(
     rt: &R,
     source: &DeviceStore<'_>,
     destination: ClosedStore,
-    workers: Workers,
+    run: Run<'_>,
 ) -> Result<(), Fail> {
-    let (destination, told) = copied(rt, source, destination, workers);
-    assert_all(rt, &destination, told)
+    let (destination, told) = copied(rt, source, destination, run);
+    assert_all(rt, &destination, told, run)
 }
 
 /// A copy from a store, and the same copy again: whether the first was refused.
 fn is_refused_first<R: AllocGlobal + Threads + Wait + Sync + Abort>(
     rt: &R,
     source: &DeviceStore<'_>,
-    workers: Workers,
+    run: Run<'_>,
 ) -> Result<bool, Fail> {
-    let (destination, refused) = copied_once(rt, source, workers)?;
-    assert_whole(rt, source, destination, workers)?;
+    let (destination, refused) = copied_once(rt, source, run)?;
+    assert_whole(rt, source, destination, run)?;
     Ok(refused)
 }
 
@@ -271,20 +309,33 @@ fn is_refused_first<R: AllocGlobal + Threads + Wait + Sync + Abort>(
 fn is_refused_once<R: AllocGlobal + Threads + Wait + Sync + Abort>(
     rt: &R,
     device: &Device,
-    workers: Workers,
+    run: Run<'_>,
 ) -> Result<bool, Fail> {
-    is_refused_first(rt, &on_device(rt.alloc(), device, &ALL)?, workers)
+    is_refused_first(rt, &on_device(rt.alloc(), device, &ALL)?, run)
 }
 
 /// The get after so many fails, on one thread or for workers.
 fn assert_get<R: AllocGlobal + Threads + Wait + Sync + Abort>(
     rt: &R,
     passing: u64,
-    workers: Workers,
+    run: Run<'_>,
 ) -> Result<(), Fail> {
     let device = Device::failing(None, Some(passing));
-    let refused = is_refused_once(rt, &device, workers)?;
-    assert_eq!(rt; refused, passing < 9, "{passing}");
+    let refused = is_refused_once(rt, &device, run)?;
+    assert_eq!(rt; refused, passing < 9, "{run}: refused");
+    Ok(())
+}
+
+/// The same on one thread, and for three workers.
+fn assert_get_by_each<R: AllocGlobal + Threads + Wait + Sync + Abort>(
+    rt: &R,
+    passing: u64,
+) -> Result<(), Fail> {
+    let name = name(rt.alloc(), "a get", passing)?;
+    for workers in ONE_AND_THREE {
+        let name = name.as_str();
+        assert_get(rt, passing, Run { name, workers })?;
+    }
     Ok(())
 }
 
@@ -293,8 +344,7 @@ fn assert_get<R: AllocGlobal + Threads + Wait + Sync + Abort>(
 #[test]
 fn failing_fetch(rt: HostRuntime) -> Result<(), Fail> {
     for passing in 0..10u64 {
-        assert_get(&rt, passing, None)?;
-        assert_get(&rt, passing, Some(3))?;
+        assert_get_by_each(&rt, passing)?;
     }
     Ok(())
 }

@@ -1,7 +1,7 @@
 //! How each refusal of a copy prints: its number, its name, and what it carries.
 
 use crate::tests::copies::Word::{KeyOf, Text};
-use crate::tests::copies::{Word, assert_same, printed, text};
+use crate::tests::copies::{Word, printed, text};
 use oci_copy::CopyFault;
 use oci_plan::PlanFault;
 use oci_store::{FetchFault, PushFault, RefFault};
@@ -55,7 +55,7 @@ fn assert_prints<R: AllocGlobal + Abort>(
     want: &str,
 ) -> Result<(), Fail> {
     let line = printed(rt.alloc(), fault)?;
-    assert_same(rt, line.as_str(), want);
+    assert_eq!(rt; line.as_str(), want);
     Ok(())
 }
 

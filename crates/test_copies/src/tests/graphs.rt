@@ -20,6 +20,7 @@ const IMAGE: [Sample; 2] = [Empty, Image0];
 #[test]
 fn one_image(rt: HostRuntime) -> Result<(), Fail> {
     static CASES: [Case<'static>; 1] = [Case {
+        name: "an image",
         call: Call::Graph(&[Image0]),
         source: &IMAGE,
         told: &[Text("planned 2 pushed 2 skipped 0")],
@@ -33,6 +34,7 @@ fn one_image(rt: HostRuntime) -> Result<(), Fail> {
 #[test]
 fn copy_again(rt: HostRuntime) -> Result<(), Fail> {
     static CASES: [Case<'static>; 1] = [Case {
+        name: "a held image",
         call: Call::Graph(&[Image0]),
         source: &IMAGE,
         destination: &IMAGE,
@@ -47,6 +49,7 @@ fn copy_again(rt: HostRuntime) -> Result<(), Fail> {
 #[test]
 fn doubled_layer(rt: HostRuntime) -> Result<(), Fail> {
     static CASES: [Case<'static>; 1] = [Case {
+        name: "a layer twice",
         call: Call::Graph(&[Image1]),
         source: &[Empty, Foo, Image1],
         told: &[Text("planned 3 pushed 3 skipped 0")],
@@ -60,6 +63,7 @@ fn doubled_layer(rt: HostRuntime) -> Result<(), Fail> {
 #[test]
 fn no_roots(rt: HostRuntime) -> Result<(), Fail> {
     static CASES: [Case<'static>; 1] = [Case {
+        name: "no roots",
         call: Call::Graph(&[]),
         source: &IMAGE,
         destination: &[Foo],
@@ -73,6 +77,7 @@ fn no_roots(rt: HostRuntime) -> Result<(), Fail> {
 const ALL: [Sample; 6] = [Empty, Foo, Bar, Image2, Image3, Index1];
 
 const TWO_IMAGES: Case<'static> = Case {
+    name: "two images",
     call: Call::Graph(&[Index1]),
     source: &ALL,
     told: &[Text("planned 6 pushed 6 skipped 0")],
@@ -97,10 +102,12 @@ fn two_images(rt: HostRuntime) -> Result<(), Fail> {
     static BY_EACH: Case<'static> = TWO_IMAGES;
     static CASES: [Case<'static>; 2] = [
         Case {
+            name: "on one thread",
             workers: &[None],
             ..TWO_IMAGES
         },
         Case {
+            name: "too many workers",
             workers: &[Some(65)],
             told: &[Text("85 BadWorkers")],
             copied: &[],
@@ -117,6 +124,7 @@ fn two_images(rt: HostRuntime) -> Result<(), Fail> {
 fn two_images_planned(rt: HostRuntime) -> Result<(), Fail> {
     const WORKERS: [Workers; 4] = [Some(0), Some(1), Some(3), Some(64)];
     const PLANNED: Case<'static> = Case {
+        name: "planned before",
         call: Call::Planned(&[Index1]),
         workers: &WORKERS,
         ..TWO_IMAGES
@@ -124,12 +132,14 @@ fn two_images_planned(rt: HostRuntime) -> Result<(), Fail> {
     static CASES: [Case<'static>; 3] = [
         PLANNED,
         Case {
+            name: "planned before, with a held root",
             call: Call::Planned(&[Foo, Index1, Foo]),
             destination: &[Foo],
             told: &[Text("planned 5 pushed 5 skipped 1")],
             ..PLANNED
         },
         Case {
+            name: "planned before, too many workers",
             workers: &[Some(65)],
             told: &[Text("85 BadWorkers")],
             copied: &[],
@@ -144,6 +154,7 @@ fn two_images_planned(rt: HostRuntime) -> Result<(), Fail> {
 fn two_images_in_memory(rt: HostRuntime) -> Result<(), Fail> {
     const WORKERS: [Workers; 2] = [None, Some(3)];
     static CASES: [Case<'static>; 1] = [Case {
+        name: "between stores in memory",
         call: Call::InMemory(&[Image2, Bar, Image3]),
         workers: &WORKERS,
         source: &ALL,
@@ -162,6 +173,7 @@ fn many_roots(rt: HostRuntime) -> Result<(), Fail> {
     const COPIED: [Sample; 5] = [Empty, Foo, Bar, Image2, Image3];
     static CASES: [Case<'static>; 2] = [
         Case {
+            name: "two images as roots",
             call: Call::Graph(&[Image2, Image3]),
             source: &SOURCE,
             told: &[Text("planned 5 pushed 5 skipped 0")],
@@ -169,6 +181,7 @@ fn many_roots(rt: HostRuntime) -> Result<(), Fail> {
             ..NOTHING
         },
         Case {
+            name: "a held layer as a root",
             call: Call::Graph(&[Image3, Foo, Image2]),
             source: &SOURCE,
             destination: &[Empty, Foo],
@@ -203,6 +216,7 @@ fn assert_sizes<R: AllocGlobal + Abort>(rt: &R) -> Result<(), Fail> {
 #[test]
 fn sha512_layer(rt: HostRuntime) -> Result<(), Fail> {
     static CASES: [Case<'static>; 1] = [Case {
+        name: "a layer by SHA-512",
         call: Call::Graph(&[Image5]),
         source: &[Empty, FooBySha512, Image5],
         told: &[Text("planned 3 pushed 3 skipped 0")],
@@ -217,6 +231,7 @@ fn sha512_layer(rt: HostRuntime) -> Result<(), Fail> {
 #[test]
 fn foreign_layer(rt: HostRuntime) -> Result<(), Fail> {
     static CASES: [Case<'static>; 1] = [Case {
+        name: "a foreign layer",
         call: Call::Graph(&[DockerImage]),
         source: &[Empty, DockerImage],
         told: &[Text("planned 2 pushed 2 skipped 0")],
@@ -231,6 +246,7 @@ fn foreign_layer(rt: HostRuntime) -> Result<(), Fail> {
 fn two_media_types(rt: HostRuntime) -> Result<(), Fail> {
     const IMAGES: [Sample; 5] = [Empty, Image0, Image0AsLayer, Image4, Index2];
     static CASES: [Case<'static>; 1] = [Case {
+        name: "two media types",
         call: Call::Graph(&[Index2]),
         source: &IMAGES,
         told: &[Text("planned 5 pushed 5 skipped 0")],
@@ -243,6 +259,7 @@ fn two_media_types(rt: HostRuntime) -> Result<(), Fail> {
 #[test]
 fn missing_layer(rt: HostRuntime) -> Result<(), Fail> {
     static CASES: [Case<'static>; 1] = [Case {
+        name: "a missing layer",
         call: Call::Graph(&[Image2]),
         source: &[Empty, Image2],
         told: &[Text("81 Plan 53 NotFound "), KeyOf(Foo)],
@@ -255,6 +272,7 @@ fn missing_layer(rt: HostRuntime) -> Result<(), Fail> {
 #[test]
 fn held_above_a_hole(rt: HostRuntime) -> Result<(), Fail> {
     static CASES: [Case<'static>; 1] = [Case {
+        name: "a missing layer below a held image",
         call: Call::Graph(&[Image2]),
         source: &[Empty, Image2],
         destination: &[Empty, Foo, Image2],

@@ -1,4 +1,5 @@
-use crate::tests::calls::{assert_told, options, told_by_workers};
+use crate::tests::calls::{Workers, assert_told, options, told_by_workers};
+use crate::tests::copies::Run;
 use bytes::Bytes;
 use oci_copy::{copy_plan, plan_copy};
 use oci_manifest::Key;
@@ -80,6 +81,11 @@ impl<'d> Hooks for Counting<'d> {
     }
 }
 
+const INTO_LAYERS: Run<'static> = Run {
+    name: "two images into their layers",
+    workers: Some(3),
+};
+
 /// Copies two images by three workers into a store that has their layers.
 fn copied_images<R: AllocGlobal + Threads + Wait + Sync>(
     rt: &R,
@@ -88,14 +94,14 @@ fn copied_images<R: AllocGlobal + Threads + Wait + Sync>(
     hooks: &Counting<'_>,
 ) -> Result<String, Fail> {
     let roots = [Foo, Index1, Bar, Foo];
-    let options = options(Some(3), Existing::Skip, 0);
+    let options = options(INTO_LAYERS.workers, Existing::Skip, 0);
     told_by_workers(rt, source, destination, &roots, &options, hooks)
 }
 
 /// Two roots were held, and three keys were brought, with each call in its place.
 fn assert_counted(rt: &impl Abort, hooks: &Counting<'_>) {
     let counts = hooks.counts();
-    assert_eq!(rt; counts, [2, 3, 3, 3, 0]);
+    assert_eq!(rt; counts, [2, 3, 3, 3, 0], "{INTO_LAYERS}");
 }
 
 fn assert_calls<R: AllocGlobal + Threads + Wait + Sync + Abort>(
@@ -106,7 +112,7 @@ fn assert_calls<R: AllocGlobal + Threads + Wait + Sync + Abort>(
     let destination = on_device(rt.alloc(), device, &[Empty, Foo, Bar])?;
     let hooks = Counting::new(device);
     let told = copied_images(rt, source, destination, &hooks);
-    assert_told(rt, told, "planned 3 pushed 3 skipped 2")?;
+    assert_told(rt, told, "planned 3 pushed 3 skipped 2", INTO_LAYERS)?;
     assert_counted(rt, &hooks);
     Ok(())
 }
@@ -175,31 +181,31 @@ impl Hooks for Naming {
 fn copied_below<R: AllocGlobal + Threads + Wait + Sync>(
     rt: &R,
     source: &MemoryStore,
-    workers: u32,
+    workers: Workers,
     hooks: &Naming,
 ) -> Result<String, Fail> {
     let open = memory(rt.alloc(), &[Image0, Foo])?;
     let roots = [Foo, Image2, Image0, Foo];
-    let options = options(Some(workers), Existing::Descend, 0);
+    let options = options(workers, Existing::Descend, 0);
     told_by_workers(rt, source, open, &roots, &options, hooks)
 }
 
 /// Two roots were held, which were told in their order, and two keys were brought.
-fn assert_named(rt: &impl Abort, hooks: &Naming) {
+fn assert_named(rt: &impl Abort, hooks: &Naming, run: Run<'_>) {
     let counts = hooks.counts();
-    assert_eq!(rt; counts, [2, 2, 0]);
+    assert_eq!(rt; counts, [2, 2, 0], "{run}");
 }
 
 /// The held roots are a layer and an image, in the order of the roots.
 fn assert_calls_below<R: AllocGlobal + Threads + Wait + Sync + Abort>(
     rt: &R,
     source: &MemoryStore,
-    workers: u32,
+    run: Run<'_>,
 ) -> Result<(), Fail> {
     let hooks = Naming::new(keys(rt.alloc(), &[Foo, Image0])?);
-    let told = copied_below(rt, source, workers, &hooks);
-    assert_told(rt, told, "planned 2 pushed 2 skipped 2")?;
-    assert_named(rt, &hooks);
+    let told = copied_below(rt, source, run.workers, &hooks);
+    assert_told(rt, told, "planned 2 pushed 2 skipped 2", run)?;
+    assert_named(rt, &hooks, run);
     Ok(())
 }
 
@@ -208,8 +214,11 @@ fn assert_calls_by_each<R: AllocGlobal + Threads + Wait + Sync + Abort>(
     rt: &R,
     source: &MemoryStore,
 ) -> Result<(), Fail> {
-    assert_calls_below(rt, source, 1)?;
-    assert_calls_below(rt, source, 3)
+    for workers in [Some(1), Some(3)] {
+        let name = "below held keys";
+        assert_calls_below(rt, source, Run { name, workers })?;
+    }
+    Ok(())
 }
 
 /// A copy that descends tells held roots as one that skips them: each once, in their order, and first.

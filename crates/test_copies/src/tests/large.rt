@@ -1,6 +1,7 @@
 //! Copies of many layers and of long chains, on one thread and by workers.
 
 use crate::tests::calls::{Workers, left};
+use crate::tests::copies::Run;
 use oci_manifest::Key;
 use oci_plan::Existing;
 use oci_store::{ClosedStore, Dest, MemoryStore};
@@ -25,67 +26,66 @@ pub(crate) fn has_all(store: &MemoryStore, other: &MemoryStore) -> bool {
     true
 }
 
-/// What a copy leaves in an empty store, which tells this.
-fn copied_into_empty<R: AllocGlobal + Threads + Wait + Sync + Abort>(
+/// A large copy into an empty store, and what it tells.
+#[derive(Clone, Copy)]
+struct Large<'a> {
+    name: &'a str,
+    source: &'a MemoryStore,
+    root: &'a Key,
+    told: &'a str,
+}
+
+/// The run of a copy by this many workers.
+fn by<'a>(copy: &Large<'a>, workers: Workers) -> Run<'a> {
+    Run {
+        name: copy.name,
+        workers,
+    }
+}
+
+/// What a copy leaves.
+fn copied<R: AllocGlobal + Threads + Wait + Sync + Abort>(
     rt: &R,
-    source: &MemoryStore,
-    root: &Key,
-    workers: Workers,
-    want: &str,
+    copy: &Large<'_>,
+    run: Run<'_>,
 ) -> Result<ClosedStore, Fail> {
     let empty = closed(rt.alloc(), &[])?;
-    left(rt, source, empty, root, (workers, Existing::Skip), want)
+    let how = (run, Existing::Skip);
+    left(rt, copy.source, empty, copy.root, how, copy.told)
 }
 
 fn assert_alike<R: AllocGlobal + Abort>(
     rt: &R,
     copied: &ClosedStore,
     single: &ClosedStore,
-    workers: u32,
+    run: Run<'_>,
 ) -> Result<(), Fail> {
-    assert_eq!(rt; copied.count(), single.count(), "by {workers}");
-    assert!(rt; has_all(copied.memory(), single.memory()), "by {workers}");
+    assert_eq!(rt; copied.count(), single.count(), "{run}");
+    assert!(rt; has_all(copied.memory(), single.memory()), "{run}");
     Ok(())
 }
 
-/// A copy by so many workers brings what a copy on one thread brought.
+/// A run brings what a copy on one thread brought.
 fn assert_same_by<R: AllocGlobal + Threads + Wait + Sync + Abort>(
     rt: &R,
-    source: &MemoryStore,
-    root: &Key,
+    copy: &Large<'_>,
     single: &ClosedStore,
-    workers: u32,
-    want: &str,
+    run: Run<'_>,
 ) -> Result<(), Fail> {
-    let copied = copied_into_empty(rt, source, root, Some(workers), want)?;
-    assert_alike(rt, &copied, single, workers)
-}
-
-/// A copy by each of these numbers of workers brings what a copy on one thread brought.
-fn assert_same_by_each<R: AllocGlobal + Threads + Wait + Sync + Abort>(
-    rt: &R,
-    source: &MemoryStore,
-    root: &Key,
-    single: &ClosedStore,
-    each: &[u32],
-    want: &str,
-) -> Result<(), Fail> {
-    for workers in each {
-        assert_same_by(rt, source, root, single, *workers, want)?;
-    }
-    Ok(())
+    assert_alike(rt, &copied(rt, copy, run)?, single, run)
 }
 
 /// A copy by each of these numbers of workers brings what a copy on one thread brings.
 fn assert_same<R: AllocGlobal + Threads + Wait + Sync + Abort>(
     rt: &R,
-    source: &MemoryStore,
-    root: &Key,
+    copy: &Large<'_>,
     each: &[u32],
-    want: &str,
 ) -> Result<(), Fail> {
-    let single = copied_into_empty(rt, source, root, None, want)?;
-    assert_same_by_each(rt, source, root, &single, each, want)
+    let single = copied(rt, copy, by(copy, None))?;
+    for workers in each {
+        assert_same_by(rt, copy, &single, by(copy, Some(*workers)))?;
+    }
+    Ok(())
 }
 
 /// The same of a chain that is put into the store.
@@ -94,7 +94,13 @@ fn assert_chain<R: AllocGlobal + Threads + Wait + Sync + Abort>(
     store: &mut MemoryStore,
 ) -> Result<(), Fail> {
     let root = put_chain(rt.alloc(), store, 3_000)?;
-    assert_same(rt, store, &root, &[3], "planned 3001 pushed 3001 skipped 0")
+    let copy = Large {
+        name: "a long chain",
+        source: store,
+        root: &root,
+        told: "planned 3001 pushed 3001 skipped 0",
+    };
+    assert_same(rt, &copy, &[3])
 }
 
 /// A chain, of which one key at a time can be pushed.
@@ -162,13 +168,13 @@ fn assert_index<R: AllocGlobal + Threads + Wait + Sync + Abort>(
     store: &mut MemoryStore,
 ) -> Result<(), Fail> {
     let root = put_index(rt.alloc(), store, 5_000)?;
-    assert_same(
-        rt,
-        store,
-        &root,
-        &[1, 64],
-        "planned 5001 pushed 5001 skipped 0",
-    )
+    let copy = Large {
+        name: "a wide index",
+        source: store,
+        root: &root,
+        told: "planned 5001 pushed 5001 skipped 0",
+    };
+    assert_same(rt, &copy, &[1, 64])
 }
 
 /// An index, of which all keys but one can be pushed at once.

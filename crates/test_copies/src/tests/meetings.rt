@@ -1,4 +1,5 @@
 use crate::tests::calls::{assert_told, options, told_by_workers};
+use crate::tests::copies::Run;
 use bytes::Bytes;
 use oci_manifest::Key;
 use oci_plan::Existing;
@@ -157,10 +158,14 @@ fn assert_two<R: AllocGlobal + Threads + Wait + Sync + Abort, A: Source + Sync, 
     workers: u32,
     hooks: &H,
 ) -> Result<(), Fail> {
+    let run = Run {
+        name: "two layers",
+        workers: Some(workers),
+    };
     let empty = closed(rt.alloc(), &[])?;
-    let options = options(Some(workers), Existing::Skip, 0);
+    let options = options(run.workers, Existing::Skip, 0);
     let told = told_by_workers(rt, source, empty, &[Foo, Bar], &options, hooks);
-    assert_told(rt, told, "planned 2 pushed 2 skipped 0")
+    assert_told(rt, told, "planned 2 pushed 2 skipped 0", run)
 }
 
 /// So many of the workers that copy with these hooks meet before they fetch, and so many after they have pushed.
@@ -171,8 +176,8 @@ fn assert_hooks_meet<R: AllocGlobal + Threads + Wait + Sync + Abort>(
     met: u64,
 ) -> Result<(), Fail> {
     assert_two(rt, &memory(rt.alloc(), &[Foo, Bar])?, workers, hooks)?;
-    assert_eq!(rt; hooks.began.met(), met);
-    assert_eq!(rt; hooks.ended.met(), met);
+    assert_eq!(rt; hooks.began.met(), met, "before a fetch, by {workers}");
+    assert_eq!(rt; hooks.ended.met(), met, "after a push, by {workers}");
     Ok(())
 }
 

@@ -2,7 +2,7 @@
 
 use crate::tests::calls::Workers;
 use crate::tests::copies::Word::{DigestOf, KeyOf, Text};
-use crate::tests::copies::{Call, Case, NOTHING, Tag, assert_cases};
+use crate::tests::copies::{Call, Case, NOTHING, OPEN_AT_IMAGE_0, Tag, assert_cases};
 use oci_plan::Existing;
 use std::test::Fail;
 use test_support::Sample;
@@ -33,6 +33,7 @@ const USUAL: [Workers; 1] = [Some(0)];
 fn copy_of_a_tag(rt: HostRuntime) -> Result<(), Fail> {
     static CASES: [Case<'static>; 2] = [
         Case {
+            name: "the same name",
             call: Call::Reference(Text("m"), ""),
             workers: &USUAL,
             source: &IMAGE,
@@ -43,6 +44,7 @@ fn copy_of_a_tag(rt: HostRuntime) -> Result<(), Fail> {
             ..NOTHING
         },
         Case {
+            name: "another name",
             call: Call::Reference(Text("m"), "v1"),
             workers: &USUAL,
             source: &IMAGE,
@@ -59,6 +61,7 @@ fn copy_of_a_tag(rt: HostRuntime) -> Result<(), Fail> {
 #[test]
 fn copy_of_a_digest(rt: HostRuntime) -> Result<(), Fail> {
     static CASES: [Case<'static>; 1] = [Case {
+        name: "a digest",
         call: Call::Reference(DigestOf(Empty), ""),
         workers: &USUAL,
         source: &IMAGE,
@@ -89,18 +92,21 @@ const REFUSED: Case<'static> = Case {
 fn refused_references(rt: HostRuntime) -> Result<(), Fail> {
     static CASES: [Case<'static>; 3] = [
         Case {
+            name: "an unknown name",
             call: Call::Reference(Text("x"), ""),
             workers: &[Some(0), Some(65)],
             told: &[Text("87 Reference 36 UnknownReference")],
             ..REFUSED
         },
         Case {
+            name: "no name",
             call: Call::Reference(Text(""), ""),
             workers: &USUAL,
             told: &[Text("87 Reference 35 EmptyReference")],
             ..REFUSED
         },
         Case {
+            name: "too many workers",
             call: Call::Reference(Text("m"), ""),
             workers: &[Some(65)],
             told: &[Text("85 BadWorkers")],
@@ -114,6 +120,7 @@ fn refused_references(rt: HostRuntime) -> Result<(), Fail> {
 #[test]
 fn copy_of_a_hole(rt: HostRuntime) -> Result<(), Fail> {
     static CASES: [Case<'static>; 1] = [Case {
+        name: "an image without its layer",
         call: Call::Reference(Text("m"), "v1"),
         workers: &[Some(3)],
         source: &[Empty, Image2],
@@ -132,18 +139,14 @@ fn copy_of_a_hole(rt: HostRuntime) -> Result<(), Fail> {
 #[test]
 fn copy_below_a_held_image(rt: HostRuntime) -> Result<(), Fail> {
     const SKIPPING: Case<'static> = Case {
+        name: "below a held image, skipping",
         call: Call::Reference(Text("m"), "v1"),
         workers: &[Some(1), Some(3)],
         source: &IMAGE,
         source_tag: Some(M),
         destination: &[Image0],
         into_closed: false,
-        told: &[
-            Text("80 DestinationOpen "),
-            KeyOf(Image0),
-            Text(" "),
-            KeyOf(Empty),
-        ],
+        told: OPEN_AT_IMAGE_0,
         copied: &[Image0],
         is_in_order: true,
         is_closed: false,
@@ -152,6 +155,7 @@ fn copy_below_a_held_image(rt: HostRuntime) -> Result<(), Fail> {
     static CASES: [Case<'static>; 2] = [
         SKIPPING,
         Case {
+            name: "below a held image, descending",
             existing: Existing::Descend,
             told: &[KeyOf(Image0), Text(" planned 1 pushed 1 skipped 1")],
             copied: &[Image0, Empty],

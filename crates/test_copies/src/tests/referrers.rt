@@ -2,7 +2,7 @@
 
 use crate::tests::calls::Workers;
 use crate::tests::copies::Word::{KeyOf, Text};
-use crate::tests::copies::{Call, Case, NOTHING, Tag, assert_cases};
+use crate::tests::copies::{Call, Case, NOTHING, OPEN_AT_IMAGE_0, Tag, assert_cases};
 use oci_plan::Existing;
 use std::test::Fail;
 use test_support::Sample;
@@ -21,6 +21,7 @@ const USUAL: [Workers; 1] = [Some(0)];
 #[test]
 fn referrers(rt: HostRuntime) -> Result<(), Fail> {
     const ALONE: Case<'static> = Case {
+        name: "the image alone",
         call: Call::Graph(&[Image2]),
         workers: &USUAL,
         source: &SIX,
@@ -31,18 +32,21 @@ fn referrers(rt: HostRuntime) -> Result<(), Fail> {
     static CASES: [Case<'static>; 4] = [
         ALONE,
         Case {
+            name: "depth 1",
             call: Call::Extended(Image2, 1),
             told: &[Text("planned 5 pushed 5 skipped 0")],
             copied: &FIVE,
             ..ALONE
         },
         Case {
+            name: "depth 2",
             call: Call::Extended(Image2, 2),
             told: &[Text("planned 6 pushed 6 skipped 0")],
             copied: &SIX,
             ..ALONE
         },
         Case {
+            name: "any depth",
             call: Call::Extended(Image2, 0),
             told: &[Text("planned 6 pushed 6 skipped 0")],
             copied: &SIX,
@@ -58,6 +62,7 @@ fn roots_bring_what_they_list(rt: HostRuntime) -> Result<(), Fail> {
     const SEVEN: [Sample; 7] = [Empty, Foo, Image2, Index3, Index4, Index5, Index6];
     static CASES: [Case<'static>; 2] = [
         Case {
+            name: "roots within depth 3",
             call: Call::Extended(Image2, 3),
             workers: &USUAL,
             source: &SEVEN,
@@ -66,6 +71,7 @@ fn roots_bring_what_they_list(rt: HostRuntime) -> Result<(), Fail> {
             ..NOTHING
         },
         Case {
+            name: "roots within depth 1",
             call: Call::Extended(Image2, 1),
             workers: &USUAL,
             source: &SEVEN,
@@ -83,6 +89,7 @@ fn roots_bring_what_they_list(rt: HostRuntime) -> Result<(), Fail> {
 fn refused_extended_copies(rt: HostRuntime) -> Result<(), Fail> {
     // Each refusal leaves the destination as it was.
     const MISSING: Case<'static> = Case {
+        name: "a missing key",
         call: Call::Extended(Bar, 3),
         workers: &USUAL,
         source: &[Empty, Image0],
@@ -93,14 +100,10 @@ fn refused_extended_copies(rt: HostRuntime) -> Result<(), Fail> {
         ..NOTHING
     };
     const OPEN: Case<'static> = Case {
+        name: "an open destination",
         workers: &[Some(64)],
         destination: &[Image0],
-        told: &[
-            Text("80 DestinationOpen "),
-            KeyOf(Image0),
-            Text(" "),
-            KeyOf(Empty),
-        ],
+        told: OPEN_AT_IMAGE_0,
         copied: &[Image0],
         is_closed: false,
         ..MISSING
@@ -109,6 +112,7 @@ fn refused_extended_copies(rt: HostRuntime) -> Result<(), Fail> {
         MISSING,
         OPEN,
         Case {
+            name: "too many workers",
             workers: &[Some(65)],
             told: &[Text("85 BadWorkers")],
             ..OPEN
@@ -127,6 +131,7 @@ const T: Tag<'static> = Tag {
 #[test]
 fn referrers_of_a_tag(rt: HostRuntime) -> Result<(), Fail> {
     static CASES: [Case<'static>; 1] = [Case {
+        name: "a name",
         call: Call::ExtendedReference("t"),
         workers: &USUAL,
         source: &SIX,
@@ -147,6 +152,7 @@ fn refused_references_of_extended_copies(rt: HostRuntime) -> Result<(), Fail> {
         name: Text("e"),
     };
     const UNKNOWN: Case<'static> = Case {
+        name: "an unknown name",
         call: Call::ExtendedReference("x"),
         workers: &[Some(65)],
         source: &SIX,
@@ -161,12 +167,14 @@ fn refused_references_of_extended_copies(rt: HostRuntime) -> Result<(), Fail> {
     static CASES: [Case<'static>; 3] = [
         UNKNOWN,
         Case {
+            name: "no name",
             call: Call::ExtendedReference(""),
             workers: &USUAL,
             told: &[Text("87 Reference 35 EmptyReference")],
             ..UNKNOWN
         },
         Case {
+            name: "too many workers",
             call: Call::ExtendedReference("t"),
             told: &[Text("85 BadWorkers")],
             ..UNKNOWN
@@ -196,6 +204,7 @@ const INTO_OPEN: Case<'static> = Case {
 #[test]
 fn referrers_below_held_keys(rt: HostRuntime) -> Result<(), Fail> {
     const SKIPPING: Case<'static> = Case {
+        name: "held keys, skipping",
         call: Call::Extended(Image2, 0),
         destination: &[Image2, Index4],
         copied: &[Image2, Index4],
@@ -204,6 +213,7 @@ fn referrers_below_held_keys(rt: HostRuntime) -> Result<(), Fail> {
     static CASES: [Case<'static>; 2] = [
         SKIPPING,
         Case {
+            name: "held keys, descending",
             existing: Existing::Descend,
             told: &[Text("planned 4 pushed 4 skipped 2")],
             copied: &SIX,
@@ -219,6 +229,7 @@ fn referrers_below_held_keys(rt: HostRuntime) -> Result<(), Fail> {
 #[test]
 fn referrers_of_a_tag_below_held_keys(rt: HostRuntime) -> Result<(), Fail> {
     const SKIPPING: Case<'static> = Case {
+        name: "a name and held keys, skipping",
         call: Call::ExtendedReference("t"),
         destination: &[Image2, Referrer],
         copied: &[Image2, Referrer],
@@ -227,6 +238,7 @@ fn referrers_of_a_tag_below_held_keys(rt: HostRuntime) -> Result<(), Fail> {
     static CASES: [Case<'static>; 2] = [
         SKIPPING,
         Case {
+            name: "a name and held keys, descending",
             existing: Existing::Descend,
             told: &[KeyOf(Image2), Text(" planned 3 pushed 3 skipped 2")],
             copied: &FIVE,

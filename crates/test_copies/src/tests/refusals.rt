@@ -2,7 +2,7 @@
 
 use crate::tests::calls::{Workers, left};
 use crate::tests::copies::Word::{KeyOf, Sized, Text};
-use crate::tests::copies::{Call, Case, NOTHING, assert_cases, assert_holds};
+use crate::tests::copies::{Call, Case, NOTHING, OPEN_AT_IMAGE_0, Run, assert_cases, assert_holds};
 use oci_manifest::Key;
 use oci_plan::Existing;
 use std::process::Abort;
@@ -18,17 +18,13 @@ const ONE_AND_THREE: [Workers; 2] = [None, Some(3)];
 #[test]
 fn open_destination(rt: HostRuntime) -> Result<(), Fail> {
     static CASES: [Case<'static>; 1] = [Case {
+        name: "a layer",
         call: Call::Graph(&[Foo]),
         workers: &ONE_AND_THREE,
         source: &[Foo],
         destination: &[Image0],
         into_closed: false,
-        told: &[
-            Text("80 DestinationOpen "),
-            KeyOf(Image0),
-            Text(" "),
-            KeyOf(Empty),
-        ],
+        told: OPEN_AT_IMAGE_0,
         copied: &[Image0],
         is_closed: false,
         ..NOTHING
@@ -38,6 +34,7 @@ fn open_destination(rt: HostRuntime) -> Result<(), Fail> {
 
 /// The copy of the key of an image that no store has, and that is larger than the limit by one.
 const TOO_LARGE: Case<'static> = Case {
+    name: "over the usual limit",
     call: Call::Sized(4194305),
     workers: &ONE_AND_THREE,
     told: &[
@@ -50,6 +47,7 @@ const TOO_LARGE: Case<'static> = Case {
 
 /// The same of one that is as large as the limit.
 const NOT_FOUND: Case<'static> = Case {
+    name: "at the usual limit",
     call: Call::Sized(4194304),
     workers: &ONE_AND_THREE,
     told: &[Text("81 Plan 53 NotFound "), Sized(4194304)],
@@ -58,6 +56,7 @@ const NOT_FOUND: Case<'static> = Case {
 
 /// The copy of an image that is larger than its limit by one.
 const LIMITED: Case<'static> = Case {
+    name: "over a limit",
     call: Call::Graph(&[Image0]),
     workers: &ONE_AND_THREE,
     max_metadata_bytes: 240,
@@ -74,18 +73,21 @@ fn size_limit(rt: HostRuntime) -> Result<(), Fail> {
     static CASES: [Case<'static>; 6] = [
         TOO_LARGE,
         Case {
+            name: "over the usual limit, into a store with a layer",
             destination: &HELD,
             copied: &HELD,
             ..TOO_LARGE
         },
         NOT_FOUND,
         Case {
+            name: "at the usual limit, into a store with a layer",
             destination: &HELD,
             copied: &HELD,
             ..NOT_FOUND
         },
         LIMITED,
         Case {
+            name: "at a limit",
             max_metadata_bytes: 241,
             told: &[Text("planned 2 pushed 2 skipped 0")],
             copied: &[Empty, Image0],
@@ -106,11 +108,15 @@ fn assert_unread<R: AllocGlobal + Threads + Wait + Sync + Abort>(
     root: &Key,
     workers: Workers,
 ) -> Result<(), Fail> {
+    let run = Run {
+        name: "an image that does not read",
+        workers,
+    };
     let held = [Foo];
     let destination = closed(rt.alloc(), &held)?;
-    let by = (workers, Existing::Skip);
+    let by = (run, Existing::Skip);
     let destination = left(rt, source, destination, root, by, UNREADABLE)?;
-    assert_holds(rt, &destination, &held, UNREADABLE)
+    assert_holds(rt, &destination, &held, UNREADABLE, run)
 }
 
 /// An image that is no JSON object is not copied.
