@@ -1,9 +1,16 @@
-"""Compares the numbers of refusals, and their names, as the program explains them, docs/refusals.md lists them and README.md uses them."""
+"""Compares the numbers of refusals, and their names, as the crates' faults declare them, the program explains them,
+docs/refusals.md lists them and README.md uses them."""
+import glob
 import re
 
 from program import TOP, first, run, told
 
-LAST = 94
+# A number is a byte.
+NUMBERS = range(256)
+# The fault of the program, as docs/refusals.md calls it.
+PROGRAM = {"ProgramFault": "ocicp"}
+# A fault's type, or the number and the name with which a fault is printed.
+DECLARED = re.compile(r'pub enum (\w+)|#\[error\("(\d+) (\w+)')
 
 
 def table(path, heading):
@@ -14,9 +21,22 @@ def table(path, heading):
     return [[cell.strip() for cell in row.strip("|").split("|")] for row in rows]
 
 
+def declared():
+    """The type and the name of each fault in the crates, after its number."""
+    for path in sorted(glob.glob(TOP + "/crates/*/src/**/*.rt", recursive=True)):
+        with open(path) as file:
+            for above, number, name in DECLARED.findall(file.read()):
+                kind = above or kind
+                if number:
+                    yield int(number), PROGRAM.get(kind, kind), name
+
+
 def listed():
-    """The name of each number in docs/refusals.md. Its cell has the fault's type before it, where that is another than above."""
-    return {int(row[0]): row[1].split()[-1] for row in table("/docs/refusals.md", "# Refusals")}
+    """The same in docs/refusals.md, where a cell has the type before the name if it is another than above."""
+    for row in table("/docs/refusals.md", "# Refusals"):
+        *above, name = row[1].split()
+        kind = above[0].strip("`") if above else kind
+        yield int(row[0]), kind, name
 
 
 def used():
@@ -24,6 +44,18 @@ def used():
     for row in table("/README.md", "## Errors"):
         for line in re.findall(r"`([^`]*)`", row[1]):
             yield from re.findall(r"(\d+)(?: ([A-Z]\w*[a-z]\w*))?", line)
+
+
+def wrong_list(faults, rows):
+    """What is wrong with the rows of docs/refusals.md, which are to be the faults of the crates, each once."""
+    twice = [number for number, *_ in rows if [it[0] for it in rows].count(number) > 1]
+    missing, extra = sorted(set(faults) - set(rows)), sorted(set(rows) - set(faults))
+    return first([
+        "no fault is declared" if not faults else None,
+        "docs/refusals.md has %d twice" % twice[0] if twice else None,
+        "docs/refusals.md does not have %d %s %s" % missing[0] if missing else None,
+        "docs/refusals.md has %d %s %s, the crates do not" % extra[0] if extra else None,
+    ])
 
 
 def wrong_explanation(number, name, folder):
@@ -47,9 +79,10 @@ def wrong_use(number, name, names):
 
 
 def checks(room):
-    names = listed()
-    numbers = range(1, max(LAST, *names) + 1)
-    yield "explain", first(wrong_explanation(number, names.get(number), room) for number in numbers)
+    rows = list(listed())
+    names = {number: name for number, _, name in rows}
+    yield "docs/refusals.md", wrong_list(list(declared()), rows)
+    yield "explain", first(wrong_explanation(number, names.get(number), room) for number in NUMBERS)
     pairs = list(used())
     yield "README.md", first([
         None if pairs else "its table of errors has no number",
