@@ -1,5 +1,5 @@
 -- What a walk meets, whatever bytes the source's device has now.
-use Rattle.std.proofs.Common.{◌≡◌, Bool, true, false, inl, inr, ◌++◌, List, [], refl, sym, ap, subst, ◌∙◌}
+use Rattle.std.proofs.Common.{◌≡◌, ◌<◌, Bool, true, false, inl, inr, ◌++◌, List, [], length, refl, sym, ap, subst, ◌∙◌}
 use Rattle.std.specs.List.{filter, All, IsDistinct}
 use Rattle.std.proofs.lemmas.Bool.{not-true}
 use Rattle.std.proofs.lemmas.List.Elements.{All-nil}
@@ -11,6 +11,7 @@ use Rattle.oci_store.specs.Content.{Entry}
 use Rattle.oci_store.specs.Graph.{Node}
 use Rattle.oci_store.specs.Visiting.{with_keys}
 use Rattle.oci_store.proofs.Membership.{Keys, Contains-from_among, among-filter, among-with_keys, All-from_among, All-among, first_places-append}
+use Rattle.oci_plan.specs.Fault.{Names}
 use Rattle.oci_plan.specs.Met.{IsListedUnder, IsMet, AreTooMany, NamesMet}
 use Rattle.oci_plan.specs.Met as path
 use Rattle.oci_plan.specs.Refusal.{IsOfKey}
@@ -20,6 +21,26 @@ use Rattle.oci_plan.specs.declared.existing.Existing.{Existing}
 use Rattle.oci_plan.specs.declared.fault.PlanFault.{PlanFault}
 use Rattle.oci_plan.specs.declared.fault.PlanFault.TheVariants as fault
 use Rattle.oci_plan.proofs.Visits.{fresh_passes}
+
+-- what holds of a key holds of what a fault of it names
+pub names_key : (key : Descriptor → Type 0) (cycle : Keys → Type 0) (many : Type 0) (k : Descriptor) (e : PlanFault) → key k → IsOfKey k e → Names key cycle many e
+names_key key cycle many k (fault.NotFound named) h same = subst key (sym same) h
+names_key key cycle many k (fault.TooLarge named l) h same = subst key (sym same) h
+names_key key cycle many k (fault.Cycle ks) h same = absurd same
+names_key key cycle many k (fault.Manifest named f) h same = subst key (sym same) h
+names_key key cycle many k (fault.Fetch named f) h same = subst key (sym same) h
+names_key key cycle many k fault.Memory h same = tt
+names_key key cycle many k fault.TooMany h same = absurd same
+
+-- where numbers are refused there are too many keys, or a memory error
+pub names_many : (key : Descriptor → Type 0) (cycle : Keys → Type 0) (many : Type 0) (keys : Keys) (e : PlanFault) → (4294967295 < length keys → many) → IsNumberFault keys e → Names key cycle many e
+names_many key cycle many keys (fault.NotFound named) h refused = absurd refused
+names_many key cycle many keys (fault.TooLarge named l) h refused = absurd refused
+names_many key cycle many keys (fault.Cycle ks) h refused = absurd refused
+names_many key cycle many keys (fault.Manifest named f) h refused = absurd refused
+names_many key cycle many keys (fault.Fetch named f) h refused = absurd refused
+names_many key cycle many keys fault.Memory h refused = tt
+names_many key cycle many keys fault.TooMany h refused = h refused
 
 -- keys that stand in a list once each: the first places of some list
 pub once_more : (keys offered more grown : Keys) → keys ≡ first_places offered → grown ≡ with_keys keys more → grown ≡ first_places (offered ++ more)
@@ -60,35 +81,13 @@ module _ (existing : Existing) (entries : List Entry) (held : List Node) (roots 
   pub fresh_kept : (ks : Keys) → All NotHeld (filter (is_fresh held) ks)
   fresh_kept ks = All-from_among NotHeld (filter (is_fresh held) ks) (λ k there. not-true (has_key held k) (among-filter (is_fresh held) ks k there).0)
 
-  -- a fault of a key that was met names no other
-  pub item_met : (k : Descriptor) (e : PlanFault) → Met k → IsOfKey k e → NamesMet existing entries held roots e
-  item_met k e was of_key = go e of_key
-    where
-      same_met : (named : Descriptor) → named ≡ k → Met named
-      same_met named same = subst Met (sym same) was
-
-      go : (e : PlanFault) → IsOfKey k e → NamesMet existing entries held roots e
-      go (fault.TooLarge named l) same = same_met named same
-      go (fault.NotFound named) same = same_met named same
-      go (fault.Fetch named f) same = same_met named same
-      go (fault.Manifest named f) same = same_met named same
-      go (fault.Cycle ks) same = absurd same
-      go fault.Memory same = tt
-      go fault.TooMany same = absurd same
-
   -- where numbers are refused there are too many keys
   pub numbers_met : (keys offered more : Keys) (e : PlanFault) → keys ≡ first_places offered → All NotHeld keys → All Met keys → All NotHeld more → All Met more → IsNumberFault (with_keys keys more) e
       → NamesMet existing entries held roots e
-  numbers_met keys offered more e once old_fresh old_met new_fresh new_met refused = go e refused
+  numbers_met keys offered more e once old_fresh old_met new_fresh new_met refused = names_many _ _ _ (with_keys keys more) e many refused
     where
-      go : (e : PlanFault) → IsNumberFault (with_keys keys more) e → NamesMet existing entries held roots e
-      go (fault.TooLarge named l) h = absurd h
-      go (fault.NotFound named) h = absurd h
-      go (fault.Fetch named f) h = absurd h
-      go (fault.Manifest named f) h = absurd h
-      go (fault.Cycle ks) h = absurd h
-      go fault.Memory h = tt
-      go fault.TooMany h = (
+      many : 4294967295 < length (with_keys keys more) → (all : List Descriptor) × AreTooMany existing entries held roots all
+      many h = (
         with_keys keys more,
         record {
           many = h;

@@ -10,10 +10,10 @@ use Rattle.oci_plan.specs.Plan.{Number}
 use Rattle.oci_store.specs.Visiting.{with_key, with_keys}
 use Rattle.oci_plan.specs.Walk.{IsNumberFault}
 use Rattle.oci_plan.specs.declared.fault.PlanFault.{PlanFault}
-use Rattle.oci_plan.specs.declared.fault.PlanFault.TheVariants as fault
 use Rattle.oci_store.proofs.Membership.{Keys, slice_get-with_keys, with_keys-append, with_keys-push, with_keys-grows}
 use Rattle.std.proofs.lemmas.List.{length-append, take-append-drop}
 use Rattle.std.proofs.Common.{drop}
+use Rattle.oci_plan.proofs.Mets.{names_many}
 
 pub first_two : (o p : Option Descriptor) (os ps : List (Option Descriptor)) → ◌≡◌ {A = List (Option Descriptor)} (o ∷ os) (p ∷ ps) → (o ≡ p) × (os ≡ ps)
 first_two o p os ps h = (cc h, cc h)
@@ -87,13 +87,4 @@ IsNumberFault-all p old before successors i k e lt is passes keys h =
     let all : with_keys old (filter p successors) ≡ with_keys (with_key before k) (filter p (drop (i + 1) successors)) =
     ap (with_keys old) whole ∙ with_keys-append old (filter p (take (i + 1) successors)) (filter p (drop (i + 1) successors)) ∙ ap (λ (t : Keys). with_keys t (filter p (drop (i + 1) successors))) (sym front) in
     let grows = with_keys-grows (with_key before k) (filter p (drop (i + 1) successors)) in
-    go e h grows.0 (all ∙ grows.1)
-  where
-    go : (e : PlanFault) → IsNumberFault (with_key before k) e → (added : Keys) → with_keys old (filter p successors) ≡ with_key before k ++ added → IsNumberFault (with_keys old (filter p successors)) e
-    go fault.TooMany h added longer = subst (λ (t : Keys). 4294967295 < length t) (sym longer) (omega (arith, h, length-append (with_key before k) added))
-    go fault.Memory h added longer = tt
-    go (fault.TooLarge named l) h added longer = absurd h
-    go (fault.NotFound named) h added longer = absurd h
-    go (fault.Fetch named f) h added longer = absurd h
-    go (fault.Manifest named f) h added longer = absurd h
-    go (fault.Cycle ks) h added longer = absurd h
+    names_many _ _ _ (with_key before k) e (λ many. subst (λ (t : Keys). 4294967295 < length t) (sym (all ∙ grows.1)) (omega (arith, many, length-append (with_key before k) grows.0))) h

@@ -18,17 +18,16 @@ use Rattle.oci_plan.specs.Met.{IsMet, IsListedUnder, NamesMet}
 use Rattle.oci_plan.specs.Outside.{IsToBring, IsVisited}
 use Rattle.oci_plan.specs.Visiting.{successors_at, is_fresh, passes, IsOnlyInDestination, IsSoundItem, IsSoundVisit, IsNextVisited}
 use Rattle.oci_plan.specs.Plan.{Number}
-use Rattle.oci_plan.specs.Refusal.{IsOfKey, IsFirstFault, NamesNoneOnlyInDestination, NamesVisited}
+use Rattle.oci_plan.specs.Refusal.{IsOfKey, HasTooMany, IsFirstFault, NamesNoneOnlyInDestination}
 use Rattle.oci_plan.specs.Walk.{IsListOf, IsPassed, MayPass, IsVisitPassed, IsWalk, IsGathered, IsNumberFault, held_at, visits_of, noted}
 use Rattle.oci_plan.specs.declared.existing.Existing.{Existing}
 use Rattle.oci_plan.specs.declared.existing.Existing.TheVariants.{Skip, Descend}
 use Rattle.oci_plan.specs.declared.fault.PlanFault.{PlanFault}
-use Rattle.oci_plan.specs.declared.fault.PlanFault.TheVariants as fault
 use Rattle.oci_store.proofs.Membership.{Keys, Contains-from_among, among_from_Contains, among-filter, among_filter_from, among-first_places, first_places-append, with_keys-grows, among-append_left, among-with_keys, All-from_among, All-among, among_from_place, slice_get-with_keys}
 use Rattle.oci_store.proofs.Visits.{next_visit-at, candidates-push, first_places-all}
 use Rattle.oci_plan.proofs.Fresh.{fresh_more, filter-push_kept, filter-push_dropped}
 use Rattle.oci_plan.proofs.Visits.{found_to_bring, visiting_visited, visited_found, to_bring, bring_visited, bring_fresh}
-use Rattle.oci_plan.proofs.Mets.{once_more, all_more, met_roots, met_listed, fresh_visited, fresh_kept, numbers_met}
+use Rattle.oci_plan.proofs.Mets.{names_key, names_many, once_more, all_more, met_roots, met_listed, fresh_visited, fresh_kept, numbers_met}
 use Rattle.oci_plan.proofs.Names.{Number-grows}
 
 -- ---- held keys, where they are skipped and where they are visited
@@ -78,39 +77,11 @@ sound_visit honest Descend entries held limit h k visit = go visit.may
 -- a fault of a key that is not held, or that the source has, names no other
 pub spared_of : (existing : Existing) (entries : List Entry) (held : List Node) (k : Descriptor) (e : PlanFault) → passes existing held k ≡ true
     → (held_at existing held k ≡ false) ⊎ (has_key entries k ≡ true) → IsOfKey k e → NamesNoneOnlyInDestination entries held e
-spared_of existing entries held k e pass asked of_key = go e of_key
+spared_of existing entries held k e pass asked of_key = names_key _ _ _ k e (here asked) of_key
   where
     here : (held_at existing held k ≡ false) ⊎ (has_key entries k ≡ true) → IsOnlyInDestination entries held k → ⊥
     here (inl new) = λ only. both_ways (has_key held k) (sym (held-at existing held k pass) ∙ new) only.0
     here (inr there) = λ only. both_ways (has_key entries k) only.1 there
-
-    named_asked : (named : Descriptor) → named ≡ k → IsOnlyInDestination entries held named → ⊥
-    named_asked named same = subst (λ (x : Descriptor). IsOnlyInDestination entries held x → ⊥) (sym same) (here asked)
-
-    go : (e : PlanFault) → IsOfKey k e → NamesNoneOnlyInDestination entries held e
-    go (fault.TooLarge named l) same = named_asked named same
-    go (fault.NotFound named) same = named_asked named same
-    go (fault.Fetch named f) same = named_asked named same
-    go (fault.Manifest named f) same = named_asked named same
-    go (fault.Cycle ks) same = absurd same
-    go fault.Memory same = tt
-    go fault.TooMany same = absurd same
-
--- a fault of a key to visit names no other
-pub visited_of : (existing : Existing) (held : List Node) (k : Descriptor) (e : PlanFault) → passes existing held k ≡ true → IsOfKey k e → NamesVisited existing held e
-visited_of existing held k e pass of_key = go e of_key
-  where
-    named_passes : (named : Descriptor) → named ≡ k → passes existing held named ≡ true
-    named_passes named same = subst (λ (x : Descriptor). passes existing held x ≡ true) (sym same) pass
-
-    go : (e : PlanFault) → IsOfKey k e → NamesVisited existing held e
-    go (fault.TooLarge named l) same = named_passes named same
-    go (fault.NotFound named) same = named_passes named same
-    go (fault.Fetch named f) same = named_passes named same
-    go (fault.Manifest named f) same = named_passes named same
-    go (fault.Cycle ks) same = absurd same
-    go fault.Memory same = tt
-    go fault.TooMany same = absurd same
 
 module _ (honest : Type 0) (existing : Existing) (entries : List Entry) (held : List Node) (roots : Keys) (limit : ℕ) where
   abbrev source : List Node
@@ -363,43 +334,25 @@ module _ (honest : Type 0) (existing : Existing) (entries : List Entry) (held : 
   -- a fault of the next key is the first
   pub item_first : (all keys : Keys) (lists : List (Vec ℕ)) (i : ℕ) (k : Descriptor) (e : PlanFault) → IsWalk honest existing entries held roots limit all keys (take i all) lists → slice_get all i ≡ Some k
       → IsOfKey k e → honest → IsFirstFault existing entries held roots limit e
-  item_first all keys lists i k e walk at of_key h = go e of_key
-    where
-      first : (named : Descriptor) → named ≡ k → IsNextVisited existing source entries held roots limit named
-      first named same = (
-        take i all,
-        subst (λ (x : Descriptor). IsVisiting (successors_at source) (passes existing held) roots (take i all ++ x ∷ [])) (sym same) (walk_visiting all keys lists i k walk at h),
-        all_sound h (take i all) walk.passed,
-      )
-
-      go : (e : PlanFault) → IsOfKey k e → IsFirstFault existing entries held roots limit e
-      go (fault.TooLarge named l) same = first named same
-      go (fault.NotFound named) same = first named same
-      go (fault.Fetch named f) same = first named same
-      go (fault.Manifest named f) same = first named same
-      go (fault.Cycle ks) same = absurd same
-      go fault.Memory same = tt
-      go fault.TooMany same = absurd same
+  item_first all keys lists i k e walk at of_key h =
+      names_key (IsNextVisited existing source entries held roots limit) _ _ k e (take i all, walk_visiting all keys lists i k walk at h, all_sound h (take i all) walk.passed) of_key
 
   -- where numbers are refused there are too many keys to bring
   number_first : (keys visited : Keys) (e : PlanFault) → IsNumberFault keys e → IsVisiting (successors_at source) (passes existing held) roots visited → All (IsSoundVisit existing entries held limit) visited → keys ≡ first_places (filter (is_fresh held) (candidates (successors_at source) roots visited))
       → IsFirstFault existing entries held roots limit e
-  number_first keys visited (fault.TooLarge named l) h visiting sound found = absurd h
-  number_first keys visited (fault.NotFound named) h visiting sound found = absurd h
-  number_first keys visited (fault.Fetch named f) h visiting sound found = absurd h
-  number_first keys visited (fault.Manifest named f) h visiting sound found = absurd h
-  number_first keys visited (fault.Cycle ks) h visiting sound found = absurd h
-  number_first keys visited fault.Memory h visiting sound found = tt
-  number_first keys visited fault.TooMany h visiting sound found = record {
-    visited = visited;
-    visiting = visiting;
-    sound = sound;
-    keys = keys;
-    found = found;
-    many = h;
-    distinct = subst (λ (t : Keys). IsDistinct same_key t) (sym found) (IsDistinct-first_places (filter (is_fresh held) (candidates (successors_at source) roots visited)));
-    outside = All-from_among (IsToBring existing source held roots) keys (λ k there. found_to_bring existing source held roots visited k visiting (sym (ap (λ (t : Keys). is_among t k) found) ∙ there));
-  }
+  number_first keys visited e refused visiting sound found = names_many _ _ _ keys e many refused
+    where
+      many : 4294967295 < length keys → HasTooMany existing entries held roots limit
+      many h = record {
+        visited = visited;
+        visiting = visiting;
+        sound = sound;
+        keys = keys;
+        found = found;
+        many = h;
+        distinct = subst (λ (t : Keys). IsDistinct same_key t) (sym found) (IsDistinct-first_places (filter (is_fresh held) (candidates (successors_at source) roots visited)));
+        outside = All-from_among (IsToBring existing source held roots) keys (λ k there. found_to_bring existing source held roots visited k visiting (sym (ap (λ (t : Keys). is_among t k) found) ∙ there));
+      }
 
   -- what is to be brought so far is not held, and was met
   kept_fresh : (all keys visited : Keys) (lists : List (Vec ℕ)) → IsWalk honest existing entries held roots limit all keys visited lists → All NotHeld keys

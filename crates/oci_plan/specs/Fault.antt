@@ -1,10 +1,13 @@
--- When the numbers of a graph are refused an order.
+-- The faults of an order and of a plan: their numbers, and what they name.
 use Rattle.std.specs.Prelude.{ℕ, List}
+use Rattle.oci_manifest.specs.Descriptor.{Descriptor}
 use Rattle.oci_plan.specs.Graph.{IsGraph, IsCycle, IsFirstBad}
 use Rattle.oci_plan.specs.declared.fault.OrderFault.{OrderFault}
 use Rattle.oci_plan.specs.declared.fault.OrderFault.TheVariants.{Cycle, BadNumber, Memory}
+use Rattle.oci_plan.specs.declared.fault.PlanFault.{PlanFault}
+use Rattle.oci_plan.specs.declared.fault.PlanFault.TheVariants as plan
 
--- the number of a fault
+-- the number of an order's fault
 abbrev pub number_of : OrderFault → ℕ
 number_of (Cycle numbers) = 50
 number_of (BadNumber list number) = 51
@@ -16,8 +19,23 @@ IsCauseOf lists (Cycle numbers) = IsGraph lists × IsCycle lists numbers.items
 IsCauseOf lists (BadNumber list number) = IsFirstBad lists list number
 IsCauseOf lists Memory = Unit {0}
 
--- a search along edges refuses for a cycle, or if memory ran out
-abbrev pub IsCycleFault : List (List ℕ) → OrderFault → Type 0
-IsCycleFault lists (Cycle numbers) = IsCycle lists numbers.items
-IsCycleFault lists (BadNumber list number) = ⊥
-IsCycleFault lists Memory = Unit {0}
+-- the number of a plan's fault
+abbrev pub plan_number_of : PlanFault → ℕ
+plan_number_of (plan.NotFound k) = 53
+plan_number_of (plan.TooLarge k limit) = 54
+plan_number_of (plan.Cycle keys) = 55
+plan_number_of (plan.Manifest k e) = 56
+plan_number_of (plan.Fetch k e) = 57
+plan_number_of plan.Memory = 58
+plan_number_of plan.TooMany = 59
+
+-- what a plan's fault names: the first is said of its key, the second of the keys of its cycle, and the third where there are
+-- too many keys
+abbrev pub Names : (Descriptor → Type 0) → (List Descriptor → Type 0) → Type 0 → PlanFault → Type 0
+Names key cycle many (plan.NotFound k) = key k
+Names key cycle many (plan.TooLarge k limit) = key k
+Names key cycle many (plan.Cycle keys) = cycle keys.items
+Names key cycle many (plan.Manifest k e) = key k
+Names key cycle many (plan.Fetch k e) = key k
+Names key cycle many plan.Memory = Unit {0}
+Names key cycle many plan.TooMany = many

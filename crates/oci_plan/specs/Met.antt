@@ -5,10 +5,10 @@ use Rattle.oci_manifest.specs.Descriptor.{Descriptor, same_key}
 use Rattle.oci_store.specs.Keyed.{has_key}
 use Rattle.oci_store.specs.Content.{Entry, IsChecked}
 use Rattle.oci_store.specs.Graph.{Node}
+use Rattle.oci_plan.specs.Fault.{Names}
 use Rattle.oci_plan.specs.Visiting.{passes}
 use Rattle.oci_plan.specs.declared.existing.Existing.{Existing}
 use Rattle.oci_plan.specs.declared.fault.PlanFault.{PlanFault}
-use Rattle.oci_plan.specs.declared.fault.PlanFault.TheVariants as fault
 
 -- the source has the first key, and bytes that match it list the second
 pub record IsListedUnder (entries : List Entry) (from to : Descriptor) : Type 0 where
@@ -32,10 +32,5 @@ pub record AreTooMany (existing : Existing) (entries : List Entry) (held : List 
 
 -- what the fault names was met; where there are too many keys, these were
 abbrev pub NamesMet : Existing → List Entry → List Node → List Descriptor → PlanFault → Type 0
-NamesMet existing entries held roots (fault.TooLarge k l) = IsMet existing entries held roots k
-NamesMet existing entries held roots (fault.NotFound k) = IsMet existing entries held roots k
-NamesMet existing entries held roots (fault.Fetch k e) = IsMet existing entries held roots k
-NamesMet existing entries held roots (fault.Manifest k e) = IsMet existing entries held roots k
-NamesMet existing entries held roots (fault.Cycle keys) = All (IsMet existing entries held roots) keys.items
-NamesMet existing entries held roots fault.Memory = Unit {0}
-NamesMet existing entries held roots fault.TooMany = (keys : List Descriptor) × AreTooMany existing entries held roots keys
+NamesMet existing entries held roots e = Names (IsMet existing entries held roots) (All (IsMet existing entries held roots))
+    ((keys : List Descriptor) × AreTooMany existing entries held roots keys) e

@@ -12,6 +12,7 @@ use Rattle.oci_store.specs.Content.{Entry, Matches, succ_of}
 use Rattle.oci_store.specs.Graph.{Node, nodes_of}
 use Rattle.oci_store.specs.declared.fault.FetchFault.{FetchFault}
 use Rattle.oci_store.specs.declared.fault.FetchFault.TheVariants as fetch
+use Rattle.oci_plan.specs.Fault.{Names}
 use Rattle.oci_plan.specs.Met.{IsListedUnder}
 use Rattle.oci_plan.specs.Outside.{IsVisited, IsToBring, IsCycleAlong, IsKeyCycle}
 use Rattle.oci_store.specs.Visiting.{candidates, IsVisiting}
@@ -19,16 +20,6 @@ use Rattle.oci_plan.specs.Visiting.{successors_at, is_fresh, passes, IsWithin, I
 use Rattle.oci_plan.specs.declared.existing.Existing.{Existing}
 use Rattle.oci_plan.specs.declared.fault.PlanFault.{PlanFault}
 use Rattle.oci_plan.specs.declared.fault.PlanFault.TheVariants as fault
-
--- the number of a plan's fault
-abbrev pub plan_number_of : PlanFault → ℕ
-plan_number_of (fault.NotFound k) = 53
-plan_number_of (fault.TooLarge k limit) = 54
-plan_number_of (fault.Cycle keys) = 55
-plan_number_of (fault.Manifest k e) = 56
-plan_number_of (fault.Fetch k e) = 57
-plan_number_of fault.Memory = 58
-plan_number_of fault.TooMany = 59
 
 -- the key is a manifest's, of a size over the limit
 abbrev pub IsTooLarge : ℕ → Descriptor → Type 0
@@ -69,34 +60,17 @@ IsKeyFault honest fails entries limit fault.TooMany = Unit {0}
 
 -- the fault names this key, or is a memory error
 abbrev pub IsOfKey : Descriptor → PlanFault → Type 0
-IsOfKey k (fault.TooLarge named l) = named ≡ k
-IsOfKey k (fault.NotFound named) = named ≡ k
-IsOfKey k (fault.Fetch named e) = named ≡ k
-IsOfKey k (fault.Manifest named e) = named ≡ k
-IsOfKey k (fault.Cycle keys) = ⊥
-IsOfKey k fault.Memory = Unit {0}
-IsOfKey k fault.TooMany = ⊥
+IsOfKey k e = Names (λ named. named ≡ k) (λ keys. ⊥) ⊥ e
 
 -- the fault names no key that only the destination has
 abbrev pub NamesNoneOnlyInDestination : List Entry → List Node → PlanFault → Type 0
-NamesNoneOnlyInDestination entries held (fault.TooLarge k l) = IsOnlyInDestination entries held k → ⊥
-NamesNoneOnlyInDestination entries held (fault.NotFound k) = IsOnlyInDestination entries held k → ⊥
-NamesNoneOnlyInDestination entries held (fault.Fetch k e) = IsOnlyInDestination entries held k → ⊥
-NamesNoneOnlyInDestination entries held (fault.Manifest k e) = IsOnlyInDestination entries held k → ⊥
-NamesNoneOnlyInDestination entries held (fault.Cycle keys) = All (λ k. IsOnlyInDestination entries held k → ⊥) keys.items
-NamesNoneOnlyInDestination entries held fault.Memory = Unit {0}
-NamesNoneOnlyInDestination entries held fault.TooMany = Unit {0}
+NamesNoneOnlyInDestination entries held e =
+    Names (λ k. IsOnlyInDestination entries held k → ⊥) (All (λ k. IsOnlyInDestination entries held k → ⊥)) (Unit {0}) e
 
 -- the fault names a key that the plan visits: none that is held, where it stops at these; and a cycle is one of keys that
 -- are not held
 abbrev pub NamesVisited : Existing → List Node → PlanFault → Type 0
-NamesVisited existing held (fault.TooLarge k l) = passes existing held k ≡ true
-NamesVisited existing held (fault.NotFound k) = passes existing held k ≡ true
-NamesVisited existing held (fault.Fetch k e) = passes existing held k ≡ true
-NamesVisited existing held (fault.Manifest k e) = passes existing held k ≡ true
-NamesVisited existing held (fault.Cycle keys) = All (λ k. has_key held k ≡ false) keys.items
-NamesVisited existing held fault.Memory = Unit {0}
-NamesVisited existing held fault.TooMany = Unit {0}
+NamesVisited existing held e = Names (λ k. passes existing held k ≡ true) (All (λ k. has_key held k ≡ false)) (Unit {0}) e
 
 -- the keys are a cycle of the source, all of them are to be brought, and every visited key is sound
 abbrev pub IsCycleToBring : Existing → List Entry → List Node → List Descriptor → ℕ → List Descriptor → Type 0
@@ -119,10 +93,5 @@ pub record HasTooMany (existing : Existing) (entries : List Entry) (held : List 
 -- cycle is one of keys to bring, and every visited key is sound; where there are too many keys, they are to be brought, and
 -- every key visited so far is sound.
 abbrev pub IsFirstFault : Existing → List Entry → List Node → List Descriptor → ℕ → PlanFault → Type 0
-IsFirstFault existing entries held roots limit (fault.TooLarge k l) = IsNextVisited existing (nodes_of entries) entries held roots limit k
-IsFirstFault existing entries held roots limit (fault.NotFound k) = IsNextVisited existing (nodes_of entries) entries held roots limit k
-IsFirstFault existing entries held roots limit (fault.Fetch k e) = IsNextVisited existing (nodes_of entries) entries held roots limit k
-IsFirstFault existing entries held roots limit (fault.Manifest k e) = IsNextVisited existing (nodes_of entries) entries held roots limit k
-IsFirstFault existing entries held roots limit (fault.Cycle keys) = IsCycleToBring existing entries held roots limit keys.items
-IsFirstFault existing entries held roots limit fault.Memory = Unit {0}
-IsFirstFault existing entries held roots limit fault.TooMany = HasTooMany existing entries held roots limit
+IsFirstFault existing entries held roots limit e = Names (IsNextVisited existing (nodes_of entries) entries held roots limit)
+    (IsCycleToBring existing entries held roots limit) (HasTooMany existing entries held roots limit) e

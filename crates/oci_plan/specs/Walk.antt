@@ -13,6 +13,7 @@ use Rattle.oci_manifest.specs.declared.fault.ManifestFault.TheVariants as readin
 use Rattle.oci_store.specs.declared.fault.FetchFault.{FetchFault}
 use Rattle.oci_store.specs.declared.fault.FetchFault.TheVariants as fetch
 use Rattle.oci_store.specs.Visiting.{candidates, with_keys, IsVisiting}
+use Rattle.oci_plan.specs.Fault.{Names}
 use Rattle.oci_plan.specs.Met.{IsMet, IsListedUnder}
 use Rattle.oci_plan.specs.Outside.{IsVisited, IsToBring}
 use Rattle.oci_plan.specs.Visiting.{successors_at, is_fresh, passes, IsWithin, IsSoundVisit}
@@ -90,13 +91,7 @@ pub record IsGathered (honest : Type 0) (existing : Existing) (entries : List En
 
 -- numbers are refused if memory ran out, or if there are more keys than numbers
 abbrev pub IsNumberFault : List Descriptor → PlanFault → Type 0
-IsNumberFault keys fault.TooMany = 4294967295 < length keys
-IsNumberFault keys fault.Memory = Unit {0}
-IsNumberFault keys (fault.TooLarge k limit) = ⊥
-IsNumberFault keys (fault.NotFound k) = ⊥
-IsNumberFault keys (fault.Fetch k e) = ⊥
-IsNumberFault keys (fault.Manifest k e) = ⊥
-IsNumberFault keys (fault.Cycle ks) = ⊥
+IsNumberFault keys e = Names (λ k. ⊥) (λ cycle. ⊥) (4294967295 < length keys) e
 
 -- bytes do not read, for the reason that the fault gives with this key; or memory ran out
 abbrev pub IsReadFault : Descriptor → List ℕ → PlanFault → Type 0

@@ -1,13 +1,26 @@
 ghost use Rattle.std.specs.Prelude.{◌≡◌};
-ghost use Rattle.oci_plan.specs.Fault.{number_of};
-ghost use Rattle.oci_plan.specs.Refusal.{plan_number_of};
+ghost use Rattle.oci_plan.specs.Fault.{number_of, plan_number_of};
 
-use crate::space_separated::SpaceSeparated;
 use oci_digest::NoMemory;
 use oci_manifest::{Key, ManifestFault};
 use oci_store::FetchFault;
 use std::alloc::{AllocError, AllocFailed};
+use std::fmt;
+use std::fmt::Display;
 use thiserror::Error;
+
+/// Prints each item with a space before it, as the line of a fault does.
+#[derive(Drop)]
+struct SpaceSeparated<'a, T: Display>(&'a [T]);
+
+impl<T: Display> Display for SpaceSeparated<'_, T> {
+    fn fmt<W: fmt::Write>(&self, f: &mut fmt::Formatter<W>) -> fmt::Result {
+        for item in self.0 {
+            write!(f, " {item}")?;
+        }
+        Ok(())
+    }
+}
 
 /// Why the numbers of a graph have no order.
 #[derive(Debug, Drop, Error)]

@@ -1,33 +1,42 @@
-ghost use Rattle.std.specs.Prelude.{◌≡◌, ◌↔◌, ◌⊎◌, true, false, filter, Contains, IfOk, IfErr, OnOk};
+ghost use Rattle.std.specs.Prelude.{◌≡◌, ◌↔◌, ◌<◌, ◌⊎◌, true, false, length, filter, Contains, IfOk, IfErr, OnOk, if◌then◌else◌};
 ghost use Rattle.std.specs.List.{All};
 ghost use Rattle.oci_manifest.specs.Descriptor.{Descriptor};
 ghost use Rattle.oci_manifest.specs.Manifest.{first_places};
 ghost use Rattle.oci_store.specs.Keyed.{has_key, HasAll};
 ghost use Rattle.oci_store.specs.Graph.{nodes_of};
+ghost use Rattle.oci_store.specs.Visiting.{with_key};
 ghost use Rattle.oci_plan.specs.Met.{IsMet, NamesMet};
 ghost use Rattle.oci_plan.specs.Order.{IsOrder};
 ghost use Rattle.oci_plan.specs.Outside.{IsVisited, IsToBring};
 ghost use Rattle.oci_plan.specs.Visiting.{IsWithin, IsSoundItem, IsSoundVisit};
-ghost use Rattle.oci_plan.specs.Plan.{IsPlan, HasEdges, FollowsListed};
+ghost use Rattle.oci_plan.specs.Plan.{Number, IsPlan, HasEdges, FollowsListed};
 ghost use Rattle.oci_plan.specs.Refusal.{IsKeyFault, IsFirstFault, NamesNoneOnlyInDestination, NamesVisited};
 ghost use Rattle.oci_plan.specs.Walk.{HasKeyOfEach, NamesByKeys};
 
-mod cycle;
-mod item;
-mod skipped;
-mod visits;
+mod successors;
 mod walk;
 
 use crate::existing::Existing;
 use crate::fault::{OrderFault, PlanFault};
 use crate::ordering::topological::order;
 use crate::plan::Plan;
-use cycle::keys_of;
+use oci_digest::NoMemory;
 use oci_manifest::Key;
-use oci_store::{Dest, Source};
-use skipped::held_roots;
+use oci_store::{Dest, KeyList, Source};
 use std::alloc::Global;
 use walk::{Visited, visit};
+
+/// Clones the keys of these numbers.
+fn keys_of(alloc: Global, keys: &[Key], numbers: &[u32]) -> Result<Vec<Key>, NoMemory>
+    requires { All (λ number. number < length keys.now) numbers.now }
+    ensures { IfOk result (λ named. Number keys.now numbers.now named.items) }
+{
+    let mut named = Vec::new(alloc);
+    for number in numbers {
+        named.push(keys[*number as usize].try_clone()?)?;
+    }
+    Ok(named)
+}
 
 /// An order's fault, as a fault of the plan, which names keys in the place of numbers.
 fn plan_fault(alloc: Global, keys: &[Key], fault: OrderFault) -> PlanFault
@@ -42,6 +51,29 @@ fn plan_fault(alloc: Global, keys: &[Key], fault: OrderFault) -> PlanFault
         OrderFault::BadNumber(_, _) => unreachable!(),
         OrderFault::Memory => PlanFault::Memory,
     }
+}
+
+/// Adds a root to `held` if the destination has it.
+fn keep_held<D: Dest>(destination: &D, held: &mut KeyList, root: &Key) -> Result<(), NoMemory>
+    ensures { OnOk result (held.new ≡ (if has_key (D.state destination.now).nodes root.now
+        then with_key held.old root.now else held.old)) }
+{
+    if destination.has(root) {
+        held.place(root)?;
+    }
+    Ok(())
+}
+
+/// Returns the roots that the destination has, each once, in their order.
+fn held_roots<D: Dest>(alloc: Global, destination: &D, roots: &[Key]) -> Result<Vec<Key>, NoMemory>
+    ensures { IfOk result (λ held. held.items ≡ first_places
+        (filter (has_key (D.state destination.now).nodes) roots.now)) }
+{
+    let mut held = KeyList::new(alloc);
+    for root in roots {
+        keep_held(destination, &mut held, root)?;
+    }
+    Ok(held.into_keys())
 }
 
 /// The plan of a copy from a source: what it has to bring so that the destination has the roots.

@@ -18,16 +18,13 @@ mod climbing;
 mod existing;
 mod fault;
 mod gathering;
-mod laws;
 mod ordering;
 mod plan;
-mod space_separated;
 
-pub use climbing::climb;
+pub use climbing::{climb, up_is_one_list};
 pub use existing::Existing;
 pub use fault::{OrderFault, PlanFault};
 pub use gathering::gather;
-pub use laws::up_is_one_list;
 pub use ordering::Order;
 pub use ordering::topological::order;
 pub use plan::Plan;

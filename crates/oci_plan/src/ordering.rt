@@ -4,7 +4,6 @@ ghost use Rattle.oci_plan.specs.Graph.{successors_of};
 ghost use Rattle.oci_plan.specs.Order.{IsOrder};
 
 mod doubles;
-mod numbers;
 mod search;
 pub(crate) mod topological;
 

@@ -1,17 +1,18 @@
-ghost use Rattle.std.specs.Prelude.{◌≡◌, ◌≤◌, length, filter, Some, slice_get, IfOk, IfErr, OnOk};
+ghost use Rattle.std.specs.Prelude.{◌≡◌, ◌<◌, ◌≤◌, ◌++◌, [], ◌∷◌, length, filter, Some, slice_get, IfOk, IfErr, OnOk, OnSome, if◌then◌else◌};
 ghost use Rattle.std.specs.List.{IsDistinct};
+ghost use Rattle.std.specs.Option.{option_copied};
 ghost use Rattle.oci_manifest.specs.Descriptor.{same_key};
 ghost use Rattle.oci_plan.specs.Met.{NamesMet};
 ghost use Rattle.oci_plan.specs.Plan.{Number};
 ghost use Rattle.oci_plan.specs.Refusal.{IsKeyFault, IsFirstFault, NamesNoneOnlyInDestination, NamesVisited};
 ghost use Rattle.oci_store.specs.Visiting.{with_key, with_keys};
 ghost use Rattle.oci_plan.specs.Visiting.{is_fresh};
-ghost use Rattle.oci_plan.specs.Walk.{IsNumberFault, IsGathered};
+ghost use Rattle.oci_plan.specs.Walk.{visits_of, noted, held_at, IsNumberFault, IsGathered};
 
-use super::item::visited_successors;
-use super::visits::{is_held, keep, note, visit_at};
+use super::successors::visited_successors;
 use crate::existing::Existing;
 use crate::fault::PlanFault;
+use oci_digest::NoMemory;
 use oci_manifest::Key;
 use oci_store::{Dest, KeyList, Source};
 use std::alloc::Global;
@@ -60,6 +61,66 @@ fn number_fresh<D: Dest>(
         numbers.push(number(keys, key)?)?;
     }
     Ok(numbers)
+}
+
+/// Returns the keys to visit: those to bring, or all that were met.
+fn visits<'a>(existing: Existing, keys: &'a KeyList, all: &'a KeyList) -> &'a KeyList
+    ensures { result.now ≡ visits_of existing keys.now all.now }
+{
+    match existing {
+        Existing::Skip => keys,
+        Existing::Descend => all,
+    }
+}
+
+/// Returns the key to visit at a place.
+fn visit_at<'a>(
+    existing: Existing,
+    keys: &'a KeyList,
+    all: &'a KeyList,
+    place: usize,
+) -> Option<&'a Key>
+    ensures value { option_copied result ≡ slice_get (visits_of existing keys.now all.now) place }
+    ensures within { OnSome result (place < usize.MAX) }
+{
+    let visits = visits(existing, keys, all);
+    if place < visits.len() {
+        visits.get(place)
+    } else {
+        None
+    }
+}
+
+/// Adds keys that were met to `all`. With `Skip` only keys to bring are visited, and `all` stays
+/// empty.
+fn note(existing: Existing, all: &mut KeyList, met: &[Key]) -> Result<(), NoMemory>
+    ensures { OnOk result (all.new ≡ noted existing all.old met.now) }
+{
+    match existing {
+        Existing::Skip => Ok(()),
+        Existing::Descend => all.place_all(met),
+    }
+}
+
+/// Returns whether the destination has a visited key. With `Skip` no such key is visited.
+fn is_held<D: Dest>(existing: Existing, destination: &D, key: &Key) -> bool
+    ensures { result ≡ held_at existing (D.state destination.now).nodes key.now }
+{
+    match existing {
+        Existing::Skip => false,
+        Existing::Descend => destination.has(key),
+    }
+}
+
+/// Adds the list of a visited key, unless the destination has the key.
+fn keep(lists: &mut Vec<Vec<u32>>, list: Vec<u32>, is_held: bool) -> Result<(), NoMemory>
+    ensures { OnOk result (lists.new.items ≡ (if is_held then lists.old.items
+        else lists.old.items ++ list ∷ [])) }
+{
+    if !is_held {
+        lists.push(list)?;
+    }
+    Ok(())
 }
 
 /// Visits what the source has under the roots, first come, first served: what the destination does not have, or all of it.

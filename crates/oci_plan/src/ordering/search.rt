@@ -1,6 +1,6 @@
 ghost use Rattle.std.specs.Prelude.{◌≡◌, ◌≢◌, ℕ, ◌<◌, ◌≤◌, [], length, Contains, IfOk, IfErr, OnOk, OnSome, slice_get};
 ghost use Rattle.oci_plan.specs.Graph.{lists_of, successors_of, IsGraph, HasEdge};
-ghost use Rattle.oci_plan.specs.Fault.{IsCycleFault};
+ghost use Rattle.oci_plan.specs.Fault.{IsCauseOf};
 ghost use Rattle.oci_plan.specs.Order.{IsTopological};
 ghost use Rattle.oci_plan.specs.Search.{progress_of, work_left, KeepsMet, EndsWith, IsTailFrom, IsBetween};
 ghost use Rattle.oci_plan.specs.declared.ordering.search.Progress.TheVariants.{New, Open, Done};
@@ -68,7 +68,7 @@ impl Search {
             self.old.progress.items) }
         ensures met { OnOk result (progress_of self.new.progress.items number ≢ New) }
         ensures keeps { OnOk result (KeepsMet self.old.progress.items self.new.progress.items) }
-        ensures refused { IfErr result (IsCycleFault (lists_of lists.now)) }
+        ensures refused { IfErr result (IsCauseOf (lists_of lists.now)) }
     {
         self.path.push(number)?;
         self.progress[number as usize] = Progress::Open(0);
@@ -101,7 +101,7 @@ impl Search {
         ensures smaller { OnOk result (work_left self.new.progress.items < work_left
             self.old.progress.items) }
         ensures keeps { OnOk result (KeepsMet self.old.progress.items self.new.progress.items) }
-        ensures refused { IfErr result (IsCycleFault (lists_of lists.now)) }
+        ensures refused { IfErr result (IsCauseOf (lists_of lists.now)) }
     {
         self.sequence.push(number)?;
         let _ = self.path.pop();
@@ -129,7 +129,7 @@ impl Search {
         ensures smaller { OnOk result (work_left self.new.progress.items < work_left
             self.old.progress.items) }
         ensures keeps { OnOk result (KeepsMet self.old.progress.items self.new.progress.items) }
-        ensures refused { IfErr result (IsCycleFault (lists_of lists.now)) }
+        ensures refused { IfErr result (IsCauseOf (lists_of lists.now)) }
     {
         let Progress::Open(finished) = self.progress[number as usize] else {
             unreachable!()
@@ -157,7 +157,7 @@ impl Search {
         ensures idle { OnOk result (self.new.path.items ≡ []) }
         ensures met { OnOk result (progress_of self.new.progress.items start ≢ New) }
         ensures keeps { OnOk result (KeepsMet self.old.progress.items self.new.progress.items) }
-        ensures refused { IfErr result (IsCycleFault (lists_of lists.now)) }
+        ensures refused { IfErr result (IsCauseOf (lists_of lists.now)) }
     {
         let Progress::New = self.progress[start as usize] else {
             return Ok(());
@@ -178,7 +178,7 @@ pub(crate) fn topological_sequence(
     requires count { length lists.now ≤ 4294967295 }
     requires graph { IsGraph (lists_of lists.now) }
     ensures ordered { IfOk result (λ sequence. IsTopological (lists_of lists.now) sequence.items) }
-    ensures refused { IfErr result (IsCycleFault (lists_of lists.now)) }
+    ensures refused { IfErr result (IsCauseOf (lists_of lists.now)) }
 {
     let mut search = Search::new(alloc, lists)?;
     for start in 0..lists.len() {

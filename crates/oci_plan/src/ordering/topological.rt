@@ -1,14 +1,35 @@
-ghost use Rattle.std.specs.Prelude.{◌≡◌, ℕ, ◌≤◌, List, length, map, IfOk, IfErr, OnOk, Err, vec_len};
+ghost use Rattle.std.specs.Prelude.{◌≡◌, ℕ, ◌≤◌, List, length, map, find, nat_le, IfOk, IfErr, IfNone, IfSome, OnOk, Err, vec_len};
 ghost use Rattle.oci_plan.specs.Graph.{lists_of, without_doubles, IsGraph, IsCycle, IsFirstBad};
-ghost use Rattle.oci_plan.specs.Fault.{IsCycleFault, IsCauseOf};
+ghost use Rattle.oci_plan.specs.Fault.{IsCauseOf};
 ghost use Rattle.oci_plan.specs.Order.{IsTopological, IsOrder};
 
 use super::Order;
 use super::doubles::drop_doubles;
-use super::numbers::first_bad_number;
 use super::search::topological_sequence;
 use crate::fault::OrderFault;
 use std::alloc::Global;
+
+/// Returns the first element of a list that is not a number of a graph with `count` numbers.
+fn first_bad(list: &[u32], count: usize) -> Option<u32>
+    ensures { result ≡ find (λ n. nat_le count n) list.now }
+{
+    list.iter().copied().find(|n| count <= *n as usize)
+}
+
+/// Returns the first list with an element that is not a number of the graph, and that element.
+/// Does not allocate.
+fn first_bad_number(lists: &[Vec<u32>]) -> Option<(u32, u32)>
+    requires { length lists.now ≤ 4294967295 }
+    ensures graph { IfNone result (IsGraph (lists_of lists.now)) }
+    ensures bad { IfSome result (λ found. IsFirstBad (lists_of lists.now) found.0 found.1) }
+{
+    for (i, list) in lists.iter().enumerate() {
+        if let Some(number) = first_bad(list, lists.len()) {
+            return Some((i as u32, number));
+        }
+    }
+    None
+}
 
 /// The order of a graph whose lists hold its numbers alone.
 fn order_of_graph(alloc: Global, lists: &[Vec<u32>]) -> Result<Order, OrderFault>
@@ -17,7 +38,7 @@ fn order_of_graph(alloc: Global, lists: &[Vec<u32>]) -> Result<Order, OrderFault
     ensures lists { IfOk result (λ o. o.lists ≡ map without_doubles (lists_of lists.now)) }
     ensures order { IfOk result IsOrder }
     ensures topological { IfOk result (λ o. IsTopological (lists_of lists.now) o.sequence) }
-    ensures refused { IfErr result (IsCycleFault (lists_of lists.now)) }
+    ensures refused { IfErr result (IsCauseOf (lists_of lists.now)) }
 {
     let sequence = topological_sequence(alloc, lists)?;
     let distinct = drop_doubles(alloc, lists)?;

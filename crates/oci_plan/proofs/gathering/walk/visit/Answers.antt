@@ -7,8 +7,8 @@ use Rattle.oci_store.specs.Visiting.{with_keys}
 use Rattle.oci_plan.specs.Visiting.{is_fresh}
 use Rattle.oci_plan.specs.Walk.{IsWalk, IsGathered, visits_of, noted}
 use Rattle.oci_store.proofs.Membership.{past_from_none}
-use Rattle.oci_plan.proofs.Walks.{visits_start, visits_more, walk_start, walk_step, walk_end, place_passes, spared_of, visited_of, place_met, item_first, roots_first, successors_first, successors_met}
-use Rattle.oci_plan.proofs.Mets.{item_met, roots_met}
+use Rattle.oci_plan.proofs.Walks.{visits_start, visits_more, walk_start, walk_step, walk_end, place_passes, spared_of, place_met, item_first, roots_first, successors_first, successors_met}
+use Rattle.oci_plan.proofs.Mets.{names_key, roots_met}
 use Rattle.oci_plan.proofs.gathering.walk.visit.Goals as goal
 
 pub returns-in_err-number_fresh-clause-first : goal.returns-in_err-number_fresh-clause-first
@@ -45,14 +45,14 @@ returns-in_err-successors-clause-named g c =
     let p = err_from_is_err_and c.from_residual-in_err-successors.result c.from_residual-in_err-successors.ensures.1 in
     let at : slice_get (visits_of c.args.existing c.loop-key.keys c.loop-key.all) c.loop-key.place ≡ Some c.in-Some.key.now = sym c.in-Some.ensures.value in
     let pass = place_passes (g.A.Store.state c.args.source.now).is_honest c.args.existing (g.A.Store.state c.args.source.now).entries (g.D.Store.state c.args.destination.now).nodes c.args.roots.now c.args.limit (visits_of c.args.existing c.loop-key.keys c.loop-key.all) c.loop-key.keys (take c.loop-key.place (visits_of c.args.existing c.loop-key.keys c.loop-key.all)) c.loop-key.lists.items c.loop-key.place c.in-Some.key.now c.loop-key.invariant at in
-    rw (p.1, p.2) (visited_of c.args.existing (g.D.Store.state c.args.destination.now).nodes c.in-Some.key.now c.in_err-successors.field-0.0 pass c.in_err-successors.ensures.named)
+    rw (p.1, p.2) (names_key _ _ _ c.in-Some.key.now c.in_err-successors.field-0.0 pass c.in_err-successors.ensures.named)
 
 pub returns-in_err-successors-clause-met : goal.returns-in_err-successors-clause-met
 returns-in_err-successors-clause-met g c =
     let p = err_from_is_err_and c.from_residual-in_err-successors.result c.from_residual-in_err-successors.ensures.1 in
     let at : slice_get (visits_of c.args.existing c.loop-key.keys c.loop-key.all) c.loop-key.place ≡ Some c.in-Some.key.now = sym c.in-Some.ensures.value in
     let was = place_met (g.A.Store.state c.args.source.now).is_honest c.args.existing (g.A.Store.state c.args.source.now).entries (g.D.Store.state c.args.destination.now).nodes c.args.roots.now c.args.limit (visits_of c.args.existing c.loop-key.keys c.loop-key.all) c.loop-key.keys (take c.loop-key.place (visits_of c.args.existing c.loop-key.keys c.loop-key.all)) c.loop-key.lists.items c.loop-key.place c.in-Some.key.now c.loop-key.invariant at in
-    rw (p.1, p.2) (item_met c.args.existing (g.A.Store.state c.args.source.now).entries (g.D.Store.state c.args.destination.now).nodes c.args.roots.now c.in-Some.key.now c.in_err-successors.field-0.0 was c.in_err-successors.ensures.named)
+    rw (p.1, p.2) (names_key _ _ _ c.in-Some.key.now c.in_err-successors.field-0.0 was c.in_err-successors.ensures.named)
 
 pub returns-in_err-successors-clause-first : goal.returns-in_err-successors-clause-first
 returns-in_err-successors-clause-first g c =

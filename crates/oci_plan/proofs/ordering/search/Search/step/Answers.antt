@@ -63,4 +63,4 @@ advance-requires-clause-done c =
 pub returns-in_ok-path_from-in-Open-index-clause-refused : goal.returns-in_ok-path_from-in-Open-index-clause-refused
 returns-in_ok-path_from-in-Open-index-clause-refused c =
     let edge = edge_at (lists_of c.args.lists.now) c.args.number c.in-Open.finished c.in-Some.next (sym c.successor.ensures.value ∙ c.in-Some.is) in
-    cycle_from_tail (lists_of c.args.lists.now) c.args.self.now.path.items c.args.number c.in-Some.next c.in_ok-path_from-in-Open-index.field-0.items c.requires.last c.requires.sound.path_distinct c.requires.sound.is_path edge c.in_ok-path_from-in-Open-index.ensures
+    (c.requires.graph, cycle_from_tail (lists_of c.args.lists.now) c.args.self.now.path.items c.args.number c.in-Some.next c.in_ok-path_from-in-Open-index.field-0.items c.requires.last c.requires.sound.path_distinct c.requires.sound.is_path edge c.in_ok-path_from-in-Open-index.ensures)

@@ -6,7 +6,7 @@ use Rattle.oci_manifest.specs.declared.kind.Kind.{Kind}
 use Rattle.oci_plan.specs.Walk.{IsReadFault, read_refusal}
 use Rattle.oci_plan.specs.declared.fault.PlanFault.{PlanFault}
 use Rattle.oci_plan.proofs.Items.{read_refused}
-use Rattle.oci_plan.proofs.gathering.item.read.Goals as goal
+use Rattle.oci_plan.proofs.gathering.successors.read.Goals as goal
 
 -- what the reading answered is told of the key
 pub returns-in_ok-try_clone-in-Err-clause-refused : goal.returns-in_ok-try_clone-in-Err-clause-refused

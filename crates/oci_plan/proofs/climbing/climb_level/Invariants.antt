@@ -1,5 +1,5 @@
 use Rattle.oci_plan.specs.Climb.{IsClimbed, IsRaised}
-use Rattle.oci_plan.proofs.climbing.level.climb_level.Given as goal
+use Rattle.oci_plan.proofs.climbing.climb_level.Given as goal
 
 -- as far as the loop has come
 abbrev pub invariant-loop-place : goal.invariant-loop-place

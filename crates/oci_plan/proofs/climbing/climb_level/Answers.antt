@@ -1,7 +1,7 @@
 use Rattle.std.proofs.Common.{◌≡◌, ℕ, subst, arith}
 use Rattle.oci_plan.specs.Climb.{IsClimbed}
 use Rattle.oci_plan.proofs.Climbs.{raised_place, raised_more, climbed_more}
-use Rattle.oci_plan.proofs.climbing.level.climb_level.Goals as goal
+use Rattle.oci_plan.proofs.climbing.climb_level.Goals as goal
 
 pub climb_from-requires : goal.climb_from-requires
 climb_from-requires g c =

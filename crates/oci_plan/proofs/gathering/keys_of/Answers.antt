@@ -3,7 +3,7 @@ use Rattle.std.proofs.lemmas.Option.{slice_get_read}
 use Rattle.oci_manifest.specs.Descriptor.{Descriptor}
 use Rattle.oci_plan.specs.Plan.{Number}
 use Rattle.oci_plan.proofs.Names.{Number-more}
-use Rattle.oci_plan.proofs.gathering.cycle.keys_of.Goals as goal
+use Rattle.oci_plan.proofs.gathering.keys_of.Goals as goal
 
 pub loop-number-preserved : goal.loop-number-preserved
 loop-number-preserved c =

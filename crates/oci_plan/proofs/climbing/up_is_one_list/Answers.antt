@@ -1,5 +1,5 @@
 use Rattle.oci_plan.proofs.Ups.{up_is_one_list as proof}
-use Rattle.oci_plan.proofs.laws.up_is_one_list.Goals as goal
+use Rattle.oci_plan.proofs.climbing.up_is_one_list.Goals as goal
 
 pub returns : goal.returns
 returns c = proof

@@ -6,7 +6,7 @@ use Rattle.oci_manifest.specs.MediaTypes.{kind_of}
 use Rattle.oci_manifest.specs.declared.kind.Kind.TheVariants.{Leaf}
 use Rattle.oci_plan.specs.Met.{IsListedUnder}
 use Rattle.oci_plan.proofs.Items.{leaf_passed, leaf_lists, item_answer}
-use Rattle.oci_plan.proofs.gathering.item.item_successors.Goals as goal
+use Rattle.oci_plan.proofs.gathering.successors.fetch_successors.Goals as goal
 
 pub returns-in-Leaf-clause-passed : goal.returns-in-Leaf-clause-passed
 returns-in-Leaf-clause-passed g c =

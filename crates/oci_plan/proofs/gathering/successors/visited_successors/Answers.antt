@@ -5,7 +5,7 @@ use Rattle.oci_manifest.specs.Descriptor.{Descriptor, same_key}
 use Rattle.oci_store.specs.Keyed.{has_key}
 use Rattle.oci_plan.specs.Met.{IsListedUnder}
 use Rattle.oci_plan.proofs.Items.{absent_lists}
-use Rattle.oci_plan.proofs.gathering.item.visited_successors.Goals as goal
+use Rattle.oci_plan.proofs.gathering.successors.visited_successors.Goals as goal
 
 pub returns-then-not-exists-clause-listed : goal.returns-then-not-exists-clause-listed
 returns-then-not-exists-clause-listed g c = λ _.

@@ -2,7 +2,7 @@ use Rattle.std.proofs.Common.{◌≡◌, take}
 use Rattle.std.specs.List.{filter}
 use Rattle.oci_manifest.specs.Manifest.{first_places}
 use Rattle.oci_store.specs.Keyed.{has_key}
-use Rattle.oci_plan.proofs.gathering.skipped.held_roots.Given as goal
+use Rattle.oci_plan.proofs.gathering.held_roots.Given as goal
 
 -- the held keys of the roots so far
 abbrev pub invariant-loop-root : goal.invariant-loop-root

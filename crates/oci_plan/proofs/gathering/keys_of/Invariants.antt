@@ -1,6 +1,6 @@
 use Rattle.std.proofs.Common.{take}
 use Rattle.oci_plan.specs.Plan.{Number}
-use Rattle.oci_plan.proofs.gathering.cycle.keys_of.Given as goal
+use Rattle.oci_plan.proofs.gathering.keys_of.Given as goal
 
 -- the keys so far are those of the numbers so far
 abbrev pub invariant-loop-number : goal.invariant-loop-number

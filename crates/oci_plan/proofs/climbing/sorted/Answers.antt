@@ -2,7 +2,7 @@ use Rattle.std.proofs.lemmas.Map.Keys.{IsDistinct-IsPermutation}
 use Rattle.oci_manifest.specs.Descriptor.{same_key}
 use Rattle.oci_store.proofs.KeyOrder.{same_key_laws}
 use Rattle.oci_plan.proofs.Sorts.{IsStrictlySortedBy-from_sort}
-use Rattle.oci_plan.proofs.climbing.sorted.sorted.Goals as goal
+use Rattle.oci_plan.proofs.climbing.sorted.Goals as goal
 
 pub returns-clause-order : goal.returns-clause-order
 returns-clause-order c =

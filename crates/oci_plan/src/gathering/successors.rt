@@ -107,7 +107,7 @@ fn read(alloc: Global, key: &Key, kind: Kind, bytes: &[u8]) -> Result<Vec<Key>, 
 ///
 /// Of a manifest the size is looked at first, then whether the source has it; then it is fetched and read. A leaf is never
 /// fetched.
-fn item_successors<A: Source>(
+fn fetch_successors<A: Source>(
     alloc: Global,
     source: &A,
     key: &Key,
@@ -159,5 +159,5 @@ pub(crate) fn visited_successors<A: Source>(
     if is_held && !source.exists(key) {
         return Ok(Vec::new(alloc));
     }
-    item_successors(alloc, source, key, limit)
+    fetch_successors(alloc, source, key, limit)
 }

@@ -1,7 +1,7 @@
 use Rattle.std.proofs.Common.{◌∙◌}
 use Rattle.oci_store.specs.Keyed.{has_key}
 use Rattle.oci_plan.proofs.Names.{places_more}
-use Rattle.oci_plan.proofs.gathering.skipped.held_roots.Goals as goal
+use Rattle.oci_plan.proofs.gathering.held_roots.Goals as goal
 
 pub loop-root-preserved : goal.loop-root-preserved
 loop-root-preserved g c =
