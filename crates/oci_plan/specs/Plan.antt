@@ -28,6 +28,10 @@ abbrev pub HasEdges : List Node → List Node → Planned → Type 0
 HasEdges source held p = (number : ℕ) (k : Descriptor) → slice_get p.keys number ≡ Some k
     → Number p.keys (successors_of p.order.lists number) (filter (is_fresh held) (successors_at source k))
 
+-- the key has the number at a place of the order
+abbrev pub IsKeyAt : Planned → ℕ → Descriptor → Type 0
+IsKeyAt p place k = (number : ℕ) × (slice_get p.order.sequence place ≡ Some number) × (slice_get p.keys number ≡ Some k)
+
 -- the keys of the first so many places of the order
 abbrev pub keys_before : ℕ → Planned → List Descriptor
 keys_before place p = filter_map (slice_get p.keys) (take place p.order.sequence)

@@ -1,6 +1,6 @@
-ghost use Rattle.std.specs.Prelude.{◌≡◌, ◌==◌, length, slice_get};
+ghost use Rattle.std.specs.Prelude.{◌≡◌, ◌==◌, ◌≤◌, length, slice_get, IfNone, IfSome};
 ghost use Rattle.std.specs.Option.{option_copied};
-ghost use Rattle.oci_plan.specs.Plan.{IsPlan};
+ghost use Rattle.oci_plan.specs.Plan.{IsPlan, IsKeyAt};
 
 use crate::ordering::Order;
 use oci_manifest::Key;
@@ -65,6 +65,15 @@ impl Plan {
         ensures { option_copied result ≡ slice_get self.now.keys number }
     {
         self.keys.get(number as usize)
+    }
+
+    /// Returns the key at a place of the order, from 0 on, or nothing past its end.
+    pub fn key_in_order(&self, place: usize) -> Option<&Key>
+        ensures key { IfSome result (λ key. IsKeyAt self.now place key.now) }
+        ensures past { IfNone result (length self.now.keys ≤ place) }
+    {
+        let number = self.order.at(place)?;
+        Some(&self.keys[number as usize])
     }
 
     /// The numbers in an order in which each comes after its successors.
