@@ -5,7 +5,7 @@ use crate::tests::host::Host;
 use oci_layout::{DirFault, FolderLock};
 use std::process::Abort;
 use std::test::Fail;
-use std::{fs, rt};
+use std::{env, fs, rt};
 
 /// Whether a try gets the lock of a folder.
 fn is_free<R: Host>(rt: &R, folder: &str) -> Result<bool, Fail> {
@@ -18,13 +18,13 @@ fn is_free_or_made<R: Host>(rt: &R, folder: &str) -> Result<bool, Fail> {
 }
 
 fn assert_free<R: Host + Abort>(rt: &R, folder: &str) -> Result<(), Fail> {
-    assert!(rt; is_free(rt, folder)?);
+    assert!(rt; is_free(rt, folder)?, "{folder}");
     Ok(())
 }
 
 fn assert_taken_at<R: Host + Abort>(rt: &R, folder: &str) -> Result<(), Fail> {
-    assert!(rt; !is_free(rt, folder)?);
-    assert!(rt; !is_free_or_made(rt, folder)?);
+    assert!(rt; !is_free(rt, folder)?, "{folder}");
+    assert!(rt; !is_free_or_made(rt, folder)?, "{folder}");
     Ok(())
 }
 
@@ -37,7 +37,7 @@ fn assert_taken<R: Host + Abort>(rt: &R, folders: &[&str]) -> Result<(), Fail> {
 }
 
 fn assert_empty<R: Host + Abort>(rt: &R, folder: &str) -> Result<(), Fail> {
-    assert_eq!(rt; files_in(rt, folder)?, 0);
+    assert_eq!(rt; files_in(rt, folder)?, 0, "{folder}");
     Ok(())
 }
 
@@ -105,8 +105,8 @@ fn is_failed<T: Drop>(answer: Result<T, DirFault>) -> bool {
 
 /// What is at a path cannot be locked, by a try or by a lock that waits.
 fn assert_refused<R: Host + Abort>(rt: &R, folder: &str) {
-    assert!(rt; is_failed(FolderLock::try_lock(rt, folder)));
-    assert!(rt; is_failed(FolderLock::lock(rt, folder)));
+    assert!(rt; is_failed(FolderLock::try_lock(rt, folder)), "{folder}");
+    assert!(rt; is_failed(FolderLock::lock(rt, folder)), "{folder}");
 }
 
 /// A missing folder is not made.
@@ -133,11 +133,23 @@ fn locks_that_are_refused(rt: HostRuntime) -> Result<(), Fail> {
     Ok(fs::remove_dir_all(&rt, "unlocked")?)
 }
 
-/// The empty path is the current folder.
-#[test]
-fn lock_of_the_current_folder(rt: HostRuntime) -> Result<(), Fail> {
-    let lock = made_and_tried(&rt, "")?;
-    let found = assert_taken(&rt, &["", "."]);
+/// While the current folder is locked by the empty path, nobody gets a second lock of it by any path.
+fn assert_current<R: Host + Abort>(rt: &R) -> Result<(), Fail> {
+    let lock = made_and_tried(rt, "")?;
+    let found = assert_taken(rt, &["", ".", "../current"]);
     drop(lock);
     found
+}
+
+/// The empty path is the current folder, which is a folder of the test's own meanwhile.
+#[test]
+fn lock_of_the_current_folder(rt: HostRuntime) -> Result<(), Fail> {
+    let _ = fs::remove_dir_all(&rt, "current");
+    fs::create_dir(&rt, "current")?;
+    env::set_current_dir(&rt, "current")?;
+    let found = assert_current(&rt);
+    let is_back = env::set_current_dir(&rt, "..").is_ok();
+    found?;
+    assert!(rt; is_back);
+    Ok(fs::remove_dir_all(&rt, "current")?)
 }
