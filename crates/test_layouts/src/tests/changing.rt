@@ -7,6 +7,7 @@ use crate::tests::texts::{assert_told, blob};
 use bytes::Bytes;
 use oci_layout::Layout;
 use std::alloc::Global;
+use std::fmt::{self, Display, Formatter, Write};
 use std::process::Abort;
 use std::sync::Wait;
 use std::test::Fail;
@@ -52,16 +53,28 @@ fn told_of_run<R: AllocGlobal + Threads + Wait + Sync>(
     }
 }
 
-/// If the first `right` reads return the right bytes, this is told, and the destination is closed.
-fn assert_changing<R: AllocGlobal + Threads + Wait + Sync + Abort>(
-    rt: &R,
+/// A copy whose first `right` reads return the right bytes.
+#[derive(Clone, Copy)]
+struct Run {
     right: usize,
     workers: Option<u32>,
+}
+
+impl Display for Run {
+    fn fmt<W: Write>(&self, f: &mut Formatter<W>) -> fmt::Result {
+        write!(f, "{} right reads by {:?}", self.right, self.workers)
+    }
+}
+
+/// The run tells this, and the destination is closed.
+fn assert_changing<R: AllocGlobal + Threads + Wait + Sync + Abort>(
+    rt: &R,
+    run: Run,
     want: &str,
 ) -> Result<(), Fail> {
-    let (told, is_closed) = told_of_run(rt, right as u64, workers)?;
-    assert!(rt; is_closed);
-    assert_told(rt, right, told.as_str(), want)
+    let (told, is_closed) = told_of_run(rt, run.right as u64, run.workers)?;
+    assert!(rt; is_closed, "{run}");
+    assert_told(rt, &run, told.as_str(), want)
 }
 
 /// What is told for each number of right reads, up to the first run without a fault. `open` reads three files. The copy reads the
@@ -80,7 +93,7 @@ static TOLD: [&str; 7] = [
 fn changing_source(rt: HostRuntime) -> Result<(), Fail> {
     for workers in [None, Some(3)] {
         for (right, want) in TOLD.iter().enumerate() {
-            assert_changing(&rt, right, workers, want)?;
+            assert_changing(&rt, Run { right, workers }, want)?;
         }
     }
     Ok(())

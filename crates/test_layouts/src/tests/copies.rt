@@ -13,7 +13,7 @@ use std::thread::Threads;
 use test_support::{Sample, keys, memory};
 
 /// A copy into a layout.
-#[derive(Clone, Copy)]
+#[derive(Clone, Copy, Debug)]
 pub(crate) enum Copying<'a> {
     /// The last samples, from a store in memory that has the first ones.
     Memory(&'a [Sample], &'a [Sample]),

@@ -12,7 +12,7 @@ use std::test::Fail;
 pub(crate) type Parts<'a> = &'a [&'a str];
 
 /// A step with one draft of a file, or with two of them.
-#[derive(Clone, Copy)]
+#[derive(Clone, Copy, Debug)]
 pub(crate) enum DraftStep<'a> {
     /// Drafts these parts and keeps the draft: the text that the file then has.
     Keep(Parts<'a>),

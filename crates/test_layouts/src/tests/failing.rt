@@ -5,10 +5,11 @@ use crate::tests::faulty::{Failing, FaultyDir};
 use crate::tests::host::Host;
 use crate::tests::layouts::{created, opened, saved};
 use crate::tests::steps::Step::Open;
-use crate::tests::steps::{Row, assert_steps};
+use crate::tests::steps::{Ground, Row, assert_steps};
 use oci_layout::{Layout, MemDir};
 use oci_store::Dest;
 use std::alloc::Global;
+use std::fmt::{self, Display, Formatter, Write};
 use std::process::Abort;
 use std::sync::Wait;
 use std::test::Fail;
@@ -156,38 +157,71 @@ fn copied_with_read<R: AllocGlobal + Threads + Wait + Sync>(
     copied_twice(rt, failing, Failing::Nothing, workers)
 }
 
-/// The copy told this, and the destination is closed.
+/// A copy of which the read or the put after `passing` others fails.
+#[derive(Clone, Copy)]
+struct Run {
+    passing: u64,
+    workers: Option<u32>,
+}
+
+impl Display for Run {
+    fn fmt<W: Write>(&self, f: &mut Formatter<W>) -> fmt::Result {
+        write!(f, "a failure after {} by {:?}", self.passing, self.workers)
+    }
+}
+
+/// The run told this, and the destination is closed.
 fn assert_refused<R: AllocGlobal + Abort>(
     rt: &R,
     outcome: &Outcome,
     want: &str,
+    run: Run,
 ) -> Result<(), Fail> {
-    assert_eq!(rt; outcome.told.as_str(), want);
-    assert!(rt; outcome.is_closed);
+    assert_eq!(rt; outcome.told.as_str(), want, "{run}");
+    assert!(rt; outcome.is_closed, "{run}");
     Ok(())
 }
 
 /// The second copy brings what was not there, and then the layout holds all.
-fn assert_brings_rest<R: AllocGlobal + Abort>(rt: &R, twice: &Twice) -> Result<(), Fail> {
+fn assert_brings_rest<R: AllocGlobal + Abort>(rt: &R, twice: &Twice, run: Run) -> Result<(), Fail> {
     let rest = 6usize.saturating_sub(twice.first.count);
     let skipped = if rest == 0 { 1 } else { 0 };
     let want = format!(in rt.alloc(); "planned {rest} pushed {rest} skipped {skipped}")?;
-    assert_eq!(rt; twice.second.told.as_str(), want.as_str());
-    assert!(rt; twice.second.is_whole);
+    assert_eq!(rt; twice.second.told.as_str(), want.as_str(), "{run}, again");
+    assert!(rt; twice.second.is_whole, "{run}, again");
     Ok(())
 }
 
-/// After `passing` puts of a copy the next one fails, and the same copy is made again. Returns how many contents the first one left.
+/// The first copy is refused for one put, and the second brings the rest.
+fn assert_put_failed<R: AllocGlobal + Abort>(rt: &R, twice: &Twice, run: Run) -> Result<(), Fail> {
+    assert_refused(rt, &twice.first, "82 Push <lacking> 43 Device", run)?;
+    assert_eq!(rt; twice.first.failures, 1, "{run}");
+    assert_brings_rest(rt, twice, run)
+}
+
+/// The put of a run fails, and the same copy is made again. Returns how many contents the first one left.
 fn left_by_failed<R: AllocGlobal + Threads + Wait + Sync + Abort>(
     rt: &R,
-    passing: u64,
-    workers: Option<u32>,
+    run: Run,
 ) -> Result<u64, Fail> {
-    let twice = copied_with_put(rt, passing, workers)?;
-    assert_refused(rt, &twice.first, "82 Push <lacking> 43 Device")?;
-    assert_eq!(rt; twice.first.failures, 1);
-    assert_brings_rest(rt, &twice)?;
+    let twice = copied_with_put(rt, run.passing, run.workers)?;
+    assert_put_failed(rt, &twice, run)?;
     Ok(twice.first.count as u64)
+}
+
+/// The put of a run fails. On one thread the destination has what was pushed before.
+fn assert_put<R: AllocGlobal + Threads + Wait + Sync + Abort>(
+    rt: &R,
+    run: Run,
+) -> Result<(), Fail> {
+    let left = left_by_failed(rt, run)?;
+    let most = if run.workers.is_none() {
+        run.passing
+    } else {
+        5
+    };
+    assert!(rt; left >= run.passing && left <= most, "{run}: {left} left");
+    Ok(())
 }
 
 /// Each put of a copy fails in turn, and the copy is refused. A second copy into the destination that came back brings the rest, over
@@ -196,10 +230,9 @@ fn left_by_failed<R: AllocGlobal + Threads + Wait + Sync + Abort>(
 #[test]
 fn failing_put(rt: HostRuntime) -> Result<(), Fail> {
     for passing in 0..6u64 {
-        let left = left_by_failed(&rt, passing, None)?;
-        assert_eq!(rt; left, passing);
-        let left = left_by_failed(&rt, passing, Some(3))?;
-        assert!(rt; left >= passing && left <= 5, "{left} after {passing}");
+        for workers in [None, Some(3)] {
+            assert_put(&rt, Run { passing, workers })?;
+        }
     }
     Ok(())
 }
@@ -211,8 +244,8 @@ fn assert_puts<R: AllocGlobal + Threads + Wait + Sync + Abort>(
     workers: Option<u32>,
 ) -> Result<(), Fail> {
     let twice = copied_with_put(rt, passing, workers)?;
-    assert_eq!(rt; twice.first.told.as_str(), BROUGHT);
-    assert_eq!(rt; twice.first.failures, 0);
+    assert_eq!(rt; twice.first.told.as_str(), BROUGHT, "by {workers:?}");
+    assert_eq!(rt; twice.first.failures, 0, "by {workers:?}");
     Ok(())
 }
 
@@ -226,26 +259,29 @@ fn puts_of_a_copy(rt: HostRuntime) -> Result<(), Fail> {
 }
 
 /// A read failed, for the plan or for a push, and what was pushed is closed.
-fn assert_not_read<R: AllocGlobal + Abort>(rt: &R, outcome: &Outcome) -> Result<(), Fail> {
+fn assert_not_read<R: AllocGlobal + Abort>(
+    rt: &R,
+    outcome: &Outcome,
+    run: Run,
+) -> Result<(), Fail> {
     if !outcome.told.starts_with("81") {
-        return assert_refused(rt, outcome, "88 Fetch <lacking> 22 Device");
+        return assert_refused(rt, outcome, "88 Fetch <lacking> 22 Device", run);
     }
-    assert_eq!(rt; outcome.count, 0);
-    assert_refused(rt, outcome, "81 Plan 57 Fetch <lacking> 22 Device")
+    assert_eq!(rt; outcome.count, 0, "{run}");
+    assert_refused(rt, outcome, "81 Plan 57 Fetch <lacking> 22 Device", run)
 }
 
-/// After `passing` reads of a copy the next one fails, and the same copy is made again. Returns whether the first one was refused.
+/// The read of a run fails, and the same copy is made again. Returns whether the first one was refused.
 fn is_refused<R: AllocGlobal + Threads + Wait + Sync + Abort>(
     rt: &R,
-    passing: u64,
-    workers: Option<u32>,
+    run: Run,
 ) -> Result<bool, Fail> {
-    let twice = copied_with_read(rt, passing, workers)?;
+    let twice = copied_with_read(rt, run.passing, run.workers)?;
     let is_refused = twice.first.told.as_str() != BROUGHT;
     if is_refused {
-        assert_not_read(rt, &twice.first)?;
+        assert_not_read(rt, &twice.first, run)?;
     }
-    assert_brings_rest(rt, &twice)?;
+    assert_brings_rest(rt, &twice, run)?;
     Ok(is_refused)
 }
 
@@ -255,8 +291,9 @@ fn is_refused<R: AllocGlobal + Threads + Wait + Sync + Abort>(
 fn failing_read(rt: HostRuntime) -> Result<(), Fail> {
     for passing in 0..10u64 {
         for workers in [None, Some(3)] {
-            let is_refused = is_refused(&rt, passing, workers)?;
-            assert_eq!(rt; is_refused, passing < 9, "{passing}");
+            let run = Run { passing, workers };
+            let is_refused = is_refused(&rt, run)?;
+            assert_eq!(rt; is_refused, passing < 9, "{run}: refused");
         }
     }
     Ok(())
@@ -265,7 +302,12 @@ fn failing_read(rt: HostRuntime) -> Result<(), Fail> {
 /// If the read of this number fails, the layout is not opened.
 fn assert_not_opened<R: Host + Threads + Wait + Abort>(rt: &R, read: u64) -> Result<(), Fail> {
     let dir = images(rt.alloc(), Failing::Read(read))?;
-    assert_steps(rt, dir, &[Row(Open, "74 Device")])
+    assert_steps(
+        rt,
+        dir,
+        Ground::Unreadable(&[], read),
+        &[Row(Open, "74 Device")],
+    )
 }
 
 /// Each read of `open` fails in turn, and the failure is reported.

@@ -10,7 +10,7 @@ use std::{fs, rt};
 use test_support::Sample;
 
 /// A step with a file of a directory.
-#[derive(Clone, Copy)]
+#[derive(Clone, Copy, Debug)]
 pub(crate) enum FileStep<'a> {
     /// Puts a text, in which marks may stand: `put`, or the fault.
     Put(&'a str),
@@ -31,7 +31,7 @@ pub(crate) enum FileStep<'a> {
 }
 
 /// A step with a file or folder of the current folder.
-#[derive(Clone, Copy)]
+#[derive(Clone, Copy, Debug)]
 pub(crate) enum FolderStep<'a> {
     /// How many files it has.
     Count,

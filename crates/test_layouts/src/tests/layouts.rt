@@ -10,7 +10,7 @@ use std::test::Fail;
 use test_support::{Sample, is_closed};
 
 /// A step with a layout.
-#[derive(Clone, Copy)]
+#[derive(Clone, Copy, Debug)]
 pub(crate) enum LayoutStep<'a> {
     /// What is held.
     Held,

@@ -6,7 +6,7 @@ use crate::tests::files::files_in;
 use crate::tests::host::Host;
 use crate::tests::parts::assert_lost;
 use crate::tests::steps::Step::In;
-use crate::tests::steps::{Row, assert_steps};
+use crate::tests::steps::{Ground, Row, assert_steps};
 use oci_layout::FsDir;
 use std::alloc::Allocator;
 use std::fs::{Metadata, OpenOptions};
@@ -106,28 +106,31 @@ fn prepare<R: Host>(rt: &R) -> Result<(), Fail> {
 fn assert_steps_with<R: Host + Threads + Wait + Abort>(
     rt: &R,
     numbers: &Numbered<'_, R>,
+    name: &str,
     rows: &[Row<'_>],
 ) -> Result<(), Fail> {
-    assert_steps(rt, FsDir::new(numbers, "numbered")?, rows)
+    let dir = FsDir::new(numbers, "numbered")?;
+    assert_steps(rt, dir, Ground::Folder(name), rows)
 }
 
 /// The folder has this many entries. Removes it.
-fn assert_entries<R: Host + Abort>(rt: &R, entries: usize) -> Result<(), Fail> {
-    assert_eq!(rt; files_in(rt, "numbered")?, entries);
+fn assert_entries<R: Host + Abort>(rt: &R, name: &str, entries: usize) -> Result<(), Fail> {
+    assert_eq!(rt; files_in(rt, "numbered")?, entries, "{name}");
     Ok(fs::remove_dir_all(rt, "numbered")?)
 }
 
-/// Takes these steps in the folder with these random numbers. The folder then has this many entries.
+/// Takes these steps in the folder with these random numbers. The folder then has this many entries. A failure prints the name.
 fn assert_rows<R: Host + Threads + Wait + Abort>(
     rt: &R,
     numbers: &Numbered<'_, R>,
+    name: &str,
     rows: &[Row<'_>],
     entries: usize,
 ) -> Result<(), Fail> {
     let _ = fs::remove_dir_all(rt, "numbered");
     prepare(rt)?;
-    assert_steps_with(rt, numbers, rows)?;
-    assert_entries(rt, entries)
+    assert_steps_with(rt, numbers, name, rows)?;
+    assert_entries(rt, name, entries)
 }
 
 const TAKEN: &[Row] = &[
@@ -148,7 +151,7 @@ fn names_that_are_taken(rt: HostRuntime) -> Result<(), Fail> {
         step: 1,
         end: 255,
     };
-    assert_rows(&rt, &counted, TAKEN, 4)
+    assert_rows(&rt, &counted, "numbered", TAKEN, 4)
 }
 
 const NONE: &[Row] = &[
@@ -167,14 +170,14 @@ const NONE: &[Row] = &[
 /// If random numbers are refused, or each is in the name of a file already, nothing is written.
 #[test]
 fn names_that_are_refused(rt: HostRuntime) -> Result<(), Fail> {
-    for (step, end) in [(1u64, 0u8), (0, 1)] {
+    for (name, step, end) in [("no numbers", 1u64, 0u8), ("one number", 0, 1)] {
         let numbers = Numbered {
             rt: &rt,
             next: AtomicU64::new(0),
             step,
             end,
         };
-        assert_rows(&rt, &numbers, NONE, 3)?;
+        assert_rows(&rt, &numbers, name, NONE, 3)?;
     }
     Ok(())
 }

@@ -7,6 +7,12 @@ use crate::tests::steps::{Ground, Row, assert_run};
 use std::test::Fail;
 use test_support::Sample::{Bar, Empty, Foo, Image0, Image2, Image3, Image4, Index1};
 
+/// The layout file is put.
+const LAYOUT_FILE: Row<'static> = Row(
+    In("oci-layout", Put("{\"imageLayoutVersion\":\"1.0.0\"}")),
+    "put",
+);
+
 const LAYOUT_FILES: &[Row] = &[
     Row(Open, "70 NoLayoutFile"),
     Row(In("oci-layout", Put("{}")), "put"),
@@ -45,10 +51,7 @@ fn layout_file_first(rt: HostRuntime) -> Result<(), Fail> {
 }
 
 const INDEX_FILES: &[Row] = &[
-    Row(
-        In("oci-layout", Put("{\"imageLayoutVersion\":\"1.0.0\"}")),
-        "put",
-    ),
+    LAYOUT_FILE,
     Row(In("index.json", Put("[]")), "put"),
     Row(Open, "73 BadIndex 11 NotObject"),
     Row(In("index.json", Put("{\"manifests\":{}}")), "put"),
@@ -66,10 +69,7 @@ fn index_files(rt: HostRuntime) -> Result<(), Fail> {
 
 /// The one entry is an image whose bytes are the empty JSON object, first with a wrong size and then with the right one.
 const AT_FAULT: &[Row] = &[
-    Row(
-        In("oci-layout", Put("{\"imageLayoutVersion\":\"1.0.0\"}")),
-        "put",
-    ),
+    LAYOUT_FILE,
     Row(In("blobs", Blobs(&[Empty])), "put"),
     Row(
         In(
@@ -106,10 +106,7 @@ fn manifests_at_fault(rt: HostRuntime) -> Result<(), Fail> {
 
 /// The index is laid out as people do, and has members of its own.
 const STANDARD: &[Row] = &[
-    Row(
-        In("oci-layout", Put("{\"imageLayoutVersion\":\"1.0.0\"}")),
-        "put",
-    ),
+    LAYOUT_FILE,
     Row(
         In(
             "blobs",
@@ -143,13 +140,15 @@ fn index_of_the_standard(rt: HostRuntime) -> Result<(), Fail> {
 const NAMED: &str =
     "{\n  \"schemaVersion\": 2,\n  \"mediaType\": \"application/vnd.oci.image.index.v1+json\",\n  \"annotations\": {\n    \"com.example.index.revision\": \"r124356\"\n  },\n  \"manifests\": [\n    {<members Image2>,\"annotations\":{\"org.opencontainers.image.ref.name\":\"latest\"}},\n    {<members Image0>,\"annotations\":{\"io.containerd.image.name\":\"docker.io/library/a:b\",\"org.opencontainers.image.created\":\"2024-01-01T00:00:00Z\",\"org.opencontainers.image.ref.name\":\"latest\"}},\n    {<members Image0>,\"artifactType\":\"application/example\",\"data\":\"e30=\",\"urls\":[\"https://example.org\"],\"annotations\":{\"org.opencontainers.image.ref.name\":\"b\"}},\n    {<members Image0>,\"annotations\":{\"org.opencontainers.image.ref.name\":7}},\n    {<members Image0>,\"annotations\":{\"org.opencontainers.image.ref.name\":\"\"}},\n    {<members Image0>,\"annotations\":[]},\n    {<members Image3>,\"annotations\":{\"org.opencontainers.image.ref.name\":\"gone\"}}\n  ]\n}\n";
 
+/// The blobs that it names are put, but for the one that is missing, and then the index.
+const NAMED_BLOBS: Row<'static> = Row(In("blobs", Blobs(&[Empty, Foo, Image0, Image2])), "put");
+
+const NAMED_INDEX: Row<'static> = Row(In("index.json", Put(NAMED)), "put");
+
 const NAMES: &[Row] = &[
-    Row(
-        In("oci-layout", Put("{\"imageLayoutVersion\":\"1.0.0\"}")),
-        "put",
-    ),
-    Row(In("blobs", Blobs(&[Empty, Foo, Image0, Image2])), "put"),
-    Row(In("index.json", Put(NAMED)), "put"),
+    LAYOUT_FILE,
+    NAMED_BLOBS,
+    NAMED_INDEX,
     Row(Open, "held 4 b latest"),
     Row(With(Resolve("latest")), "<key Image0>"),
 ];
@@ -160,12 +159,9 @@ fn names_of_an_index(rt: HostRuntime) -> Result<(), Fail> {
 }
 
 const SAVED_AGAIN: &[Row] = &[
-    Row(
-        In("oci-layout", Put("{\"imageLayoutVersion\":\"1.0.0\"}")),
-        "put",
-    ),
-    Row(In("blobs", Blobs(&[Empty, Foo, Image0, Image2])), "put"),
-    Row(In("index.json", Put(NAMED)), "put"),
+    LAYOUT_FILE,
+    NAMED_BLOBS,
+    NAMED_INDEX,
     Row(Open, "held 4 b latest"),
     Row(With(Save), "saved"),
     Row(

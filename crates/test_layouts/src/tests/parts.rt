@@ -131,8 +131,8 @@ fn assert_there<D: Dir, R: AllocGlobal + Abort>(rt: &R, dir: &D, key: &Key) -> R
     let Some(bytes) = dir.read(&blob(rt.alloc(), key)?)? else {
         return Err(Fail::from("the blob is not there"));
     };
-    assert_eq!(rt; bytes.len() as u64, key.size());
-    assert!(rt; key.digest().matches(bytes.as_slice()));
+    assert_eq!(rt; bytes.len() as u64, key.size(), "{key}");
+    assert!(rt; key.digest().matches(bytes.as_slice()), "{key}");
     Ok(())
 }
 
@@ -170,10 +170,16 @@ where
     Ok((layout.into_dir(), told))
 }
 
-/// This many layers are copied and held.
-fn assert_held<R: AllocGlobal + Abort>(rt: &R, told: &str, count: usize) -> Result<(), Fail> {
+/// The layers of these keys are copied and held.
+fn assert_held<R: AllocGlobal + Abort>(
+    rt: &R,
+    told: &str,
+    keys: &[Key],
+    workers: Option<u32>,
+) -> Result<(), Fail> {
+    let count = keys.len();
     let want = format!(in rt.alloc(); "planned {count} pushed {count} skipped 0, held {count}")?;
-    assert_eq!(rt; told, want.as_str());
+    assert_eq!(rt; told, want.as_str(), "{keys:?} by {workers:?}");
     Ok(())
 }
 
@@ -188,7 +194,7 @@ where
     D::Draft: Send,
 {
     let (dir, told) = copied(rt, source, dir, workers)?;
-    assert_held(rt, told.as_str(), source.keys.len())?;
+    assert_held(rt, told.as_str(), &source.keys, workers)?;
     assert_all_there(rt, &dir, &source.keys)
 }
 
@@ -250,7 +256,8 @@ fn assert_copied_into_folder<R: Host + Threads + Wait + Abort>(
 
 /// The folder has the files that it should have. Removes it.
 fn assert_files<R: Host + Abort>(rt: &R, folder: Folder) -> Result<(), Fail> {
-    assert_eq!(rt; files_in(rt, folder.below)?, folder.files);
+    let below = folder.below;
+    assert_eq!(rt; files_in(rt, below)?, folder.files, "{below}");
     Ok(fs::remove_dir_all(rt, folder.folder)?)
 }
 
@@ -319,11 +326,15 @@ fn assert_fault<R: AllocGlobal + Abort>(
     Ok(())
 }
 
-/// The layout in this directory holds nothing.
-fn assert_empty<R: AllocGlobal + Abort>(rt: &R, dir: MemDir) -> Result<(), Fail> {
-    let layout = opened(rt.alloc(), dir)?;
-    let held = summary(rt.alloc(), &layout)?;
-    assert_eq!(rt; held.as_str(), "held 0");
+/// What the layout in a directory holds.
+fn held_in(alloc: Global, dir: MemDir) -> Result<String, Fail> {
+    summary(alloc, &opened(alloc, dir)?)
+}
+
+/// The layout in this directory, into which a key was copied, holds nothing.
+fn assert_empty<R: AllocGlobal + Abort>(rt: &R, dir: MemDir, key: &Key) -> Result<(), Fail> {
+    let held = held_in(rt.alloc(), dir)?;
+    assert_eq!(rt; held.as_str(), "held 0", "{key}");
     Ok(())
 }
 
@@ -335,7 +346,7 @@ fn assert_refused<R: AllocGlobal + Threads + Wait + Sync + Abort>(
     let key = first_key(&source.keys)?;
     let (dir, told) = copied(rt, source, MemDir::with_fuse(rt.alloc(), 2), None)?;
     assert_fault(rt, told.as_str(), "82 Push", key, "43 Device, held 0")?;
-    assert_empty(rt, dir)
+    assert_empty(rt, dir, key)
 }
 
 fn assert_not_put<R: AllocGlobal + Threads + Wait + Sync + Abort>(
@@ -378,8 +389,23 @@ where
     told_and_held(rt.alloc(), &layout, told.as_str())
 }
 
-/// Copies a layer of five parts into a directory that cannot write a draft. The push is refused with `Device`, nothing is held, and
-/// only one part was read.
+/// Copies some keys into a new layout in a directory. The push of the first is refused with `Device`, and nothing is held.
+fn assert_push_lost<D: Dir + Drop + Send, R: AllocGlobal + Threads + Wait + Sync + Abort>(
+    rt: &R,
+    source: &Layout<FaultyDir>,
+    dir: D,
+    keys: &[Key],
+    workers: Option<u32>,
+) -> Result<(), Fail>
+where
+    D::Draft: Send,
+{
+    let told = told_of_new(rt, source, dir, keys, workers)?;
+    let (key, held) = (first_key(keys)?, "43 Device, held 0");
+    assert_fault(rt, told.as_str(), "82 Push", key, held)
+}
+
+/// Copies a layer of five parts into a directory that cannot write a draft. The push is refused, and only one part was read.
 pub(crate) fn assert_lost<D: Dir + Drop + Send, R: AllocGlobal + Threads + Wait + Sync + Abort>(
     rt: &R,
     dir: D,
@@ -390,10 +416,8 @@ where
 {
     let Layers { layout, keys } = layer_of(rt.alloc(), 5 * PART)?;
     let source = counting(rt.alloc(), layout)?;
-    let told = told_of_new(rt, &source, dir, &keys, workers)?;
-    let (key, held) = (first_key(&keys)?, "43 Device, held 0");
-    assert_fault(rt, told.as_str(), "82 Push", key, held)?;
-    assert_eq!(rt; source.into_dir().reads(), 3);
+    assert_push_lost(rt, &source, dir, &keys, workers)?;
+    assert_eq!(rt; source.into_dir().reads(), 3, "by {workers:?}");
     Ok(())
 }
 

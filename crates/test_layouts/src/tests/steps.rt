@@ -9,6 +9,7 @@ use crate::tests::layouts::{LayoutStep, summary, with_layout};
 use crate::tests::texts::assert_told;
 use oci_layout::{Dir, FsDir, Layout, LayoutFault, MemDir};
 use std::alloc::Global;
+use std::fmt::{self, Display, Formatter, Write};
 use std::fs;
 use std::process::Abort;
 use std::sync::Wait;
@@ -16,7 +17,7 @@ use std::test::Fail;
 use std::thread::Threads;
 
 /// A step.
-#[derive(Clone, Copy)]
+#[derive(Clone, Copy, Debug)]
 pub(crate) enum Step<'a> {
     /// Makes a layout in the directory: `made`, or the fault.
     Create,
@@ -49,6 +50,31 @@ pub(crate) enum Ground<'a> {
     Folder(&'a str),
     /// A directory in memory after these steps. It then passes this many reads, and fails each later one.
     Unreadable(&'a [Row<'a>], u64),
+}
+
+impl<'a> Display for Ground<'a> {
+    fn fmt<W: Write>(&self, f: &mut Formatter<W>) -> fmt::Result {
+        match self {
+            Ground::Memory => write!(f, "in memory"),
+            Ground::Fuse(puts) => write!(f, "in memory, put {puts} fails"),
+            Ground::Folder(folder) => write!(f, "in the folder '{folder}'"),
+            Ground::Unreadable(_, reads) => write!(f, "in memory, read {reads} fails"),
+        }
+    }
+}
+
+/// A step that was taken, as a failure prints it.
+#[derive(Clone, Copy)]
+struct StepRow<'a> {
+    ground: Ground<'a>,
+    number: usize,
+    step: Step<'a>,
+}
+
+impl<'a> Display for StepRow<'a> {
+    fn fmt<W: Write>(&self, f: &mut Formatter<W>) -> fmt::Result {
+        write!(f, "row {}, {:?}, {}", self.number, self.step, self.ground)
+    }
 }
 
 /// A directory, or the layout that it is.
@@ -188,26 +214,32 @@ where
 fn assert_step<D: Dir + Drop + Send, R: Host + Threads + Wait + Abort>(
     rt: &R,
     place: &mut Place<D>,
-    number: usize,
-    row: Row<'_>,
+    row: StepRow<'_>,
+    want: &str,
 ) -> Result<(), Fail>
 where
     D::Draft: Send,
 {
-    let told = taken(rt, place, row.0)?;
-    assert_told(rt, number, told.as_str(), row.1)
+    let told = taken(rt, place, row.step)?;
+    assert_told(rt, &row, told.as_str(), want)
 }
 
 fn assert_rows<D: Dir + Drop + Send, R: Host + Threads + Wait + Abort>(
     rt: &R,
     place: &mut Place<D>,
+    ground: Ground<'_>,
     rows: &[Row<'_>],
 ) -> Result<(), Fail>
 where
     D::Draft: Send,
 {
-    for (number, row) in rows.iter().enumerate() {
-        assert_step(rt, place, number, *row)?;
+    for (number, Row(step, want)) in rows.iter().enumerate() {
+        let row = StepRow {
+            ground,
+            number,
+            step: *step,
+        };
+        assert_step(rt, place, row, want)?;
     }
     Ok(())
 }
@@ -216,6 +248,7 @@ where
 fn dir_after<D: Dir + Drop + Send, R: Host + Threads + Wait + Abort>(
     rt: &R,
     dir: D,
+    ground: Ground<'_>,
     rows: &[Row<'_>],
 ) -> Result<D, Fail>
 where
@@ -225,20 +258,21 @@ where
         files: Some(dir),
         held: None,
     };
-    assert_rows(rt, &mut place, rows)?;
+    assert_rows(rt, &mut place, ground, rows)?;
     place.take_dir()
 }
 
-/// Takes these steps with a directory, and checks what each of them tells.
+/// Takes these steps with a directory, and checks what each of them tells. A failure prints the ground.
 pub(crate) fn assert_steps<D: Dir + Drop + Send, R: Host + Threads + Wait + Abort>(
     rt: &R,
     dir: D,
+    ground: Ground<'_>,
     rows: &[Row<'_>],
 ) -> Result<(), Fail>
 where
     D::Draft: Send,
 {
-    let _dir = dir_after(rt, dir, rows)?;
+    let _dir = dir_after(rt, dir, ground, rows)?;
     Ok(())
 }
 
@@ -248,7 +282,7 @@ fn assert_steps_in_folder<R: Host + Threads + Wait + Abort>(
     rows: &[Row<'_>],
 ) -> Result<(), Fail> {
     let _ = fs::remove_dir_all(rt, folder);
-    assert_steps(rt, FsDir::new(rt, folder)?, rows)?;
+    assert_steps(rt, FsDir::new(rt, folder)?, Ground::Folder(folder), rows)?;
     Ok(fs::remove_dir_all(rt, folder)?)
 }
 
@@ -258,9 +292,9 @@ fn assert_steps_unreadable<R: Host + Threads + Wait + Abort>(
     passing: u64,
     rows: &[Row<'_>],
 ) -> Result<(), Fail> {
-    let dir = dir_after(rt, MemDir::new(rt.alloc()), before)?;
+    let dir = dir_after(rt, MemDir::new(rt.alloc()), Ground::Memory, before)?;
     let dir = FaultyDir::failing(dir, Failing::LaterReads(passing));
-    assert_steps(rt, dir, rows)
+    assert_steps(rt, dir, Ground::Unreadable(before, passing), rows)
 }
 
 /// Takes these steps on this ground, and checks what each of them tells.
@@ -270,8 +304,8 @@ pub(crate) fn assert_run<R: Host + Threads + Wait + Abort>(
     rows: &[Row<'_>],
 ) -> Result<(), Fail> {
     match ground {
-        Ground::Memory => assert_steps(rt, MemDir::new(rt.alloc()), rows),
-        Ground::Fuse(puts) => assert_steps(rt, MemDir::with_fuse(rt.alloc(), puts), rows),
+        Ground::Memory => assert_steps(rt, MemDir::new(rt.alloc()), ground, rows),
+        Ground::Fuse(puts) => assert_steps(rt, MemDir::with_fuse(rt.alloc(), puts), ground, rows),
         Ground::Folder(folder) => assert_steps_in_folder(rt, folder, rows),
         Ground::Unreadable(before, passing) => assert_steps_unreadable(rt, before, passing, rows),
     }

@@ -2,6 +2,7 @@
 
 use oci_manifest::Key;
 use std::alloc::Global;
+use std::fmt::Display;
 use std::process::Abort;
 use std::test::Fail;
 use test_support::Sample;
@@ -117,14 +118,14 @@ pub(crate) fn expanded(alloc: Global, text: &str) -> Result<String, Fail> {
     Ok(text)
 }
 
-/// A step tells the wanted text, in which marks may stand. If it does not, the failure names the step.
-pub(crate) fn assert_told<R: AllocGlobal + Abort>(
+/// A row tells the wanted text, in which marks may stand. If it does not, the failure prints the row.
+pub(crate) fn assert_told<R: AllocGlobal + Abort, T: Display>(
     rt: &R,
-    step: usize,
+    row: &T,
     told: &str,
     want: &str,
 ) -> Result<(), Fail> {
     let want = expanded(rt.alloc(), want)?;
-    assert_eq!(rt; told, want.as_str(), "step {step}");
+    assert_eq!(rt; told, want.as_str(), "{row}");
     Ok(())
 }
