@@ -76,8 +76,8 @@ where
         → (⟦<Layout<D> as Store>⟧.state result.0).is_sound }
     ensures files { OnOk result.1 (IsTrusted (⟦<Layout<S> as Store>⟧.state source.now)
         (⟦<Layout<D> as Store>⟧.state destination) (⟦<Layout<D> as Store>⟧.state result.0)
-        → HasFiles (D.file result.0.0) (⟦<Layout<D> as Store>⟧.state result.0).entries result.0.1
-        result.0.2) }
+        → HasFiles (D.device result.0.0).file (⟦<Layout<D> as Store>⟧.state result.0).entries
+        result.0.1 result.0.2) }
     ensures refused { IfErr result.1 (IsRefusedBetween
         (IsRunCause (CanFail ⟦<Layout<D> as Store>⟧.state
         (⟦<Layout<D> as Store>⟧.state destination)) (⟦<Layout<S> as Store>⟧.state source.now)
@@ -112,11 +112,11 @@ fn finish<D: Dir>(
     ensures saved { IsSaved (⟦<Layout<D> as Store>⟧.state destination)
         (⟦<Layout<D> as Store>⟧.state result.0) }
     ensures files { OnOk result.1 ((⟦<Layout<D> as Store>⟧.state destination).is_sound
-        → HasFiles (D.file result.0.0) (⟦<Layout<D> as Store>⟧.state destination).entries
+        → HasFiles (D.device result.0.0).file (⟦<Layout<D> as Store>⟧.state destination).entries
         result.0.1 result.0.2) }
     ensures refused { IfErr result.1 (IsRefusedBetween
         (λ fault. (copied ≡ Err fault) ⊎ (fault ≡ CopyFault.Memory))
-        (IsPutFault (D.failure_count destination.0) (D.failure_count result.0.0))) }
+        (IsPutFault (D.device destination.0).failures (D.device result.0.0).failures)) }
 {
     let mut destination = destination;
     match copied {
@@ -138,10 +138,11 @@ fn tag_and_save<D: Dir>(
     ensures saved { IsSaved (⟦<Layout<D> as Store>⟧.state destination.old)
         (⟦<Layout<D> as Store>⟧.state destination.new) }
     ensures files { OnOk result ((⟦<Layout<D> as Store>⟧.state destination.old).is_sound
-        → HasFiles (D.file destination.new.0) (⟦<Layout<D> as Store>⟧.state destination.old).entries
-        destination.new.1 destination.new.2) }
+        → HasFiles (D.device destination.new.0).file
+        (⟦<Layout<D> as Store>⟧.state destination.old).entries destination.new.1
+        destination.new.2) }
     ensures refused { IfErr result (IsRefusedBetween (λ fault. fault ≡ CopyFault.Memory)
-        (IsPutFault (D.failure_count destination.old.0) (D.failure_count destination.new.0))) }
+        (IsPutFault (D.device destination.old.0).failures (D.device destination.new.0).failures)) }
 {
     if let Err(fault) = tag_all(destination, selected.tags()) {
         return Err(ProgramFault::Copy(CopyFault::from(fault)));

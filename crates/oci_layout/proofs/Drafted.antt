@@ -1,17 +1,13 @@
 -- Drafts that are kept, and parts that are read.
 use Rattle.std.proofs.Common.{◌≡◌, Bool, ℕ, List, true, false, Option, Some, None, Result, Ok, Err, refl}
-use Rattle.std.specs.Prelude.{◌↔◌, IfOk, IfErr}
+use Rattle.std.specs.Prelude.{◌↔◌, IfOk}
 use Rattle.oci_manifest.specs.Descriptor.{Descriptor}
 use Rattle.oci_store.specs.Graph.{Node}
 use Rattle.oci_store.specs.Keyed.{has_key, value_at}
 use Rattle.oci_store.specs.Parts.{IsPart}
-use Rattle.oci_store.specs.Push.{Answers, Refusal}
 use Rattle.oci_store.specs.declared.fault.FetchFault.{FetchFault}
-use Rattle.oci_store.specs.declared.fault.PushFault.{PushFault}
-use Rattle.oci_store.specs.declared.fault.PushFault.TheVariants as push
 use Rattle.oci_layout.specs.Blobs.{stored, blob_path}
 use Rattle.oci_layout.specs.Device.{File, part_in}
-use Rattle.oci_layout.specs.Faults.{IsOfDevice}
 use Rattle.oci_layout.proofs.Stored.{value_at-read}
 
 -- a refusal that never comes, and one that comes where a key is not held
@@ -25,13 +21,6 @@ always b N f n = (λ _. f, λ _. n)
 pub no_part : (found : Option (List ℕ)) (from most : ℕ) → None ≡ part_in found from most → found ≡ None
 no_part None from most h = refl
 no_part (Some bytes) from most h = cc h
-
--- what a device answers has passed the check
-pub answers_of_device : (r : Result ℕ PushFault) (check : Result (List Descriptor) Refusal) (listed : List Descriptor) → check ≡ Ok listed → IfErr r IsOfDevice → Answers r check
-answers_of_device (Ok place) check listed e h = (listed, e)
-answers_of_device (Err push.Device) check listed e h = (listed, e)
-answers_of_device (Err push.Memory) check listed e h = tt
-answers_of_device (Err other) check listed e h = absurd h
 
 pub part_back : (H : Type 0) (file : File) (graph : List Node) (k : Descriptor) (from most : ℕ) (r : Result (List ℕ) FetchFault) → has_key graph k ≡ true
     → IfOk r (λ part. H → IsPart (file (blob_path k.digest)) from most part) → IfOk r (λ part. H → IsPart (value_at (stored file graph) k) from most part)

@@ -1,34 +1,34 @@
 -- Why the next key that is visited is refused.
-use Rattle.std.proofs.Common.{Bool, ℕ, ◌≢◌, inl, inr, List, Some, sym, subst, arith}
+use Rattle.std.proofs.Common.{ℕ, ◌≢◌, inl, inr, List, Some, sym, subst, arith}
 use Rattle.oci_manifest.specs.Descriptor.{Descriptor}
 use Rattle.oci_manifest.specs.MediaTypes.{kind_of}
 use Rattle.oci_manifest.specs.declared.kind.Kind.TheVariants.{Leaf}
 use Rattle.oci_store.specs.Content.{Matches}
 use Rattle.oci_layout.specs.Blobs.{blob_path}
-use Rattle.oci_layout.specs.Device.{File, IsSizedRead}
+use Rattle.oci_layout.specs.Device.{Device, IsSizedRead}
 use Rattle.oci_layout.specs.Refusal.{IsCorrupt, IsUnread, IsNextVisited, IsBytesFault, IsFileFault, IsWalkFault}
 use Rattle.oci_layout.specs.declared.fault.LayoutFault.{LayoutFault}
 use Rattle.oci_layout.specs.declared.fault.LayoutFault.TheVariants as fault
 
-pub IsWalkFault-at : (honest : Type 0) (file : File) (fails : Bool) (starts : List Descriptor) (k : Descriptor) (e : LayoutFault) → (honest → IsNextVisited file starts k) → IsFileFault honest file fails k e
-    → IsWalkFault honest file fails starts e
-IsWalkFault-at honest file fails starts k fault.Device next h = h
-IsWalkFault-at honest file fails starts k (fault.Corrupt named) next h = λ is. (subst (IsNextVisited file starts) (sym h.0) (next is), subst (IsCorrupt file) (sym h.0) (h.1 is))
-IsWalkFault-at honest file fails starts k fault.Memory next h = tt
-IsWalkFault-at honest file fails starts k (fault.BadManifest named e) next h = λ is. (subst (IsNextVisited file starts) (sym h.0) (next is), subst (λ (j : Descriptor). IsUnread file j e) (sym h.0) (h.1 is))
-IsWalkFault-at honest file fails starts k other next h = absurd h
+pub IsWalkFault-at : (dir : Device) (starts : List Descriptor) (k : Descriptor) (e : LayoutFault) → (dir.is_honest → IsNextVisited dir.file starts k) → IsFileFault dir k e
+    → IsWalkFault dir starts e
+IsWalkFault-at dir starts k fault.Device next h = h
+IsWalkFault-at dir starts k (fault.Corrupt named) next h = λ is. (subst (IsNextVisited dir.file starts) (sym h.0) (next is), subst (IsCorrupt dir.file) (sym h.0) (h.1 is))
+IsWalkFault-at dir starts k fault.Memory next h = tt
+IsWalkFault-at dir starts k (fault.BadManifest named e) next h = λ is. (subst (IsNextVisited dir.file starts) (sym h.0) (next is), subst (λ (j : Descriptor). IsUnread dir.file j e) (sym h.0) (h.1 is))
+IsWalkFault-at dir starts k other next h = absurd h
 
 -- what is wrong with the bytes that were read of a manifest is wrong with its file
-pub read_fault : (honest : Type 0) (file : File) (fails : Bool) (k : Descriptor) (bytes : List ℕ) (e : LayoutFault) → kind_of k.media_type ≢ Leaf
-    → (honest → IsSizedRead (file (blob_path k.digest)) k.size (Some bytes)) → IsBytesFault k bytes e → IsFileFault honest file fails k e
-read_fault honest file fails k bytes (fault.Corrupt named) other read h = (
+pub read_fault : (dir : Device) (k : Descriptor) (bytes : List ℕ) (e : LayoutFault) → kind_of k.media_type ≢ Leaf
+    → (dir.is_honest → IsSizedRead (dir.file (blob_path k.digest)) k.size (Some bytes)) → IsBytesFault k bytes e → IsFileFault dir k e
+read_fault dir k bytes (fault.Corrupt named) other read h = (
   h.0,
   λ is. (
       let r = read is in
       (other, r.0, r.1, λ matching. elim r.2 [ inl same ↦ h.1 (subst (Matches k) (sym same) matching) | inr long ↦ absurd (omega (arith, long.1, matching.0)) ])),
 )
-read_fault honest file fails k bytes fault.Memory other read h = tt
-read_fault honest file fails k bytes (fault.BadManifest named e) other read h = (
+read_fault dir k bytes fault.Memory other read h = tt
+read_fault dir k bytes (fault.BadManifest named e) other read h = (
   h.0,
   λ is. (
       let r = read is in
@@ -37,4 +37,4 @@ read_fault honest file fails k bytes (fault.BadManifest named e) other read h = 
         | inr long ↦ absurd (omega (arith, long.0, h.1.0))
       ]),
 )
-read_fault honest file fails k bytes rest other read h = absurd h
+read_fault dir k bytes rest other read h = absurd h

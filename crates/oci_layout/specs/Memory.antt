@@ -1,10 +1,11 @@
 -- A directory in memory, and its fuse.
-use Rattle.std.specs.Prelude.{◌≡◌, ◌-◌, ◌/◌, ℕ, List, length, take, Option, Some, option_map, Result, Ok, Err, String}
+use Rattle.std.specs.Prelude.{◌≡◌, ◌-◌, ◌/◌, ℕ, List, length, take, Some, option_map, Result, Ok, Err, String, ⊤, false}
 use Rattle.std.specs.declared.alloc.Global.{Global}
 use Rattle.std.specs.BTreeMap.{BTreeMap, get_by_text}
-use Rattle.oci_layout.specs.Device.{File}
+use Rattle.oci_layout.specs.Device.{Device, File, Puts}
 use Rattle.oci_layout.specs.declared.fault.DirFault.{DirFault}
 use Rattle.oci_layout.specs.declared.fault.DirFault.TheVariants as dir
+use Rattle.oci_layout.specs.declared.mem_dir.MemDir.{MemDir}
 
 -- what stands under each path
 abbrev pub files_of : BTreeMap (String Global) (List ℕ) → File
@@ -14,8 +15,13 @@ files_of files path = get_by_text files path
 abbrev pub half : List ℕ → List ℕ
 half bytes = take (length bytes / 2) bytes
 
--- a put passes where there is no fuse, or it still passes one, and then it passes one less; else it fails
-abbrev pub Burns : Option ℕ → Option ℕ → Result Unit DirFault → Type 0
-Burns old new (Ok u) = (old ≡ Some 0 → ⊥) × (new ≡ option_map (λ puts. puts - 1) old)
-Burns old new (Err dir.Failed) = (old ≡ Some 0) × (new ≡ old)
-Burns old new (Err dir.Memory) = new ≡ old
+-- a directory in memory is honest, and its reads never fail
+abbrev pub device_of : MemDir → Device
+device_of d = record { file = files_of d.files; is_honest = ⊤; fails_reads = false; failures = d.failures }
+
+-- a put passes where there is no fuse, or it still passes one, and then it passes one less; else it fails, and leaves the first half
+-- of the bytes
+abbrev pub Burns : MemDir → MemDir → List ℕ → List ℕ → Result Unit DirFault → Type 0
+Burns old new path bytes (Ok u) = (old.fuse ≡ Some 0 → ⊥) × (new.fuse ≡ option_map (λ puts. puts - 1) old.fuse)
+Burns old new path bytes (Err dir.Failed) = (old.fuse ≡ Some 0) × (new.fuse ≡ old.fuse) × Puts (files_of old.files) (files_of new.files) path (half bytes)
+Burns old new path bytes (Err dir.Memory) = new.fuse ≡ old.fuse

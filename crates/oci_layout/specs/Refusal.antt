@@ -1,5 +1,5 @@
 -- Why a directory is not made a layout, and why it is not opened.
-use Rattle.std.specs.Prelude.{◌≡◌, ◌≢◌, ◌⊎◌, ℕ, Bool, true, List, [], ◌∷◌, ◌++◌, Option, Some, None, is_some, Result, Err}
+use Rattle.std.specs.Prelude.{◌≡◌, ◌≢◌, ◌⊎◌, ℕ, true, List, [], ◌∷◌, ◌++◌, Option, Some, None, is_some, Result, Err}
 use Rattle.std.specs.List.{All}
 use Rattle.oci_manifest.specs.Descriptor.{Descriptor}
 use Rattle.oci_manifest.specs.Fault.{Fault, not_json, IsFault}
@@ -9,7 +9,7 @@ use Rattle.oci_manifest.specs.declared.fault.ManifestFault.{ManifestFault}
 use Rattle.oci_manifest.specs.declared.kind.Kind.TheVariants.{Leaf}
 use Rattle.oci_store.specs.Content.{Matches, succ_of}
 use Rattle.oci_layout.specs.Blobs.{blob_path}
-use Rattle.oci_layout.specs.Device.{File}
+use Rattle.oci_layout.specs.Device.{Device, File}
 use Rattle.oci_layout.specs.Index.{index_file, layout_file, layout_version, version_in, HasLayoutFile}
 use Rattle.oci_store.specs.Push.{IsRaised}
 use Rattle.oci_store.specs.Visiting.{IsVisiting}
@@ -62,23 +62,23 @@ pub record IsNextOfIndex (file : File) (k : Descriptor) : Type 0 where
 
 -- why a directory is not opened; what a fault says of files holds of an honest one. A fault of the index or of a manifest comes only
 -- where the layout file is right, and one of a manifest only where the index is
-abbrev pub IsOpenFault : Type 0 → File → Bool → LayoutFault → Type 0
-IsOpenFault honest file fails fault.NoLayoutFile = honest → file layout_file ≡ None
-IsOpenFault honest file fails fault.BadLayoutFile = honest → HasNoVersion file
-IsOpenFault honest file fails fault.BadVersion = honest → HasOtherVersion file
-IsOpenFault honest file fails (fault.BadIndex e) = honest → HasLayoutFile file × HasBadIndex file e
-IsOpenFault honest file fails fault.Device = fails ≡ true
-IsOpenFault honest file fails (fault.Corrupt k) = honest → HasLayoutFile file × IsNextOfIndex file k × IsCorrupt file k
-IsOpenFault honest file fails fault.Memory = Unit {0}
-IsOpenFault honest file fails (fault.BadManifest k e) = honest → HasLayoutFile file × IsNextOfIndex file k × IsUnread file k e
-IsOpenFault honest file fails fault.AlreadyLayout = ⊥
+abbrev pub IsOpenFault : Device → LayoutFault → Type 0
+IsOpenFault dir fault.NoLayoutFile = dir.is_honest → dir.file layout_file ≡ None
+IsOpenFault dir fault.BadLayoutFile = dir.is_honest → HasNoVersion dir.file
+IsOpenFault dir fault.BadVersion = dir.is_honest → HasOtherVersion dir.file
+IsOpenFault dir (fault.BadIndex e) = dir.is_honest → HasLayoutFile dir.file × HasBadIndex dir.file e
+IsOpenFault dir fault.Device = dir.fails_reads ≡ true
+IsOpenFault dir (fault.Corrupt k) = dir.is_honest → HasLayoutFile dir.file × IsNextOfIndex dir.file k × IsCorrupt dir.file k
+IsOpenFault dir fault.Memory = Unit {0}
+IsOpenFault dir (fault.BadManifest k e) = dir.is_honest → HasLayoutFile dir.file × IsNextOfIndex dir.file k × IsUnread dir.file k e
+IsOpenFault dir fault.AlreadyLayout = ⊥
 
--- why a directory is not made a layout; before and after are its counts of failures
-abbrev pub IsCreateFault : Type 0 → File → Bool → ℕ → ℕ → LayoutFault → Type 0
-IsCreateFault honest file fails before after fault.Device = ((fails ≡ true) × (after ≡ before)) ⊎ IsRaised before after
-IsCreateFault honest file fails before after fault.Memory = Unit {0}
-IsCreateFault honest file fails before after fault.AlreadyLayout = honest → is_some (file layout_file) ≡ true
-IsCreateFault honest file fails before after other = ⊥
+-- why a directory is not made a layout
+abbrev pub IsCreateFault : Device → Device → LayoutFault → Type 0
+IsCreateFault old new fault.Device = ((old.fails_reads ≡ true) × (new.failures ≡ old.failures)) ⊎ IsRaised old.failures new.failures
+IsCreateFault old new fault.Memory = Unit {0}
+IsCreateFault old new fault.AlreadyLayout = old.is_honest → is_some (old.file layout_file) ≡ true
+IsCreateFault old new other = ⊥
 
 -- why a file was not put; before and after are the directory's counts of failures
 abbrev pub IsPutFault : ℕ → ℕ → LayoutFault → Type 0
@@ -102,11 +102,11 @@ IsIndexFault found fault.Memory = Unit {0}
 IsIndexFault found other = ⊥
 
 -- the index is there and breaks the rule that the fault names, or a read failed, or memory ran out
-abbrev pub IsIndexFileFault : Type 0 → File → Bool → LayoutFault → Type 0
-IsIndexFileFault honest file fails (fault.BadIndex e) = honest → HasBadIndex file e
-IsIndexFileFault honest file fails fault.Device = fails ≡ true
-IsIndexFileFault honest file fails fault.Memory = Unit {0}
-IsIndexFileFault honest file fails other = ⊥
+abbrev pub IsIndexFileFault : Device → LayoutFault → Type 0
+IsIndexFileFault dir (fault.BadIndex e) = dir.is_honest → HasBadIndex dir.file e
+IsIndexFileFault dir fault.Device = dir.fails_reads ≡ true
+IsIndexFileFault dir fault.Memory = Unit {0}
+IsIndexFileFault dir other = ⊥
 
 -- the bytes of a manifest do not match its key, or break the rule that the fault names, or memory ran out
 abbrev pub IsBytesFault : Descriptor → List ℕ → LayoutFault → Type 0
@@ -116,17 +116,17 @@ IsBytesFault k bytes (fault.BadManifest named e) = (named ≡ k) × Matches k by
 IsBytesFault k bytes other = ⊥
 
 -- the file of a key is no good manifest, or a read failed, or memory ran out
-abbrev pub IsFileFault : Type 0 → File → Bool → Descriptor → LayoutFault → Type 0
-IsFileFault honest file fails k fault.Device = fails ≡ true
-IsFileFault honest file fails k (fault.Corrupt named) = (named ≡ k) × (honest → IsCorrupt file k)
-IsFileFault honest file fails k fault.Memory = Unit {0}
-IsFileFault honest file fails k (fault.BadManifest named e) = (named ≡ k) × (honest → IsUnread file k e)
-IsFileFault honest file fails k other = ⊥
+abbrev pub IsFileFault : Device → Descriptor → LayoutFault → Type 0
+IsFileFault dir k fault.Device = dir.fails_reads ≡ true
+IsFileFault dir k (fault.Corrupt named) = (named ≡ k) × (dir.is_honest → IsCorrupt dir.file k)
+IsFileFault dir k fault.Memory = Unit {0}
+IsFileFault dir k (fault.BadManifest named e) = (named ≡ k) × (dir.is_honest → IsUnread dir.file k e)
+IsFileFault dir k other = ⊥
 
 -- the next key that is visited has no good manifest, or a read failed, or memory ran out
-abbrev pub IsWalkFault : Type 0 → File → Bool → List Descriptor → LayoutFault → Type 0
-IsWalkFault honest file fails starts fault.Device = fails ≡ true
-IsWalkFault honest file fails starts (fault.Corrupt k) = honest → IsNextVisited file starts k × IsCorrupt file k
-IsWalkFault honest file fails starts fault.Memory = Unit {0}
-IsWalkFault honest file fails starts (fault.BadManifest k e) = honest → IsNextVisited file starts k × IsUnread file k e
-IsWalkFault honest file fails starts other = ⊥
+abbrev pub IsWalkFault : Device → List Descriptor → LayoutFault → Type 0
+IsWalkFault dir starts fault.Device = dir.fails_reads ≡ true
+IsWalkFault dir starts (fault.Corrupt k) = dir.is_honest → IsNextVisited dir.file starts k × IsCorrupt dir.file k
+IsWalkFault dir starts fault.Memory = Unit {0}
+IsWalkFault dir starts (fault.BadManifest k e) = dir.is_honest → IsNextVisited dir.file starts k × IsUnread dir.file k e
+IsWalkFault dir starts other = ⊥

@@ -15,11 +15,12 @@ pub fn save_and_open<D: Dir + Drop>(
     mut layout: Layout<D>,
 ) -> Result<Layout<D>, LayoutFault>
     ensures contents { IfOk result (λ again. IsClosed layout.1
-        → IsSound (D.is_honest layout.0) (D.file layout.0) layout.1 → (k : Descriptor)
-        → value_at (stored (D.file again.0) again.1) k
-        ≡ value_at (stored (D.file layout.0) layout.1) k) }
+        → IsSound (D.device layout.0).is_honest (D.device layout.0).file layout.1 → (k : Descriptor)
+        → value_at (stored (D.device again.0).file again.1) k
+        ≡ value_at (stored (D.device layout.0).file layout.1) k) }
     ensures tags { IfOk result (λ again. IsClosed layout.1
-        → IsSound (D.is_honest layout.0) (D.file layout.0) layout.1 → again.2 ≡ layout.2) }
+        → IsSound (D.device layout.0).is_honest (D.device layout.0).file layout.1
+        → again.2 ≡ layout.2) }
 {
     // The contract of `tags` states what every layout keeps, and so the premises of the law.
     let _tags = layout.tags()?;

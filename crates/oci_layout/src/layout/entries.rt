@@ -19,10 +19,9 @@ pub(crate) fn read_index<D: Dir>(
     alloc: Global,
     dir: &D,
 ) -> Result<(Vec<Key>, Vec<Option<String>>), LayoutFault>
-    ensures read { IfOk result (λ p. D.is_honest dir.now
-        → IsIndexFile (D.file dir.now index_file) p.0.items (map text_of p.1.items)) }
-    ensures cause { IfErr result (IsIndexFileFault (D.is_honest dir.now) (D.file dir.now)
-        (D.fails_reads dir.now)) }
+    ensures read { IfOk result (λ p. (D.device dir.now).is_honest
+        → IsIndexFile ((D.device dir.now).file index_file) p.0.items (map text_of p.1.items)) }
+    ensures cause { IfErr result (IsIndexFileFault (D.device dir.now)) }
 {
     let Some(bytes) = dir.read("index.json")? else {
         return Ok((Vec::new(alloc), Vec::new(alloc)));

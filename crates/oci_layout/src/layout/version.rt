@@ -11,9 +11,9 @@ use std::alloc::Global;
 /// Refuses a directory whose `oci-layout` does not state the version 1.0.0.
 #[tactic(auto, unfolding(crate::specs::Index::layout_file))]
 pub(crate) fn check_version<D: Dir>(alloc: Global, dir: &D) -> Result<(), LayoutFault>
-    ensures stated { OnOk result (D.is_honest dir.now → HasLayoutFile (D.file dir.now)) }
-    ensures cause { IfErr result (IsOpenFault (D.is_honest dir.now) (D.file dir.now)
-        (D.fails_reads dir.now)) }
+    ensures stated { OnOk result ((D.device dir.now).is_honest
+        → HasLayoutFile (D.device dir.now).file) }
+    ensures cause { IfErr result (IsOpenFault (D.device dir.now)) }
 {
     let Some(bytes) = dir.read("oci-layout")? else {
         return Err(LayoutFault::NoLayoutFile);

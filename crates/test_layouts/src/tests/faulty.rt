@@ -117,13 +117,12 @@ impl Dir for FaultyDir {
     ghost use Rattle.std.specs.Prelude.{true};
     ghost use Rattle.oci_layout.specs.Memory.{files_of};
 
-    ghost file = { λ d. files_of d.dir.files };
-
-    ghost is_honest = { λ d. d.change ≡ None };
-
-    ghost fails_reads = { λ d. true };
-
-    ghost failure_count = { λ d. d.failures };
+    ghost device = { λ d. record {
+      file = files_of d.dir.files;
+      is_honest = d.change ≡ None;
+      fails_reads = true;
+      failures = d.failures;
+    } };
 
     fn read(&self, path: &str) -> Result<Option<Bytes>, DirFault> {
         let number = self.next_read();

@@ -1,0 +1,36 @@
+-- What a directory is after it was to be made a layout that holds nothing.
+use Rattle.std.specs.Prelude.{◌≡◌, ◌↔◌, ◌≤◌, ◌<◌, [], false, is_some}
+use Rattle.oci_layout.specs.Blobs.{IsSound}
+use Rattle.oci_layout.specs.Device.{Device, File, TouchesTwo}
+use Rattle.oci_layout.specs.Files.{HasFiles}
+use Rattle.oci_layout.specs.Index.{layout_file, index_file, HasFreshTexts}
+use Rattle.oci_layout.specs.Refusal.{IsCreateFault}
+use Rattle.oci_layout.specs.declared.fault.LayoutFault.{LayoutFault}
+use Rattle.oci_layout.specs.declared.fault.LayoutFault.TheVariants as fault
+
+-- the files are those of a layout that holds nothing, to the byte
+pub record IsFresh (file : File) : Type 0 where
+  pub files : HasFiles file [] [] []
+  pub texts : HasFreshTexts file
+
+-- a directory was made a layout
+pub record IsCreated (old new : Device) : Type 0 where
+  -- it had no file `oci-layout`
+  pub absent : old.is_honest → is_some (old.file layout_file) ≡ false
+  -- it has the files of a layout that holds nothing, and such a layout is sound
+  pub files : old.is_honest → HasFiles new.file [] [] []
+  pub texts : old.is_honest → HasFreshTexts new.file
+  pub sound : old.is_honest → IsSound new.is_honest new.file []
+  -- no other file changed, and no put failed
+  pub other : old.is_honest → TouchesTwo old.file new.file layout_file index_file
+  pub calm : new.failures ≡ old.failures
+
+-- a directory was not made a layout, for this reason
+pub record IsNotCreated (old new : Device) (e : LayoutFault) : Type 0 where
+  pub cause : IsCreateFault old new e
+  -- no file but the two of a layout changed, and it is as honest as before
+  pub other : old.is_honest → TouchesTwo old.file new.file layout_file index_file
+  pub honest : old.is_honest ↔ new.is_honest
+  -- it is refused for the device if a put failed, which is counted
+  pub raised : old.failures < new.failures → e ≡ fault.Device
+  pub failures : old.failures ≤ new.failures
