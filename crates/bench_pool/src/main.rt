@@ -5,13 +5,13 @@
 #![tactic(auto)]
 
 mod counting;
-mod shapes;
 
 use counting::Counts;
 use oci_plan::{Order, order};
 use oci_pool::run;
 use std::process::ExitCode;
 use std::{env, io};
+use test_support::{Shape, graph};
 
 /// What the words ask for.
 #[derive(Drop)]
@@ -41,10 +41,21 @@ fn number(words: &[String], place: usize) -> Option<u32> {
     words.get(place)?.as_str().parse().ok()
 }
 
+/// The shape of this name.
+fn shape(word: &str) -> Option<Shape> {
+    match word {
+        "chain" => Some(Shape::Chain),
+        "star" => Some(Shape::Star),
+        "layers" => Some(Shape::Layers),
+        _ => None,
+    }
+}
+
 /// What the words ask for, if they can be read.
 fn read_task(rt: &HostRuntime, words: &[String]) -> Option<Task> {
     let count = number(words, 1)?;
-    let lists = shapes::lists(rt.alloc(), words.first()?.as_str(), count)?;
+    let shape = shape(words.first()?.as_str())?;
+    let lists = graph(rt.alloc(), shape, count).ok()?;
     if lists.len() > 4294967295 {
         return None;
     }
