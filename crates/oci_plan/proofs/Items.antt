@@ -4,7 +4,7 @@ use Rattle.std.specs.Prelude.{option_map, is_some, unwrap_or, IfOk, IfErr, OnOk}
 use Rattle.std.specs.Result.{result_unwrap_or}
 use Rattle.std.specs.List.{All, IsDistinct}
 use Rattle.oci_manifest.specs.Descriptor.{Descriptor, same_key}
-use Rattle.oci_manifest.specs.Fault.{Fault, Fails}
+use Rattle.oci_manifest.specs.Fault.{Fault, Fails, IsFault}
 use Rattle.oci_manifest.specs.declared.fault.ManifestFault.{ManifestFault}
 use Rattle.oci_manifest.specs.declared.fault.ManifestFault.TheVariants as reading
 use Rattle.oci_manifest.specs.MediaTypes.{kind_of}
@@ -22,7 +22,7 @@ use Rattle.oci_store.proofs.Membership.{Contains-from_among, All-from_among}
 use Rattle.oci_plan.specs.Met.{IsListedUnder}
 use Rattle.oci_plan.specs.Visiting.{successors_at, IsWithin}
 use Rattle.oci_plan.specs.Refusal.{IsKeyFault, IsOfKey, IsUnread}
-use Rattle.oci_plan.specs.Walk.{IsPassed, IsReadFault, fetch_refusal, read_refusal}
+use Rattle.oci_plan.specs.Walk.{IsPassed, fetch_refusal, read_refusal}
 use Rattle.std.specs.Global.{Vec}
 use Rattle.oci_plan.specs.declared.fault.PlanFault.{PlanFault}
 use Rattle.oci_plan.specs.declared.fault.PlanFault.TheVariants as fault
@@ -58,27 +58,21 @@ fetch_refused honest fails entries limit k fetch.Corrupt manifest within there g
 fetch_refused honest fails entries limit k fetch.Device manifest within there gone corrupt device = ((manifest, within, there, device refl, tt), refl)
 fetch_refused honest fails entries limit k fetch.Memory manifest within there gone corrupt device = (tt, tt)
 
--- a refused reading is told of the key
-pub read_refused : (k : Descriptor) (bytes : List ℕ) (f : ManifestFault) → Fails f (succ_of k bytes) → IsReadFault k bytes (read_refusal k f)
-read_refused k bytes reading.NotJson h = (refl, _, h, refl)
-read_refused k bytes reading.NotObject h = (refl, _, h, refl)
-read_refused k bytes reading.NoConfig h = (refl, _, h, refl)
-read_refused k bytes (reading.BadList member) h = (refl, _, h, refl)
-read_refused k bytes (reading.BadDescriptor member position) h = (refl, _, h, refl)
-read_refused k bytes reading.Memory h = tt
+-- bytes of a held key that do not read are told of it
+pub read_refused : (honest : Type 0) (fails : Descriptor → Bool) (entries : List Entry) (limit : ℕ) (k : Descriptor) (bytes : List ℕ) (f : ManifestFault) → IsWithin limit k → has_key entries k ≡ true
+    → Matches k bytes → (honest → value_at entries k ≡ Some bytes) → Fails f (succ_of k bytes) → IsKeyFault honest fails entries limit (read_refusal k f) × IsOfKey k (read_refusal k f)
+read_refused honest fails entries limit k bytes f within there matching own h = go f h
+  where
+    unread : (f : ManifestFault) (cause : Fault) → succ_of k bytes ≡ Err cause → IsFault f cause → IsUnread honest entries k f
+    unread f cause breaks tells = record { bytes = bytes; cause = cause; matching = matching; own = own; breaks = breaks; tells = tells }
 
--- bytes of a held key that do not read are a fault of it
-pub unread : (honest : Type 0) (fails : Descriptor → Bool) (entries : List Entry) (limit : ℕ) (k : Descriptor) (bytes : List ℕ) (e : PlanFault) → IsWithin limit k → has_key entries k ≡ true
-    → Matches k bytes → (honest → value_at entries k ≡ Some bytes) → IsReadFault k bytes e → IsKeyFault honest fails entries limit e × IsOfKey k e
-unread honest fails entries limit k bytes (fault.TooLarge named l) within there matching own h = absurd h
-unread honest fails entries limit k bytes (fault.NotFound named) within there matching own h = absurd h
-unread honest fails entries limit k bytes (fault.Fetch named f) within there matching own h = absurd h
-unread honest fails entries limit k bytes (fault.Manifest named f) within there matching own h =
-    let about : Descriptor → Type 0 = λ x. IsWithin limit x × (has_key entries x ≡ true) × IsUnread honest entries x f in
-    (subst about (sym h.0) (within, there, record { bytes = bytes; cause = h.1; matching = matching; own = own; breaks = h.2; tells = h.3 }), h.0)
-unread honest fails entries limit k bytes (fault.Cycle keys) within there matching own h = absurd h
-unread honest fails entries limit k bytes fault.Memory within there matching own h = (tt, tt)
-unread honest fails entries limit k bytes fault.TooMany within there matching own h = absurd h
+    go : (f : ManifestFault) → Fails f (succ_of k bytes) → IsKeyFault honest fails entries limit (read_refusal k f) × IsOfKey k (read_refusal k f)
+    go reading.NotJson h = ((within, there, unread reading.NotJson _ h refl), refl)
+    go reading.NotObject h = ((within, there, unread reading.NotObject _ h refl), refl)
+    go reading.NoConfig h = ((within, there, unread reading.NoConfig _ h refl), refl)
+    go (reading.BadList member) h = ((within, there, unread (reading.BadList member) _ h refl), refl)
+    go (reading.BadDescriptor member position) h = ((within, there, unread (reading.BadDescriptor member position) _ h refl), refl)
+    go reading.Memory h = (tt, tt)
 
 -- ---- what a visited key lists
 
@@ -114,26 +108,18 @@ absent_bytes entries k h = go (value_at entries k) refl h
 pub absent_lists : (entries : List Entry) (k : Descriptor) → has_key entries k ≡ false → [] ≡ successors_at (nodes_of entries) k
 absent_lists entries k h = sym (ap (λ (o : Option (List Descriptor)). unwrap_or o []) (value_at-nodes_of entries k ∙ ap (option_map (successors_in k)) (absent_bytes entries k h)))
 
--- a fact about the answer of an item, from a fact about its reading
-pub record IsItemAnswer (honest : Type 0) (fails : Descriptor → Bool) (entries : List Entry) (limit : ℕ) (k : Descriptor) (r : Result (Vec Descriptor) PlanFault) : Type 0 where
-  pub passed : OnOk r (IsPassed honest entries limit k)
-  pub listed : IfOk r (λ keys. honest → keys.items ≡ successors_at (nodes_of entries) k)
-  pub under : IfOk r (λ keys. All (IsListedUnder entries k) keys.items)
-  pub distinct : IfOk r (λ keys. IsDistinct same_key keys.items)
-  pub cause : IfErr r (IsKeyFault honest fails entries limit)
-  pub named : IfErr r (IsOfKey k)
+-- what a key's bytes list, and that it passed its checks
+pub record IsItemRead (honest : Type 0) (entries : List Entry) (limit : ℕ) (k : Descriptor) (keys : List Descriptor) : Type 0 where
+  pub passed : IsPassed honest entries limit k
+  pub listed : honest → keys ≡ successors_at (nodes_of entries) k
+  pub under : All (IsListedUnder entries k) keys
+  pub distinct : IsDistinct same_key keys
 
-pub item_answer : (honest : Type 0) (fails : Descriptor → Bool) (entries : List Entry) (limit : ℕ) (k : Descriptor) (bytes : List ℕ) (r : Result (Vec Descriptor) PlanFault)
-    → IsWithin limit k → has_key entries k ≡ true → Matches k bytes → (honest → value_at entries k ≡ Some bytes)
-    → IfOk r (λ keys. succ_of k bytes ≡ Ok keys.items) → IfErr r (IsReadFault k bytes) → IsItemAnswer honest fails entries limit k r
-item_answer honest fails entries limit k bytes (Ok keys) within there matching own reads refused = record {
-  passed = record { there = there; within = within; reads = λ h. (bytes, keys.items, own h, reads) };
-  listed = λ h. sym (successors_at-nodes_of entries k bytes keys.items (own h) reads);
-  under = All-from_among (IsListedUnder entries k) keys.items (λ to listed. record { there = there; bytes = bytes; listed = keys.items; checked = record { matching = matching; reads = reads }; lists = Contains-from_among keys.items to listed });
-  distinct = successors_of-distinct (kind_of k.media_type) bytes keys.items reads;
-  cause = tt;
-  named = tt;
+pub item_read : (honest : Type 0) (entries : List Entry) (limit : ℕ) (k : Descriptor) (bytes : List ℕ) (keys : List Descriptor)
+    → IsWithin limit k → has_key entries k ≡ true → Matches k bytes → (honest → value_at entries k ≡ Some bytes) → succ_of k bytes ≡ Ok keys → IsItemRead honest entries limit k keys
+item_read honest entries limit k bytes keys within there matching own reads = record {
+  passed = record { there = there; within = within; reads = λ h. (bytes, keys, own h, reads) };
+  listed = λ h. sym (successors_at-nodes_of entries k bytes keys (own h) reads);
+  under = All-from_among (IsListedUnder entries k) keys (λ to listed. record { there = there; bytes = bytes; listed = keys; checked = record { matching = matching; reads = reads }; lists = Contains-from_among keys to listed });
+  distinct = successors_of-distinct (kind_of k.media_type) bytes keys reads;
 }
-item_answer honest fails entries limit k bytes (Err e) within there matching own reads refused =
-    let told = unread honest fails entries limit k bytes e within there matching own refused in
-    record { passed = tt; listed = tt; under = tt; distinct = tt; cause = told.0; named = told.1 }

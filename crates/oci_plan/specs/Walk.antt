@@ -1,5 +1,5 @@
 -- The walk that finds what a plan needs: which keys were visited, and the numbers that stand for their successors.
-use Rattle.std.specs.Prelude.{◌≡◌, ◌↔◌, ℕ, ◌<◌, ◌≤◌, ◌⊎◌, Bool, true, false, List, length, Some, Ok, Err, filter, Contains}
+use Rattle.std.specs.Prelude.{◌≡◌, ◌↔◌, ℕ, ◌<◌, ◌≤◌, ◌⊎◌, Bool, true, false, List, length, Some, Ok, filter, Contains}
 use Rattle.std.specs.List.{All, AllZip, IsDistinct}
 use Rattle.std.specs.Global.{Vec}
 use Rattle.oci_manifest.specs.Descriptor.{Descriptor, same_key}
@@ -7,7 +7,6 @@ use Rattle.oci_manifest.specs.Manifest.{first_places}
 use Rattle.oci_store.specs.Keyed.{value_at, has_key}
 use Rattle.oci_store.specs.Content.{Entry, succ_of}
 use Rattle.oci_store.specs.Graph.{Node, nodes_of}
-use Rattle.oci_manifest.specs.Fault.{Fault, IsFault}
 use Rattle.oci_manifest.specs.declared.fault.ManifestFault.{ManifestFault}
 use Rattle.oci_manifest.specs.declared.fault.ManifestFault.TheVariants as reading
 use Rattle.oci_store.specs.declared.fault.FetchFault.{FetchFault}
@@ -92,16 +91,6 @@ pub record IsGathered (honest : Type 0) (existing : Existing) (entries : List En
 -- numbers are refused if memory ran out, or if there are more keys than numbers
 abbrev pub IsNumberFault : List Descriptor → PlanFault → Type 0
 IsNumberFault keys e = Names (λ k. ⊥) (λ cycle. ⊥) (4294967295 < length keys) e
-
--- bytes do not read, for the reason that the fault gives with this key; or memory ran out
-abbrev pub IsReadFault : Descriptor → List ℕ → PlanFault → Type 0
-IsReadFault k bytes (fault.TooLarge named limit) = ⊥
-IsReadFault k bytes (fault.NotFound named) = ⊥
-IsReadFault k bytes (fault.Fetch named e) = ⊥
-IsReadFault k bytes (fault.Manifest named e) = (named ≡ k) × (cause : Fault) × (succ_of k bytes ≡ Err cause) × IsFault e cause
-IsReadFault k bytes (fault.Cycle keys) = ⊥
-IsReadFault k bytes fault.Memory = Unit {0}
-IsReadFault k bytes fault.TooMany = ⊥
 
 -- a fetch is refused for what the store answers, which is no memory error
 abbrev pub fetch_refusal : Descriptor → FetchFault → PlanFault

@@ -3,13 +3,13 @@ ghost use Rattle.std.specs.List.{All, IsDistinct};
 ghost use Rattle.oci_manifest.specs.Descriptor.{same_key};
 ghost use Rattle.oci_manifest.specs.MediaTypes.{kind_of};
 ghost use Rattle.oci_manifest.specs.declared.kind.Kind.TheVariants.{Leaf};
-ghost use Rattle.oci_store.specs.Content.{Matches, succ_of};
+ghost use Rattle.oci_store.specs.Content.{Matches};
 ghost use Rattle.oci_store.specs.Graph.{nodes_of};
 ghost use Rattle.oci_store.specs.Keyed.{has_key, value_at};
 ghost use Rattle.oci_plan.specs.Met.{IsListedUnder};
 ghost use Rattle.oci_plan.specs.Refusal.{IsKeyFault, IsOfKey};
 ghost use Rattle.oci_plan.specs.Visiting.{successors_at, IsWithin};
-ghost use Rattle.oci_plan.specs.Walk.{IsPassed, MayPass, IsReadFault, fetch_refusal, read_refusal};
+ghost use Rattle.oci_plan.specs.Walk.{IsPassed, MayPass, fetch_refusal, read_refusal};
 
 use crate::fault::PlanFault;
 use bytes::Bytes;
@@ -91,18 +91,6 @@ fn read_fault(key: Key, fault: ManifestFault) -> PlanFault
     }
 }
 
-/// The keys that a manifest's bytes list.
-fn read(alloc: Global, key: &Key, kind: Kind, bytes: &[u8]) -> Result<Vec<Key>, PlanFault>
-    requires { kind ≡ kind_of key.now.media_type }
-    ensures listed { IfOk result (λ keys. succ_of key.now bytes.now ≡ Ok keys.items) }
-    ensures refused { IfErr result (IsReadFault key.now bytes.now) }
-{
-    match successors(alloc, kind, bytes) {
-        Ok(keys) => Ok(keys),
-        Err(fault) => Err(read_fault(key.try_clone()?, fault)),
-    }
-}
-
 /// The keys that the content of a key lists.
 ///
 /// Of a manifest the size is looked at first, then whether the source has it; then it is fetched and read. A leaf is never
@@ -130,7 +118,10 @@ fn fetch_successors<A: Source>(
         Kind::Leaf => Ok(Vec::new(alloc)),
         _ => {
             let bytes = fetch(source, key, limit)?;
-            read(alloc, key, kind, &bytes)
+            match successors(alloc, kind, &bytes) {
+                Ok(keys) => Ok(keys),
+                Err(fault) => Err(read_fault(key.try_clone()?, fault)),
+            }
         }
     }
 }

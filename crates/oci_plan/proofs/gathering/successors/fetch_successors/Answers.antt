@@ -1,11 +1,15 @@
-use Rattle.std.proofs.Common.{◌≡◌, List, sym, subst, ◌∙◌}
+use Rattle.std.proofs.Common.{◌≡◌, List, Result, Ok, sym, ap, subst, ◌∙◌}
 use Rattle.std.specs.List.{All, IsDistinct}
 use Rattle.std.proofs.lemmas.List.Elements.{All-nil}
 use Rattle.oci_manifest.specs.Descriptor.{Descriptor, same_key}
+use Rattle.oci_manifest.specs.Fault.{Fault, Fails}
 use Rattle.oci_manifest.specs.MediaTypes.{kind_of}
+use Rattle.oci_manifest.specs.Reading.{successors_of}
 use Rattle.oci_manifest.specs.declared.kind.Kind.TheVariants.{Leaf}
+use Rattle.oci_store.specs.Content.{succ_of}
 use Rattle.oci_plan.specs.Met.{IsListedUnder}
-use Rattle.oci_plan.proofs.Items.{leaf_passed, leaf_lists, item_answer}
+use Rattle.oci_plan.specs.Walk.{read_refusal}
+use Rattle.oci_plan.proofs.Items.{leaf_passed, leaf_lists, read_refused, item_read}
 use Rattle.oci_plan.proofs.gathering.successors.fetch_successors.Goals as goal
 
 pub returns-in-Leaf-clause-passed : goal.returns-in-Leaf-clause-passed
@@ -26,9 +30,19 @@ pub returns-in-Leaf-clause-under : goal.returns-in-Leaf-clause-under
 returns-in-Leaf-clause-under g c =
     subst (λ (ks : List Descriptor). All (IsListedUnder (g.A.Store.state c.args.source.now).entries c.args.key.now) ks) (sym c.new.ensures.items) (All-nil (IsListedUnder (g.A.Store.state c.args.source.now).entries c.args.key.now))
 
-pub returns-in_ok-bytes-in_default : goal.returns-in_ok-bytes-in_default
-returns-in_ok-bytes-in_default g c =
-    let it = item_answer (g.A.Store.state c.args.source.now).is_honest (g.A.Store.state c.args.source.now).fails_at (g.A.Store.state c.args.source.now).entries c.args.limit c.args.key.now c.in_ok-bytes-in_default.bytes c.read.result
-    c.in_ok-check.ensures.within c.in_ok-check.ensures.there c.in_ok-bytes-in_default.ensures.matching c.in_ok-bytes-in_default.ensures.own
-    (rw c.deref.ensures at c.read.ensures.listed) (rw c.deref.ensures at c.read.ensures.refused) in
-    record { passed = it.passed; listed = it.listed; under = it.under; distinct = it.distinct; cause = it.cause; named = it.named }
+pub returns-in-Ok : goal.returns-in-Ok
+returns-in-Ok g c =
+    let exact : successors_of _ c.deref.result.now ≡ Ok c.in-Ok.keys.items = c.in-Ok.ensures.exact in
+    let reads : succ_of c.args.key.now c.in_ok-bytes-in_default.bytes ≡ Ok c.in-Ok.keys.items = cc in
+    let it = item_read (g.A.Store.state c.args.source.now).is_honest (g.A.Store.state c.args.source.now).entries c.args.limit c.args.key.now c.in_ok-bytes-in_default.bytes c.in-Ok.keys.items
+    c.in_ok-check.ensures.within c.in_ok-check.ensures.there c.in_ok-bytes-in_default.ensures.matching c.in_ok-bytes-in_default.ensures.own reads in
+    record { passed = it.passed; listed = it.listed; under = it.under; distinct = it.distinct; cause = tt; named = tt }
+
+pub returns : goal.returns
+returns g c =
+    let same : successors_of c.of-kind.result c.deref.result.now ≡ succ_of c.args.key.now c.in_ok-bytes-in_default.bytes = cc in
+    let fails = subst (λ (r : Result (List Descriptor) Fault). Fails c.in-Err.fault r) same c.in-Err.ensures.exact in
+    let told : c.read_fault.result ≡ read_refusal c.args.key.now c.in-Err.fault = c.read_fault.ensures ∙ ap (λ (k : Descriptor). read_refusal k c.in-Err.fault) c.in_ok-try_clone-in-Err.ensures in
+    let it = read_refused (g.A.Store.state c.args.source.now).is_honest (g.A.Store.state c.args.source.now).fails_at (g.A.Store.state c.args.source.now).entries c.args.limit c.args.key.now c.in_ok-bytes-in_default.bytes c.in-Err.fault
+    c.in_ok-check.ensures.within c.in_ok-check.ensures.there c.in_ok-bytes-in_default.ensures.matching c.in_ok-bytes-in_default.ensures.own fails in
+    record { passed = tt; listed = tt; under = tt; distinct = tt; cause = rw told it.0; named = rw told it.1 }
