@@ -1,7 +1,7 @@
 use crate::copying::{CopyWords, Selection, Shown};
 use crate::explain::explanation;
-use crate::look::Look;
 use crate::memory::{Algorithm, MemWords};
+use crate::query::Query;
 use crate::words::command;
 use clap::error::ErrorKind;
 use clap::{ArgMatches, Error};
@@ -18,8 +18,8 @@ pub enum Request<'w> {
     Mem(MemWords<'w>),
     /// `copy` with its folders, references and flags.
     Copy(CopyWords<'w>),
-    /// A look into the layout of a folder.
-    Look(&'w str, Look<'w>),
+    /// What is asked of the layout in a folder.
+    Query(&'w str, Query<'w>),
 }
 
 /// Why a command line asks for nothing.
@@ -48,11 +48,11 @@ impl<'w> Request<'w> {
     ) -> Result<Request<'w>, CommandLineFault> {
         let matches = match command(alloc, most_workers)?.try_get_matches_from(words) {
             Ok(matches) => matches,
-            Err(error) => return asked_or_refused(alloc, &error),
+            Err(error) => return text_or_usage(alloc, &error),
         };
         match matches.subcommand() {
             Some(("explain", matches)) => {
-                explained(alloc, word(matches, "number"), most_workers)
+                explanation_of(alloc, word(matches, "number"), most_workers)
             }
             Some((name, matches)) => request_of(alloc, name, matches, on_terminal),
             None => Ok(Request::Mem(MemWords::none(alloc))),
@@ -61,7 +61,7 @@ impl<'w> Request<'w> {
 }
 
 /// What came in place of matches: the text that was asked for, or an invalid command line.
-fn asked_or_refused<'w>(alloc: Global, error: &Error) -> Result<Request<'w>, CommandLineFault> {
+fn text_or_usage<'w>(alloc: Global, error: &Error) -> Result<Request<'w>, CommandLineFault> {
     match error.kind() {
         ErrorKind::OutOfMemory => Err(CommandLineFault::Memory),
         ErrorKind::DisplayHelp | ErrorKind::DisplayVersion => {
@@ -84,11 +84,11 @@ fn request_of<'w>(
 ) -> Result<Request<'w>, CommandLineFault> {
     match name {
         "copy" => Ok(Request::Copy(copy_words(matches, on_terminal))),
-        "tags" => Ok(of_folder(matches, Look::Tags)),
-        "resolve" => Ok(of_folder(matches, Look::Resolve(word(matches, "reference")))),
-        "predecessors" => Ok(of_folder(matches, Look::Predecessors(word(matches, "reference")))),
+        "tags" => Ok(of_folder(matches, Query::Tags)),
+        "resolve" => Ok(of_folder(matches, Query::Resolve(word(matches, "reference")))),
+        "predecessors" => Ok(of_folder(matches, Query::Predecessors(word(matches, "reference")))),
         "tree" => Ok(of_folder(matches, tree_of(matches))),
-        "verify" => Ok(of_folder(matches, Look::Verify)),
+        "verify" => Ok(of_folder(matches, Query::Verify)),
         _ => Ok(Request::Mem(mem_words(alloc, matches)?)),
     }
 }
@@ -98,21 +98,21 @@ fn word<'w>(matches: &ArgMatches<'w>, id: &str) -> &'w str {
     matches.get_str(id).unwrap_or("")
 }
 
-/// A look into the folder that the command line names.
-fn of_folder<'w>(matches: &ArgMatches<'w>, look: Look<'w>) -> Request<'w> {
-    Request::Look(word(matches, "folder"), look)
+/// A query of the layout in the folder that the command line names.
+fn of_folder<'w>(matches: &ArgMatches<'w>, query: Query<'w>) -> Request<'w> {
+    Request::Query(word(matches, "folder"), query)
 }
 
 /// The tree of the reference that the command line names.
-fn tree_of<'w>(matches: &ArgMatches<'w>) -> Look<'w> {
-    Look::Tree {
+fn tree_of<'w>(matches: &ArgMatches<'w>) -> Query<'w> {
+    Query::Tree {
         reference: word(matches, "reference"),
         shows_referrers: matches.get_flag("referrers"),
     }
 }
 
 /// The explanation of a refusal. A number that no refusal has makes the command line invalid.
-fn explained<'w>(
+fn explanation_of<'w>(
     alloc: Global,
     number: &str,
     most_workers: u32,
@@ -155,7 +155,7 @@ fn algorithm(matches: &ArgMatches<'_>) -> Algorithm {
 }
 
 fn copy_words<'w>(matches: &ArgMatches<'w>, on_terminal: bool) -> CopyWords<'w> {
-    let (selection, destination) = selected(matches);
+    let (selection, destination) = selection_and_destination(matches);
     CopyWords {
         source: word(matches, "source"),
         selection,
@@ -178,7 +178,7 @@ fn shown(matches: &ArgMatches<'_>, on_terminal: bool) -> Shown {
 }
 
 /// What is copied, and the folder that it is copied into, which is the second word where `--all` is given.
-fn selected<'w>(matches: &ArgMatches<'w>) -> (Selection<'w>, &'w str) {
+fn selection_and_destination<'w>(matches: &ArgMatches<'w>) -> (Selection<'w>, &'w str) {
     let second = word(matches, "source-reference");
     if matches.get_flag("all") {
         return (Selection::AllTags, second);

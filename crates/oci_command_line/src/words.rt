@@ -1,13 +1,13 @@
 mod copying;
-mod looks;
 mod memory;
+mod queries;
 
 use crate::words::copying::copy_command;
-use crate::words::looks::{
+use crate::words::memory::mem_command;
+use crate::words::queries::{
     explain_command, predecessors_command, resolve_command, tags_command, tree_command,
     verify_command,
 };
-use crate::words::memory::mem_command;
 use clap::{Arg, Command};
 use std::alloc::{AllocError, Global};
 
@@ -24,13 +24,13 @@ pub(crate) fn command<'w>(alloc: Global, most_workers: u32) -> Result<Command<'w
         .disable_help_subcommand(true)
         .subcommand_required(true);
     let program = program.subcommand(copy_command(alloc, most_workers)?)?;
-    with_looks(alloc, program)?
+    with_queries(alloc, program)?
         .subcommand(mem_command(alloc, most_workers)?)?
         .subcommand(explain_command(alloc)?)
 }
 
-/// The same with the commands that change nothing.
-fn with_looks<'w>(alloc: Global, program: Command<'w>) -> Result<Command<'w>, AllocError> {
+/// Adds the commands that change nothing.
+fn with_queries<'w>(alloc: Global, program: Command<'w>) -> Result<Command<'w>, AllocError> {
     let program = program.subcommand(tags_command(alloc)?)?;
     let program = program.subcommand(resolve_command(alloc)?)?;
     let program = program.subcommand(predecessors_command(alloc)?)?;
@@ -39,7 +39,7 @@ fn with_looks<'w>(alloc: Global, program: Command<'w>) -> Result<Command<'w>, Al
 }
 
 /// An argument without which the command line is invalid.
-fn needed<'w>(alloc: Global, id: &'w str, name: &'w str, help: &'w str) -> Arg<'w> {
+fn required<'w>(alloc: Global, id: &'w str, name: &'w str, help: &'w str) -> Arg<'w> {
     Arg::new(alloc, id)
         .value_name(name)
         .help(help)

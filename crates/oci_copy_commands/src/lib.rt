@@ -1,16 +1,14 @@
-//! The commands of `ocicp` that copy: [`run_copy`] between image layouts, [`show_plan`], which prints what a copy would
-//! bring, and [`run_mem`], a copy in memory.
+//! The commands of `ocicp` that copy: [`run_copy`] between image layouts, and [`run_mem`], a copy in memory.
 //!
-//! [`copy_between`] copies what is planned and [`Selected`] between two layouts, with what it leaves as its contract.
+//! [`copy_between`] copies what is planned and [`Selected`] between two layouts, with what it leaves as its contract. [`Host`] is
+//! what the commands need of their runtime.
 #![tactic(auto)]
 
 mod between;
 mod copy;
 mod destination;
 mod dry_run;
-mod host;
 mod item;
-mod locking;
 mod mem;
 mod progress;
 mod progress_line;
@@ -18,7 +16,27 @@ mod selected;
 
 pub use between::copy_between;
 pub use copy::run_copy;
-pub use dry_run::show_plan;
-pub use host::Host;
 pub use mem::run_mem;
+use oci_layout::Lockable;
 pub use selected::Selected;
+use std::random::RandomSource;
+use std::rt::Files;
+use std::sync::Wait;
+use std::thread::Threads;
+use std::time::Clock;
+
+/// What the program needs of its runtime: files that can be locked and that workers share, memory, random names for new files,
+/// a clock for the progress line, and threads. Each runtime that has these is a host.
+pub trait Host: Files<File: Lockable + Send, Dir: Send>
+    + AllocGlobal
+    + RandomSource
+    + Clock
+    + Threads
+    + Wait
+    + Sync {}
+
+impl<R> Host for R
+where
+    R: Files<File: Lockable + Send, Dir: Send>,
+    R: AllocGlobal + RandomSource + Clock + Threads + Wait + Sync,
+{}

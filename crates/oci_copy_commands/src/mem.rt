@@ -1,3 +1,4 @@
+use crate::Host;
 use crate::item::Item;
 use oci_command_line::{Algorithm, MemWords};
 use oci_copy::{CopyFault, Options, Report, copy_memory, copy_memory_by_workers};
@@ -8,31 +9,21 @@ use oci_store::{ClosedStore, MemoryStore};
 use std::alloc::Global;
 use std::io::Write;
 use std::rt::Files;
-use std::sync::Wait;
-use std::thread::Threads;
 
 /// `mem [--workers N] [--sha512] TYPE=PATH..`: pushes the items' files into a store in memory, copies from the last item's
 /// key into an empty one, and prints what arrived there, in key order, and the report.
-pub fn run_mem<R: Files + AllocGlobal + Threads + Wait + Sync, W: Write>(
+pub fn run_mem<R: Host, W: Write>(
     rt: &R,
     words: &MemWords<'_>,
     out: &mut W,
 ) -> Result<Outcome, ProgramFault> {
     let mut source = MemoryStore::new(rt.alloc());
     let roots = push_items(rt, &mut source, words)?;
-    copy_and_print(rt, &source, &roots, words.workers, out)
-}
-
-/// Copies from these roots into an empty store, and prints what arrived there and the report.
-fn copy_and_print<R: AllocGlobal + Threads + Wait + Sync, W: Write>(
-    rt: &R,
-    source: &MemoryStore,
-    roots: &[Key],
-    workers: Option<u32>,
-    out: &mut W,
-) -> Result<Outcome, ProgramFault> {
-    let (copied, report) = copy_roots(rt, source, roots, workers);
-    print_copied(rt.alloc(), copied.memory(), report, out)
+    let (copied, report) = copy_roots(rt, &source, &roots, words.workers);
+    let report = report?;
+    print_lines(&sorted_keys(rt.alloc(), copied.memory())?, out)?;
+    print_line(&report, out)?;
+    Ok(Outcome::Good)
 }
 
 /// Pushes the files of the items, in their order, and gives the key of the last one.
@@ -63,7 +54,7 @@ fn push_item<R: Files + AllocGlobal>(
 }
 
 /// Copies into an empty store, by so many workers, or on this thread.
-fn copy_roots<R: AllocGlobal + Threads + Wait + Sync>(
+fn copy_roots<R: Host>(
     rt: &R,
     source: &MemoryStore,
     roots: &[Key],
@@ -79,28 +70,6 @@ fn copy_roots<R: AllocGlobal + Threads + Wait + Sync>(
         }
         None => copy_memory(alloc, source, empty, roots, &options),
     }
-}
-
-/// Prints what arrived, and the report; or why the copy was refused.
-fn print_copied<W: Write>(
-    alloc: Global,
-    copied: &MemoryStore,
-    report: Result<Report, CopyFault>,
-    out: &mut W,
-) -> Result<Outcome, ProgramFault> {
-    let report = report?;
-    print_keys(alloc, copied, out)?;
-    print_line(&report, out)?;
-    Ok(Outcome::Good)
-}
-
-/// Prints the key of each entry, in key order.
-fn print_keys<W: Write>(
-    alloc: Global,
-    store: &MemoryStore,
-    out: &mut W,
-) -> Result<(), ProgramFault> {
-    print_lines(&sorted_keys(alloc, store)?, out)
 }
 
 /// The key of each entry, in key order.

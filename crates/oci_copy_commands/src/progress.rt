@@ -1,19 +1,67 @@
+use crate::progress_line::ProgressLine;
+use oci_command_line::Shown;
 use oci_manifest::Key;
+use oci_plan::Plan;
 use oci_pool::Hooks;
 use std::io::Write;
 use std::sync::{Mutex, Wait};
+use std::time::Clock;
 
-/// Hooks that print how far a copy is: `pushed` and the key for each content that arrived, `skipped` and the key for each root
-/// that was there already. One line is written at a time, whole; one that cannot be written is left out, and the copy goes on.
+/// Hooks that show on stderr how far a copy is.
 #[derive(Drop)]
-pub(crate) struct Progress<'p, R, X> {
+pub(crate) enum Progress<'p, R, X> {
+    Nothing,
+    EachBlob(BlobLines<'p, R, X>),
+    Line(ProgressLine<'p, R, X>),
+}
+
+impl<'p, R: Clock + Wait, X: Write> Progress<'p, R, X> {
+    /// Shows what is asked for of the copy of a plan.
+    pub(crate) fn new(rt: &'p R, err: &'p mut X, shown: Shown, plan: &Plan) -> Progress<'p, R, X> {
+        match shown {
+            Shown::Nothing => Progress::Nothing,
+            Shown::EachBlob => Progress::EachBlob(BlobLines::new(rt, err)),
+            Shown::Line => Progress::Line(ProgressLine::new(rt, err, plan)),
+        }
+    }
+
+    /// Erases the line on the terminal, once the copy has ended.
+    pub(crate) fn end(&self) {
+        if let Progress::Line(line) = self {
+            line.erase();
+        }
+    }
+}
+
+impl<'p, R: Clock + Wait, X: Write> Hooks for Progress<'p, R, X> {
+    fn pre_copy(&self, _key: &Key) {}
+
+    fn post_copy(&self, key: &Key) {
+        match self {
+            Progress::Nothing => {}
+            Progress::EachBlob(lines) => lines.print("pushed", key),
+            Progress::Line(line) => line.add(key),
+        }
+    }
+
+    fn skipped(&self, key: &Key) {
+        if let Progress::EachBlob(lines) = self {
+            lines.print("skipped", key);
+        }
+    }
+}
+
+/// Prints a line for each blob: `pushed` and the key if it arrived, `skipped` and the key for a root that was there already. One
+/// line is written at a time, whole; one that cannot be written is left out, and the copy goes on.
+#[derive(Drop)]
+pub(crate) struct BlobLines<'p, R, X> {
     rt: &'p R,
     err: Mutex<&'p mut X>,
 }
 
-impl<'p, R: Wait, X: Write> Progress<'p, R, X> {
-    pub(crate) fn new(rt: &'p R, err: &'p mut X) -> Progress<'p, R, X> {
-        Progress {
+impl<'p, R: Wait, X: Write> BlobLines<'p, R, X> {
+    fn new(rt: &'p R, err: &'p mut X) -> BlobLines<'p, R, X> {
+        BlobLines {
             rt,
             err: Mutex::new(err),
         }
@@ -22,17 +70,5 @@ impl<'p, R: Wait, X: Write> Progress<'p, R, X> {
     fn print(&self, verb: &str, key: &Key) {
         let mut err = self.err.lock(self.rt);
         let _ = writeln!(err, "{verb} {key}");
-    }
-}
-
-impl<'p, R: Wait, X: Write> Hooks for Progress<'p, R, X> {
-    fn pre_copy(&self, _key: &Key) {}
-
-    fn post_copy(&self, key: &Key) {
-        self.print("pushed", key);
-    }
-
-    fn skipped(&self, key: &Key) {
-        self.print("skipped", key);
     }
 }

@@ -1,7 +1,6 @@
 use oci_exit::Readable;
 use oci_manifest::Key;
 use oci_plan::Plan;
-use oci_pool::Hooks;
 use std::io::Write;
 use std::sync::{Mutex, Wait};
 use std::time::{Clock, Duration, Instant};
@@ -77,8 +76,8 @@ impl<'p, X: Write> Line<'p, X> {
     }
 }
 
-/// Hooks that draw on one line of a terminal how many of the planned blobs, and of their bytes, have arrived: as the first one
-/// arrives, and from then on at most ten times a second. A line that cannot be written is left out, and the copy goes on.
+/// Draws on one line of a terminal how many of the planned blobs, and of their bytes, have arrived: as the first one arrives, and
+/// from then on at most ten times a second. A line that cannot be written is left out, and the copy goes on.
 #[derive(Drop)]
 pub(crate) struct ProgressLine<'p, R, X> {
     rt: &'p R,
@@ -86,7 +85,7 @@ pub(crate) struct ProgressLine<'p, R, X> {
     line: Mutex<Line<'p, X>>,
 }
 
-impl<'p, R: Wait, X: Write> ProgressLine<'p, R, X> {
+impl<'p, R: Clock + Wait, X: Write> ProgressLine<'p, R, X> {
     pub(crate) fn new(rt: &'p R, err: &'p mut X, plan: &Plan) -> ProgressLine<'p, R, X> {
         ProgressLine {
             rt,
@@ -99,20 +98,8 @@ impl<'p, R: Wait, X: Write> ProgressLine<'p, R, X> {
         }
     }
 
-    /// Takes the line away, where one was drawn.
-    pub(crate) fn erase(&self) {
-        let mut line = self.line.lock(self.rt);
-        if line.drawn.is_some() {
-            let _ = write!(line.err, "\r\x1b[K");
-            let _ = line.err.flush();
-        }
-    }
-}
-
-impl<'p, R: Clock + Wait, X: Write> Hooks for ProgressLine<'p, R, X> {
-    fn pre_copy(&self, _key: &Key) {}
-
-    fn post_copy(&self, key: &Key) {
+    /// Adds a blob that arrived.
+    pub(crate) fn add(&self, key: &Key) {
         let mut line = self.line.lock(self.rt);
         line.arrived = line.arrived.with(key);
         if line.is_due(self.rt) {
@@ -120,5 +107,12 @@ impl<'p, R: Clock + Wait, X: Write> Hooks for ProgressLine<'p, R, X> {
         }
     }
 
-    fn skipped(&self, _key: &Key) {}
+    /// Takes the line away, if one was drawn.
+    pub(crate) fn erase(&self) {
+        let mut line = self.line.lock(self.rt);
+        if line.drawn.is_some() {
+            let _ = write!(line.err, "\r\x1b[K");
+            let _ = line.err.flush();
+        }
+    }
 }

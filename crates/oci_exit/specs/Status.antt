@@ -16,8 +16,8 @@ use Rattle.oci_store.specs.declared.fault.RefFault.{RefFault}
 use Rattle.oci_store.specs.declared.fault.RefFault.TheVariants as reference
 use Rattle.oci_exit.specs.declared.outcome.Outcome.{Outcome}
 use Rattle.oci_exit.specs.declared.outcome.Outcome.TheVariants as outcome
-use Rattle.oci_exit.specs.declared.fault.Ending.{Ending}
-use Rattle.oci_exit.specs.declared.fault.Ending.TheVariants as ending
+use Rattle.oci_exit.specs.declared.ending.Ending.{Ending}
+use Rattle.oci_exit.specs.declared.ending.Ending.TheVariants as ending
 use Rattle.oci_exit.specs.declared.fault.ProgramFault.{ProgramFault}
 use Rattle.oci_exit.specs.declared.fault.ProgramFault.TheVariants as fault
 

@@ -1,7 +1,7 @@
 ghost use Rattle.std.specs.Prelude.{◌≡◌, ◌↔◌, IsTrue};
 ghost use Rattle.std.specs.IoError.{error_kind};
 ghost use Rattle.std.specs.declared.io.ErrorKind.TheVariants.{OutOfMemory};
-ghost use Rattle.oci_exit.specs.Status.{is_memory, program_number, status_of};
+ghost use Rattle.oci_exit.specs.Status.{is_memory, program_number};
 
 use oci_copy::CopyFault;
 use oci_digest::NoMemory;
@@ -9,8 +9,7 @@ use oci_layout::LayoutFault;
 use oci_manifest::KeyFault;
 use oci_store::{FetchFault, PushFault, RefFault};
 use std::alloc::{AllocError, AllocFailed};
-use std::io::Write;
-use std::{fmt, io};
+use std::io;
 use thiserror::Error;
 
 /// Why the program is refused.
@@ -112,57 +111,10 @@ impl<T: Drop> From<AllocFailed<T>> for ProgramFault {
     }
 }
 
-/// Why a run ends before it is done. It prints what the error output shows.
-#[derive(Drop)]
-pub enum Ending {
-    /// The command line is invalid: the text says how the program is used.
-    Usage(String),
-    /// A word is not UTF-8, which makes the command line invalid too.
-    NotUtf8,
-    /// What was asked for is refused.
-    Fault(ProgramFault),
-}
-
-impl Ending {
-    /// The status of the run: 2 for `Usage` and `NotUtf8`, 3 for out of memory, and otherwise 1.
-    pub fn status(&self) -> u8
-        ensures { result ≡ status_of self.now }
-    {
-        match self {
-            Ending::Usage(_) => 2,
-            Ending::NotUtf8 => 2,
-            Ending::Fault(fault) => { if fault.is_memory() { 3 } else { 1 } }
-        }
-    }
-
-    /// Writes the ending on `err`, and answers its status, also where `err` cannot be written.
-    pub fn tell<X: Write>(self, err: &mut X) -> u8
-        ensures { result ≡ status_of self }
-    {
-        let _ = write!(err, "{self}");
-        self.status()
-    }
-}
-
-impl fmt::Display for Ending {
-    fn fmt<W: fmt::Write>(&self, f: &mut fmt::Formatter<W>) -> fmt::Result {
-        match self {
-            Ending::Usage(usage) => write!(f, "{usage}"),
-            Ending::NotUtf8 => writeln!(f, "error: a word is not UTF-8"),
-            Ending::Fault(fault) if fault.is_memory() => writeln!(f, "ocicp: memory"),
-            Ending::Fault(fault) => writeln!(f, "ocicp: {fault}"),
-        }
-    }
-}
-
-impl From<ProgramFault> for Ending {
-    fn from(fault: ProgramFault) -> Ending {
-        Ending::Fault(fault)
-    }
-}
-
-impl From<AllocError> for Ending {
-    fn from(_refused: AllocError) -> Ending {
-        Ending::Fault(ProgramFault::Memory)
+/// The fault of a directory that is no layout, without the directory.
+impl<D: Drop> From<(D, LayoutFault)> for ProgramFault {
+    fn from(refused: (D, LayoutFault)) -> ProgramFault {
+        let (_dir, fault) = refused;
+        ProgramFault::Layout(fault)
     }
 }

@@ -7,17 +7,15 @@
 //! | [`Outcome`] | how a run ends that did what was asked for |
 //! | [`Readable`] | a size as people read it |
 //!
-//! [`opened`] opens a layout, and [`print_line`] and [`print_lines`] print lines; each returns a [`ProgramFault`].
+//! [`finish_run`] ends a run and returns its exit status; [`print_line`] and [`print_lines`] print lines.
 #![tactic(auto)]
 
+mod ending;
 mod fault;
-mod lines;
-mod opening;
 mod outcome;
-mod readable;
+mod printing;
 
-pub use fault::{Ending, ProgramFault};
-pub use lines::{print_line, print_lines};
-pub use opening::opened;
+pub use ending::{Ending, finish_run};
+pub use fault::ProgramFault;
 pub use outcome::Outcome;
-pub use readable::Readable;
+pub use printing::{Readable, print_line, print_lines};

@@ -3,32 +3,21 @@ use oci_copy_commands::Host;
 use oci_exit::{Ending, ProgramFault};
 use std::io::{BufWriter, IsTerminal, Write};
 use std::rt::Env;
-use std::sync::Wait;
-use std::thread::Threads;
 use std::{env, io};
 
 /// Runs the program on the words that the process was given, and returns its exit status, as [`run_words_on`] does. What is
 /// printed on `out` goes through a buffer. A word that is not UTF-8 makes the command line invalid: status 2.
-pub fn run_process<R: Env + Host + Threads + Wait, W: Write + Drop, X: Write + IsTerminal + Send>(
+pub fn run_process<R: Env + Host, W: Write + Drop, X: Write + IsTerminal + Send>(
     rt: &R,
     out: W,
     err: &mut X,
 ) -> u8 {
-    match words(rt) {
-        Ok(words) => run_buffered(rt, &words, out, err),
-        Err(ending) => ending.tell(err),
-    }
-}
-
-/// Runs the program on an output that is written through a buffer.
-fn run_buffered<R: Host + Threads + Wait, W: Write + Drop, X: Write + IsTerminal + Send>(
-    rt: &R,
-    words: &[String],
-    out: W,
-    err: &mut X,
-) -> u8 {
+    let words = match words(rt) {
+        Ok(words) => words,
+        Err(ending) => return ending.tell(err),
+    };
     match BufWriter::new(rt.alloc(), out) {
-        Ok(mut out) => run_words_on(rt, words, err.is_terminal(), &mut out, err),
+        Ok(mut out) => run_words_on(rt, &words, err.is_terminal(), &mut out, err),
         Err(error) => Ending::Fault(ProgramFault::of_output(error)).tell(err),
     }
 }

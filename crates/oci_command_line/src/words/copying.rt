@@ -1,4 +1,4 @@
-use crate::words::{flag, needed};
+use crate::words::{flag, required};
 use clap::builder::ValueParser;
 use clap::{Arg, Command};
 use std::alloc::{AllocError, Global};
@@ -57,13 +57,13 @@ fn with_flags<'w>(
 
 /// The same with what to copy, and where to. With `--all` the second word is the destination's folder, and there is no third.
 fn with_folders<'w>(alloc: Global, command: Command<'w>) -> Result<Command<'w>, AllocError> {
-    let source = needed(
+    let source = required(
         alloc,
         "source",
         "SRC",
         "The folder of the layout to copy from",
     );
-    let reference = needed(
+    let reference = required(
         alloc,
         "source-reference",
         "SRCREF",

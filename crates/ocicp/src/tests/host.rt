@@ -1,14 +1,10 @@
 //! The runtimes with which the tests run the program.
 
-use crate::tests::broken::Unreadable;
-use oci_copy_commands::Host;
 use std::test::Fail;
 use std::{env, process};
 
-impl<'r, R: Host> Host for Unreadable<'r, R> {}
-
 /// A runtime that has a folder for each test.
-pub(crate) trait Placed: Host {
+pub(crate) trait Placed {
     /// The path of the folder of this name.
     fn folder(&self, name: &str) -> Result<String, Fail>;
 }

@@ -8,9 +8,7 @@ use crate::tests::sessions::assert_session_in;
 use oci_copy_commands::Host;
 use std::io::ErrorKind;
 use std::process::Abort;
-use std::sync::Wait;
 use std::test::Fail;
-use std::thread::Threads;
 
 /// What the program writes to the error output where the output fails, and its status.
 const OUTPUT: &str = "! ocicp: 94 Output\n? 1\n";
@@ -28,10 +26,7 @@ const FAILURES: [(Step, ErrorKind, &str); 5] = [
 ];
 
 /// Runs the program with outputs that fail in each way, and compares its status and the error output.
-pub(crate) fn assert_breaks<R: Host + Threads + Wait + Abort>(
-    rt: &R,
-    words: &str,
-) -> Result<(), Fail> {
+pub(crate) fn assert_breaks<R: Host + Abort>(rt: &R, words: &str) -> Result<(), Fail> {
     for (at, kind, wanted) in FAILURES {
         let told = broken(rt, words, Broken { at, kind })?;
         assert_told(rt, words, kind, told.as_str(), wanted);
@@ -45,7 +40,7 @@ fn assert_told<R: Abort>(rt: &R, words: &str, kind: ErrorKind, told: &str, wante
 }
 
 /// What a run with this output writes to the error output, and its status.
-fn broken<R: Host + Threads + Wait>(rt: &R, words: &str, out: Broken) -> Result<String, Fail> {
+fn broken<R: Host>(rt: &R, words: &str, out: Broken) -> Result<String, Fail> {
     let words = words_of(rt.alloc(), words)?;
     let mut out = out;
     let mut err = Vec::new(rt.alloc());

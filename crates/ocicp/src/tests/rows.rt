@@ -4,9 +4,7 @@ use crate::tests::runs::transcript;
 use crate::tests::sessions::parts;
 use oci_copy_commands::Host;
 use std::process::Abort;
-use std::sync::Wait;
 use std::test::Fail;
-use std::thread::Threads;
 
 /// What is wanted of the run of a row.
 #[derive(Clone, Copy)]
@@ -24,7 +22,7 @@ pub(crate) enum Wanted {
 }
 
 /// Runs the program on each row of a text.
-pub(crate) fn assert_rows<R: Host + Threads + Wait + Abort>(
+pub(crate) fn assert_rows<R: Host + Abort>(
     rt: &R,
     rows: &str,
     separator: &str,
@@ -37,11 +35,7 @@ pub(crate) fn assert_rows<R: Host + Threads + Wait + Abort>(
 }
 
 /// Runs the program on a row.
-pub(crate) fn assert_row<R: Host + Threads + Wait + Abort>(
-    rt: &R,
-    row: &str,
-    wanted: Wanted,
-) -> Result<(), Fail> {
+pub(crate) fn assert_row<R: Host + Abort>(rt: &R, row: &str, wanted: Wanted) -> Result<(), Fail> {
     let (command, words) = words_of_row(row, wanted);
     let told = run_of(rt, command, words)?;
     assert!(rt; is_as_wanted(told.as_str(), row, wanted), "{row}: {told}");
@@ -59,7 +53,7 @@ fn words_of_row(row: &str, wanted: Wanted) -> (&'static str, &str) {
 }
 
 /// All that a run of a command prints, and its status.
-fn run_of<R: Host + Threads + Wait>(rt: &R, command: &str, words: &str) -> Result<String, Fail> {
+fn run_of<R: Host>(rt: &R, command: &str, words: &str) -> Result<String, Fail> {
     let line = format!(in rt.alloc(); "{command} {words}")?;
     transcript(rt, line.as_str())
 }

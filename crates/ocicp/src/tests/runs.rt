@@ -5,12 +5,10 @@ use crate::tests::contents::push_all;
 use oci_copy_commands::Host;
 use std::alloc::Global;
 use std::fmt::Write;
-use std::sync::Wait;
 use std::test::Fail;
-use std::thread::Threads;
 
 /// All that a run of the program prints, and its status.
-pub(crate) fn transcript<R: Host + Threads + Wait>(rt: &R, words: &str) -> Result<String, Fail> {
+pub(crate) fn transcript<R: Host>(rt: &R, words: &str) -> Result<String, Fail> {
     let words = words_of(rt.alloc(), words)?;
     let mut out = Vec::new(rt.alloc());
     let mut err = Vec::new(rt.alloc());
@@ -19,7 +17,7 @@ pub(crate) fn transcript<R: Host + Threads + Wait>(rt: &R, words: &str) -> Resul
 }
 
 /// What a run on a terminal writes to stderr, and a line feed.
-pub(crate) fn drawn<R: Host + Threads + Wait>(rt: &R, words: &str) -> Result<String, Fail> {
+pub(crate) fn drawn<R: Host>(rt: &R, words: &str) -> Result<String, Fail> {
     let words = words_of(rt.alloc(), words)?;
     let mut out = Vec::new(rt.alloc());
     let mut err = Vec::new(rt.alloc());

@@ -32,12 +32,10 @@ use oci_copy_commands::Host;
 use std::fs;
 use std::io::ErrorKind;
 use std::process::Abort;
-use std::sync::Wait;
 use std::test::Fail;
-use std::thread::Threads;
 
 /// Goes through two sessions in a folder of this name, which then goes.
-pub(crate) fn assert_session_in<R: Placed + Threads + Wait + Abort>(
+pub(crate) fn assert_session_in<R: Placed + Host + Abort>(
     rt: &R,
     name: &str,
     before: &str,
@@ -47,7 +45,7 @@ pub(crate) fn assert_session_in<R: Placed + Threads + Wait + Abort>(
     assert_session(rt, folder.as_str(), before, session)
 }
 
-fn assert_session<R: Host + Threads + Wait + Abort>(
+fn assert_session<R: Host + Abort>(
     rt: &R,
     folder: &str,
     before: &str,
@@ -60,7 +58,7 @@ fn assert_session<R: Host + Threads + Wait + Abort>(
 }
 
 /// Goes through a session.
-pub(crate) fn assert_runs<R: Host + Threads + Wait + Abort>(
+pub(crate) fn assert_runs<R: Host + Abort>(
     rt: &R,
     folder: &str,
     session: &str,
@@ -73,7 +71,7 @@ pub(crate) fn assert_runs<R: Host + Threads + Wait + Abort>(
 }
 
 /// What a line prints is what stands below it.
-fn assert_run<R: Host + Threads + Wait + Abort>(rt: &R, run: &str) -> Result<(), Fail> {
+fn assert_run<R: Host + Abort>(rt: &R, run: &str) -> Result<(), Fail> {
     let (line, wanted) = parts(run, '\n');
     let (command, rest) = parts(line, ' ');
     let told = telling(rt, command, rest)?;
@@ -99,11 +97,7 @@ pub(crate) fn parts(text: &str, separator: char) -> (&str, &str) {
 }
 
 /// What a line prints.
-fn telling<R: Host + Threads + Wait + Abort>(
-    rt: &R,
-    command: &str,
-    rest: &str,
-) -> Result<String, Fail> {
+fn telling<R: Host + Abort>(rt: &R, command: &str, rest: &str) -> Result<String, Fail> {
     match command {
         "ocicp" | "unordered" => transcript(rt, rest),
         "terminal" => drawn(rt, rest),
@@ -119,13 +113,13 @@ fn telling<R: Host + Threads + Wait + Abort>(
 }
 
 /// Runs the program where some files cannot be opened.
-fn hindered<R: Host + Threads + Wait>(rt: &R, line: &str, kind: ErrorKind) -> Result<String, Fail> {
+fn hindered<R: Host>(rt: &R, line: &str, kind: ErrorKind) -> Result<String, Fail> {
     let (part, words) = parts(line, ' ');
     transcript(&Unreadable { rt, part, kind }, words)
 }
 
 /// Goes through a line that prints nothing.
-fn silent<R: Host + Threads + Wait + Abort>(rt: &R, command: &str, rest: &str) -> Result<(), Fail> {
+fn silent<R: Host + Abort>(rt: &R, command: &str, rest: &str) -> Result<(), Fail> {
     match command {
         "broken" => assert_breaks(rt, rest),
         _ => change(rt, command, rest),

@@ -8,9 +8,7 @@ use oci_copy_commands::Host;
 use oci_layout::FolderLock;
 use std::io;
 use std::io::Write;
-use std::sync::Wait;
 use std::test::Fail;
-use std::thread::Threads;
 
 /// An error output that lets a lock go as the first line comes, and keeps what is written.
 #[derive(Drop)]
@@ -31,7 +29,7 @@ impl<L: Drop> Write for LettingGo<L> {
 }
 
 /// All that a run prints while another process has a lock on a folder, as one that copies into it has.
-pub(crate) fn beside<R: Host + Threads + Wait>(rt: &R, line: &str) -> Result<String, Fail> {
+pub(crate) fn beside<R: Host>(rt: &R, line: &str) -> Result<String, Fail> {
     let (folder, words) = parts(line, ' ');
     let lock = FolderLock::make_and_lock(rt, folder)?;
     let mut err = LettingGo {
@@ -42,7 +40,7 @@ pub(crate) fn beside<R: Host + Threads + Wait>(rt: &R, line: &str) -> Result<Str
 }
 
 /// All that a run with this error output prints, and its status.
-fn transcript_to<R: Host + Threads + Wait>(
+fn transcript_to<R: Host>(
     rt: &R,
     words: &str,
     err: &mut LettingGo<FolderLock<R>>,

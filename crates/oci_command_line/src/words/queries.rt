@@ -1,16 +1,16 @@
-use crate::words::{flag, needed};
+use crate::words::{flag, required};
 use clap::{Arg, Command};
 use std::alloc::{AllocError, Global};
 
 /// `FOLDER`
 fn folder<'w>(alloc: Global) -> Arg<'w> {
-    needed(alloc, "folder", "FOLDER", "The folder of an image layout")
+    required(alloc, "folder", "FOLDER", "The folder of an image layout")
 }
 
 /// `REF`
 fn reference<'w>(alloc: Global) -> Arg<'w> {
     let help = "A tag of the layout, or the digest of a blob that it has";
-    needed(alloc, "reference", "REF", help)
+    required(alloc, "reference", "REF", help)
 }
 
 /// `tags FOLDER`
@@ -97,5 +97,5 @@ pub(crate) fn explain_command<'w>(alloc: Global) -> Result<Command<'w>, AllocErr
     Command::new(alloc, "explain")
         .about("Explains the number of an error: what it means, and what to do")
         .after_help("Example:\n  ocicp explain 53")
-        .arg(needed(alloc, "number", "NUMBER", help))
+        .arg(required(alloc, "number", "NUMBER", help))
 }

@@ -1,4 +1,4 @@
-//! The commands that only look.
+//! The commands that list what a layout has: `tags`, `resolve` and `predecessors`.
 
 use crate::tests::layouts::{IMAGE, REFERRERS};
 use crate::tests::sessions::assert_session_in;

@@ -1,6 +1,6 @@
 /// What is asked of one layout, which is not changed.
 #[derive(Clone, Copy)]
-pub enum Look<'w> {
+pub enum Query<'w> {
     /// Its tags.
     Tags,
     /// What a reference resolves to.
