@@ -1,23 +1,33 @@
 use crate::tree::labels::Labels;
-use crate::tree::pending::{Line, Pending};
+use oci_digest::NoMemory;
 use oci_exit::{Outcome, ProgramFault};
-use oci_layout::{Dir, Layout, LayoutFault};
-use oci_manifest::{Key, Kind, ManifestFault, successors};
-use oci_store::{GraphSource, Source, Tagger};
+use oci_layout::{Dir, Layout};
+use oci_manifest::{Key, Kind, artifact_type};
+use oci_store::{GraphSource, Tagger};
 use std::alloc::Global;
 use std::collections::BTreeSet;
 use std::io::Write;
 
 mod labels;
-mod pending;
 
-/// What stands below the line of a blob, indented by one level more.
+/// What a line of the tree shows.
 #[derive(Clone, Copy)]
-enum Below {
-    /// What it lists.
-    Successors,
-    /// What lists it.
-    Predecessors,
+enum Shows {
+    /// A blob, with what it lists below it.
+    Blob,
+    /// The title above what refers to a blob.
+    Title,
+    /// A blob that refers to another, with its type, and with what refers to it below it.
+    Referrer,
+}
+
+/// A line that is still to be shown.
+#[derive(Drop)]
+struct Line {
+    key: Key,
+    /// How far it is indented.
+    level: usize,
+    shows: Shows,
 }
 
 /// A walk over a graph that shows it as a tree.
@@ -28,12 +38,14 @@ struct Walk<'t, A> {
     labels: Labels,
     /// The blobs that have a line.
     shown: BTreeSet<Key>,
+    /// The lines that are still to be shown, the next one last.
+    pending: Vec<Line>,
 }
 
 /// `tree [--referrers] FOLDER REF`: shows what a reference reaches, and then what refers to it.
 ///
-/// The time grows with the lines, and with the digests and tags of the layout. A deep graph takes no stack: the lines that are
-/// still to be shown stand in a list.
+/// The time grows with the lines, and with the digests and tags of the layout. Only the contents of referrers are read, for their
+/// types. A deep graph takes no stack: the lines that are still to be shown stand in a list.
 pub(crate) fn tree<D: Dir, W: Write>(
     alloc: Global,
     layout: &Layout<D>,
@@ -47,35 +59,63 @@ pub(crate) fn tree<D: Dir, W: Write>(
         source: layout,
         labels: Labels::of(alloc, layout)?,
         shown: BTreeSet::new(alloc),
+        pending: Vec::new(alloc),
     };
-    walk.show_tree(&root, shows_referrers, out)?;
+    if shows_referrers {
+        walk.add(root.try_clone()?, 0, Shows::Title)?;
+    }
+    walk.add(root, 0, Shows::Blob)?;
+    for _ in 0..u64::MAX {
+        let Some(line) = walk.pending.pop() else {
+            break;
+        };
+        walk.show(&line, out)?;
+    }
     Ok(Outcome::Good)
 }
 
 impl<'t, A: GraphSource> Walk<'t, A> {
-    /// Shows what a blob reaches, and then what refers to it where that is asked for.
-    fn show_tree<W: Write>(
-        &mut self,
-        root: &Key,
-        shows_referrers: bool,
-        out: &mut W,
-    ) -> Result<(), ProgramFault> {
-        self.show_root(root, out)?;
-        if shows_referrers {
-            self.show_referrers(root, out)?;
+    /// Adds a line, to be shown before all others.
+    fn add(&mut self, key: Key, level: usize, shows: Shows) -> Result<(), NoMemory> {
+        Ok(self.pending.push(Line { key, level, shows })?)
+    }
+
+    /// Adds a line for each of these blobs, to be shown in their order and before all others.
+    fn add_all(&mut self, keys: Vec<Key>, level: usize, shows: Shows) -> Result<(), NoMemory> {
+        for key in keys.into_iter().rev() {
+            self.add(key, level, shows)?;
         }
         Ok(())
     }
 
-    /// Shows what a blob reaches.
-    fn show_root<W: Write>(&mut self, root: &Key, out: &mut W) -> Result<(), ProgramFault> {
-        let mut roots = Vec::new(self.alloc);
-        roots.push(root.try_clone()?)?;
-        self.show(roots, 0, Below::Successors, out)
+    /// Shows a line, and adds those below it.
+    fn show<W: Write>(&mut self, line: &Line, out: &mut W) -> Result<(), ProgramFault> {
+        match line.shows {
+            Shows::Blob => self.show_blob(&line.key, line.level, out),
+            Shows::Title => self.show_title(&line.key, out),
+            Shows::Referrer => self.show_referrer(&line.key, line.level, out),
+        }
     }
 
-    /// Shows what refers to a blob, under a line of its own.
-    fn show_referrers<W: Write>(&mut self, key: &Key, out: &mut W) -> Result<(), ProgramFault> {
+    /// Shows a blob, and adds what it lists.
+    fn show_blob<W: Write>(
+        &mut self,
+        key: &Key,
+        level: usize,
+        out: &mut W,
+    ) -> Result<(), ProgramFault> {
+        let Some(listed) = self.source.successors(key)? else {
+            return self.print(key, level, None, " (absent)", out);
+        };
+        if !self.shown.insert(key.try_clone()?)? {
+            return self.print(key, level, None, " (shown above)", out);
+        }
+        self.print(key, level, None, "", out)?;
+        Ok(self.add_all(listed, level.saturating_add(1), Shows::Blob)?)
+    }
+
+    /// Shows the title of what refers to a blob, and adds that.
+    fn show_title<W: Write>(&mut self, key: &Key, out: &mut W) -> Result<(), ProgramFault> {
         let referrers = self.source.predecessors(key)?;
         let title = if referrers.is_empty() {
             "referrers: none"
@@ -83,103 +123,45 @@ impl<'t, A: GraphSource> Walk<'t, A> {
             "referrers:"
         };
         writeln!(out, "{title}").map_err(ProgramFault::of_output)?;
-        self.show(referrers, 1, Below::Predecessors, out)
+        Ok(self.add_all(referrers, 1, Shows::Referrer)?)
     }
 
-    /// Shows some blobs at a level, each with what stands below it.
-    fn show<W: Write>(
+    /// Shows a blob that refers to another, and adds what refers to it.
+    fn show_referrer<W: Write>(
         &mut self,
-        roots: Vec<Key>,
+        key: &Key,
         level: usize,
-        below: Below,
         out: &mut W,
     ) -> Result<(), ProgramFault> {
-        let mut pending = Pending::new(self.alloc);
-        pending.add(roots, level)?;
-        for _ in 0..u64::MAX {
-            let Some(line) = pending.next() else {
-                break;
-            };
-            let level = line.level.saturating_add(1);
-            pending.add(self.show_line(line, below, out)?, level)?;
+        let stated = self.stated_type(key)?;
+        if !self.shown.insert(key.try_clone()?)? {
+            return self.print(key, level, stated, " (shown above)", out);
         }
-        Ok(())
+        self.print(key, level, stated, "", out)?;
+        let referrers = self.source.predecessors(key)?;
+        Ok(self.add_all(referrers, level.saturating_add(1), Shows::Referrer)?)
     }
 
-    /// Shows one line, and gives what is to be shown below it.
-    fn show_line<W: Write>(
-        &mut self,
-        line: Line,
-        below: Below,
-        out: &mut W,
-    ) -> Result<Vec<Key>, ProgramFault> {
-        let Line { key, level } = line;
-        let mark = self.mark(&key);
-        self.print(&key, level, mark.unwrap_or(""), out)?;
-        match mark {
-            Some(_) => Ok(Vec::new(self.alloc)),
-            None => self.show_first(key, below),
-        }
+    /// The type that the content of a referrer states.
+    fn stated_type(&self, key: &Key) -> Result<Option<String>, ProgramFault> {
+        let bytes = self.source.fetch(key)?;
+        let kind = Kind::of(key.media_type());
+        Ok(artifact_type(self.alloc, kind, bytes.as_slice())?)
     }
 
-    /// What the line of a blob says at its end where nothing is shown below it.
-    fn mark(&self, key: &Key) -> Option<&'static str> {
-        if !self.source.exists(key) {
-            return Some(" (absent)");
-        }
-        if self.shown.contains(key) {
-            return Some(" (shown above)");
-        }
-        None
-    }
-
-    /// Gives what is to be shown below the first line of a blob, which is then taken as shown.
-    fn show_first(&mut self, key: Key, below: Below) -> Result<Vec<Key>, ProgramFault> {
-        let below = self.below(&key, below)?;
-        self.shown.insert(key)?;
-        Ok(below)
-    }
-
-    /// Prints a blob at a level, with a mark at the end.
+    /// Prints a blob at a level, with the type that it states and a mark at the end.
     fn print<W: Write>(
         &self,
         key: &Key,
         level: usize,
+        stated: Option<String>,
         mark: &str,
         out: &mut W,
     ) -> Result<(), ProgramFault> {
         for _ in 0..level {
             write!(out, "  ").map_err(ProgramFault::of_output)?;
         }
-        self.labels.print(self.alloc, key, out)?;
+        self.labels.print(self.alloc, key, stated, out)?;
         writeln!(out, "{mark}").map_err(ProgramFault::of_output)
     }
-
-    /// What stands below the line of a blob.
-    fn below(&self, key: &Key, below: Below) -> Result<Vec<Key>, ProgramFault> {
-        match below {
-            Below::Successors => self.successors(key),
-            Below::Predecessors => Ok(self.source.predecessors(key)?),
-        }
-    }
-
-    /// What a blob lists.
-    fn successors(&self, key: &Key) -> Result<Vec<Key>, ProgramFault> {
-        match Kind::of(key.media_type()) {
-            Kind::Leaf => Ok(Vec::new(self.alloc)),
-            kind => {
-                let bytes = self.source.fetch(key)?;
-                match successors(self.alloc, kind, bytes.as_slice()) {
-                    Ok(keys) => Ok(keys),
-                    Err(ManifestFault::Memory) => Err(ProgramFault::Memory),
-                    Err(fault) => Err(unreadable(key, fault)?),
-                }
-            }
-        }
-    }
-}
-
-/// The fault of a layout with a manifest that does not read.
-fn unreadable(key: &Key, fault: ManifestFault) -> Result<ProgramFault, ProgramFault> {
-    Ok(ProgramFault::Layout(LayoutFault::BadManifest(key.try_clone()?, fault)))
 }

@@ -64,6 +64,8 @@ pub(crate) fn tree_command<'w>(alloc: Global) -> Result<Command<'w>, AllocError>
              size, a media type, and the tags of that blob in brackets. The blobs that a manifest lists stand below it, \
              indented by two spaces. A blob that was shown before is marked `(shown above)`, and what it lists is not \
              shown again; one that the layout does not have is marked `(absent)`.\n\n\
+             With `--referrers` the blobs that list it follow, with what lists them below. Each of these lines also has, in \
+             parentheses, the artifact type that the blob states: its `artifactType`, or the media type of its config.\n\n\
              Scripts should use `resolve` and `predecessors`, which print whole digests.",
         )
         .after_help("Examples:\n  ocicp tree mirror v1\n  ocicp tree --referrers mirror v1")

@@ -28,11 +28,12 @@ impl Labels {
         })
     }
 
-    /// Prints the line of a blob, without its end.
+    /// Prints the line of a blob with the type that it states, without its end.
     pub(crate) fn print<W: Write>(
         &self,
         alloc: Global,
         key: &Key,
+        stated: Option<String>,
         out: &mut W,
     ) -> Result<(), ProgramFault> {
         let algorithm = key.digest().algorithm();
@@ -43,6 +44,9 @@ impl Labels {
         write!(out, "{algorithm}:{encoded:.digits$} {size} {media_type}").map_err(
             ProgramFault::of_output,
         )?;
+        if let Some(stated) = stated {
+            write!(out, " ({stated})").map_err(ProgramFault::of_output)?;
+        }
         match self.tags.get(key) {
             Some(tags) => write!(out, "{tags}").map_err(ProgramFault::of_output),
             None => Ok(()),

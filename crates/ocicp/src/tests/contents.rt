@@ -89,6 +89,24 @@ const S: Sample = Sample {
     bytes: r#"{"schemaVersion":2,"mediaType":"application/vnd.oci.image.manifest.v1+json","config":{"mediaType":"application/vnd.oci.empty.v1+json","digest":"sha256:44136fa355b3678a1146ad16f7e8649e94fb4fc21fe77e8310c060f61caaff8a","size":2},"layers":[],"subject":{"mediaType":"application/vnd.oci.image.manifest.v1+json","digest":"sha256:7e1df211bc4556d2a9db939a81721c52e5e53c59e3dfb45a57205a794dd412b7","size":385}}"#,
 };
 
+/// A referrer of `M2` that states its type.
+const SBOM: Sample = Sample {
+    media_type: IMAGE,
+    algorithm: "sha256",
+    digits: "c3f33d59f4000ddbc5c0720db290fc92122b4727bcd49fa5719dd9730ec30f36",
+    size: "441",
+    bytes: r#"{"schemaVersion":2,"mediaType":"application/vnd.oci.image.manifest.v1+json","artifactType":"application/spdx+json","config":{"mediaType":"application/vnd.oci.empty.v1+json","digest":"sha256:44136fa355b3678a1146ad16f7e8649e94fb4fc21fe77e8310c060f61caaff8a","size":2},"layers":[],"subject":{"mediaType":"application/vnd.oci.image.manifest.v1+json","digest":"sha256:7e1df211bc4556d2a9db939a81721c52e5e53c59e3dfb45a57205a794dd412b7","size":385}}"#,
+};
+
+/// An index of `M2` and `SBOM` that states its type.
+const TYPED: Sample = Sample {
+    media_type: INDEX,
+    algorithm: "sha256",
+    digits: "c07e49f7241c32fdf9e2d8160e32c71fd56e0bf4b1920c1cedd8e8cdff321738",
+    size: "385",
+    bytes: r#"{"schemaVersion":2,"artifactType":"application/vnd.example+type","manifests":[{"mediaType":"application/vnd.oci.image.manifest.v1+json","digest":"sha256:7e1df211bc4556d2a9db939a81721c52e5e53c59e3dfb45a57205a794dd412b7","size":385},{"mediaType":"application/vnd.oci.image.manifest.v1+json","digest":"sha256:c3f33d59f4000ddbc5c0720db290fc92122b4727bcd49fa5719dd9730ec30f36","size":441}]}"#,
+};
+
 /// An index of `M2`.
 const I3: Sample = Sample {
     media_type: INDEX,
@@ -126,6 +144,8 @@ fn named(name: &str) -> Result<&'static Sample, Fail> {
         "M2" => Ok(&M2),
         "M5" => Ok(&M5),
         "S" => Ok(&S),
+        "SBOM" => Ok(&SBOM),
+        "TYPED" => Ok(&TYPED),
         "I3" => Ok(&I3),
         "I4" => Ok(&I4),
         "DM" => Ok(&DM),

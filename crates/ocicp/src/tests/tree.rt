@@ -39,7 +39,7 @@ $ ocicp tree --referrers @/R t
 referrers:
   <I3 short> 186 B application/vnd.oci.image.index.v1+json
     <I4 short> 183 B application/vnd.oci.image.index.v1+json
-  <S short> 402 B application/vnd.oci.image.manifest.v1+json
+  <S short> 402 B application/vnd.oci.image.manifest.v1+json (application/vnd.oci.empty.v1+json)
 $ ocicp tree --referrers @/R <S digest>
 <S short> 402 B application/vnd.oci.image.manifest.v1+json
   <M2 short> 385 B application/vnd.oci.image.manifest.v1+json [a b] [t]
@@ -49,6 +49,37 @@ $ ocicp tree --referrers @/R <S digest>
 referrers: none
 ";
     assert_session_in(&rt, "tree_referrers", REFERRERS, session)
+}
+
+/// A referrer is shown with the type that it states, before its tags and marks.
+#[test]
+fn tree_of_referrers_with_types(rt: HostRuntime) -> Result<(), Fail> {
+    let files = r#"
+$ write @/V/oci-layout {"imageLayoutVersion":"1.0.0"}
+$ write @/V/index.json {"manifests":[<TYPED descriptor>,{"mediaType":"application/vnd.oci.image.manifest.v1+json","digest":"<SBOM digest>","size":441,"annotations":{"org.opencontainers.image.ref.name":"sbom"}}]}
+$ write @/V/<E file> <E bytes>
+$ write @/V/<FOO file> <FOO bytes>
+$ write @/V/<M2 file> <M2 bytes>
+$ write @/V/<SBOM file> <SBOM bytes>
+$ write @/V/<TYPED file> <TYPED bytes>
+"#;
+    let session = r"
+$ ocicp tree --referrers @/V <M2 digest>
+<M2 short> 385 B application/vnd.oci.image.manifest.v1+json
+  <E short> 2 B application/vnd.oci.empty.v1+json
+  <FOO short> 3 B application/vnd.oci.image.layer.v1.tar
+referrers:
+  <TYPED short> 385 B application/vnd.oci.image.index.v1+json (application/vnd.example+type)
+  <SBOM short> 441 B application/vnd.oci.image.manifest.v1+json (application/spdx+json) [sbom]
+    <TYPED short> 385 B application/vnd.oci.image.index.v1+json (application/vnd.example+type) (shown above)
+$ ocicp tree @/V sbom
+<SBOM short> 441 B application/vnd.oci.image.manifest.v1+json [sbom]
+  <M2 short> 385 B application/vnd.oci.image.manifest.v1+json
+    <E short> 2 B application/vnd.oci.empty.v1+json
+    <FOO short> 3 B application/vnd.oci.image.layer.v1.tar
+  <E short> 2 B application/vnd.oci.empty.v1+json (shown above)
+";
+    assert_session_in(&rt, "tree_types", files, session)
 }
 
 /// A blob that the layout does not have is marked.
