@@ -35,3 +35,8 @@ InPlace {O} answers table = (k : ℕ) (d : Option O) → k < length table → If
 pub record Worked {O F : Type 0} (count : ℕ) (answers : ℕ → O → Type 0) (fails : ℕ → F → Type 0) (done : List (ℕ × O)) (fault : Option (PoolFault F)) : Type 0 where
   pub done_is : All (λ (p : ℕ × O). answers p.0 p.1) done
   pub fault_is : MayCome count fails fault
+
+-- the job is one of a run whose jobs may return, and fail, so
+pub record IsJobOf {O F : Type 0} (job_answers : ℕ → O → Type 0) (job_fails : ℕ → F → Type 0) (answers : ℕ → O → Type 0) (fails : ℕ → F → Type 0) : Type 0 where
+  pub answers_are : (k : ℕ) (x : O) → job_answers k x → answers k x
+  pub fails_are : (k : ℕ) (f : F) → job_fails k f → fails k f

@@ -25,10 +25,13 @@
 //! looks or runs ends before it would wait again. A worker whose thread cannot be started looks only once the worker that it
 //! shares a thread with has ended: until then the others empty its deque, and afterwards the run has ended.
 ghost use Rattle.std.specs.Prelude.{◌≡◌, IfSome};
+ghost use Rattle.oci_pool.specs.Workers.{IsJobOf};
 
 use crate::board::{Board, Pass};
 use crate::deque::OwnDeque;
+use crate::job::{Job, RunStart};
 use std::alloc::AllocError;
+use std::marker::{Model, PhantomData};
 use std::sync::{Condvar, Mutex, Wait};
 
 /// How far a run has come.
@@ -67,17 +70,40 @@ impl Progress {
 }
 
 /// What the workers of a run share.
+///
+/// Its type keeps that the job and the count are those of the run.
 #[derive(Drop)]
-pub(crate) struct Shared {
+pub(crate) struct Shared<'j, J: Job, T: RunStart<J::Out, J::Fault>> {
+    pub job: &'j J,
+    /// How many numbers there are.
+    pub count: usize,
     progress: Mutex<Progress>,
     /// Told of each change that a waiting worker may wait for.
     changed: Condvar,
+    start: PhantomData<T>,
 }
 
-impl Shared {
-    /// The start of a run on a board whose graph has so many numbers.
-    pub fn new(board: Board, count: usize) -> Shared {
+impl<'j, J: Job, T: RunStart<J::Out, J::Fault>> Model for Shared<'j, J, T> {
+    ghost use Rattle.std.specs.Prelude.{◌≡◌, ⊤};
+    ghost use Rattle.oci_pool.specs.Workers.{IsJobOf};
+
+    ghost Value = { ⊤ };
+
+    ghost view = { λ s. tt };
+
+    ghost invariant = { λ s. (s.count ≡ T.count)
+        × IsJobOf (J.answers s.job.now) (J.fails s.job.now) T.answers T.fails };
+}
+
+impl<'j, J: Job, T: RunStart<J::Out, J::Fault>> Shared<'j, J, T> {
+    /// The start of a run of a job for each of `count` numbers, on a board of their graph.
+    pub fn new(job: &'j J, board: Board, count: usize) -> Shared<'j, J, T>
+        requires count { count ≡ T.count }
+        requires job { IsJobOf (J.answers job.now) (J.fails job.now) T.answers T.fails }
+    {
         Shared {
+            job,
+            count,
             progress: Mutex::new(Progress {
                 board,
                 left: count,
@@ -86,6 +112,7 @@ impl Shared {
                 ended: count == 0,
             }),
             changed: Condvar::new(),
+            start: PhantomData,
         }
     }
 

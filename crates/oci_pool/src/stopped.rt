@@ -1,7 +1,8 @@
-ghost use Rattle.std.specs.Prelude.{◌≡◌};
+ghost use Rattle.std.specs.Prelude.{◌≡◌, []};
 
 use crate::fault::PoolFault;
 use crate::job::Job;
+use std::alloc::Global;
 
 /// What a run that stopped has done, and why it stopped.
 #[derive(Drop)]
@@ -13,6 +14,17 @@ pub struct Stopped<J: Job> {
 }
 
 impl<J: Job> Stopped<J> {
+    /// A run that stopped before any job was run.
+    pub(crate) fn at_start(alloc: Global, fault: PoolFault<J::Fault>) -> Stopped<J>
+        ensures done { result.done.items ≡ [] }
+        ensures fault { result.fault ≡ fault }
+    {
+        Stopped {
+            done: Vec::new(alloc),
+            fault,
+        }
+    }
+
     /// Why the run stopped; the results are let go.
     pub fn into_fault(self) -> PoolFault<J::Fault>
         ensures { result ≡ self.fault }

@@ -1,29 +1,28 @@
-ghost use Rattle.std.specs.Prelude.{◌≡◌, ◌<◌};
-ghost use Rattle.oci_pool.specs.Workers.{Worked};
+ghost use Rattle.std.specs.Prelude.{◌≡◌, None, All};
+ghost use Rattle.oci_pool.specs.Workers.{MayCome};
 
 use crate::deque::{OtherDeque, OwnDeque};
 use crate::fault::PoolFault;
-use crate::job::Job;
+use crate::job::{Job, RunStart};
 use crate::shared::Shared;
 use crossbeam_deque::Steal;
+use std::alloc::Global;
+use std::marker::{Model, PhantomData};
 use std::sync::Wait;
+use std::thread;
+use std::thread::Threads;
 
-/// One worker: its deque, its holds of the others', and what it has done.
+/// The deques that a worker takes numbers from: its own, and its holds of the others'.
 #[derive(Drop)]
-pub(crate) struct Worker<O, F> {
+pub(crate) struct Deques {
     pub own: OwnDeque,
     pub others: Vec<OtherDeque>,
-    /// The results of its jobs, with their numbers.
-    pub done: Vec<(u32, O)>,
-    /// Why it stopped the run, if it did.
-    pub fault: Option<PoolFault<F>>,
 }
 
-impl<O, F> Worker<O, F> {
-    /// The first number of its own deque, or else one that it steals; nothing where it found each deque empty.
-    fn find<R: Wait>(&mut self, rt: &R) -> Option<u32>
-        ensures { (self.new.done ≡ self.old.done) × (self.new.fault ≡ self.old.fault) }
-    {
+impl Deques {
+    /// The first number of its own deque, or else one that it steals; nothing if it found each
+    /// deque empty.
+    fn find<R: Wait>(&mut self, rt: &R) -> Option<u32> {
         if let Some(number) = self.own.take() {
             return Some(number);
         }
@@ -40,66 +39,118 @@ impl<O, F> Worker<O, F> {
     }
 }
 
-/// Runs the job of a number that a deque gave, where the board gives its pass. Room for the result is made first, so that no
-/// result is lost.
-fn run_one<J: Job, R: Wait>(
-    rt: &R,
-    shared: &Shared,
-    job: &J,
-    count: usize,
-    worker: &mut Worker<J::Out, J::Fault>,
-    number: u32,
-)
-    requires { Worked count (J.answers job.now) (J.fails job.now) worker.old.done.items
-        worker.old.fault }
-    ensures { Worked count (J.answers job.now) (J.fails job.now) worker.new.done.items
-        worker.new.fault }
-{
-    if count <= number as usize {
-        return;
+/// One worker: its deques, and what it has done. To a contract it is why it stopped the run, if it
+/// did.
+///
+/// Its type keeps that each result is one that the job of its number may return, and that its
+/// fault is one that may come.
+#[derive(Drop)]
+pub(crate) struct Worker<J: Job, T: RunStart<J::Out, J::Fault>> {
+    deques: Deques,
+    /// The results of its jobs, with their numbers.
+    done: Vec<(u32, J::Out)>,
+    /// Why it stopped the run, if it did.
+    fault: Option<PoolFault<J::Fault>>,
+    start: PhantomData<T>,
+}
+
+impl<J: Job, T: RunStart<J::Out, J::Fault>> Model for Worker<J, T> {
+    ghost use Rattle.std.specs.Prelude.{Option};
+    ghost use Rattle.oci_pool.specs.declared.fault.PoolFault.{PoolFault};
+
+    ghost Value = { Option (PoolFault J.Fault) };
+
+    ghost use Rattle.oci_pool.specs.Workers.{Worked};
+
+    ghost view = { λ w. w.fault };
+
+    ghost invariant = { λ w. Worked T.count T.answers T.fails w.done.items w.fault };
+}
+
+impl<J: Job, T: RunStart<J::Out, J::Fault>> Worker<J, T> {
+    /// A worker that has done nothing.
+    pub fn new(alloc: Global, deques: Deques) -> Worker<J, T>
+        ensures { result ≡ None }
+    {
+        Worker {
+            deques,
+            done: Vec::new(alloc),
+            fault: None,
+            start: PhantomData,
+        }
     }
-    let Some(pass) = shared.pass(rt, number) else {
-        return;
-    };
-    if worker.done.reserve(1).is_err() {
-        worker.fault = Some(PoolFault::Memory);
-        shared.stop(rt);
-        return;
-    }
-    match job.run(number, pass) {
-        Ok(out) => {
-            worker.done.push_reserved((number, out));
-            if shared.done(rt, &mut worker.own, number).is_err() {
-                worker.fault = Some(PoolFault::Memory);
+
+    /// Runs the job of a number that a deque held, if the board gives its pass. Room for the result
+    /// is made first, so that no result is lost.
+    fn run_one<R: Wait>(&mut self, rt: &R, shared: &Shared<'_, J, T>, number: u32) {
+        if shared.count <= number as usize {
+            return;
+        }
+        let Some(pass) = shared.pass(rt, number) else {
+            return;
+        };
+        if self.done.reserve(1).is_err() {
+            self.fault = Some(PoolFault::Memory);
+            shared.stop(rt);
+            return;
+        }
+        match shared.job.run(number, pass) {
+            Ok(out) => {
+                self.done.push_reserved((number, out));
+                if shared.done(rt, &mut self.deques.own, number).is_err() {
+                    self.fault = Some(PoolFault::Memory);
+                }
+            }
+            Err(fault) => {
+                self.fault = Some(PoolFault::Job(number, fault));
+                shared.stop(rt);
             }
         }
-        Err(fault) => {
-            worker.fault = Some(PoolFault::Job(number, fault));
-            shared.stop(rt);
+    }
+
+    /// Runs the jobs of the numbers that it finds until the run has ended.
+    fn run_all<R: Wait>(&mut self, rt: &R, shared: &Shared<'_, J, T>) {
+        for _ in rt.forever() {
+            let Some(read) = shared.puts(rt) else {
+                break;
+            };
+            match self.deques.find(rt) {
+                Some(number) => self.run_one(rt, shared, number),
+                None => shared.wait_past(rt, read),
+            }
         }
+    }
+
+    /// What it has done, and why it stopped the run, if it did.
+    pub fn into_parts(self) -> (Vec<(u32, J::Out)>, Option<PoolFault<J::Fault>>)
+        ensures answers { All (λ p. T.answers p.0 p.1) result.0.items }
+        ensures may_come { MayCome T.count T.fails result.1 }
+        ensures fault { result.1 ≡ self }
+    {
+        let Worker {
+            deques: _,
+            done,
+            fault,
+            start: _,
+        } = self;
+        (done, fault)
     }
 }
 
-/// Runs what numbers it finds until the run has ended.
-pub(crate) fn work<J: Job, R: Wait>(
-    rt: &R,
-    shared: &Shared,
-    job: &J,
-    count: usize,
-    worker: &mut Worker<J::Out, J::Fault>,
-)
-    requires { Worked count (J.answers job.now) (J.fails job.now) worker.old.done.items
-        worker.old.fault }
-    ensures { Worked count (J.answers job.now) (J.fails job.now) worker.new.done.items
-        worker.new.fault }
-{
-    for _ in rt.forever() {
-        let Some(read) = shared.puts(rt) else {
-            break;
-        };
-        match worker.find(rt) {
-            Some(number) => run_one(rt, shared, job, count, worker, number),
-            None => shared.wait_past(rt, read),
-        }
+/// Lets the workers work, each in a thread of its own as far as there are threads; the calling
+/// thread is one of them. All have ended when it returns.
+pub(crate) fn work_all<
+    J: Job,
+    T: RunStart<J::Out, J::Fault> + Send + Sync,
+    R: Threads + Wait + Sync,
+>(rt: &R, shared: &Shared<'_, J, T>, workers: &mut [Worker<J, T>]) {
+    let threads = workers.len();
+    if threads > 0 {
+        thread::for_each_mut(
+            rt,
+            workers,
+            threads,
+            &|_, worker: &mut Worker<J, T>| { worker.run_all(rt, shared) },
+        );
     }
 }
