@@ -83,6 +83,31 @@ fn predecessors_of_a_key_that_is_not_held(rt: HostRuntime) -> Result<(), Fail> {
     assert_listed(&rt, &[Image0], &[(Empty, &[Image0])])
 }
 
+/// Whether the store lists these samples under the sample's key.
+fn lists<G: GraphSource>(alloc: Global, store: &G, (sample, want): Listed) -> Result<bool, Fail> {
+    match store.successors(&sample.key(alloc)?)? {
+        Some(keys) => are_keys(alloc, &keys, want),
+        None => Ok(false),
+    }
+}
+
+/// An image lists its config and its layer, a layer lists nothing, and nothing is known of `bar`.
+fn assert_lists<R: AllocGlobal + Abort, G: GraphSource>(rt: &R, store: &G) -> Result<(), Fail> {
+    assert!(rt; lists(rt.alloc(), store, (Image2, &[Empty, Foo]))?);
+    assert!(rt; lists(rt.alloc(), store, (Foo, &[]))?);
+    let unknown = store.successors(&Bar.key(rt.alloc())?)?;
+    assert!(rt; unknown.is_none());
+    Ok(())
+}
+
+/// What held keys list, in an open and in a closed store.
+#[test]
+fn successors_of_held_keys(rt: HostRuntime) -> Result<(), Fail> {
+    let samples = [Empty, Foo, Image2];
+    assert_lists(&rt, &memory(rt.alloc(), &samples)?)?;
+    assert_lists(&rt, &closed(rt.alloc(), &samples)?)
+}
+
 /// A key and one that it lists, as text; nothing where there are none.
 fn pair(alloc: Global, keys: &Option<(Key, Key)>) -> Result<String, Fail> {
     match keys {

@@ -1,4 +1,5 @@
 mod reads;
+mod types;
 
 use crate::tests::manifests::reads::{
     ALL_KINDS, BAD, BAD_MANIFEST_0, DIGEST, EMPTY_LINE, EMPTY_MEDIA_TYPE, FORMS, GOOD, OF_BAR,

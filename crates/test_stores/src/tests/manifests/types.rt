@@ -1,0 +1,93 @@
+//! The types that manifests state of themselves.
+
+use oci_manifest::{Kind, artifact_type};
+use std::process::Abort;
+use std::test::Fail;
+
+/// A kind, the text of a manifest, and the type that it states.
+type Stated = (Kind, &'static str, Option<&'static str>);
+
+/// Two artifacts after the examples of OCI image-spec 1.1, manifest.md, "Guidelines for Artifact Usage", without their layers; a
+/// chart of Helm, an image of Docker, an index, and an artifact manifest.
+const STATED: [Stated; 6] = [
+    (
+        Kind::Image,
+        r#"{"schemaVersion":2,"artifactType":"application/vnd.example+type","config":{"mediaType":"application/vnd.oci.empty.v1+json","digest":"sha256:44136fa355b3678a1146ad16f7e8649e94fb4fc21fe77e8310c060f61caaff8a","size":2},"layers":[]}"#,
+        Some("application/vnd.example+type"),
+    ),
+    (
+        Kind::Image,
+        r#"{"schemaVersion":2,"config":{"mediaType":"application/vnd.example.config.v1+json","digest":"sha256:5891b5b522d5df086d0ff0b110fbd9d21bb4fc7163af34d08286a2e846f6be03","size":123},"artifactType":"application/vnd.example+type"}"#,
+        Some("application/vnd.example+type"),
+    ),
+    (
+        Kind::Image,
+        r#"{"schemaVersion":2,"config":{"mediaType":"application/vnd.cncf.helm.config.v1+json"},"layers":[]}"#,
+        Some("application/vnd.cncf.helm.config.v1+json"),
+    ),
+    (
+        Kind::DockerImage,
+        r#"{"config":{"mediaType":"application/vnd.docker.container.image.v1+json"}}"#,
+        Some("application/vnd.docker.container.image.v1+json"),
+    ),
+    (
+        Kind::Index,
+        r#"{"schemaVersion":2,"artifactType":"application/vnd.example+type","manifests":[]}"#,
+        Some("application/vnd.example+type"),
+    ),
+    (
+        Kind::Artifact,
+        r#"{"artifactType":"application/vnd.example.sbom.v1","blobs":[]}"#,
+        Some("application/vnd.example.sbom.v1"),
+    ),
+];
+
+/// An `artifactType` that is empty or no text is none. Only images have a config, a leaf is not looked at, and what is no JSON or no
+/// object states nothing.
+const NOT_STATED: [Stated; 9] = [
+    (
+        Kind::Image,
+        r#"{"artifactType":"","config":{"mediaType":"text/plain"}}"#,
+        Some("text/plain"),
+    ),
+    (
+        Kind::Image,
+        r#"{"artifactType":7,"config":{"mediaType":"text/plain"}}"#,
+        Some("text/plain"),
+    ),
+    (Kind::Image, r#"{"config":{"mediaType":""}}"#, None),
+    (Kind::Image, r#"{"layers":[]}"#, None),
+    (Kind::Image, "[]", None),
+    (Kind::Image, "{", None),
+    (
+        Kind::Index,
+        r#"{"artifactType":"","config":{"mediaType":"text/plain"}}"#,
+        None,
+    ),
+    (
+        Kind::Artifact,
+        r#"{"config":{"mediaType":"text/plain"}}"#,
+        None,
+    ),
+    (Kind::Leaf, r#"{"artifactType":"text/plain"}"#, None),
+];
+
+fn assert_stated<R: AllocGlobal + Abort>(rt: &R, (kind, text, want): Stated) -> Result<(), Fail> {
+    let stated = artifact_type(rt.alloc(), kind, text.as_bytes())?;
+    let got = stated.as_ref().map(String::as_str);
+    assert!(rt; got == want, "{text}");
+    Ok(())
+}
+
+fn assert_all<R: AllocGlobal + Abort>(rt: &R, rows: &[Stated]) -> Result<(), Fail> {
+    for row in rows {
+        assert_stated(rt, *row)?;
+    }
+    Ok(())
+}
+
+#[test]
+fn artifact_types(rt: HostRuntime) -> Result<(), Fail> {
+    assert_all(&rt, &STATED)?;
+    assert_all(&rt, &NOT_STATED)
+}
