@@ -32,6 +32,8 @@ pub(crate) enum LayoutStep<'a> {
     Resolve(&'a str),
     /// The keys that list a sample's key, each and a `;`.
     Holders(Sample),
+    /// The keys that a sample's key lists, each and a `;`, or `not held`.
+    Lists(Sample),
 }
 
 /// Takes a step with a layout, and returns what it tells.
@@ -51,6 +53,7 @@ pub(crate) fn with_layout<D: Dir>(
         LayoutStep::Fetch(sample) => fetch(alloc, layout, sample),
         LayoutStep::Resolve(reference) => resolve(alloc, layout, reference),
         LayoutStep::Holders(sample) => holders(alloc, layout, sample),
+        LayoutStep::Lists(sample) => lists(alloc, layout, sample),
     }
 }
 
@@ -199,4 +202,11 @@ fn listed(alloc: Global, keys: &[Key]) -> Result<String, Fail> {
 fn holders<A: GraphSource>(alloc: Global, layout: &A, sample: Sample) -> Result<String, Fail> {
     let keys = layout.predecessors(&sample.key(alloc)?)?;
     listed(alloc, &keys)
+}
+
+fn lists<A: GraphSource>(alloc: Global, layout: &A, sample: Sample) -> Result<String, Fail> {
+    match layout.successors(&sample.key(alloc)?)? {
+        Some(keys) => listed(alloc, &keys),
+        None => Ok(String::from_str(alloc, "not held")?),
+    }
 }

@@ -1,7 +1,9 @@
 //! Pushes that are refused, old files, and files that changed.
 
 use crate::tests::files::FileStep::{Put, Text};
-use crate::tests::layouts::LayoutStep::{Fetch, Held, Holders, Push, PushAs, PushUnder, Save, Tag};
+use crate::tests::layouts::LayoutStep::{
+    Fetch, Held, Holders, Lists, Push, PushAs, PushUnder, Save, Tag,
+};
 use crate::tests::steps::Step::{Create, In, Open, With};
 use crate::tests::steps::{Ground, Row, assert_run};
 use std::test::Fail;
@@ -29,6 +31,8 @@ const ONE_FILE: &[Row] = &[
     Row(With(PushAs(Image0, LAYER)), "place 2"),
     Row(With(Held), "held 3"),
     Row(With(Holders(Empty)), "<key Image0>;"),
+    Row(With(Lists(Image0)), "<key Empty>;"),
+    Row(With(Lists(Foo)), "not held"),
 ];
 
 #[test]
