@@ -46,7 +46,7 @@ abbrev pub is_fetch_memory : FetchFault → Bool
 is_fetch_memory fetch.Memory = true
 is_fetch_memory e = false
 
--- whether a fault is a memory error, at any depth
+-- whether a fault is a memory error, or has one in it
 abbrev pub is_memory : ProgramFault → Bool
 is_memory (fault.Push e) = is_push_memory e
 is_memory (fault.Copy e) = is_copy_memory e

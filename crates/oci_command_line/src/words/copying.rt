@@ -29,7 +29,7 @@ pub(crate) fn copy_command<'w>(
              that were asked for DST had before (`skipped`). On a terminal, a line shows how many blobs and \
              bytes have arrived.\n\n\
              Every blob is checked against its digest. A copy that is refused sets no tag in DST, and what \
-             DST had stays.",
+             DST had stays. Only if the output cannot be written (94), the copy is done and saved.",
         )
         .override_usage(
             "ocicp copy [OPTIONS] <SRC> <SRCREF> <DST> [DSTREF]\n       \

@@ -49,7 +49,8 @@ referrer. Blobs that DST has are not copied again. Creates DST if it is not a la
 size and the media type of what was copied, for each tag, and then how many blobs were planned and pushed, and how many of \
 those that were asked for DST had before (`skipped`). On a terminal, a line shows how many blobs and bytes have arrived.
 
-Every blob is checked against its digest. A copy that is refused sets no tag in DST, and what DST had stays.
+Every blob is checked against its digest. A copy that is refused sets no tag in DST, and what DST had stays. Only if the \
+output cannot be written (94), the copy is done and saved.
 
 Usage: ocicp copy [OPTIONS] <SRC> <SRCREF> <DST> [DSTREF]
        ocicp copy --all [OPTIONS] <SRC> <DST>
