@@ -2,10 +2,8 @@
 #![tactic(auto)]
 
 use anyhow::Error;
-use oci_copy::{Options, Report, copy};
+use oci_copy::{Key, NoHooks, Options, Report, copy};
 use oci_layout::{Dir, FolderLock, FsDir, Layout, LayoutFault};
-use oci_manifest::Key;
-use oci_pool::NoHooks;
 use std::sync::Wait;
 use std::thread::Threads;
 

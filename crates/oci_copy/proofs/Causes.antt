@@ -18,7 +18,8 @@ use Rattle.oci_plan.proofs.Items.{value_at-nodes_of}
 use Rattle.oci_copy.specs.declared.options.Options.{Options}
 use Rattle.oci_copy.specs.declared.fault.CopyFault.{CopyFault}
 use Rattle.oci_copy.specs.declared.fault.CopyFault.TheVariants as fault
-use Rattle.oci_copy.specs.Cause.{HasFailed, IsPushCause, IsTooEarly, IsStepCause, IsRunCause, IsStartCause, IsStillWanted, IsRefusal, IsFetchCause}
+use Rattle.oci_plan.specs.declared.fault.PlanFault.{PlanFault}
+use Rattle.oci_copy.specs.Cause.{HasFailed, IsTooEarly, IsStepCause, IsTurnCause, IsRefusal}
 use Rattle.oci_copy.specs.Fault.{IsStuck, IsOtherPush, ReportsPush}
 use Rattle.oci_copy.specs.Destination.{IsClosedWhenSkipping}
 use Rattle.oci_copy.specs.Grown.{graph_of}
@@ -73,68 +74,67 @@ module _ (source before now : State) (k : Descriptor) (bytes : List ℕ) (listed
   }
 
   push_cause : (e : PushFault) → Refused e (closed_check before.nodes k bytes) → (e ≡ push.Device → HasFailed before now) → (e ≡ push.Halted → before.is_halted) → IsOtherPush e
-      → IsPushCause source before now k e
+      → IsStepCause (HasFailed before now) source before k (fault.Push k e)
   push_cause push.AlreadyExists refused device halt other = absurd other
   push_cause push.SizeMismatch refused device halt other = let it = only size_mismatch refused in cc (it.2)
   push_cause push.DigestMismatch refused device halt other = let it = only digest_mismatch refused in cc (it.2)
   push_cause (push.BadManifest m) refused device halt other = let it = only (bad_manifest refused.0) refused.1 in cc (it.2)
   push_cause push.Memory refused device halt other = absurd other
   push_cause (push.MissingSuccessor m) refused device halt other = absurd other
-  push_cause push.Device refused device halt other = device refl
-  push_cause push.Halted refused device halt other = halt refl
+  push_cause push.Device refused device halt other = (refl, device refl)
+  push_cause push.Halted refused device halt other = (refl, halt refl)
 
   stuck_cause : (e : PushFault) → Refused e (closed_check before.nodes k bytes) → IsStuck e → IsTooEarly source now k
   stuck_cause push.AlreadyExists refused stuck = let it = only already_exists refused in cc (it.2)
   stuck_cause (push.MissingSuccessor m) refused stuck = let it = only (missing_successor m) refused in too_early it.0 it.1
   stuck_cause other refused stuck = absurd stuck
 
+  lacks : has_key now.nodes k ≡ false
+  lacks = subst (λ (graph : List Node). has_key graph k ≡ false) (sym same) fresh
+
   -- what a refused push is reported as has its cause
-  pub step_cause : (e : PushFault) (reported : CopyFault) → Refused e (closed_check before.nodes k bytes) → (e ≡ push.Device → HasFailed before now) → (e ≡ push.Halted → before.is_halted)
-      → ReportsPush k e reported → IsStepCause source before now k reported
-  step_cause e (fault.Push named t) refused device halt tells = (tells.0, subst (IsPushCause source before now k) (sym tells.1) (push_cause e refused device halt tells.2))
-  step_cause e (fault.Stuck named) refused device halt tells = (tells.0, stuck_cause e refused tells.1)
-  step_cause e fault.Memory refused device halt tells = tt
-  step_cause e other refused device halt tells = absurd tells
+  pub turn_cause : (e : PushFault) (reported : CopyFault) → Refused e (closed_check before.nodes k bytes) → (e ≡ push.Device → HasFailed before now) → (e ≡ push.Halted → before.is_halted)
+      → ReportsPush k e reported → IsTurnCause now source before k reported
+  turn_cause e (fault.Push named t) refused device halt tells = (
+    lacks,
+    inl (let is : fault.Push named t ≡ fault.Push k e = rw (tells.0, tells.1) refl in subst (λ (f : CopyFault). IsStepCause (HasFailed before now) source before k f) (sym is) (push_cause e refused device halt tells.2)),
+  )
+  turn_cause e (fault.Stuck named) refused device halt tells = (lacks, inr (ap (λ (d : Descriptor). fault.Stuck d) tells.0, stuck_cause e refused tells.1))
+  turn_cause e fault.Memory refused device halt tells = (lacks, inl tt)
+  turn_cause e other refused device halt tells = absurd tells
 
 -- a cause at one key's turn is a cause since an earlier opening
-pub step_earlier : (source opening before now : State) (k : Descriptor) (reported : CopyFault) → (before.is_halted → opening.is_halted) → opening.failures ≤ before.failures
-    → IsStepCause source before now k reported → IsStepCause source opening now k reported
-step_earlier source opening before now k reported halts earlier cause = go reported cause
+pub turn_earlier : (source opening before now : State) (k : Descriptor) (reported : CopyFault) → (before.is_halted → opening.is_halted) → opening.failures ≤ before.failures
+    → IsTurnCause now source before k reported → IsTurnCause now source opening k reported
+turn_earlier source opening before now k reported halts earlier cause = (cause.0, elim cause.1 [ inl step ↦ inl (go reported step) | inr early ↦ inr early ])
   where
-    weaker : (e : PushFault) → IsPushCause source before now k e → IsPushCause source opening now k e
-    weaker (push.BadManifest m) h = h
-    weaker push.Device h = elim h [ inl rose ↦ inl (omega arith) | inr most ↦ inr most ]
-    weaker push.Halted h = halts h
-    weaker other h = absurd h
+    go : (t : CopyFault) → IsStepCause (HasFailed before now) source before k t → IsStepCause (HasFailed opening now) source opening k t
+    go (fault.Push named push.Device) h = (h.0, elim h.1 [ inl rose ↦ inl (omega arith) | inr most ↦ inr most ])
+    go (fault.Push named push.Halted) h = (h.0, halts h.1)
+    go other h = h
 
-    go : (t : CopyFault) → IsStepCause source before now k t → IsStepCause source opening now k t
-    go (fault.Fetch named e) h = h
-    go (fault.Push named e) h = (h.0, weaker e h.1)
-    go (fault.Stuck named) h = h
-    go fault.Memory h = tt
-    go other h = absurd h
+-- why a copy is refused once it has a plan, by a step that is refused for nothing that comes before it
+pub refused_in_run : {source : State} {options : Options} {opening : State} {roots : List Descriptor} {p : Planned} (step : State → State → Descriptor → CopyFault → Type 0)
+    → ((k holder missing : Descriptor) → step source opening k (fault.DestinationOpen holder missing) → ⊥) → ((k : Descriptor) (e : PlanFault) → step source opening k (fault.Plan e) → ⊥)
+    → (reported : CopyFault) → IsPlanOf source options opening roots p → IsClosedWhenSkipping options.existing opening.nodes → (k : Descriptor) → Contains p.keys k
+    → step source opening k reported → IsRefusal step options source opening roots reported
+refused_in_run step opens plans (fault.DestinationOpen holder missing) plan closed k there cause = absurd (opens k holder missing cause)
+refused_in_run step opens plans (fault.Plan e) plan closed k there cause = absurd (plans k e cause)
+refused_in_run step opens plans fault.Memory plan closed k there cause = tt
+refused_in_run step opens plans other plan closed k there cause = (closed, (k, λ h. (plan.outside h k).0 there, cause))
 
--- why a copy is refused once it has a plan
-pub refused_in_run : {source : State} {options : Options} {opening : State} {roots : List Descriptor} {p : Planned} (now : State) (reported : CopyFault) → IsPlanOf source options opening roots p
-    → IsClosedWhenSkipping options.existing opening.nodes → IsRunCause source opening now p.keys reported → IsRefusal options source opening roots now reported
-refused_in_run {source} {options} {opening} {roots} {p} now reported plan closed cause = go reported cause.3
-  where
-    wanted : (named : Descriptor) → named ≡ cause.0 → IsStillWanted options.existing source opening roots now named
-    wanted named same = (
-      λ h. (plan.outside h named).0 (subst (Contains p.keys) (sym same) cause.1),
-      subst (λ (d : Descriptor). has_key now.nodes d ≡ false) (sym same) cause.2,
-    )
-
-    go : (t : CopyFault) → IsStepCause source opening now cause.0 t → IsRefusal options source opening roots now t
-    go (fault.Fetch k e) h = (closed, wanted k h.0, subst (λ (d : Descriptor). IsFetchCause source d e) (sym h.0) h.1)
-    go (fault.Push k e) h = (closed, wanted k h.0, subst (λ (d : Descriptor). IsPushCause source opening now d e) (sym h.0) h.1)
-    go (fault.Stuck k) h = (closed, wanted k h.0, subst (IsTooEarly source now) (sym h.0) h.1)
-    go fault.Memory h = tt
-    go other h = absurd h
+-- why a copy on one thread is refused once it has a plan
+pub refused_at_turn : {source : State} {options : Options} {opening : State} {roots : List Descriptor} {p : Planned} (now : State) (reported : CopyFault) → IsPlanOf source options opening roots p
+    → IsClosedWhenSkipping options.existing opening.nodes → (k : Descriptor) → Contains p.keys k → IsTurnCause now source opening k reported
+    → IsRefusal (IsTurnCause now) options source opening roots reported
+refused_at_turn now = refused_in_run (IsTurnCause now)
+    (λ k holder missing cause. elim cause.1 [ inl never ↦ never | inr early ↦ (let no = early.0 in cc no) ])
+    (λ k e cause. elim cause.1 [ inl never ↦ never | inr early ↦ (let no = early.0 in cc no) ])
 
 -- why a copy is refused that has none
-pub refused_at_start : (options : Options) (source opening : State) (roots : List Descriptor) (now : State) (reported : CopyFault) → IsStartCause options source opening roots reported → IsRefusal options source opening roots now reported
-refused_at_start options source opening roots now (fault.DestinationOpen holder missing) cause = cause
-refused_at_start options source opening roots now (fault.Plan e) cause = cause
-refused_at_start options source opening roots now fault.Memory cause = tt
-refused_at_start options source opening roots now other cause = absurd cause
+pub refused_at_start : (step : State → State → Descriptor → CopyFault → Type 0) (options : Options) (source opening : State) (roots : List Descriptor) (reported : CopyFault)
+    → IsRefusal (λ (s o : State) (k : Descriptor) (e : CopyFault). ⊥) options source opening roots reported → IsRefusal step options source opening roots reported
+refused_at_start step options source opening roots (fault.DestinationOpen holder missing) cause = cause
+refused_at_start step options source opening roots (fault.Plan e) cause = cause
+refused_at_start step options source opening roots fault.Memory cause = tt
+refused_at_start step options source opening roots other cause = absurd (cause.1.2)

@@ -1,10 +1,10 @@
 -- What is done to bring one planned key.
-use Rattle.std.proofs.Common.{◌≡◌, ℕ, List, [], ◌∷◌, Ok, Err, Some, inl, inr, ap, ◌∙◌}
+use Rattle.std.proofs.Common.{◌≡◌, ℕ, false, List, [], ◌∷◌, Ok, Err, Some, inl, inr, ap, sym, subst, ◌∙◌}
 use Rattle.std.specs.Map.{keys_of}
 use Rattle.oci_manifest.specs.Descriptor.{Descriptor}
 use Rattle.oci_store.specs.Content.{IsChecked}
-use Rattle.oci_store.specs.Graph.{node_of}
-use Rattle.oci_store.specs.Keyed.{value_at}
+use Rattle.oci_store.specs.Graph.{Node, node_of}
+use Rattle.oci_store.specs.Keyed.{value_at, has_key}
 use Rattle.oci_store.specs.Parts.{IsLostPush}
 use Rattle.oci_store.specs.Push.{IsPush}
 use Rattle.oci_store.specs.State.{State}
@@ -13,8 +13,8 @@ use Rattle.oci_copy.specs.Brought.{CanBring, IsBrought}
 use Rattle.oci_copy.specs.Cause.{HasFailed}
 use Rattle.oci_copy.specs.Fault.{ReportsPush}
 use Rattle.oci_copy.specs.declared.fault.CopyFault.{CopyFault}
-use Rattle.oci_copy.proofs.Causes.{step_cause, HasFailed-raised}
-use Rattle.oci_copy.proofs.Workers.{keys_of-append, work_from_lost, step_from_work}
+use Rattle.oci_copy.proofs.Causes.{turn_cause, HasFailed-raised}
+use Rattle.oci_copy.proofs.Workers.{keys_of-append, step_from_lost}
 
 -- content of the key is pushed that was checked, and is the source's where that is honest
 module _ {X : Type 0} {shares : Type 0} {source old new : State} {k : Descriptor} {bytes : List ℕ} {listed : List Descriptor}
@@ -31,7 +31,7 @@ module _ {X : Type 0} {shares : Type 0} {source old new : State} {k : Descriptor
   refused {e = e} {reported = reported} did tells = record {
     pushed = tt;
     refused = did.keys.refused;
-    cause = step_cause source old new k bytes listed can.fresh checked own can.ready did.keys.refused e reported did.keys.checked
+    cause = turn_cause source old new k bytes listed can.fresh checked own can.ready did.keys.refused e reported did.keys.checked
         (λ same. HasFailed-raised old new (did.device (cc))) (λ same. did.halted (cc)) tells;
     running = tt;
   }
@@ -42,7 +42,10 @@ pub refused_lost : {X : Type 0} {source old new : State} {k : Descriptor} {e : P
 refused_lost {source = source} {old = old} {new = new} {k = k} {e = e} {reported = reported} can did tells = record {
   pushed = tt;
   refused = did.keys.same;
-  cause = step_from_work source old new k reported (work_from_lost (HasFailed old new) source old old.nodes k can.fresh e reported did.keys.checked
-      (λ same. HasFailed-raised old new (did.device (cc))) (λ same. did.halted (cc)) tells);
+  cause = (
+    subst (λ (graph : List Node). has_key graph k ≡ false) (sym did.keys.same) can.fresh,
+    inl (step_from_lost (HasFailed old new) source old old.nodes k can.fresh e reported did.keys.checked
+        (λ same. HasFailed-raised old new (did.device (cc))) (λ same. did.halted (cc)) tells),
+  );
   running = tt;
 }

@@ -7,10 +7,10 @@ use Rattle.oci_store.specs.Graph.{Node}
 use Rattle.oci_store.specs.Keyed.{has_key, HasAll}
 use Rattle.oci_store.specs.State.{State}
 use Rattle.oci_plan.specs.Up.{IsUp}
-use Rattle.oci_copy.specs.Extended.{AreRootsOf, AreRootsOfReference, RefusedExtended}
+use Rattle.oci_copy.specs.Cause.{RefusedAt, RefusedByWorkers}
+use Rattle.oci_copy.specs.Extended.{AreRootsOf, AreRootsOfReference}
 use Rattle.oci_copy.specs.Tagged.{ResolvesIn}
 use Rattle.oci_copy.specs.declared.fault.CopyFault.{CopyFault}
-use Rattle.oci_copy.specs.declared.fault.CopyFault.TheVariants as fault
 
 -- the key is one of the roots
 key_is_up : {graph : List Node} {k : Descriptor} {depth : ℕ} {roots : List Descriptor} → IsUp graph k depth roots → Contains roots k
@@ -24,16 +24,8 @@ pub roots_of_reference : (source : State) (name : List ℕ) (k : Descriptor) (de
 roots_of_reference source name k depth roots (inl none) found = inl none
 roots_of_reference source name k depth roots (inr up) found = inr (k, found, up)
 
-module _ (source : State) (k : Descriptor) (depth : ℕ) (cause : List Descriptor → CopyFault → Type 0) where
-  -- a refused copy from the roots, where two of the causes do not ask for roots
-  pub refused_from_roots : (roots : List Descriptor) (e : CopyFault) → IsUp source.nodes k depth roots → (cause roots fault.BadWorkers → cause [] fault.BadWorkers)
-      → ((holder missing : Descriptor) → cause roots (fault.DestinationOpen holder missing) → cause [] (fault.DestinationOpen holder missing)) → cause roots e → RefusedExtended source k depth cause e
-  refused_from_roots roots (fault.DestinationOpen holder missing) up workers opened h = opened holder missing h
-  refused_from_roots roots (fault.Plan p) up workers opened h = (roots, up, h)
-  refused_from_roots roots (fault.Push at p) up workers opened h = (roots, up, h)
-  refused_from_roots roots (fault.Stuck at) up workers opened h = (roots, up, h)
-  refused_from_roots roots (fault.Incomplete at) up workers opened h = (roots, up, h)
-  refused_from_roots roots fault.BadWorkers up workers opened h = workers h
-  refused_from_roots roots fault.Memory up workers opened h = tt
-  refused_from_roots roots (fault.Reference r) up workers opened h = (roots, up, h)
-  refused_from_roots roots (fault.Fetch at f) up workers opened h = (roots, up, h)
+-- a copy by workers from one of several is refused at one of them
+pub refused_at : {X : Type 0} (these : X → Type 0) (cause : X → CopyFault → Type 0) (workers : ℕ) (x : X) (e : CopyFault) → these x → RefusedByWorkers workers (cause x) e
+    → RefusedByWorkers workers (RefusedAt these cause) e
+refused_at these cause workers x e there (inl many) = inl many
+refused_at these cause workers x e there (inr it) = inr (it.0, inr (x, there, it.1))

@@ -1,5 +1,5 @@
 -- Why a copy is refused where neither store fails.
-use Rattle.std.proofs.Common.{inl, inr, List, refl, sym, ◌∙◌, arith}
+use Rattle.std.proofs.Common.{◌≡◌, inl, inr, List, refl, sym, ◌∙◌, arith}
 use Rattle.std.specs.Prelude.{IsOk}
 use Rattle.std.proofs.lemmas.Bool.{false≢true, false_from_ne_true}
 use Rattle.oci_manifest.specs.Descriptor.{Descriptor}
@@ -8,7 +8,6 @@ use Rattle.oci_store.specs.Content.{Entry, IsContent, succ_of}
 use Rattle.oci_store.specs.Contents.{Contents}
 use Rattle.oci_store.specs.Graph.{nodes_of}
 use Rattle.oci_store.specs.State.{State, in_memory}
-use Rattle.oci_store.specs.declared.fault.PushFault.{PushFault}
 use Rattle.oci_store.specs.declared.fault.PushFault.TheVariants as push
 use Rattle.oci_plan.specs.declared.existing.Existing.{Existing}
 use Rattle.oci_store.proofs.Lookups.{All-value_at}
@@ -17,15 +16,15 @@ use Rattle.oci_plan.specs.declared.fault.PlanFault.TheVariants as plan
 use Rattle.oci_copy.specs.declared.options.Options.{Options}
 use Rattle.oci_copy.specs.declared.fault.CopyFault.{CopyFault}
 use Rattle.oci_copy.specs.declared.fault.CopyFault.TheVariants as fault
-use Rattle.oci_copy.specs.Cause.{IsPlanCause, IsPushCause, IsRefusal}
+use Rattle.oci_copy.specs.Cause.{HasFailed, IsPlanCause, IsStepCause, IsTurnCause, IsRefusal}
 use Rattle.oci_copy.specs.Destination.{IsClosedWhenSkipping}
 use Rattle.oci_copy.specs.Grown.{HasKnownBytes}
 use Rattle.oci_copy.proofs.Causes.{not_err}
 use Rattle.oci_copy.proofs.Destinations.{closed_not_refused}
-use Rattle.oci_copy.specs.Plain.{IsUnfailing, NotPlanned, RefusedForPlan}
+use Rattle.oci_copy.specs.Plain.{IsUnfailing, RefusedForPlan}
 
 module _ (options : Options) {source opening now : State} (unfailing : IsUnfailing options.existing source opening now) where
-  pub not_planned : (roots : List Descriptor) (e : PlanFault) → IsPlanCause source options opening roots e → NotPlanned source.entries options opening.nodes roots e
+  pub not_planned : (roots : List Descriptor) (e : PlanFault) → IsPlanCause source options opening roots e → RefusedForPlan source.entries options opening.nodes roots (fault.Plan e)
   not_planned roots (plan.NotFound k) cause = (cause.first unfailing.is_honest, cause.named.1, false_from_ne_true (has_key opening.nodes k) (λ held. cause.spared (held, cause.named.1)))
   not_planned roots (plan.TooLarge k l) cause = (cause.first unfailing.is_honest, cause.named.0, cause.named.1, cause.spared)
   not_planned roots (plan.Cycle keys) cause = cause.first unfailing.is_honest
@@ -34,23 +33,39 @@ module _ (options : Options) {source opening now : State} (unfailing : IsUnfaili
       let reads = All-value_at (λ (e : Entry). IsOk (succ_of e.0 e.1)) source.entries k unread.bytes unfailing.content.readable (unread.own unfailing.is_honest) in
       absurd (not_err (succ_of k unread.bytes) unread.cause unread.breaks reads)
   not_planned roots (plan.Fetch k e) cause = absurd (false≢true (sym (unfailing.gives k) ∙ cause.named.3))
-  not_planned roots plan.Memory cause = absurd cause.refusal
+  not_planned roots plan.Memory cause = absurd (cause.refusal refl)
   not_planned roots plan.TooMany cause = cause.first unfailing.is_honest
 
-  not_refused : (k : Descriptor) (e : PushFault) → IsPushCause source opening now k e → ⊥
-  not_refused k (push.BadManifest m) cause = cause.1 unfailing.is_honest
-  not_refused k push.Device cause = let none = unfailing.no_failures in elim cause [ inl rose ↦ omega arith | inr most ↦ omega arith ]
-  not_refused k push.Halted cause = unfailing.takes cause
-  not_refused k other cause = cause
+  -- a step fails for a memory error alone
+  pub step_for_memory : (failed : Type 0) → (failed → ⊥) → (k : Descriptor) (e : CopyFault) → IsStepCause failed source opening k e → e ≡ fault.Memory
+  step_for_memory failed none k (fault.Fetch named e) cause = absurd (false≢true (sym (unfailing.gives k) ∙ cause.1))
+  step_for_memory failed none k (fault.Push named (push.BadManifest e)) cause = absurd (cause.2 unfailing.is_honest)
+  step_for_memory failed none k (fault.Push named push.Device) cause = absurd (none cause.1)
+  step_for_memory failed none k (fault.Push named push.Halted) cause = absurd (unfailing.takes cause.1)
+  step_for_memory failed none k fault.Memory cause = refl
+  step_for_memory failed none k other cause = absurd cause
 
-  pub refused_for_plan : (roots : List Descriptor) (reported : CopyFault) → IsRefusal options source opening roots now reported → RefusedForPlan source.entries options opening.nodes roots reported
-  refused_for_plan roots (fault.DestinationOpen holder missing) cause = absurd (closed_not_refused options.existing opening.nodes holder missing unfailing.closed cause)
-  refused_for_plan roots (fault.Plan e) cause = not_planned roots e cause.1
-  refused_for_plan roots (fault.Fetch k e) cause = absurd (false≢true (sym (unfailing.gives k) ∙ cause.2.0))
-  refused_for_plan roots (fault.Push k e) cause = absurd (not_refused k e cause.2)
-  refused_for_plan roots (fault.Stuck k) cause = absurd (cause.2.dishonest unfailing.is_honest)
-  refused_for_plan roots fault.Memory cause = tt
-  refused_for_plan roots other cause = absurd cause
+  turn_for_memory : (k : Descriptor) (e : CopyFault) → IsTurnCause now source opening k e → e ≡ fault.Memory
+  turn_for_memory k e cause = elim cause.1 [
+    | inl step ↦ step_for_memory (HasFailed opening now) (λ failed. let none = unfailing.no_failures in elim failed [ inl rose ↦ omega arith | inr most ↦ omega arith ]) k e step
+    | inr early ↦ absurd (early.1.dishonest unfailing.is_honest)
+  ]
+
+  -- so a copy is refused for its plan, or for a memory error
+  pub refused_for_plan : (step : State → State → Descriptor → CopyFault → Type 0) → ((k : Descriptor) (e : CopyFault) → step source opening k e → e ≡ fault.Memory)
+      → (roots : List Descriptor) (reported : CopyFault) → IsRefusal step options source opening roots reported → RefusedForPlan source.entries options opening.nodes roots reported
+  refused_for_plan step only roots (fault.DestinationOpen holder missing) cause = absurd (closed_not_refused options.existing opening.nodes holder missing unfailing.closed cause)
+  refused_for_plan step only roots (fault.Plan e) cause = not_planned roots e cause.1
+  refused_for_plan step only roots (fault.Fetch k e) cause = let no = only cause.1.0 (fault.Fetch k e) cause.1.2 in cc no
+  refused_for_plan step only roots (fault.Push k e) cause = let no = only cause.1.0 (fault.Push k e) cause.1.2 in cc no
+  refused_for_plan step only roots (fault.Stuck k) cause = let no = only cause.1.0 (fault.Stuck k) cause.1.2 in cc no
+  refused_for_plan step only roots (fault.Incomplete k) cause = let no = only cause.1.0 (fault.Incomplete k) cause.1.2 in cc no
+  refused_for_plan step only roots fault.BadWorkers cause = let no = only cause.1.0 fault.BadWorkers cause.1.2 in cc no
+  refused_for_plan step only roots (fault.Reference e) cause = let no = only cause.1.0 (fault.Reference e) cause.1.2 in cc no
+  refused_for_plan step only roots fault.Memory cause = tt
+
+  pub refused_alone : (roots : List Descriptor) (reported : CopyFault) → IsRefusal (IsTurnCause now) options source opening roots reported → RefusedForPlan source.entries options opening.nodes roots reported
+  refused_alone = refused_for_plan (IsTurnCause now) turn_for_memory
 
 -- neither store in memory fails
 pub unfailing_in_memory : (existing : Existing) (source opening now : Contents) → IsContent source.entries → IsClosedWhenSkipping existing (nodes_of opening.entries)

@@ -4,7 +4,7 @@ use Rattle.std.specs.Prelude.{◌↔◌, Contains, IfErr, IsErrOf, IsSomeAnd, sl
 use Rattle.std.specs.List.{All, IsDistinct}
 use Rattle.std.specs.Map.{keys_of}
 use Rattle.std.specs.Result.{result_unwrap_or}
-use Rattle.std.proofs.lemmas.Bool.{false≢true}
+use Rattle.std.proofs.lemmas.Bool.{false≢true, cases_lt}
 use Rattle.std.proofs.lemmas.List.Elements.{All-contains, Contains-push}
 use Rattle.std.proofs.lemmas.Map.Made.{is_member-Decides, length-le_from_is_member}
 use Rattle.oci_manifest.specs.Descriptor.{Descriptor, same_key}
@@ -16,27 +16,27 @@ use Rattle.oci_store.specs.Content.{IsChecked, successors_in}
 use Rattle.oci_store.specs.Graph.{Node}
 use Rattle.oci_store.specs.Parts.{leaf_check}
 use Rattle.oci_store.specs.State.{State}
-use Rattle.oci_store.specs.Push.{Refusal, Refused, closed_check, held_check, already_exists, size_mismatch, digest_mismatch, bad_manifest, missing_successor}
+use Rattle.oci_store.specs.Push.{IsRaised, Refusal, Refused, closed_check, held_check, already_exists, size_mismatch, digest_mismatch, bad_manifest, missing_successor}
 use Rattle.oci_store.specs.declared.fault.PushFault.{PushFault}
 use Rattle.oci_store.specs.declared.fault.PushFault.TheVariants as push
 use Rattle.oci_store.proofs.KeyOrder.{same_key_laws}
 use Rattle.oci_store.proofs.Leaves.{leaf_check-fresh}
 use Rattle.oci_store.proofs.Lookups.{found, has_key-from_value, All-value_at, value_at-append_cases, has_key-from_Contains, Contains-from_has_key, has_key-from_HasAll, first_missing-from_HasAll}
 use Rattle.oci_plan.specs.Plan.{Planned}
+use Rattle.oci_plan.specs.Refusal.{IsUnread}
 use Rattle.oci_copy.specs.declared.options.Options.{Options}
 use Rattle.oci_copy.specs.declared.fault.CopyFault.{CopyFault}
 use Rattle.oci_copy.specs.declared.fault.CopyFault.TheVariants as fault
-use Rattle.oci_copy.specs.Cause.{HasFailed, IsFetchCause, IsContentCause, IsReadCause, IsPushCauseIf, IsStepCause, IsStartCause}
+use Rattle.oci_copy.specs.Cause.{CanFail, IsContentCause, IsStepCause, RefusedAt, IsRefusal, RefusedByWorkers}
 use Rattle.oci_copy.specs.Fault.{ReportsPush, IsStuck, IsOtherPush}
 use Rattle.oci_copy.specs.Destination.{IsClosedWhenSkipping}
-use Rattle.oci_copy.specs.Kept.{Keeps}
-use Rattle.oci_copy.specs.Plain.{IsUnfailing}
+use Rattle.oci_copy.specs.Kept.{IsNoted, Keeps}
+use Rattle.oci_copy.specs.Plain.{IsUnfailing, RefusedForPlan}
 use Rattle.oci_copy.specs.Planned.{IsPlanOf}
-use Rattle.oci_copy.specs.Work.{IsNoted, CanFail, IsWorkCause, IsJobCause, IsStopCause, IsReportedHalt, IsRefusalToWorkers, RefusedForPlanOrWorkers}
+use Rattle.oci_copy.proofs.Causes.{refused_in_run}
 use Rattle.oci_copy.proofs.Checks.{closed_check-read}
-use Rattle.oci_copy.proofs.Destinations.{closed_not_refused}
 use Rattle.oci_copy.proofs.Places.{Contains-from_slice_get}
-use Rattle.oci_copy.proofs.Unfailing.{not_planned}
+use Rattle.oci_copy.proofs.Unfailing.{refused_for_plan, step_for_memory}
 
 pub keys_of-append : {X : Type 0} (a b : List (Descriptor × X)) → keys_of (a ++ b) ≡ keys_of a ++ keys_of b
 keys_of-append [] b = refl
@@ -87,10 +87,6 @@ as_many_pushed {planned = planned} {opening = opening} {now = now} keeps distinc
           | inr new ↦ Contains-from_has_key keeps.added k (has_key-from_value keeps.added k it.0 new)
         ]
 
--- a memory error is reported as it is
-pub reported_memory : (pushed reported : Result ℕ PushFault) (ran_out : Bool) → IsReportedHalt pushed ran_out reported → IsErrOf pushed push.Memory → IsErrOf reported push.Memory
-reported_memory pushed reported ran_out tells memory = let it : IsReportedHalt (Err push.Memory) ran_out reported = subst (λ (r : Result ℕ PushFault). IsReportedHalt r ran_out reported) memory tells in it
-
 module _ (failed : Type 0) (source opening : State) (k : Descriptor) (check : Result (List Descriptor) Refusal) (listed : List Descriptor) (passes : check ≡ Ok listed) where
   no_cause : (r : Refusal) → check ≡ Err r → ⊥
   no_cause r e = let both : Ok listed ≡ Err r = sym passes ∙ e in cc both
@@ -100,46 +96,40 @@ module _ (failed : Type 0) (source opening : State) (k : Descriptor) (check : Re
   stuck (push.MissingSuccessor m) refused is = no_cause (missing_successor m) refused
   stuck other refused is = is
 
-  lock_cause : (e : PushFault) → Refused e check → (e ≡ push.Device → failed) → (e ≡ push.Halted → opening.is_halted) → IsOtherPush e → IsPushCauseIf failed source opening k e
-  lock_cause push.AlreadyExists refused device halt other = other
-  lock_cause push.SizeMismatch refused device halt other = no_cause size_mismatch refused
-  lock_cause push.DigestMismatch refused device halt other = no_cause digest_mismatch refused
-  lock_cause (push.BadManifest m) refused device halt other = absurd (no_cause (bad_manifest refused.0) refused.1)
-  lock_cause push.Memory refused device halt other = other
-  lock_cause (push.MissingSuccessor m) refused device halt other = other
-  lock_cause push.Device refused device halt other = device refl
-  lock_cause push.Halted refused device halt other = halt refl
+  push_cause : (e : PushFault) → Refused e check → (e ≡ push.Device → failed) → (e ≡ push.Halted → opening.is_halted) → IsOtherPush e → IsStepCause failed source opening k (fault.Push k e)
+  push_cause push.AlreadyExists refused device halt other = absurd other
+  push_cause push.SizeMismatch refused device halt other = absurd (no_cause size_mismatch refused)
+  push_cause push.DigestMismatch refused device halt other = absurd (no_cause digest_mismatch refused)
+  push_cause (push.BadManifest m) refused device halt other = absurd (no_cause (bad_manifest refused.0) refused.1)
+  push_cause push.Memory refused device halt other = absurd other
+  push_cause (push.MissingSuccessor m) refused device halt other = absurd other
+  push_cause push.Device refused device halt other = (refl, device refl)
+  push_cause push.Halted refused device halt other = (refl, halt refl)
 
   -- why a push is refused that its check lets through
-  work_from_passed : (e : PushFault) (reported : CopyFault) → Refused e check → (e ≡ push.Device → failed) → (e ≡ push.Halted → opening.is_halted) → ReportsPush k e reported
-      → IsWorkCause failed source opening k reported
-  work_from_passed e (fault.Push named t) refused device halt tells = (tells.0, subst (IsPushCauseIf failed source opening k) (sym tells.1) (lock_cause e refused device halt tells.2))
-  work_from_passed e (fault.Stuck named) refused device halt tells = absurd (stuck e refused tells.1)
-  work_from_passed e fault.Memory refused device halt tells = tt
-  work_from_passed e other refused device halt tells = absurd tells
+  step_from_passed : (e : PushFault) (reported : CopyFault) → Refused e check → (e ≡ push.Device → failed) → (e ≡ push.Halted → opening.is_halted) → ReportsPush k e reported
+      → IsStepCause failed source opening k reported
+  step_from_passed e (fault.Push named t) refused device halt tells =
+      let is : fault.Push named t ≡ fault.Push k e = rw (tells.0, tells.1) refl in subst (λ (f : CopyFault). IsStepCause failed source opening k f) (sym is) (push_cause e refused device halt tells.2)
+  step_from_passed e (fault.Stuck named) refused device halt tells = absurd (stuck e refused tells.1)
+  step_from_passed e fault.Memory refused device halt tells = tt
+  step_from_passed e other refused device halt tells = absurd tells
 
 -- why a push under the lock is refused, once all that the content lists is held
-pub work_from_push : (failed : Type 0) (source opening : State) (graph : List Node) (k : Descriptor) (bytes : List ℕ) (listed : List Descriptor)
+pub step_from_push : (failed : Type 0) (source opening : State) (graph : List Node) (k : Descriptor) (bytes : List ℕ) (listed : List Descriptor)
     → has_key graph k ≡ false → IsChecked k bytes listed → HasAll graph (successors_in k bytes)
     → (e : PushFault) (reported : CopyFault) → Refused e (closed_check graph k bytes) → (e ≡ push.Device → failed) → (e ≡ push.Halted → opening.is_halted) → ReportsPush k e reported
-    → IsWorkCause failed source opening k reported
-work_from_push failed source opening graph k bytes listed fresh checked held =
+    → IsStepCause failed source opening k reported
+step_from_push failed source opening graph k bytes listed fresh checked held =
     let all : HasAll graph listed = subst (HasAll graph) (ap (λ (r : Result (List Descriptor) Fault). result_unwrap_or r []) checked.reads) held in
-    work_from_passed failed source opening k (closed_check graph k bytes) listed
+    step_from_passed failed source opening k (closed_check graph k bytes) listed
     (closed_check-read graph k bytes listed fresh checked ∙ ap (held_check listed) (first_missing-from_HasAll graph listed all))
 
 -- and one of a lost draft
-pub work_from_lost : (failed : Type 0) (source opening : State) (graph : List Node) (k : Descriptor) → has_key graph k ≡ false
+pub step_from_lost : (failed : Type 0) (source opening : State) (graph : List Node) (k : Descriptor) → has_key graph k ≡ false
     → (e : PushFault) (reported : CopyFault) → Refused e (leaf_check graph k) → (e ≡ push.Device → failed) → (e ≡ push.Halted → opening.is_halted) → ReportsPush k e reported
-    → IsWorkCause failed source opening k reported
-work_from_lost failed source opening graph k fresh = work_from_passed failed source opening k (leaf_check graph k) [] (leaf_check-fresh graph k fresh)
-
--- a worker's cause is one at the key's turn, where the failed put is counted
-pub step_from_work : (source before now : State) (k : Descriptor) (reported : CopyFault) → IsWorkCause (HasFailed before now) source before k reported → IsStepCause source before now k reported
-step_from_work source before now k (fault.Fetch named e) cause = cause
-step_from_work source before now k (fault.Push named e) cause = cause
-step_from_work source before now k fault.Memory cause = tt
-step_from_work source before now k other cause = absurd cause
+    → IsStepCause failed source opening k reported
+step_from_lost failed source opening graph k fresh = step_from_passed failed source opening k (leaf_check graph k) [] (leaf_check-fresh graph k fresh)
 
 -- a halt after a push was there at the opening, or a push ran out of memory
 pub halted_after : {opening before after ran_out memory noted : Type 0} → (before → opening ⊎ ran_out) → (after → before ⊎ memory) → (ran_out → noted) → (memory → noted) → after → opening ⊎ noted
@@ -149,93 +139,73 @@ halted_after was running earlier now halted =
       | inr memory ↦ inr (now memory)
     ]
 
--- a key whose content is not to be had is a worker's cause, of what was noted of the source
-pub work_from_content : (failed : Type 0) (noted now opening : State) (k : Descriptor) (reported : CopyFault) → IsNoted noted now → IsContentCause now k reported → IsWorkCause failed noted opening k reported
-work_from_content failed noted now opening k reported same cause = go reported cause
-  where
-    read : (e : ManifestFault) → IsReadCause now k e → IsReadCause noted k e
-    read e it = (
-      record {
-        bytes = it.0.bytes;
-        cause = it.0.cause;
-        matching = it.0.matching;
-        own = λ h. rw (← same.entries) (it.0.own (same.honest.1 h));
-        breaks = it.0.breaks;
-        tells = it.0.tells;
-      },
-      λ h. it.1 (same.honest.1 h),
-    )
+-- a put that failed now has failed since the opening
+pub can_fail : {X : Type 0} (state : X → State) (opening before : State) (store : X) → opening.failures ≤ before.failures → IsRaised before.failures (state store).failures → CanFail state opening
+can_fail state opening before store up raised = (store, elim raised [ inl more ↦ inl (omega arith) | inr most ↦ inr most.1 ])
 
-    go : (t : CopyFault) → IsContentCause now k t → IsWorkCause failed noted opening k t
-    go (fault.Fetch named e) h = (h.0, (ap (λ (f : Descriptor → Bool). f k) (sym same.fails_at) ∙ h.1.0, h.1.1))
-    go (fault.Push named (push.BadManifest e)) h = (h.0, read e h.1)
+-- a store that had halted before memory ran out was halted at the opening
+pub halted_before : {was opening : Type 0} (ran_out now : Bool) → (was → opening ⊎ (ran_out ≡ true)) → (ran_out ≡ true → now ≡ true) → now ≡ false → was → opening
+halted_before ran_out now since earlier not halted = elim (since halted) [ inl opening ↦ opening | inr out ↦ absurd (false≢true (sym not ∙ earlier out)) ]
+
+-- a key whose content is not to be had is a worker's cause, of what was noted of the source
+pub step_from_content : (failed : Type 0) (noted now opening : State) (k : Descriptor) (reported : CopyFault) → IsNoted noted now → IsContentCause now k reported → IsStepCause failed noted opening k reported
+step_from_content failed noted now opening k reported same cause = go reported cause
+  where
+    read : (e : ManifestFault) → IsUnread now.is_honest now.entries k e → IsUnread noted.is_honest noted.entries k e
+    read e it = record {
+      bytes = it.bytes;
+      cause = it.cause;
+      matching = it.matching;
+      own = λ h. rw (← same.entries) (it.own (same.honest.1 h));
+      breaks = it.breaks;
+      tells = it.tells;
+    }
+
+    go : (t : CopyFault) → IsContentCause now k t → IsStepCause failed noted opening k t
+    go (fault.Fetch named e) h = (h.0, ap (λ (f : Descriptor → Bool). f k) (sym same.fails_at) ∙ h.1, h.2)
+    go (fault.Push named (push.BadManifest e)) h = (h.0, read e h.1, λ honest. h.2 (same.honest.1 honest))
     go fault.Memory h = tt
     go other h = absurd h
 
 -- a job that fails is why the run stops
-pub stop_from_job : (failed : Type 0) (source opening : State) (planned : List Descriptor) (n : ℕ) (reported : CopyFault) → IsJobCause failed source opening planned n reported
-    → IsStopCause failed source opening planned reported
+pub stop_from_job : (failed : Type 0) (source opening : State) (planned : List Descriptor) (n : ℕ) (reported : CopyFault)
+    → IsSomeAnd (slice_get planned n) (λ k. IsStepCause failed source opening k reported) → RefusedAt (Contains planned) (IsStepCause failed source opening) reported
 stop_from_job failed source opening planned n reported cause = at (slice_get planned n) refl cause
   where
-    cause_at : (k : Descriptor) → Contains planned k → (e : CopyFault) → IsWorkCause failed source opening k e → IsStopCause failed source opening planned e
-    cause_at k there (fault.Fetch m e) h = (subst (Contains planned) (sym h.0) there, subst (λ (d : Descriptor). IsFetchCause source d e) (sym h.0) h.1)
-    cause_at k there (fault.Push m e) h = (subst (Contains planned) (sym h.0) there, subst (λ (d : Descriptor). IsPushCauseIf failed source opening d e) (sym h.0) h.1)
-    cause_at k there fault.Memory h = tt
-    cause_at k there other h = absurd h
-
-    at : (o : Option Descriptor) → slice_get planned n ≡ o → IsSomeAnd o (λ k. IsWorkCause failed source opening k reported) → IsStopCause failed source opening planned reported
+    at : (o : Option Descriptor) → slice_get planned n ≡ o → IsSomeAnd o (λ k. IsStepCause failed source opening k reported) → RefusedAt (Contains planned) (IsStepCause failed source opening) reported
     at None is h = absurd h
-    at (Some k) is h = cause_at k (Contains-from_slice_get planned n k is) reported h
-
--- why a copy by workers is refused once it has a plan
-pub refused_in_work : {source : State} {options : Options} {opening : State} {roots : List Descriptor} {p : Planned} (failed : Type 0) (workers : ℕ) (reported : CopyFault) → IsPlanOf source options opening roots p
-    → IsClosedWhenSkipping options.existing opening.nodes → IsStopCause failed source opening p.keys reported → IsRefusalToWorkers failed options source opening roots workers reported
-refused_in_work failed workers (fault.Fetch k e) plan closed cause = (closed, λ h. (plan.outside h k).0 cause.0, cause.1)
-refused_in_work failed workers (fault.Push k e) plan closed cause = (closed, λ h. (plan.outside h k).0 cause.0, cause.1)
-refused_in_work failed workers fault.Memory plan closed cause = tt
-refused_in_work failed workers other plan closed cause = absurd cause
+    at (Some k) is h = inr (k, Contains-from_slice_get planned n k is, h)
 
 -- why a copy by workers is refused whose plan was run: for the number of workers, or for what stopped the run
-pub refused_once_planned : {X : Type 0} {source : State} {options : Options} {opening : State} {roots : List Descriptor} {p : Planned} (failed : Type 0) (workers : ℕ) (answer : Result X CopyFault)
-    → IsPlanOf source options opening roots p → IsClosedWhenSkipping options.existing opening.nodes → (IsErrOf answer fault.BadWorkers ↔ (64 < workers))
-    → IfErr answer (λ e. (e ≡ fault.BadWorkers) ⊎ IsStopCause failed source opening p.keys e) → IfErr answer (IsRefusalToWorkers failed options source opening roots workers)
-refused_once_planned failed workers (Ok x) plan closed many cause = cause
-refused_once_planned {source = source} {options = options} {opening = opening} {roots = roots} failed workers (Err e) plan closed many (inl is) =
-    subst (IsRefusalToWorkers failed options source opening roots workers) (sym is) (many.0 (ap (λ (t : CopyFault). Err t) is))
-refused_once_planned failed workers (Err e) plan closed many (inr stop) = refused_in_work failed workers e plan closed stop
+module _ {source : State} {options : Options} {opening : State} {roots : List Descriptor} {p : Planned} (failed : Type 0) (workers : ℕ)
+    (plan : IsPlanOf source options opening roots p) (closed : IsClosedWhenSkipping options.existing opening.nodes) where
+  refused_in_work : (reported : CopyFault) → RefusedAt (Contains p.keys) (IsStepCause failed source opening) reported → IsRefusal (IsStepCause failed) options source opening roots reported
+  refused_in_work reported (inl memory) = rw memory tt
+  refused_in_work reported (inr it) =
+      refused_in_run (IsStepCause failed) (λ k holder missing never. never) (λ k e never. never) reported plan closed it.0 it.1 it.2
 
--- why a copy by workers is refused that has no plan
-pub refused_without_plan : (failed : Type 0) (options : Options) (source opening : State) (roots : List Descriptor) (workers : ℕ) (reported : CopyFault)
-    → IsStartCause options source opening roots reported → IsRefusalToWorkers failed options source opening roots workers reported
-refused_without_plan failed options source opening roots workers (fault.DestinationOpen holder missing) cause = cause
-refused_without_plan failed options source opening roots workers (fault.Plan e) cause = cause
-refused_without_plan failed options source opening roots workers fault.Memory cause = tt
-refused_without_plan failed options source opening roots workers other cause = absurd cause
+  pub refused_once_planned : {X : Type 0} (answer : Result X CopyFault) → (IsErrOf answer fault.BadWorkers ↔ (64 < workers))
+      → IfErr answer (λ e. (e ≡ fault.BadWorkers) ⊎ RefusedAt (Contains p.keys) (IsStepCause failed source opening) e)
+      → IfErr answer (RefusedByWorkers workers (IsRefusal (IsStepCause failed) options source opening roots))
+  refused_once_planned (Ok x) many cause = cause
+  refused_once_planned (Err e) many (inl is) = inl (is, many.0 (ap (λ (t : CopyFault). Err t) is))
+  refused_once_planned (Err e) many (inr stop) = elim (cases_lt 64 workers) [
+    | inl over ↦ (let same = many.1 over in inl (cc same, over))
+    | inr under ↦ inr (under, refused_in_work e stop)
+  ]
 
 -- why a copy by workers is refused where neither store fails
 module _ (failed : Type 0) (source opening : State) (not_failed : failed → ⊥) (options : Options) (unfailing : IsUnfailing options.existing source opening opening) where
-  not_locked : (k : Descriptor) (e : PushFault) → IsPushCauseIf failed source opening k e → ⊥
-  not_locked k (push.BadManifest m) cause = cause.1 unfailing.is_honest
-  not_locked k push.Device cause = not_failed cause
-  not_locked k push.Halted cause = unfailing.takes cause
-  not_locked k other cause = cause
-
   -- a run that has its plan stops for a memory error
-  pub stopped_for_memory : (planned : List Descriptor) (reported : CopyFault) → IsStopCause failed source opening planned reported → reported ≡ fault.Memory
-  stopped_for_memory planned (fault.Fetch k e) cause = absurd (false≢true (sym (unfailing.gives k) ∙ cause.1.0))
-  stopped_for_memory planned (fault.Push k e) cause = absurd (not_locked k e cause.1)
-  stopped_for_memory planned fault.Memory cause = refl
-  stopped_for_memory planned other cause = absurd cause
+  pub stopped_for_memory : (planned : List Descriptor) (reported : CopyFault) → RefusedAt (Contains planned) (IsStepCause failed source opening) reported → reported ≡ fault.Memory
+  stopped_for_memory planned reported (inl memory) = memory
+  stopped_for_memory planned reported (inr it) = step_for_memory options unfailing failed not_failed it.0 reported it.2
 
-  pub refused_for_plan_or_workers : (roots : List Descriptor) (workers : ℕ) (reported : CopyFault) → IsRefusalToWorkers failed options source opening roots workers reported
-      → RefusedForPlanOrWorkers source.entries options opening.nodes roots workers reported
-  refused_for_plan_or_workers roots workers fault.BadWorkers cause = cause
-  refused_for_plan_or_workers roots workers (fault.DestinationOpen holder missing) cause = absurd (closed_not_refused options.existing opening.nodes holder missing unfailing.closed cause)
-  refused_for_plan_or_workers roots workers (fault.Plan e) cause = not_planned options unfailing roots e cause.1
-  refused_for_plan_or_workers roots workers (fault.Fetch k e) cause = absurd (false≢true (sym (unfailing.gives k) ∙ cause.2.0))
-  refused_for_plan_or_workers roots workers (fault.Push k e) cause = absurd (not_locked k e cause.2)
-  refused_for_plan_or_workers roots workers fault.Memory cause = tt
-  refused_for_plan_or_workers roots workers other cause = absurd cause
+  pub refused_by_workers : (roots : List Descriptor) (workers : ℕ) (reported : CopyFault) → RefusedByWorkers workers (IsRefusal (IsStepCause failed) options source opening roots) reported
+      → RefusedByWorkers workers (RefusedForPlan source.entries options opening.nodes roots) reported
+  refused_by_workers roots workers reported (inl many) = inl many
+  refused_by_workers roots workers reported (inr it) =
+      inr (it.0, refused_for_plan options unfailing (IsStepCause failed) (step_for_memory options unfailing failed not_failed) roots reported it.1)
 
 -- where no put of a store of this kind is counted as failed, none can fail
 pub never_fails : {X : Type 0} (state : X → State) (opening : State) → opening.failures ≡ 0 → ((store : X) → (state store).failures ≡ 0) → CanFail state opening → ⊥

@@ -5,7 +5,7 @@ use Rattle.oci_manifest.specs.Descriptor.{Descriptor}
 use Rattle.oci_store.specs.Keyed.{has_key, HasAll}
 use Rattle.oci_store.specs.State.{State}
 use Rattle.oci_plan.specs.Visiting.{successors_at}
-use Rattle.oci_copy.specs.Cause.{IsStepCause}
+use Rattle.oci_copy.specs.Cause.{IsTurnCause}
 use Rattle.oci_copy.specs.Grown.{graph_of}
 use Rattle.oci_copy.specs.Planned.{CanBeRead}
 use Rattle.oci_copy.specs.declared.fault.CopyFault.{CopyFault}
@@ -23,6 +23,6 @@ pub record IsBrought {X : Type 0} (source old new : State) (k : Descriptor) (ans
   -- the key stands after the others; where it is refused, for its cause, they are as they were
   pub pushed : OnOk answer (keys_of new.nodes ≡ keys_of old.nodes ++ k ∷ [])
   pub refused : OnErr answer (new.nodes ≡ old.nodes)
-  pub cause : IfErr answer (IsStepCause source old new k)
+  pub cause : IfErr answer (IsTurnCause new source old k)
   -- a push that is done halts nothing
   pub running : OnOk answer (new.is_halted → old.is_halted)

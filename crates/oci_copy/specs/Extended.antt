@@ -4,8 +4,6 @@ use Rattle.oci_manifest.specs.Descriptor.{Descriptor}
 use Rattle.oci_store.specs.State.{State}
 use Rattle.oci_plan.specs.Up.{IsUp}
 use Rattle.oci_copy.specs.Tagged.{ResolvesIn}
-use Rattle.oci_copy.specs.declared.fault.CopyFault.{CopyFault}
-use Rattle.oci_copy.specs.declared.fault.CopyFault.TheVariants as fault
 
 -- it holds of the keys of the source from which a path within the depth leads to the key
 abbrev pub OfUp : State → Descriptor → ℕ → (List Descriptor → Type 0) → Type 0
@@ -18,11 +16,3 @@ AreRootsOf source k depth roots = (roots ≡ []) ⊎ IsUp source.nodes k depth r
 -- the same, where a reference resolves to the key
 abbrev pub AreRootsOfReference : State → List ℕ → ℕ → List Descriptor → Type 0
 AreRootsOfReference source name depth roots = (roots ≡ []) ⊎ ((k : Descriptor) × ResolvesIn source name k × IsUp source.nodes k depth roots)
-
--- Why an extended copy is refused. The causes are looked at in the order of a copy. Two of them, too many workers and a
--- destination that is not closed, do not ask for roots. A memory error may come at any point, in the climb too.
-abbrev pub RefusedExtended : State → Descriptor → ℕ → (List Descriptor → CopyFault → Type 0) → CopyFault → Type 0
-RefusedExtended source k depth cause fault.BadWorkers = cause [] fault.BadWorkers
-RefusedExtended source k depth cause (fault.DestinationOpen holder missing) = cause [] (fault.DestinationOpen holder missing)
-RefusedExtended source k depth cause fault.Memory = Unit {0}
-RefusedExtended source k depth cause e = OfUp source k depth (λ roots. cause roots e)

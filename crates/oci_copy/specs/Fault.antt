@@ -1,5 +1,5 @@
 -- The faults of a copy: their numbers, and how a refusal from below is reported.
-use Rattle.std.specs.Prelude.{◌≡◌, ◌≢◌, ℕ}
+use Rattle.std.specs.Prelude.{◌≡◌, ◌≢◌, ℕ, Option, Some, None}
 use Rattle.oci_manifest.specs.Descriptor.{Descriptor}
 use Rattle.oci_store.specs.declared.fault.FetchFault.{FetchFault}
 use Rattle.oci_store.specs.declared.fault.FetchFault.TheVariants as fetch
@@ -9,6 +9,8 @@ use Rattle.oci_store.specs.declared.fault.RefFault.{RefFault}
 use Rattle.oci_store.specs.declared.fault.RefFault.TheVariants as reference
 use Rattle.oci_plan.specs.declared.fault.PlanFault.{PlanFault}
 use Rattle.oci_plan.specs.declared.fault.PlanFault.TheVariants as plan
+use Rattle.oci_pool.specs.declared.fault.PoolFault.{PoolFault}
+use Rattle.oci_pool.specs.declared.fault.PoolFault.TheVariants as pool
 use Rattle.oci_copy.specs.declared.fault.CopyFault.{CopyFault}
 use Rattle.oci_copy.specs.declared.fault.CopyFault.TheVariants as fault
 
@@ -32,14 +34,9 @@ IsEarly fault.BadWorkers = Unit {0}
 IsEarly (fault.Reference e) = Unit {0}
 IsEarly e = ⊥
 
--- a refused plan that is no memory error
-abbrev pub IsPlanRefusal : PlanFault → Type 0
-IsPlanRefusal plan.Memory = ⊥
-IsPlanRefusal e = Unit {0}
-
 -- how a refused plan is reported: as itself, or as a memory error where it was one
 abbrev pub ReportsPlan : PlanFault → CopyFault → Type 0
-ReportsPlan e (fault.Plan reported) = (reported ≡ e) × IsPlanRefusal e
+ReportsPlan e (fault.Plan reported) = (reported ≡ e) × (e ≢ plan.Memory)
 ReportsPlan e fault.Memory = e ≡ plan.Memory
 ReportsPlan e other = ⊥
 
@@ -74,3 +71,10 @@ abbrev pub ReportsReference : RefFault → CopyFault → Type 0
 ReportsReference e (fault.Reference reported) = (reported ≡ e) × (e ≢ reference.Memory)
 ReportsReference e fault.Memory = e ≡ reference.Memory
 ReportsReference e other = ⊥
+
+-- what a stopped run of workers reports: its job's fault, or a memory error; a run that is only incomplete goes on by a wait
+abbrev pub reported_fault : PoolFault CopyFault → Option CopyFault
+reported_fault (pool.Job k e) = Some e
+reported_fault (pool.Incomplete k) = None
+reported_fault pool.BadWorkers = None
+reported_fault pool.Memory = Some fault.Memory

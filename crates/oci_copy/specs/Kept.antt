@@ -1,5 +1,5 @@
 -- What a run of pushes keeps true of its destination.
-use Rattle.std.specs.Prelude.{◌≡◌, ◌≤◌, List, ◌++◌, Some, Contains}
+use Rattle.std.specs.Prelude.{◌≡◌, ◌≤◌, ◌↔◌, List, ◌++◌, Some, Contains}
 use Rattle.std.specs.List.{All}
 use Rattle.oci_manifest.specs.Descriptor.{Descriptor}
 use Rattle.oci_store.specs.Keyed.{value_at, HasAll}
@@ -34,3 +34,9 @@ pub record Keeps (shares : Type 0) (source : State) (planned : List Descriptor) 
   pub rising : opening.failures ≤ now.failures
   pub tags : now.tags ≡ opening.tags
   pub name : now.name ≡ opening.name
+
+-- the source gives what a run noted of it when it began
+pub record IsNoted (noted now : State) : Type 0 where
+  pub entries : now.entries ≡ noted.entries
+  pub fails_at : now.fails_at ≡ noted.fails_at
+  pub honest : now.is_honest ↔ noted.is_honest

@@ -12,4 +12,3 @@ pub mod Tagged
 pub mod Extended
 pub mod Plain
 pub mod Memory
-pub mod Work

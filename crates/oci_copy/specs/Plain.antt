@@ -5,7 +5,6 @@ use Rattle.oci_store.specs.Keyed.{has_key}
 use Rattle.oci_store.specs.Content.{Entry, IsContent}
 use Rattle.oci_store.specs.Graph.{Node, nodes_of}
 use Rattle.oci_store.specs.State.{State}
-use Rattle.oci_plan.specs.declared.fault.PlanFault.{PlanFault}
 use Rattle.oci_plan.specs.declared.fault.PlanFault.TheVariants as plan
 use Rattle.oci_plan.specs.Refusal.{IsTooLarge, IsCycleToBring, HasTooMany}
 use Rattle.oci_plan.specs.declared.existing.Existing.{Existing}
@@ -30,22 +29,18 @@ pub record IsUnfailing (existing : Existing) (source opening now : State) : Type
 abbrev pub NeitherFails : {X : Type 0} → Existing → (X → State) → State → State → Type 0
 NeitherFails {X} existing state source opening = (store : X) → IsUnfailing existing source opening (state store)
 
--- why there is no plan: the first visited key that is at fault is in neither store, or it is too large and not only in the
--- destination; or a cycle is to be brought, and every visited key is sound; or too many keys are to be brought, and those
--- visited so far are sound
-abbrev pub NotPlanned : List Entry → Options → List Node → List Descriptor → PlanFault → Type 0
-NotPlanned source options opening roots (plan.NotFound k) =
+-- where neither store fails a copy is refused for a memory error, or since there is no plan: the first visited key that is at fault is
+-- in neither store, or it is too large and not only in the destination; or a cycle is to be brought, and every visited key is sound; or
+-- too many keys are to be brought, and those visited so far are sound
+abbrev pub RefusedForPlan : List Entry → Options → List Node → List Descriptor → CopyFault → Type 0
+RefusedForPlan source options opening roots (fault.Plan (plan.NotFound k)) =
     IsNextVisited options.existing (nodes_of source) source opening roots (limit_of options) k
     × (has_key source k ≡ false) × (has_key opening k ≡ false)
-NotPlanned source options opening roots (plan.TooLarge k l) =
+RefusedForPlan source options opening roots (fault.Plan (plan.TooLarge k l)) =
     IsNextVisited options.existing (nodes_of source) source opening roots (limit_of options) k
     × (l ≡ limit_of options) × IsTooLarge (limit_of options) k × (IsOnlyInDestination source opening k → ⊥)
-NotPlanned source options opening roots (plan.Cycle keys) = IsCycleToBring options.existing source opening roots (limit_of options) keys.items
-NotPlanned source options opening roots plan.TooMany = HasTooMany options.existing source opening roots (limit_of options)
-NotPlanned source options opening roots e = ⊥
-
--- where neither store fails a copy is refused for its plan, or for a memory error
-abbrev pub RefusedForPlan : List Entry → Options → List Node → List Descriptor → CopyFault → Type 0
-RefusedForPlan source options opening roots (fault.Plan e) = NotPlanned source options opening roots e
+RefusedForPlan source options opening roots (fault.Plan (plan.Cycle keys)) =
+    IsCycleToBring options.existing source opening roots (limit_of options) keys.items
+RefusedForPlan source options opening roots (fault.Plan plan.TooMany) = HasTooMany options.existing source opening roots (limit_of options)
 RefusedForPlan source options opening roots fault.Memory = Unit {0}
 RefusedForPlan source options opening roots e = ⊥

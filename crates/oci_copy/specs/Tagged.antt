@@ -1,10 +1,9 @@
 -- Copies by reference: the root that a reference resolves to, and the tag that is set.
-use Rattle.std.specs.Prelude.{◌≡◌, ◌≢◌, ℕ, ◌<◌, ◌≤◌, ◌==◌, length, ◌⊎◌, List, [], ◌∷◌, if◌then◌else◌}
+use Rattle.std.specs.Prelude.{◌≡◌, ◌≢◌, ℕ, ◌==◌, length, ◌⊎◌, List, [], ◌∷◌, if◌then◌else◌}
 use Rattle.std.specs.Map.{keys_of}
 use Rattle.oci_manifest.specs.Descriptor.{Descriptor}
 use Rattle.oci_store.specs.State.{State}
 use Rattle.oci_store.specs.Tags.{Resolves}
-use Rattle.oci_store.specs.declared.fault.RefFault.{RefFault}
 use Rattle.oci_store.specs.declared.fault.RefFault.TheVariants as reference
 use Rattle.oci_copy.specs.declared.fault.CopyFault.{CopyFault}
 use Rattle.oci_copy.specs.declared.fault.CopyFault.TheVariants as fault
@@ -21,30 +20,17 @@ ResolvesIn store name k = Resolves (keys_of store.nodes) store.tags name k
 abbrev pub IsRootOf : State → List ℕ → List Descriptor → Type 0
 IsRootOf store name roots = (roots ≡ []) ⊎ ((k : Descriptor) × (roots ≡ k ∷ []) × ResolvesIn store name k)
 
--- why a reference does not resolve
-abbrev pub IsReferenceCause : State → List ℕ → RefFault → Type 0
-IsReferenceCause store name reference.EmptyReference = name ≡ []
-IsReferenceCause store name reference.UnknownReference = (name ≢ []) × ((k : Descriptor) → ResolvesIn store name k → ⊥)
-IsReferenceCause store name reference.NotHeld = ⊥
-IsReferenceCause store name reference.Memory = ⊥
-
 -- why there is no root: the reference does not resolve
 abbrev pub IsResolveCause : State → List ℕ → CopyFault → Type 0
-IsResolveCause store name (fault.Reference e) = IsReferenceCause store name e
+IsResolveCause store name (fault.Reference reference.EmptyReference) = name ≡ []
+IsResolveCause store name (fault.Reference reference.UnknownReference) = (name ≢ []) × ((k : Descriptor) → ResolvesIn store name k → ⊥)
 IsResolveCause store name fault.Memory = Unit {0}
 IsResolveCause store name e = ⊥
 
--- the reference resolves to a key, there are at most 64 workers, and the copy from that key is refused for its cause
-abbrev pub IsRefusedRoot : State → List ℕ → ℕ → (Descriptor → CopyFault → Type 0) → CopyFault → Type 0
-IsRefusedRoot store name workers cause e = (k : Descriptor) × ResolvesIn store name k × (workers ≤ 64) × cause k e
-
--- Why a copy by reference is refused. The causes are looked at in this order: the source's reference does not resolve; there
--- are too many workers; the copy from the root is refused. Setting the tag can only run out of memory.
-abbrev pub RefusedByReference : State → List ℕ → ℕ → (Descriptor → CopyFault → Type 0) → CopyFault → Type 0
-RefusedByReference store name workers cause (fault.Reference e) = IsReferenceCause store name e
-RefusedByReference store name workers cause fault.BadWorkers = (k : Descriptor) × ResolvesIn store name k × (64 < workers)
-RefusedByReference store name workers cause fault.Memory = Unit {0}
-RefusedByReference store name workers cause e = IsRefusedRoot store name workers cause e
+-- why a copy by reference is refused: the source's reference does not resolve, or it does, and the copy from its key is refused for
+-- this cause; to set the tag can only run out of memory
+abbrev pub RefusedByReference : State → List ℕ → (Descriptor → CopyFault → Type 0) → CopyFault → Type 0
+RefusedByReference store name cause e = IsResolveCause store name e ⊎ ((k : Descriptor) × ResolvesIn store name k × cause k e)
 
 -- nothing but the tags may differ
 pub record IsRetagged (old new : State) : Type 0 where

@@ -2,12 +2,12 @@ ghost use Rattle.std.specs.Prelude.{◌≡◌, ◌≤◌, [], ◌∷◌, List, t
 ghost use Rattle.oci_manifest.specs.Descriptor.{Descriptor};
 ghost use Rattle.oci_store.specs.Keyed.{has_key};
 ghost use Rattle.oci_store.specs.Tags.{set_tag};
+ghost use Rattle.oci_copy.specs.Cause.{CanFail, IsRefusal, IsStepCause, RefusedByWorkers};
 ghost use Rattle.oci_copy.specs.Copy.{IsCopy, OnlyGrows};
 ghost use Rattle.oci_copy.specs.Fault.{IsEarly};
-ghost use Rattle.oci_copy.specs.Plain.{NeitherFails};
+ghost use Rattle.oci_copy.specs.Plain.{NeitherFails, RefusedForPlan};
 ghost use Rattle.oci_copy.specs.Report.{IsReport};
 ghost use Rattle.oci_copy.specs.Tagged.{name_of, ResolvesIn, IsRootOf, RefusedByReference, IsResolveCause, IsRetagged};
-ghost use Rattle.oci_copy.specs.Work.{CanFail, IsRefusalToWorkers, RefusedForPlanOrWorkers};
 
 use crate::fault::CopyFault;
 use crate::graph::copy_graph;
@@ -61,14 +61,14 @@ where
         × OnlyGrows D.shares (A.state source.now) (D.state destination) roots (D.state result.0) }
     ensures untagged { OnErr result.1 ((D.state result.0).tags ≡ (D.state destination).tags) }
     ensures refused { IfErr result.1 (RefusedByReference (A.state source.now) source_reference.now
-        options.now.workers
-        (λ root. IsRefusalToWorkers (CanFail D.state (D.state destination)) options.now
-        (A.state source.now) (D.state destination) (root ∷ []) options.now.workers)) }
+        (λ root. RefusedByWorkers options.now.workers
+        (IsRefusal (IsStepCause (CanFail D.state (D.state destination))) options.now
+        (A.state source.now) (D.state destination) (root ∷ [])))) }
     ensures plain { IfErr result.1 (λ fault. NeitherFails options.now.existing D.state
         (A.state source.now) (D.state destination)
-        → RefusedByReference (A.state source.now) source_reference.now options.now.workers
-        (λ root. RefusedForPlanOrWorkers (A.state source.now).entries options.now
-        (D.state destination).nodes (root ∷ []) options.now.workers) fault) }
+        → RefusedByReference (A.state source.now) source_reference.now
+        (λ root. RefusedByWorkers options.now.workers (RefusedForPlan (A.state source.now).entries
+        options.now (D.state destination).nodes (root ∷ []))) fault) }
     ensures unchanged { IfErr result.1 (λ fault. IsEarly fault → result.0 ≡ destination) }
 {
     let root = match resolve_root(source, source_reference) {

@@ -1,10 +1,11 @@
 ghost use Rattle.std.specs.Prelude.{◌≡◌, ◌↔◌, ◌<◌, IfOk, IfErr, IsErrOf};
 ghost use Rattle.oci_store.specs.Closed.{IsClosed};
 ghost use Rattle.oci_store.specs.Graph.{nodes_of};
+ghost use Rattle.oci_copy.specs.Cause.{RefusedByWorkers};
 ghost use Rattle.oci_copy.specs.Fault.{IsEarly};
 ghost use Rattle.oci_copy.specs.Memory.{IsMemoryCopy, OnlyGrowsInMemory};
 ghost use Rattle.oci_copy.specs.Options.{descending};
-ghost use Rattle.oci_copy.specs.Work.{RefusedForPlanOrWorkers};
+ghost use Rattle.oci_copy.specs.Plain.{RefusedForPlan};
 
 use crate::fault::CopyFault;
 use crate::graph::copy_graph;
@@ -40,8 +41,9 @@ pub fn copy_memory_by_workers<R: Threads + Wait + Sync, H: Hooks + Sync>(
     ensures grows { OnlyGrowsInMemory source.now roots.now destination result.0 }
     ensures closed { IsClosed (nodes_of result.0.entries) }
     ensures workers { IsErrOf result.1 CopyFault.BadWorkers ↔ (64 < options.now.workers) }
-    ensures refused { IfErr result.1 (RefusedForPlanOrWorkers source.now.entries options.now
-        (nodes_of destination.entries) roots.now options.now.workers) }
+    ensures refused { IfErr result.1 (RefusedByWorkers options.now.workers
+        (RefusedForPlan source.now.entries options.now (nodes_of destination.entries)
+        roots.now)) }
     ensures unchanged { IfErr result.1 (λ fault. IsEarly fault → result.0 ≡ destination) }
 {
     // These calls do nothing here. Their contracts say what each store keeps before the copy, and
@@ -78,9 +80,9 @@ pub fn repair_memory_by_workers<R: Threads + Wait + Sync, H: Hooks + Sync>(
         result.0) }
     ensures grows { OnlyGrowsInMemory source.now roots.now destination result.0 }
     ensures workers { IsErrOf result.1 CopyFault.BadWorkers ↔ (64 < options.now.workers) }
-    ensures refused { IfErr result.1 (RefusedForPlanOrWorkers source.now.entries
-        (descending options.now)
-        (nodes_of destination.entries) roots.now options.now.workers) }
+    ensures refused { IfErr result.1 (RefusedByWorkers options.now.workers
+        (RefusedForPlan source.now.entries (descending options.now)
+        (nodes_of destination.entries) roots.now)) }
     ensures unchanged { IfErr result.1 (λ fault. IsEarly fault → result.0 ≡ destination) }
 {
     // This call does nothing here. Its contract says what the store keeps; so does the one below,

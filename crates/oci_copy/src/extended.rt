@@ -1,12 +1,13 @@
 ghost use Rattle.std.specs.Prelude.{◌≡◌, ◌↔◌, ◌<◌, true, List, OnOk, IfOk, IfErr, IsErrOf, ◌≤◌, OnErr};
 ghost use Rattle.oci_manifest.specs.Descriptor.{Descriptor};
 ghost use Rattle.oci_store.specs.Keyed.{has_key};
+ghost use Rattle.oci_plan.specs.Up.{IsUp};
+ghost use Rattle.oci_copy.specs.Cause.{CanFail, IsRefusal, IsStepCause, RefusedAt, RefusedByWorkers};
 ghost use Rattle.oci_copy.specs.Copy.{IsCopy, OnlyGrows};
-ghost use Rattle.oci_copy.specs.Extended.{OfUp, AreRootsOf, RefusedExtended, AreRootsOfReference};
+ghost use Rattle.oci_copy.specs.Extended.{OfUp, AreRootsOf, AreRootsOfReference};
 ghost use Rattle.oci_copy.specs.Fault.{IsEarly};
-ghost use Rattle.oci_copy.specs.Plain.{NeitherFails};
+ghost use Rattle.oci_copy.specs.Plain.{NeitherFails, RefusedForPlan};
 ghost use Rattle.oci_copy.specs.Report.{IsReport};
-ghost use Rattle.oci_copy.specs.Work.{CanFail, IsRefusalToWorkers, RefusedForPlanOrWorkers};
 ghost use Rattle.oci_store.specs.Tags.{set_tag};
 ghost use Rattle.oci_copy.specs.Tagged.{name_of, ResolvesIn, RefusedByReference};
 
@@ -62,14 +63,15 @@ where
         × OnlyGrows D.shares (A.state source.now) (D.state destination) roots (D.state result.0) }
     ensures tags { (D.state result.0).tags ≡ (D.state destination).tags }
     ensures workers { IsErrOf result.1 CopyFault.BadWorkers ↔ (64 < options.now.workers) }
-    ensures refused { IfErr result.1 (RefusedExtended (A.state source.now) key.now depth
-        (λ roots. IsRefusalToWorkers (CanFail D.state (D.state destination)) options.now
-        (A.state source.now) (D.state destination) roots options.now.workers)) }
+    ensures refused { IfErr result.1 (RefusedByWorkers options.now.workers
+        (RefusedAt (IsUp (A.state source.now).nodes key.now depth)
+        (IsRefusal (IsStepCause (CanFail D.state (D.state destination))) options.now
+        (A.state source.now) (D.state destination)))) }
     ensures plain { IfErr result.1 (λ fault. NeitherFails options.now.existing D.state
-        (A.state source.now) (D.state destination)
-        → RefusedExtended (A.state source.now) key.now depth
-        (λ roots. RefusedForPlanOrWorkers (A.state source.now).entries options.now
-        (D.state destination).nodes roots options.now.workers) fault) }
+        (A.state source.now) (D.state destination) → RefusedByWorkers options.now.workers
+        (RefusedAt (IsUp (A.state source.now).nodes key.now depth)
+        (RefusedForPlan (A.state source.now).entries options.now (D.state destination).nodes))
+        fault) }
     ensures unchanged { IfErr result.1 (λ fault. IsEarly fault → result.0 ≡ destination) }
 {
     if options.workers > MAX_WORKERS {
@@ -125,16 +127,17 @@ where
         × OnlyGrows D.shares (A.state source.now) (D.state destination) roots (D.state result.0) }
     ensures untagged { OnErr result.1 ((D.state result.0).tags ≡ (D.state destination).tags) }
     ensures refused { IfErr result.1 (RefusedByReference (A.state source.now) source_reference.now
-        options.now.workers
-        (λ root. RefusedExtended (A.state source.now) root depth
-        (λ roots. IsRefusalToWorkers (CanFail D.state (D.state destination)) options.now
-        (A.state source.now) (D.state destination) roots options.now.workers))) }
+        (λ root. RefusedByWorkers options.now.workers
+        (RefusedAt (IsUp (A.state source.now).nodes root depth)
+        (IsRefusal (IsStepCause (CanFail D.state (D.state destination))) options.now
+        (A.state source.now) (D.state destination))))) }
     ensures plain { IfErr result.1 (λ fault. NeitherFails options.now.existing D.state
         (A.state source.now) (D.state destination)
-        → RefusedByReference (A.state source.now) source_reference.now options.now.workers
-        (λ root. RefusedExtended (A.state source.now) root depth
-        (λ roots. RefusedForPlanOrWorkers (A.state source.now).entries options.now
-        (D.state destination).nodes roots options.now.workers)) fault) }
+        → RefusedByReference (A.state source.now) source_reference.now
+        (λ root. RefusedByWorkers options.now.workers
+        (RefusedAt (IsUp (A.state source.now).nodes root depth)
+        (RefusedForPlan (A.state source.now).entries options.now (D.state destination).nodes)))
+        fault) }
     ensures unchanged { IfErr result.1 (λ fault. IsEarly fault → result.0 ≡ destination) }
 {
     let root = match resolve_root(source, source_reference) {

@@ -1,9 +1,9 @@
 ghost use Rattle.std.specs.Prelude.{◌≡◌, ◌↔◌, ◌<◌, OnOk, IfOk, IfErr, IsErrOf};
+ghost use Rattle.oci_copy.specs.Cause.{CanFail, IsRefusal, IsStepCause, RefusedByWorkers};
 ghost use Rattle.oci_copy.specs.Copy.{IsCopy, OnlyGrows};
 ghost use Rattle.oci_copy.specs.Fault.{IsEarly};
-ghost use Rattle.oci_copy.specs.Plain.{NeitherFails};
+ghost use Rattle.oci_copy.specs.Plain.{NeitherFails, RefusedForPlan};
 ghost use Rattle.oci_copy.specs.Report.{IsReport};
-ghost use Rattle.oci_copy.specs.Work.{CanFail, IsRefusalToWorkers, RefusedForPlanOrWorkers};
 
 use crate::fault::CopyFault;
 use crate::options::Options;
@@ -64,13 +64,13 @@ where
         (D.state result.0) }
     ensures tags { (D.state result.0).tags ≡ (D.state destination).tags }
     ensures workers { IsErrOf result.1 CopyFault.BadWorkers ↔ (64 < options.now.workers) }
-    ensures refused { IfErr result.1 (IsRefusalToWorkers (CanFail D.state (D.state destination))
-        options.now
-        (A.state source.now) (D.state destination) roots.now options.now.workers) }
+    ensures refused { IfErr result.1 (RefusedByWorkers options.now.workers
+        (IsRefusal (IsStepCause (CanFail D.state (D.state destination))) options.now
+        (A.state source.now) (D.state destination) roots.now)) }
     ensures plain { IfErr result.1 (λ fault. NeitherFails options.now.existing D.state
         (A.state source.now) (D.state destination)
-        → RefusedForPlanOrWorkers (A.state source.now).entries options.now
-        (D.state destination).nodes roots.now options.now.workers fault) }
+        → RefusedByWorkers options.now.workers (RefusedForPlan (A.state source.now).entries
+        options.now (D.state destination).nodes roots.now) fault) }
     ensures unchanged { IfErr result.1 (λ fault. IsEarly fault → result.0 ≡ destination) }
 {
     if options.workers > MAX_WORKERS {

@@ -8,7 +8,7 @@
 //! | [`extended_copy_graph`], [`extended_copy`] | `copy_graph` and `copy`, with what leads to a key |
 //! | [`copy_memory_by_workers`], [`copy_memory`] | as `copy_graph` and `copy_one`, between stores in memory |
 //! | [`repair_memory_by_workers`], [`repair_memory`] | as these, below what the destination holds too |
-//! | [`plan_copy`], [`plan_reference`], [`plan_extended`] | nothing: they give the plan of such a copy |
+//! | [`plan_copy`] | nothing: it returns the plan of such a copy |
 //! | [`copy_plan`] | what a plan of `plan_copy` has, by workers |
 //!
 //! What leads to a key is each key from which a path of some length leads to it: of an image its
@@ -40,30 +40,37 @@
 
 mod by_reference;
 mod by_workers;
+mod copy_jobs;
+mod copy_start;
 mod extended;
 mod fault;
 mod fetching;
 mod graph;
+mod held;
+mod job;
+mod locked;
 mod memory;
 mod options;
-mod plan_by_reference;
 mod planned;
 mod planning;
 mod report;
-mod running;
 mod single;
+mod under_lock;
 
 pub use by_reference::copy;
 pub use by_workers::{copy_memory_by_workers, repair_memory_by_workers};
+pub use copy_start::CopyStart;
 pub use extended::{extended_copy, extended_copy_graph};
 pub use fault::CopyFault;
 pub use graph::copy_graph;
+pub use locked::LockedDestination;
 pub use memory::{copy_memory, repair_memory};
+pub use oci_digest::Digest;
+pub use oci_manifest::Key;
+pub use oci_plan::{Existing, Plan, climb};
+pub use oci_pool::{Hooks, MAX_WORKERS, NoHooks};
 pub use options::Options;
-pub use plan_by_reference::{plan_extended, plan_reference};
 pub use planned::copy_plan;
 pub use planning::plan_copy;
 pub use report::Report;
-pub use running::copy_start::CopyStart;
-pub use running::locked::LockedDestination;
 pub use single::copy_one;

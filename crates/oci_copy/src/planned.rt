@@ -1,16 +1,16 @@
-ghost use Rattle.std.specs.Prelude.{◌≡◌, ◌↔◌, ◌<◌, ◌⊎◌, OnOk, IfOk, IfErr, IsErrOf};
+ghost use Rattle.std.specs.Prelude.{◌≡◌, ◌↔◌, ◌<◌, ◌⊎◌, Contains, OnOk, IfOk, IfErr, IsErrOf};
+ghost use Rattle.oci_copy.specs.Cause.{CanFail, IsStepCause, RefusedAt};
 ghost use Rattle.oci_copy.specs.Copy.{IsCopy, OnlyGrows};
 ghost use Rattle.oci_copy.specs.Destination.{IsClosedWhenSkipping};
 ghost use Rattle.oci_copy.specs.Fault.{IsEarly};
 ghost use Rattle.oci_copy.specs.Plain.{NeitherFails};
 ghost use Rattle.oci_copy.specs.Planned.{IsPlanOf};
 ghost use Rattle.oci_copy.specs.Report.{IsReport};
-ghost use Rattle.oci_copy.specs.Work.{CanFail, IsStopCause};
 
+use crate::copy_jobs::run_copy_jobs;
 use crate::fault::CopyFault;
 use crate::options::Options;
 use crate::report::{Report, report_of};
-use crate::running::workers::work;
 use oci_manifest::Key;
 use oci_plan::Plan;
 use oci_pool::{Hooks, MAX_WORKERS};
@@ -63,8 +63,8 @@ where
     ensures tags { (D.state result.0).tags ≡ (D.state destination).tags }
     ensures workers { IsErrOf result.1 CopyFault.BadWorkers ↔ (64 < options.now.workers) }
     ensures refused { IfErr result.1 (λ fault. (fault ≡ CopyFault.BadWorkers)
-        ⊎ IsStopCause (CanFail D.state (D.state destination)) (A.state source.now)
-        (D.state destination) plan.now.keys fault) }
+        ⊎ RefusedAt (Contains plan.now.keys) (IsStepCause (CanFail D.state (D.state destination))
+        (A.state source.now) (D.state destination)) fault) }
     ensures plain { IfErr result.1 (λ fault. NeitherFails options.now.existing D.state
         (A.state source.now) (D.state destination)
         → (fault ≡ CopyFault.BadWorkers) ⊎ (fault ≡ CopyFault.Memory)) }
@@ -75,7 +75,7 @@ where
     }
     report_skipped(hooks, plan);
     let workers = options.workers;
-    let (destination, copied) = work::<A, D, Brand, R, H>(
+    let (destination, copied) = run_copy_jobs::<A, D, Brand, R, H>(
         rt,
         alloc,
         source,

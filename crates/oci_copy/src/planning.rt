@@ -1,6 +1,6 @@
 ghost use Rattle.std.specs.Prelude.{OnOk, IfOk, IfErr};
 ghost use Rattle.oci_store.specs.Closed.{IsClosed};
-ghost use Rattle.oci_copy.specs.Cause.{IsNotClosedCause, IsStartCause};
+ghost use Rattle.oci_copy.specs.Cause.{IsNotClosedCause, IsRefusal};
 ghost use Rattle.oci_copy.specs.Fault.{ReportsPlan};
 ghost use Rattle.oci_copy.specs.Destination.{IsClosedWhenSkipping};
 ghost use Rattle.oci_copy.specs.Planned.{IsPlanOf};
@@ -27,8 +27,8 @@ pub fn plan_copy<A: Source, D: Dest>(
         (D.state destination.now).nodes) }
     ensures plan { IfOk result (IsPlanOf (A.state source.now) options.now (D.state destination.now)
         roots.now) }
-    ensures cause { IfErr result (IsStartCause options.now (A.state source.now)
-        (D.state destination.now) roots.now) }
+    ensures cause { IfErr result (IsRefusal (λ source opening k fault. ⊥) options.now
+        (A.state source.now) (D.state destination.now) roots.now) }
 {
     check_destination(destination, options)?;
     let limit = options.metadata_limit();

@@ -5,7 +5,7 @@ ghost use Rattle.oci_store.specs.Parts.{IsLeaf};
 ghost use Rattle.oci_plan.specs.Order.{IsOrder};
 ghost use Rattle.oci_plan.specs.Plan.{IsPlan};
 ghost use Rattle.oci_copy.specs.Brought.{CanBring, IsBrought};
-ghost use Rattle.oci_copy.specs.Cause.{IsRefusal, IsRunCause};
+ghost use Rattle.oci_copy.specs.Cause.{IsRefusal, IsTurnCause};
 ghost use Rattle.oci_copy.specs.Copy.{IsCopy, OnlyGrows};
 ghost use Rattle.oci_copy.specs.Fault.{IsEarly};
 ghost use Rattle.oci_copy.specs.Kept.{Keeps};
@@ -53,8 +53,8 @@ pub fn copy_one<A: Source, D: Dest>(
     ensures grows { OnlyGrows D.shares (A.state source.now) (D.state destination) roots.now
         (D.state result.0) }
     ensures tags { (D.state result.0).tags ≡ (D.state destination).tags }
-    ensures refused { IfErr result.1 (IsRefusal options.now (A.state source.now)
-        (D.state destination) roots.now (D.state result.0)) }
+    ensures refused { IfErr result.1 (IsRefusal (IsTurnCause (D.state result.0)) options.now
+        (A.state source.now) (D.state destination) roots.now) }
     ensures plain { IfErr result.1 (λ fault. IsUnfailing options.now.existing (A.state source.now)
         (D.state destination) (D.state result.0)
         → RefusedForPlan (A.state source.now).entries options.now (D.state destination).nodes
@@ -84,8 +84,9 @@ pub(crate) fn push_all<A: Source, D: Dest>(
         (D.state destination.old).nodes + length plan.now.keys) }
     ensures keeps { Keeps D.shares (A.state source.now) plan.now.keys (D.state destination.old)
         (D.state destination.new) }
-    ensures cause { IfErr result (IsRunCause (A.state source.now) (D.state destination.old)
-        (D.state destination.new) plan.now.keys) }
+    ensures cause { IfErr result (λ fault. (k : Descriptor) × Contains plan.now.keys k
+        × IsTurnCause (D.state destination.new) (A.state source.now) (D.state destination.old) k
+        fault) }
 {
     for place in 0..plan.len() {
         push_planned(source, destination, key_at(plan, place))?;

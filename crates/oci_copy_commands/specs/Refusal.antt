@@ -1,9 +1,8 @@
 -- Why a copy between two layouts is refused.
-use Rattle.std.specs.Prelude.{◌≡◌, ◌⊎◌, List}
+use Rattle.std.specs.Prelude.{◌≡◌, ◌⊎◌, List, Contains}
 use Rattle.oci_manifest.specs.Descriptor.{Descriptor}
 use Rattle.oci_store.specs.State.{State}
-use Rattle.oci_copy.specs.Cause.{HasFailed}
-use Rattle.oci_copy.specs.Work.{IsStopCause}
+use Rattle.oci_copy.specs.Cause.{HasFailed, IsStepCause, RefusedAt}
 use Rattle.oci_copy.specs.declared.fault.CopyFault.{CopyFault}
 use Rattle.oci_copy.specs.declared.fault.CopyFault.TheVariants as fault
 use Rattle.oci_layout.specs.declared.fault.LayoutFault.{LayoutFault}
@@ -14,7 +13,7 @@ use Rattle.oci_exit.specs.declared.fault.ProgramFault.TheVariants as program
 -- why a planned copy is refused: there are too many workers, or a worker fails at a planned key, or memory ran out; `fails` is
 -- whether a put into the destination may have failed
 abbrev pub IsRunCause : (fails : Type 0) → State → State → List Descriptor → CopyFault → Type 0
-IsRunCause fails source opening planned e = (e ≡ fault.BadWorkers) ⊎ IsStopCause fails source opening planned e
+IsRunCause fails source opening planned e = (e ≡ fault.BadWorkers) ⊎ RefusedAt (Contains planned) (IsStepCause fails source opening) e
 
 -- why a layout could not be saved after a copy: a put failed, or memory ran out
 abbrev pub IsSaveFault : State → State → LayoutFault → Type 0

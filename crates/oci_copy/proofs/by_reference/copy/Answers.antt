@@ -2,15 +2,14 @@ use Rattle.std.proofs.Common.{◌≡◌, true, [], ◌∷◌, inl, inr, refl}
 use Rattle.std.proofs.lemmas.List.Elements.{All-head}
 use Rattle.oci_manifest.specs.Descriptor.{Descriptor}
 use Rattle.oci_store.specs.Keyed.{has_key}
+use Rattle.oci_copy.specs.Cause.{CanFail, IsRefusal, IsStepCause, RefusedByWorkers}
 use Rattle.oci_copy.specs.Copy.{IsCopy}
 use Rattle.oci_copy.specs.Fault.{IsEarly}
-use Rattle.oci_copy.specs.Plain.{NeitherFails}
+use Rattle.oci_copy.specs.Plain.{NeitherFails, RefusedForPlan}
 use Rattle.oci_copy.specs.Tagged.{RefusedByReference}
-use Rattle.oci_copy.specs.Work.{CanFail, IsRefusalToWorkers, RefusedForPlanOrWorkers}
 use Rattle.oci_copy.specs.declared.fault.CopyFault.{CopyFault}
 use Rattle.oci_copy.specs.declared.report.Report.{Report}
 use Rattle.oci_copy.proofs.Headline.{unchanged_grows}
-use Rattle.oci_copy.proofs.References.{refused_by_root}
 use Rattle.oci_copy.proofs.Tagging.{ok_tagged, refused_tag, copy_tagged, growth_tagged}
 use Rattle.oci_copy.proofs.by_reference.copy.Goals as goal
 
@@ -18,12 +17,11 @@ pub returns-in-Err-clause-grows : goal.returns-in-Err-clause-grows
 returns-in-Err-clause-grows g c = ([], inl refl, unchanged_grows g.D.Dest.shares (g.A.Store.state c.args.source.now) (g.D.Store.state c.args.destination) [])
 
 pub returns-in-Err-copied-clause-refused : goal.returns-in-Err-copied-clause-refused
-returns-in-Err-copied-clause-refused g c =
-    refused_by_root (g.A.Store.state c.args.source.now) c.args.source_reference.now c.args.options.now.workers
-    (λ (root : Descriptor). IsRefusalToWorkers (CanFail g.D.Store.state (g.D.Store.state c.args.destination)) c.args.options.now
-    (g.A.Store.state c.args.source.now) (g.D.Store.state c.args.destination) (root ∷ []) c.args.options.now.workers)
-    c.in-Ok.root c.copy_graph-destination.result.1 c.in-Err-copied.fault c.in-Ok.ensures.found c.copy_graph-destination.ensures.workers (λ r x. x) c.in-Err-copied.is
-    (rw c.from_ref-roots.ensures.value at (rw c.in-Err-copied.is at c.copy_graph-destination.ensures.refused))
+returns-in-Err-copied-clause-refused g c = inr (
+  c.in-Ok.root,
+  c.in-Ok.ensures.found,
+  rw c.from_ref-roots.ensures.value at (rw c.in-Err-copied.is at c.copy_graph-destination.ensures.refused),
+)
 
 pub returns-in-Ok-copied-clause-copied : goal.returns-in-Ok-copied-clause-copied
 returns-in-Ok-copied-clause-copied g c =
@@ -51,10 +49,11 @@ returns-in-Ok-copied-clause-refused g c =
     let done = rw c.from_ref-roots.ensures.value at (rw c.in-Ok-copied.is at c.copy_graph-destination.ensures.copied) in
     let there = All-head (λ k. has_key (g.D.Store.state c.copy_graph-destination.result.0).nodes k ≡ true) c.in-Ok.root [] done.roots_held in
     refused_tag c.tag_copied.result.1
-    (RefusedByReference (g.A.Store.state c.args.source.now) c.args.source_reference.now c.args.options.now.workers
-    (λ (root : Descriptor). IsRefusalToWorkers (CanFail g.D.Store.state (g.D.Store.state c.args.destination)) c.args.options.now
-    (g.A.Store.state c.args.source.now) (g.D.Store.state c.args.destination) (root ∷ []) c.args.options.now.workers))
-    c.in-Ok.ensures.named there tt c.tag_copied.ensures.wants
+    (RefusedByReference (g.A.Store.state c.args.source.now) c.args.source_reference.now
+    (λ (root : Descriptor). RefusedByWorkers c.args.options.now.workers
+    (IsRefusal (IsStepCause (CanFail g.D.Store.state (g.D.Store.state c.args.destination))) c.args.options.now
+    (g.A.Store.state c.args.source.now) (g.D.Store.state c.args.destination) (root ∷ []))))
+    c.in-Ok.ensures.named there (inl tt) c.tag_copied.ensures.wants
 
 pub returns-in-Ok-copied-clause-unchanged : goal.returns-in-Ok-copied-clause-unchanged
 returns-in-Ok-copied-clause-unchanged g c =
@@ -64,11 +63,11 @@ returns-in-Ok-copied-clause-unchanged g c =
     c.in-Ok.ensures.named there (λ early. absurd early) c.tag_copied.ensures.wants
 
 pub returns-in-Err-copied-clause-plain : goal.returns-in-Err-copied-clause-plain
-returns-in-Err-copied-clause-plain g c unfailing =
-    refused_by_root (g.A.Store.state c.args.source.now) c.args.source_reference.now c.args.options.now.workers
-    (λ (root : Descriptor). RefusedForPlanOrWorkers (g.A.Store.state c.args.source.now).entries c.args.options.now (g.D.Store.state c.args.destination).nodes (root ∷ []) c.args.options.now.workers)
-    c.in-Ok.root c.copy_graph-destination.result.1 c.in-Err-copied.fault c.in-Ok.ensures.found c.copy_graph-destination.ensures.workers (λ r x. x) c.in-Err-copied.is
-    (rw c.from_ref-roots.ensures.value at ((rw c.in-Err-copied.is at c.copy_graph-destination.ensures.plain) unfailing))
+returns-in-Err-copied-clause-plain g c unfailing = inr (
+  c.in-Ok.root,
+  c.in-Ok.ensures.found,
+  rw c.from_ref-roots.ensures.value at ((rw c.in-Err-copied.is at c.copy_graph-destination.ensures.plain) unfailing),
+)
 
 pub returns-in-Ok-copied-clause-plain : goal.returns-in-Ok-copied-clause-plain
 returns-in-Ok-copied-clause-plain g c =
@@ -76,6 +75,7 @@ returns-in-Ok-copied-clause-plain g c =
     let there = All-head (λ k. has_key (g.D.Store.state c.copy_graph-destination.result.0).nodes k ≡ true) c.in-Ok.root [] done.roots_held in
     refused_tag c.tag_copied.result.1
     (λ (e : CopyFault). NeitherFails c.args.options.now.existing g.D.Store.state (g.A.Store.state c.args.source.now) (g.D.Store.state c.args.destination)
-    → RefusedByReference (g.A.Store.state c.args.source.now) c.args.source_reference.now c.args.options.now.workers
-    (λ (root : Descriptor). RefusedForPlanOrWorkers (g.A.Store.state c.args.source.now).entries c.args.options.now (g.D.Store.state c.args.destination).nodes (root ∷ []) c.args.options.now.workers) e)
-    c.in-Ok.ensures.named there (λ unfailing. tt) c.tag_copied.ensures.wants
+    → RefusedByReference (g.A.Store.state c.args.source.now) c.args.source_reference.now
+    (λ (root : Descriptor). RefusedByWorkers c.args.options.now.workers
+    (RefusedForPlan (g.A.Store.state c.args.source.now).entries c.args.options.now (g.D.Store.state c.args.destination).nodes (root ∷ []))) e)
+    c.in-Ok.ensures.named there (λ unfailing. inl tt) c.tag_copied.ensures.wants

@@ -3,8 +3,8 @@ use Rattle.oci_store.specs.Graph.{nodes_of}
 use Rattle.oci_store.specs.State.{in_memory}
 use Rattle.oci_store.specs.Contents.{Contents}
 use Rattle.oci_copy.specs.declared.fault.CopyFault.{CopyFault}
-use Rattle.oci_copy.specs.Plain.{IsUnfailing}
-use Rattle.oci_copy.specs.Work.{RefusedForPlanOrWorkers}
+use Rattle.oci_copy.specs.Cause.{RefusedByWorkers}
+use Rattle.oci_copy.specs.Plain.{IsUnfailing, RefusedForPlan}
 use Rattle.oci_copy.proofs.Destinations.{closed_when_skipping}
 use Rattle.oci_copy.proofs.InMemory.{copied, grows}
 use Rattle.oci_copy.proofs.Unfailing.{unfailing_in_memory}
@@ -30,6 +30,6 @@ returns-clause-refused g c =
     let closed = rw c.memory-closed.ensures.same at c.memory-closed.ensures.closed in
     IfErr-weaker c.copy_graph-destination.result.1
     (λ (e : CopyFault). ((store : Contents) → IsUnfailing options.existing (in_memory s.entries s.tags) (in_memory d.entries d.tags) (in_memory store.entries store.tags))
-    → RefusedForPlanOrWorkers s.entries options (nodes_of d.entries) c.args.roots.now workers e)
-    (RefusedForPlanOrWorkers s.entries options (nodes_of d.entries) c.args.roots.now workers)
+    → RefusedByWorkers workers (RefusedForPlan s.entries options (nodes_of d.entries) c.args.roots.now) e)
+    (RefusedByWorkers workers (RefusedForPlan s.entries options (nodes_of d.entries) c.args.roots.now))
     (λ e plain. plain (λ store. unfailing_in_memory options.existing s d store c.len-readable.ensures.content (closed_when_skipping options.existing (nodes_of d.entries) closed))) c.copy_graph-destination.ensures.plain

@@ -1,12 +1,10 @@
-use Rattle.std.proofs.Common.{List, [], inl, refl}
+use Rattle.std.proofs.Common.{List, [], inl, inr, refl}
 use Rattle.oci_manifest.specs.Descriptor.{Descriptor}
 use Rattle.oci_copy.specs.Copy.{IsCopy}
-use Rattle.oci_copy.specs.Extended.{OfUp, RefusedExtended}
+use Rattle.oci_copy.specs.Extended.{OfUp}
 use Rattle.oci_copy.specs.Report.{IsReport}
-use Rattle.oci_copy.specs.Work.{CanFail, IsRefusalToWorkers, RefusedForPlanOrWorkers}
 use Rattle.oci_copy.specs.declared.report.Report.{Report}
 use Rattle.oci_copy.proofs.Headline.{unchanged_grows}
-use Rattle.oci_copy.proofs.References.{refused_by_root}
 use Rattle.oci_copy.proofs.Roots.{roots_of_reference}
 use Rattle.oci_copy.proofs.Tagging.{ok_tagged, copy_tagged, report_tagged, growth_tagged}
 use Rattle.oci_copy.proofs.extended.extended_copy.Goals as goal
@@ -36,13 +34,7 @@ returns-in-Ok-copied-clause-grows g c =
     (was.0, roots_of_reference (g.A.Store.state c.args.source.now) c.args.source_reference.now c.in-Ok.root c.args.depth was.0 was.1 c.in-Ok.ensures.found, growth_tagged c.tag_copied.ensures.stays was.2)
 
 pub returns-in-Err-copied-clause-refused : goal.returns-in-Err-copied-clause-refused
-returns-in-Err-copied-clause-refused g c =
-    refused_by_root (g.A.Store.state c.args.source.now) c.args.source_reference.now c.args.options.now.workers
-    (λ (root : Descriptor). RefusedExtended (g.A.Store.state c.args.source.now) root c.args.depth
-    (λ (roots : List Descriptor). IsRefusalToWorkers (CanFail g.D.Store.state (g.D.Store.state c.args.destination)) c.args.options.now
-    (g.A.Store.state c.args.source.now) (g.D.Store.state c.args.destination) roots c.args.options.now.workers))
-    c.in-Ok.root c.extended_copy_graph-destination.result.1 c.in-Err-copied.fault c.in-Ok.ensures.found c.extended_copy_graph-destination.ensures.workers (λ f x. x.2) c.in-Err-copied.is
-    (rw c.in-Err-copied.is at c.extended_copy_graph-destination.ensures.refused)
+returns-in-Err-copied-clause-refused g c = inr (c.in-Ok.root, c.in-Ok.ensures.found, rw c.in-Err-copied.is at c.extended_copy_graph-destination.ensures.refused)
 
 pub returns-in-Err-copied-clause-grows : goal.returns-in-Err-copied-clause-grows
 returns-in-Err-copied-clause-grows g c =
@@ -50,9 +42,4 @@ returns-in-Err-copied-clause-grows g c =
     (was.0, roots_of_reference (g.A.Store.state c.args.source.now) c.args.source_reference.now c.in-Ok.root c.args.depth was.0 was.1 c.in-Ok.ensures.found, was.2)
 
 pub returns-in-Err-copied-clause-plain : goal.returns-in-Err-copied-clause-plain
-returns-in-Err-copied-clause-plain g c unfailing =
-    refused_by_root (g.A.Store.state c.args.source.now) c.args.source_reference.now c.args.options.now.workers
-    (λ (root : Descriptor). RefusedExtended (g.A.Store.state c.args.source.now) root c.args.depth
-    (λ (roots : List Descriptor). RefusedForPlanOrWorkers (g.A.Store.state c.args.source.now).entries c.args.options.now (g.D.Store.state c.args.destination).nodes roots c.args.options.now.workers))
-    c.in-Ok.root c.extended_copy_graph-destination.result.1 c.in-Err-copied.fault c.in-Ok.ensures.found c.extended_copy_graph-destination.ensures.workers (λ f x. x.2) c.in-Err-copied.is
-    ((rw c.in-Err-copied.is at c.extended_copy_graph-destination.ensures.plain) unfailing)
+returns-in-Err-copied-clause-plain g c unfailing = inr (c.in-Ok.root, c.in-Ok.ensures.found, (rw c.in-Err-copied.is at c.extended_copy_graph-destination.ensures.plain) unfailing)

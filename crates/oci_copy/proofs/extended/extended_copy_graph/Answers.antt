@@ -1,10 +1,12 @@
 use Rattle.std.proofs.Common.{List, [], inl, refl}
 use Rattle.std.proofs.lemmas.Result.{on_ok_weaker, IfErr-weaker}
 use Rattle.oci_manifest.specs.Descriptor.{Descriptor}
-use Rattle.oci_copy.specs.Extended.{RefusedExtended}
-use Rattle.oci_copy.specs.Work.{CanFail, IsRefusalToWorkers}
+use Rattle.oci_plan.specs.Up.{IsUp}
+use Rattle.oci_copy.specs.Cause.{CanFail, IsRefusal, IsStepCause, RefusedAt, RefusedByWorkers}
+use Rattle.oci_copy.specs.Plain.{NeitherFails, RefusedForPlan}
+use Rattle.oci_copy.specs.declared.fault.CopyFault.{CopyFault}
 use Rattle.oci_copy.proofs.Headline.{unchanged_grows}
-use Rattle.oci_copy.proofs.Roots.{key_held, refused_from_roots}
+use Rattle.oci_copy.proofs.Roots.{key_held, refused_at}
 use Rattle.oci_copy.proofs.extended.extended_copy_graph.Goals as goal
 
 pub returns-then-options-gt-MAX_WORKERS-clause-grows : goal.returns-then-options-gt-MAX_WORKERS-clause-grows
@@ -16,8 +18,19 @@ returns-clause-held g c =
 
 pub returns-clause-refused : goal.returns-clause-refused
 returns-clause-refused g c =
-    let cause = λ (roots : List Descriptor). IsRefusalToWorkers (CanFail g.D.Store.state (g.D.Store.state c.args.destination)) c.args.options.now
-    (g.A.Store.state c.args.source.now) (g.D.Store.state c.args.destination) roots c.args.options.now.workers in
-    IfErr-weaker c.copy_graph.result.1 (cause c.deref.result.now) (RefusedExtended (g.A.Store.state c.args.source.now) c.args.key.now c.args.depth cause)
-    (λ e h. refused_from_roots (g.A.Store.state c.args.source.now) c.args.key.now c.args.depth cause c.in-Ok.roots.items e c.in-Ok.ensures (λ many. many) (λ holder missing is. is) (rw c.deref.ensures.value at h))
+    let workers = c.args.options.now.workers in
+    let these = IsUp (g.A.Store.state c.args.source.now).nodes c.args.key.now c.args.depth in
+    let cause = IsRefusal (IsStepCause (CanFail g.D.Store.state (g.D.Store.state c.args.destination))) c.args.options.now (g.A.Store.state c.args.source.now) (g.D.Store.state c.args.destination) in
+    IfErr-weaker c.copy_graph.result.1 (RefusedByWorkers workers (cause c.deref.result.now)) (RefusedByWorkers workers (RefusedAt these cause))
+    (λ e h. refused_at these cause workers c.in-Ok.roots.items e c.in-Ok.ensures (rw c.deref.ensures.value at h))
     c.copy_graph.ensures.refused
+
+pub returns-clause-plain : goal.returns-clause-plain
+returns-clause-plain g c =
+    let workers = c.args.options.now.workers in
+    let these = IsUp (g.A.Store.state c.args.source.now).nodes c.args.key.now c.args.depth in
+    let cause = RefusedForPlan (g.A.Store.state c.args.source.now).entries c.args.options.now (g.D.Store.state c.args.destination).nodes in
+    let neither = NeitherFails c.args.options.now.existing g.D.Store.state (g.A.Store.state c.args.source.now) (g.D.Store.state c.args.destination) in
+    IfErr-weaker c.copy_graph.result.1 (λ (e : CopyFault). neither → RefusedByWorkers workers (cause c.deref.result.now) e) (λ (e : CopyFault). neither → RefusedByWorkers workers (RefusedAt these cause) e)
+    (λ e h unfailing. refused_at these cause workers c.in-Ok.roots.items e c.in-Ok.ensures (rw c.deref.ensures.value at (h unfailing)))
+    c.copy_graph.ensures.plain

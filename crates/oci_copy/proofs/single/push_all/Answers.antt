@@ -1,16 +1,15 @@
-use Rattle.std.proofs.Common.{◌≡◌, ◌++◌, ◌∷◌, [], List, true, false, sym, subst, ap, ◌∙◌, arith, append-nil, append_assoc}
+use Rattle.std.proofs.Common.{◌≡◌, ◌++◌, ◌∷◌, [], List, true, sym, ap, ◌∙◌, arith, append-nil, append_assoc}
 use Rattle.std.specs.Map.{keys_of}
 use Rattle.std.proofs.lemmas.List.Elements.{All-contains}
 use Rattle.std.proofs.lemmas.Result.{err_from_is_err_and}
 use Rattle.oci_manifest.specs.Descriptor.{Descriptor}
-use Rattle.oci_store.specs.Graph.{Node}
 use Rattle.oci_store.specs.Keyed.{has_key}
 use Rattle.oci_plan.specs.Plan.{keys_before}
 use Rattle.oci_copy.specs.Grown.{graph_of}
 use Rattle.oci_copy.specs.Planned.{CanBeRead}
 use Rattle.oci_copy.proofs.Growth.{keeps_start}
 use Rattle.oci_copy.proofs.Places.{Contains-from_slice_get, keys_before-more, fresh_at, all_held, ready_at, length-more}
-use Rattle.oci_copy.proofs.Causes.{step_earlier}
+use Rattle.oci_copy.proofs.Causes.{turn_earlier}
 use Rattle.oci_copy.proofs.single.push_all.Goals as goal
 
 pub loop-place-init : goal.loop-place-init
@@ -47,13 +46,10 @@ pub returns-in_err-push_planned-clause-cause : goal.returns-in_err-push_planned-
 returns-in_err-push_planned-clause-cause g c =
     let at = c.key_at.ensures in
     let p = err_from_is_err_and c.from_residual.result c.from_residual.ensures.1 in
-    let fresh = fresh_at c.args.plan.now c.requires.plan c.requires.order (g.D.Store.state c.args.destination.now).nodes (g.D.Store.state c.loop-place.destination).nodes c.loop-place.place at.0 c.key_at.result.now
-    c.requires.fresh c.loop-place.invariant.keys at.1 at.2 in
     rw (p.1, p.2) (
       c.key_at.result.now,
       Contains-from_slice_get c.args.plan.now.keys at.0 c.key_at.result.now at.2,
-      subst (λ (graph : List Node). has_key graph c.key_at.result.now ≡ false) (sym c.in_err-push_planned.ensures.brought.refused) fresh,
-      step_earlier (g.A.Store.state c.args.source.now) (g.D.Store.state c.args.destination.now) (g.D.Store.state c.loop-place.destination) (g.D.Store.state c.push_planned.new.destination) c.key_at.result.now _
+      turn_earlier (g.A.Store.state c.args.source.now) (g.D.Store.state c.args.destination.now) (g.D.Store.state c.loop-place.destination) (g.D.Store.state c.push_planned.new.destination) c.key_at.result.now _
           c.loop-place.invariant.running c.loop-place.invariant.keeps.rising c.in_err-push_planned.ensures.brought.cause,
     )
 

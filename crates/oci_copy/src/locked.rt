@@ -1,16 +1,19 @@
-ghost use Rattle.std.specs.Prelude.{◌≡◌, ◌⊎◌, ◌++◌, List, ℕ, true, false, Some, Contains, All, IsErrOf};
+ghost use Rattle.std.specs.Prelude.{◌≡◌, ◌⊎◌, ◌++◌, List, ℕ, true, false, Some, Contains, All, IfOk, IfErr, IsErrOf};
 ghost use Rattle.oci_manifest.specs.Descriptor.{Descriptor};
 ghost use Rattle.oci_store.specs.Closed.{IsClosed};
-ghost use Rattle.oci_store.specs.Content.{IsChecked, Matches};
+ghost use Rattle.oci_store.specs.Content.{IsChecked, successors_in};
 ghost use Rattle.oci_store.specs.Graph.{Node};
-ghost use Rattle.oci_store.specs.Keyed.{has_key, value_at, HasAll};
-ghost use Rattle.oci_store.specs.Parts.{IsLeaf, IsDraftOf, LeavesKeys};
-ghost use Rattle.oci_store.specs.Push.{PushesKey};
+ghost use Rattle.oci_store.specs.Keyed.{value_at, HasAll};
+ghost use Rattle.oci_store.specs.Parts.{IsLeaf, IsDraftOf};
+ghost use Rattle.oci_copy.specs.Cause.{CanFail, IsStepCause};
+ghost use Rattle.oci_copy.specs.Fault.{ReportsPush};
 ghost use Rattle.oci_copy.specs.Grown.{graph_of, HasKnownBytes};
 ghost use Rattle.oci_copy.specs.Kept.{Keeps, IsOpeningAnd};
-ghost use Rattle.oci_copy.specs.Work.{IsReportedHalt, CanFail};
 
 use super::copy_start::CopyStart;
+use super::held::Held;
+use crate::fault::CopyFault;
+use crate::fetching::push_fault;
 use oci_manifest::Key;
 use oci_store::{CheckedContent, Dest, PushFault};
 use std::marker::{Model, PhantomData};
@@ -82,43 +85,57 @@ impl<D: Dest, T: CopyStart> LockedDestination<D, T> {
         &self.destination
     }
 
-    /// Pushes content of a planned key that is not held.
-    ///
-    /// A halt that comes after another push ran out of memory is reported as out of memory, which
-    /// it followed from.
-    pub(crate) fn push(&mut self, content: CheckedContent) -> Result<usize, PushFault>
-        requires planned { Contains T.planned content.0 }
-        requires fresh { has_key self.old content.0 ≡ false }
-        requires checked { (listed : List Descriptor) × IsChecked content.0 content.1 listed }
-        requires own { T.source.is_honest → value_at T.source.entries content.0 ≡ Some content.1 }
-        ensures keys { PushesKey self.old self.new content result }
-        ensures device { IsErrOf result PushFault.Device → CanFail D.state T.opening }
-        ensures halted { IsErrOf result PushFault.Halted → T.opening.is_halted }
+    /// Pushes the content of a planned key, unless the key is held: then the destination has the
+    /// source's content of it. All that the content lists is held.
+    pub(crate) fn push<'k>(
+        &mut self,
+        key: &'k Key,
+        content: CheckedContent,
+    ) -> Result<Held<'k>, CopyFault>
+        requires same { content.0 ≡ key.now }
+        requires planned { Contains T.planned key.now }
+        requires ready { HasAll self.old (successors_in key.now content.1) }
+        requires checked { (listed : List Descriptor) × IsChecked key.now content.1 listed }
+        requires own { T.source.is_honest → value_at T.source.entries key.now ≡ Some content.1 }
+        ensures held { IfOk result (λ held. held ≡ key.now) }
+        ensures cause { IfErr result (IsStepCause (CanFail D.state T.opening) T.source T.opening
+            key.now) }
     {
+        if self.destination.has(key) {
+            return Ok(Held::by(self, key));
+        }
         let pushed = self.destination.push_checked(content);
-        let reported = reported_halt(pushed, self.ran_out);
-        self.ran_out = has_run_out(self.ran_out, &reported);
-        reported
+        self.ran_out = has_run_out(self.ran_out, &pushed);
+        match pushed {
+            Ok(_) => Ok(Held::by(self, key)),
+            Err(fault) => Err(locked_fault(key, fault, self.ran_out)),
+        }
     }
 
-    /// The same of what was drafted of a planned key that lists nothing.
-    pub(crate) fn push_draft(&mut self, key: &Key, draft: D::Draft) -> Result<usize, PushFault>
+    /// Pushes what was drafted of a planned key that lists nothing, unless the key is held.
+    pub(crate) fn push_draft<'k>(
+        &mut self,
+        key: &'k Key,
+        draft: D::Draft,
+    ) -> Result<Held<'k>, CopyFault>
         requires planned { Contains T.planned key.now }
-        requires fresh { has_key self.old key.now ≡ false }
         requires leaf { IsLeaf key.now }
         requires own { D.Draft.is_lost draft ⊎ ((bytes : List ℕ)
             × IsDraftOf (D.Draft.drafted draft) key.now T.source.is_honest
             (value_at T.source.entries key.now) bytes) }
-        ensures keys { (bytes : List ℕ) → D.Draft.drafted draft bytes → Matches key.now bytes
-            → PushesKey self.old self.new (key.now, bytes) result }
-        ensures lost { D.Draft.is_lost draft → LeavesKeys self.old self.new key.now result }
-        ensures device { IsErrOf result PushFault.Device → CanFail D.state T.opening }
-        ensures halted { IsErrOf result PushFault.Halted → T.opening.is_halted }
+        ensures held { IfOk result (λ held. held ≡ key.now) }
+        ensures cause { IfErr result (IsStepCause (CanFail D.state T.opening) T.source T.opening
+            key.now) }
     {
+        if self.destination.has(key) {
+            return Ok(Held::by(self, key));
+        }
         let pushed = self.destination.push_draft(key, draft);
-        let reported = reported_halt(pushed, self.ran_out);
-        self.ran_out = has_run_out(self.ran_out, &reported);
-        reported
+        self.ran_out = has_run_out(self.ran_out, &pushed);
+        match pushed {
+            Ok(_) => Ok(Held::by(self, key)),
+            Err(fault) => Err(locked_fault(key, fault, self.ran_out)),
+        }
     }
 
     /// The destination, once the run has ended.
@@ -147,16 +164,17 @@ fn has_run_out(ran_out: bool, pushed: &Result<usize, PushFault>) -> bool
     }
 }
 
-/// A halt that followed from a push which ran out of memory, reported as out of memory.
-fn reported_halt(pushed: Result<usize, PushFault>, ran_out: bool) -> Result<usize, PushFault>
-    ensures { IsReportedHalt pushed ran_out result }
+/// The fault of a copy whose push of the key was refused. A halt after a push that ran out of
+/// memory followed from it, and is reported as out of memory.
+fn locked_fault(key: &Key, fault: PushFault, ran_out: bool) -> CopyFault
+    ensures reports { ReportsPush key.now fault result }
+    ensures halted { (result ≡ CopyFault.Memory) ⊎ (fault ≡ PushFault.Halted → ran_out ≡ false) }
 {
-    match pushed {
-        Err(PushFault::Halted) => Err(if ran_out {
-            PushFault::Memory
-        } else {
-            PushFault::Halted
-        }),
-        _ => pushed,
+    if ran_out {
+        return match fault {
+            PushFault::Halted => CopyFault::Memory,
+            _ => push_fault(key, fault),
+        };
     }
+    push_fault(key, fault)
 }

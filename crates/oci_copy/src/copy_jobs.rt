@@ -1,14 +1,15 @@
-ghost use Rattle.std.specs.Prelude.{◌≡◌, ◌≤◌, OnOk, IfErr, IfSome};
+ghost use Rattle.std.specs.Prelude.{◌≡◌, ◌≤◌, Contains, slice_get, OnOk, IfErr, IfSome, IsSomeAnd};
 ghost use Rattle.oci_store.specs.Keyed.{HasAll, HasDistinctKeys};
 ghost use Rattle.oci_pool.specs.Run.{IsCause};
-ghost use Rattle.oci_copy.specs.Kept.{Keeps};
+ghost use Rattle.oci_copy.specs.Cause.{CanFail, IsStepCause, RefusedAt};
+ghost use Rattle.oci_copy.specs.Fault.{reported_fault};
+ghost use Rattle.oci_copy.specs.Kept.{IsNoted, Keeps};
 ghost use Rattle.oci_copy.specs.Planned.{CanPush};
-ghost use Rattle.oci_copy.specs.Work.{IsNoted, IsJobCause, IsStopCause, CanFail, reported_fault};
 
 use super::copy_start::CopyStart;
 use super::job::CopyJob;
 use super::locked::LockedDestination;
-use super::under_lock::{take_any, take_whole};
+use super::under_lock::take;
 use crate::fault::CopyFault;
 use oci_plan::Plan;
 use oci_pool::{Hooks, PoolFault, run};
@@ -32,10 +33,10 @@ fn finish<D: Dest, T: CopyStart>(locked: LockedDestination<D, T>) -> D
 /// The fault of a copy whose run stopped. A run that is only incomplete goes on by a wait.
 fn reported<D: Dest, T: CopyStart>(workers: u32, fault: PoolFault<CopyFault>) -> Option<CopyFault>
     requires workers { workers ≤ 64 }
-    requires fault { IsCause workers (IsJobCause (CanFail D.state T.opening) T.source T.opening
-        T.planned) fault }
-    ensures cause { IfSome result (IsStopCause (CanFail D.state T.opening) T.source T.opening
-        T.planned) }
+    requires fault { IsCause workers (λ n it. IsSomeAnd (slice_get T.planned n)
+        (λ k. IsStepCause (CanFail D.state T.opening) T.source T.opening k it)) fault }
+    ensures cause { IfSome result (RefusedAt (Contains T.planned)
+        (IsStepCause (CanFail D.state T.opening) T.source T.opening)) }
     ensures reported { result ≡ reported_fault fault }
 {
     match fault {
@@ -46,8 +47,8 @@ fn reported<D: Dest, T: CopyStart>(workers: u32, fault: PoolFault<CopyFault>) ->
     }
 }
 
-/// Lets workers copy what is planned, over what the run knows from its start on.
-pub(crate) fn work<
+/// Runs the job of each planned key by workers, over what the run knows from its start on.
+pub(crate) fn run_copy_jobs<
     'a,
     A: Source + Sync,
     D: Dest + Drop + Send,
@@ -74,8 +75,8 @@ where
     ensures held { OnOk result.1 (HasAll (D.state result.0).nodes plan.now.keys) }
     ensures distinct { HasDistinctKeys (D.state result.0).nodes }
     ensures keeps { Keeps D.shares T.source T.planned T.opening (D.state result.0) }
-    ensures cause { IfErr result.1 (IsStopCause (CanFail D.state T.opening) T.source T.opening
-        T.planned) }
+    ensures cause { IfErr result.1 (RefusedAt (Contains T.planned)
+        (IsStepCause (CanFail D.state T.opening) T.source T.opening)) }
 {
     let lock = Mutex::new(Some(LockedDestination::<D, T>::new(destination)));
     let pushed = Condvar::new();
@@ -93,11 +94,11 @@ where
     };
     match fault {
         None => {
-            let locked = take_whole(rt, &lock, &pushed, plan.keys());
+            let locked = take(rt, &lock, &pushed, plan.keys());
             (finish(locked), Ok(()))
         }
         Some(fault) => {
-            let locked = take_any(rt, &lock, &pushed);
+            let locked = take(rt, &lock, &pushed, &[]);
             (finish(locked), Err(fault))
         }
     }

@@ -1,5 +1,5 @@
 use Rattle.oci_copy.proofs.Headline.{closed_kept}
-use Rattle.oci_copy.proofs.running.locked.LockedDestination.destination.Goals as goal
+use Rattle.oci_copy.proofs.locked.LockedDestination.destination.Goals as goal
 
 pub returns-clause-closed : goal.returns-clause-closed
 returns-clause-closed g c was = closed_kept c.self.invariant.0 was

@@ -1,0 +1,95 @@
+ghost use Rattle.std.specs.Prelude.{◌≡◌, Contains, IfOk, IfErr};
+ghost use Rattle.oci_copy.specs.Cause.{CanFail, IsStepCause};
+
+use super::copy_start::CopyStart;
+use super::held::Held;
+use super::locked::LockedDestination;
+use super::under_lock::{begin_draft, push_draft_now, push_later};
+use crate::fault::CopyFault;
+use crate::fetching::{draft_planned, fetch_planned, goes_by_parts};
+use oci_manifest::Key;
+use oci_plan::Plan;
+use oci_pool::{Hooks, Job, Pass};
+use oci_store::{Dest, Source};
+use std::marker::Model;
+use std::sync::{Condvar, Mutex, Wait};
+
+/// The job of each planned key: fetch it, and push it once all that it lists is held.
+#[derive(Drop)]
+pub(crate) struct CopyJob<'a, A: Source, D: Dest, T: CopyStart, R: Wait, H: Hooks> {
+    pub(crate) rt: &'a R,
+    pub(crate) source: &'a A,
+    pub(crate) lock: &'a Mutex<Option<LockedDestination<D, T>>>,
+    /// Notified after each push.
+    pub(crate) pushed: &'a Condvar,
+    pub(crate) plan: &'a Plan,
+    pub(crate) hooks: &'a H,
+}
+
+impl<'a, A: Source, D: Dest, T: CopyStart, R: Wait, H: Hooks> Model for CopyJob<'a, A, D, T, R, H> {
+    ghost use Rattle.std.specs.Prelude.{◌≡◌, ⊤};
+    ghost use Rattle.std.specs.List.{All};
+    ghost use Rattle.oci_store.specs.Keyed.{HasAll};
+    ghost use Rattle.oci_copy.specs.Kept.{IsNoted};
+    ghost use Rattle.oci_copy.specs.Planned.{CanBeRead};
+
+    ghost Value = { ⊤ };
+
+    ghost view = { λ j. tt };
+
+    ghost invariant = { λ j. IsNoted T.source (A.state j.source.now)
+        × (j.plan.now.keys ≡ T.planned) × HasAll T.source.entries T.planned
+        × (T.source.is_honest → All (CanBeRead T.source.entries) T.planned) };
+}
+
+impl<'a, A: Source, D: Dest + Drop, T: CopyStart, R: Wait, H: Hooks> CopyJob<'a, A, D, T, R, H> {
+    /// Fetches a planned key and reads it, and then pushes it, once all that it lists is held.
+    ///
+    /// A key that lists nothing is read part by part, and written as it comes, outside the lock.
+    fn copy_key(&self, key: &'a Key) -> Result<Held<'a>, CopyFault>
+        requires planned { Contains T.planned key.now }
+        ensures held { IfOk result (λ held. held ≡ key.now) }
+        ensures cause { IfErr result (IsStepCause (CanFail D.state T.opening) T.source T.opening
+            key.now) }
+    {
+        if goes_by_parts(self.source, key) {
+            let mut draft = begin_draft(self.rt, self.lock, self.pushed, key)?;
+            draft_planned(self.source, key, &mut draft)?;
+            return push_draft_now(self.rt, self.lock, self.pushed, key, draft);
+        }
+        let content = fetch_planned(self.source, key)?;
+        push_later(self.rt, self.lock, self.pushed, key, content)
+    }
+}
+
+impl<
+    'a,
+    A: Source + Sync,
+    D: Dest + Drop + Send,
+    T: CopyStart + Send,
+    R: Wait + Sync,
+    H: Hooks + Sync,
+> Job for CopyJob<'a, A, D, T, R, H> {
+    /// That the key is held: nothing for what is no number of the plan.
+    type Out = Option<Held<'a>>;
+
+    type Fault = CopyFault;
+
+    ghost use Rattle.std.specs.Prelude.{◌≡◌, slice_get, IsSomeAnd};
+    ghost use Rattle.oci_copy.specs.Cause.{CanFail, IsStepCause};
+
+    ghost answers = { λ j k held. held ≡ slice_get T.planned k };
+
+    ghost fails = { λ j k f. IsSomeAnd (slice_get T.planned k)
+        (λ key. IsStepCause (CanFail D.state T.opening) T.source T.opening key f) };
+
+    fn run(&self, number: u32, _pass: Pass) -> Result<Option<Held<'a>>, CopyFault> {
+        let Some(key) = self.plan.key(number) else {
+            return Ok(None);
+        };
+        self.hooks.pre_copy(key);
+        let held = self.copy_key(key)?;
+        self.hooks.post_copy(key);
+        Ok(Some(held))
+    }
+}

@@ -1,0 +1,147 @@
+ghost use Rattle.std.specs.Prelude.{◌≡◌, ◌↔◌, ◌⊎◌, [], List, ℕ, Some, Contains, IfOk, IfErr, IsSomeAnd, IsTrue};
+ghost use Rattle.std.specs.Sync.Mutex.{mutex_guard_value};
+ghost use Rattle.oci_store.specs.Keyed.{value_at, HasAll};
+ghost use Rattle.oci_store.specs.Parts.{IsLeaf, IsDraftOf};
+ghost use Rattle.oci_copy.specs.Cause.{CanFail, IsStepCause};
+
+use super::copy_start::CopyStart;
+use super::held::Held;
+use super::locked::LockedDestination;
+use crate::fault::CopyFault;
+use oci_manifest::Key;
+use oci_store::{CheckedContent, Dest};
+use std::sync::{Condvar, Mutex, MutexGuard, Wait};
+
+/// Whether all of these keys are held.
+fn has_all<D: Dest, T: CopyStart>(locked: &LockedDestination<D, T>, keys: &[Key]) -> bool
+    ensures { IsTrue result ↔ HasAll locked.now keys.now }
+{
+    let destination = locked.destination();
+    keys.iter().all(|key| destination.has(key))
+}
+
+/// Whether the destination is there, and all of these keys are held.
+fn is_ready<D: Dest, T: CopyStart>(locked: &Option<LockedDestination<D, T>>, keys: &[Key]) -> bool
+    ensures { IsTrue result ↔ IsSomeAnd locked.now (λ g. HasAll g keys.now) }
+{
+    match locked {
+        Some(locked) => has_all(locked, keys),
+        None => false,
+    }
+}
+
+/// Waits until all of these keys are held, and keeps the lock.
+fn wait_for<'b, D: Dest + Drop, T: CopyStart, R: Wait>(
+    rt: &R,
+    lock: &'b Mutex<Option<LockedDestination<D, T>>>,
+    pushed: &Condvar,
+    keys: &[Key],
+) -> MutexGuard<'b, Option<LockedDestination<D, T>>>
+    ensures { IsSomeAnd (mutex_guard_value result) (λ g. HasAll g keys.now) }
+{
+    let mut guard = lock.lock(rt);
+    for _ in rt.forever() {
+        if is_ready(&*guard, keys) {
+            return guard;
+        }
+        guard = pushed.wait(rt, guard);
+    }
+    unreachable!()
+}
+
+/// Pushes a key's content, once all that it lists is held, and returns that it is held. It was
+/// fetched and hashed before.
+///
+/// The push is under the lock. So a layout reads the old file of that digest there, and writes the
+/// content unless the file has it.
+pub(crate) fn push_later<'k, D: Dest + Drop, T: CopyStart, R: Wait>(
+    rt: &R,
+    lock: &Mutex<Option<LockedDestination<D, T>>>,
+    pushed: &Condvar,
+    key: &'k Key,
+    content: CheckedContent,
+) -> Result<Held<'k>, CopyFault>
+    requires same { content.0 ≡ key.now }
+    requires planned { Contains T.planned key.now }
+    requires own { T.source.is_honest → value_at T.source.entries key.now ≡ Some content.1 }
+    ensures held { IfOk result (λ held. held ≡ key.now) }
+    ensures cause { IfErr result (IsStepCause (CanFail D.state T.opening) T.source T.opening
+        key.now) }
+{
+    let mut guard = wait_for(rt, lock, pushed, content.successors());
+    let Some(locked) = &mut *guard else {
+        unreachable!()
+    };
+    let held = locked.push(key, content);
+    drop(guard);
+    pushed.notify_all();
+    held
+}
+
+/// A draft of a key's content.
+pub(crate) fn begin_draft<D: Dest + Drop, T: CopyStart, R: Wait>(
+    rt: &R,
+    lock: &Mutex<Option<LockedDestination<D, T>>>,
+    pushed: &Condvar,
+    key: &Key,
+) -> Result<D::Draft, CopyFault>
+    ensures empty { IfOk result (λ draft. D.Draft.drafted draft []) }
+    ensures cause { IfErr result (IsStepCause (CanFail D.state T.opening) T.source T.opening
+        key.now) }
+{
+    let guard = wait_for(rt, lock, pushed, &[]);
+    let Some(locked) = &*guard else {
+        unreachable!()
+    };
+    match locked.destination().draft(key) {
+        Ok(draft) => Ok(draft),
+        Err(_) => Err(CopyFault::Memory),
+    }
+}
+
+/// Pushes what was drafted of a key that lists nothing, and returns that it is held. It was read,
+/// hashed and written before. If a write failed, the push is refused.
+///
+/// The push is under the lock. A layout only renames a file there, unless the old file of that
+/// digest begins with the content and is longer: then it copies the content there.
+pub(crate) fn push_draft_now<'k, D: Dest + Drop, T: CopyStart, R: Wait>(
+    rt: &R,
+    lock: &Mutex<Option<LockedDestination<D, T>>>,
+    pushed: &Condvar,
+    key: &'k Key,
+    draft: D::Draft,
+) -> Result<Held<'k>, CopyFault>
+    requires planned { Contains T.planned key.now }
+    requires leaf { IsLeaf key.now }
+    requires own { D.Draft.is_lost draft ⊎ ((bytes : List ℕ)
+        × IsDraftOf (D.Draft.drafted draft) key.now T.source.is_honest
+        (value_at T.source.entries key.now) bytes) }
+    ensures held { IfOk result (λ held. held ≡ key.now) }
+    ensures cause { IfErr result (IsStepCause (CanFail D.state T.opening) T.source T.opening
+        key.now) }
+{
+    let mut guard = wait_for(rt, lock, pushed, &[]);
+    let Some(locked) = &mut *guard else {
+        unreachable!()
+    };
+    let held = locked.push_draft(key, draft);
+    drop(guard);
+    pushed.notify_all();
+    held
+}
+
+/// Takes the destination out, once all of these keys are held.
+pub(crate) fn take<D: Dest + Drop, T: CopyStart, R: Wait>(
+    rt: &R,
+    lock: &Mutex<Option<LockedDestination<D, T>>>,
+    pushed: &Condvar,
+    keys: &[Key],
+) -> LockedDestination<D, T>
+    ensures { HasAll result keys.now }
+{
+    let mut guard = wait_for(rt, lock, pushed, keys);
+    match guard.take() {
+        Some(locked) => locked,
+        None => unreachable!(),
+    }
+}
