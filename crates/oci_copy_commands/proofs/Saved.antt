@@ -11,7 +11,7 @@ use Rattle.oci_copy.specs.Grown.{HasKnownBytes, SameByDigest}
 use Rattle.oci_copy.specs.Report.{IsReport}
 use Rattle.oci_copy.specs.declared.options.Options.{Options}
 use Rattle.oci_copy.specs.declared.report.Report.{Report}
-use Rattle.oci_copy_commands.specs.Between.{IsTrusted, IsSaved, BringsOnlyMet, IsCopiedBetween, HoldsWhatCame}
+use Rattle.oci_copy_commands.specs.Between.{IsTrusted, IsSaved, BringsOnlyMet, BringsOnlyChecked, IsCopiedBetween, HoldsWhatCame}
 
 -- what follows from what holds of a copy that succeeded holds if the copy with its save did
 pub after_ok : {X E F P Q : Type 0} (copied : Result X E) (saved : Result X F) → (P → Q) → IfOk saved (λ it. copied ≡ Ok it) → OnOk copied P → OnOk saved Q
@@ -43,6 +43,9 @@ module _ {source old copied new : State} {roots : List Descriptor} (alike : Same
 
   pub came_after : HoldsWhatCame old.nodes new.nodes
   came_after = rw saved.nodes grows.whole
+
+  pub checked_after : BringsOnlyChecked old.nodes new.nodes
+  checked_after = rw saved.nodes grows.checked
 
   pub met_after : BringsOnlyMet source old.nodes roots new.nodes
   met_after = rw saved.nodes grows.met

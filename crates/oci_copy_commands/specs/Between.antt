@@ -9,7 +9,7 @@ use Rattle.oci_store.specs.Push.{IsCalm}
 use Rattle.oci_store.specs.State.{State}
 use Rattle.oci_plan.specs.Met.{IsMet}
 use Rattle.oci_plan.specs.declared.existing.Existing.TheVariants.{Descend}
-use Rattle.oci_copy.specs.Grown.{graph_of, SameByDigest}
+use Rattle.oci_copy.specs.Grown.{graph_of, ListsByBytes, SameByDigest}
 
 -- What is known of the bytes of a copy between two layouts needs this: nobody else writes into either folder, each file that the
 -- destination had matches its key, a digest that is in both has the same bytes in both, and no put failed from the one state of
@@ -23,6 +23,10 @@ pub record IsTrusted (source old new : State) : Type 0 where
 -- what came is held with all that it lists
 abbrev pub HoldsWhatCame : List Node → List Node → Type 0
 HoldsWhatCame old new = (added : List Node) × (new ≡ old ++ added) × All (λ (n : Node). HasAll new n.1) added
+
+-- what each key that came lists is what bytes that match the key list
+abbrev pub BringsOnlyChecked : List Node → List Node → Type 0
+BringsOnlyChecked old new = (added : List Node) × (new ≡ old ++ added) × All ListsByBytes added
 
 -- each key that came is a root, or is listed by bytes that match such a key, which the source has
 abbrev pub BringsOnlyMet : State → List Node → List Descriptor → List Node → Type 0

@@ -11,7 +11,7 @@ ghost use Rattle.oci_copy.specs.Planned.{IsPlanOf};
 ghost use Rattle.oci_copy.specs.Report.{IsReport};
 ghost use Rattle.oci_layout.specs.Files.{HasFiles};
 ghost use Rattle.oci_layout.specs.Refusal.{IsPutFault};
-ghost use Rattle.oci_copy_commands.specs.Between.{BringsOnlyMet, HasReached, HoldsWhatCame, IsCopiedBetween, IsSaved, IsTrusted};
+ghost use Rattle.oci_copy_commands.specs.Between.{BringsOnlyChecked, BringsOnlyMet, HasReached, HoldsWhatCame, IsCopiedBetween, IsSaved, IsTrusted};
 ghost use Rattle.oci_copy_commands.specs.Refusal.{AfterRefusedCopy, IsRefusedBetween, IsRunCause, IsSaveFault};
 ghost use Rattle.oci_copy_commands.specs.Selected.{set_tags};
 
@@ -57,6 +57,7 @@ where
     ensures held { OnOk result.1 (HasAll result.0.1 selected.now.0) }
     ensures begins { BeginsWith destination.1 result.0.1 }
     ensures came { HoldsWhatCame destination.1 result.0.1 }
+    ensures checked { BringsOnlyChecked destination.1 result.0.1 }
     ensures met { BringsOnlyMet (⟦<Layout<S> as Store>⟧.state source.now) destination.1
         selected.now.0 result.0.1 }
     ensures closed { IsClosed destination.1 → IsClosed result.0.1 }
@@ -65,6 +66,12 @@ where
         selected.now.0 (⟦<Layout<D> as Store>⟧.state result.0)) }
     ensures tagged { OnOk result.1 (result.0.2 ≡ set_tags destination.2 selected.now.1) }
     ensures untagged { IfErr result.1 (AfterRefusedCopy (result.0.2 ≡ destination.2)) }
+    ensures refused { IfErr result.1 (IsRefusedBetween
+        (IsRunCause (CanFail ⟦<Layout<D> as Store>⟧.state
+        (⟦<Layout<D> as Store>⟧.state destination)) (⟦<Layout<S> as Store>⟧.state source.now)
+        (⟦<Layout<D> as Store>⟧.state destination) plan.now.keys)
+        (IsSaveFault (⟦<Layout<D> as Store>⟧.state destination)
+        (⟦<Layout<D> as Store>⟧.state result.0))) }
     ensures reached { OnOk result.1 (HasReached (⟦<Layout<S> as Store>⟧.state source.now)
         (⟦<Layout<D> as Store>⟧.state destination) selected.now.0
         (⟦<Layout<D> as Store>⟧.state result.0)) }
@@ -78,12 +85,6 @@ where
         (⟦<Layout<D> as Store>⟧.state destination) (⟦<Layout<D> as Store>⟧.state result.0)
         → HasFiles (D.device result.0.0).file (⟦<Layout<D> as Store>⟧.state result.0).entries
         result.0.1 result.0.2) }
-    ensures refused { IfErr result.1 (IsRefusedBetween
-        (IsRunCause (CanFail ⟦<Layout<D> as Store>⟧.state
-        (⟦<Layout<D> as Store>⟧.state destination)) (⟦<Layout<S> as Store>⟧.state source.now)
-        (⟦<Layout<D> as Store>⟧.state destination) plan.now.keys)
-        (IsSaveFault (⟦<Layout<D> as Store>⟧.state destination)
-        (⟦<Layout<D> as Store>⟧.state result.0))) }
 {
     let roots = selected.roots();
     let (destination, copied) = copy_plan(

@@ -2,7 +2,7 @@ use Rattle.std.proofs.Common.{List}
 use Rattle.oci_store.specs.Content.{Entry}
 use Rattle.oci_layout.specs.Files.{HasFiles}
 use Rattle.oci_layout.proofs.Law.{keys_of_one_digest}
-use Rattle.oci_copy_commands.proofs.Saved.{after_ok, after_report, sound_after, came_after, met_after, report_after, copied_after, files_after}
+use Rattle.oci_copy_commands.proofs.Saved.{after_ok, after_report, sound_after, came_after, checked_after, met_after, report_after, copied_after, files_after}
 use Rattle.oci_copy_commands.proofs.between.copy_between.Goals as goal
 
 pub returns-clause-report : goal.returns-clause-report
@@ -30,6 +30,11 @@ pub returns-clause-came : goal.returns-clause-came
 returns-clause-came g c =
     let from = c.args.source.now in
     came_after (keys_of_one_digest (g.S.Dir.device from.0).file from.1) c.copy_plan-destination.ensures.grows c.finish.ensures.saved
+
+pub returns-clause-checked : goal.returns-clause-checked
+returns-clause-checked g c =
+    let from = c.args.source.now in
+    checked_after (keys_of_one_digest (g.S.Dir.device from.0).file from.1) c.copy_plan-destination.ensures.grows c.finish.ensures.saved
 
 pub returns-clause-met : goal.returns-clause-met
 returns-clause-met g c =
