@@ -1,41 +1,88 @@
 -- What a copy starts from, and the tags that it sets.
 use Rattle.std.proofs.Common.{◌≡◌, ◌≢◌, ℕ, ◌+◌, ◌<◌, ◌≤◌, true, inl, inr, List, [], ◌∷◌, ◌++◌, length, get_or, take, Option, None, Some, refl, sym, ap, subst, ◌∙◌, arith}
-use Rattle.std.specs.Prelude.{◌↔◌, false, Contains, option_map, String, string_bytes, Result, Ok, Err, IfOk, IfErr}
+use Rattle.std.specs.Prelude.{◌↔◌, ◌⊎◌, false, Contains, option_map, String, string_bytes, Result, Ok, Err, IfOk, IfErr}
 use Rattle.std.specs.List.{All, slice_get}
 use Rattle.std.specs.Map.{keys_of, values_of}
 use Rattle.std.specs.Result.{IsErrOf}
 use Rattle.std.specs.declared.alloc.Global.{Global}
 use Rattle.std.proofs.lemmas.List.{map-append, take_all, take_more}
 use Rattle.std.proofs.lemmas.Option.{slice_get-get_or, slice_get-map}
-use Rattle.std.proofs.lemmas.Bool.{or_cases, or_left}
-use Rattle.std.proofs.lemmas.List.Elements.{All-append, All-contains, All-cons, All-nil, All-weaker}
-use Rattle.oci_manifest.specs.Descriptor.{Descriptor, same_key, is_among}
-use Rattle.oci_manifest.proofs.Keys.{Decides-same_key, cases}
+use Rattle.std.proofs.lemmas.List.Elements.{All-contains, All-contains_itself, All-cons, All-nil, All-weaker, Contains-append_left, Contains-push, Contains-push_cases}
+use Rattle.oci_manifest.specs.Descriptor.{Descriptor}
 use Rattle.oci_store.specs.Graph.{Node}
 use Rattle.oci_store.specs.Keyed.{has_key, HasAll}
-use Rattle.oci_store.specs.Tags.{by_bytes}
-use Rattle.oci_store.specs.Visiting.{with_key, with_keys}
+use Rattle.oci_store.specs.Tags.{Tags, by_bytes}
+use Rattle.oci_store.specs.Visiting.{with_keys}
 use Rattle.oci_store.specs.declared.fault.RefFault.{RefFault}
 use Rattle.oci_store.specs.declared.fault.RefFault.TheVariants as fault
-use Rattle.oci_store.proofs.Membership.{Keys, Contains-from_among, among_from_Contains, stays-with_keys, there-with_keys}
+use Rattle.oci_store.proofs.Membership.{Keys, Contains-from_among, among_from_Contains, among-with_keys, stays-with_keys, there-with_keys}
 use Rattle.oci_copy.proofs.Places.{Contains-from_slice_get}
-use Rattle.oci_copy_commands.specs.Selected.{AreRoots}
+use Rattle.oci_copy_commands.specs.Selected.{AreRoots, AreRootsOfTags, IsRootOfKey, IsRootOfKeys}
 
 -- keys that are among held keys are held
 pub among_held : (graph : List Node) (roots keys : List Descriptor) → HasAll graph roots → All (λ (k : Descriptor). Contains roots k) keys → HasAll graph keys
 among_held graph roots keys held = All-weaker (λ (k : Descriptor). Contains roots k) (λ (k : Descriptor). has_key graph k ≡ true) (λ k there. All-contains (λ (k : Descriptor). has_key graph k ≡ true) roots k held there) keys
 
+-- a copy of a key starts from that key
+starts_there : (graph : List Node) (referrers : Option ℕ) (k : Descriptor) → IsRootOfKey graph referrers k k
+starts_there graph None k = refl
+starts_there graph (Some depth) k = (0, (λ limited. omega arith), refl)
+
+-- the roots of a copy of one key are exactly the keys from which it starts
+roots_are : (graph : List Node) (referrers : Option ℕ) (k : Descriptor) (roots : Keys) → AreRoots graph referrers k roots → (root : Descriptor) → Contains roots root ↔ IsRootOfKey graph referrers k root
+roots_are graph None k roots is root = subst (λ (keys : Keys). Contains keys root ↔ (root ≡ k)) (sym is) (alone, there)
+  where
+    alone : Contains (k ∷ []) root → root ≡ k
+    alone h = All-contains (λ (other : Descriptor). other ≡ k) (k ∷ []) root (All-cons (λ (other : Descriptor). other ≡ k) k [] refl (All-nil (λ (other : Descriptor). other ≡ k))) h
+
+    there : root ≡ k → Contains (k ∷ []) root
+    there same = subst (λ (other : Descriptor). Contains (k ∷ []) other) (sym same) (Contains-push [] k)
+roots_are graph (Some depth) k roots up root = up.each root
+
 -- a key is among the roots of its copy
-pub root_there : (graph : List Node) (referrers : Option ℕ) (k : Descriptor) (roots : List Descriptor) → AreRoots graph referrers k roots → Contains roots k
-root_there graph None k roots is = rw is (Contains-from_slice_get (k ∷ []) 0 k refl)
-root_there graph (Some depth) k roots up = (up.each k).1 (0, (λ limited. omega arith), refl)
+pub root_there : (graph : List Node) (referrers : Option ℕ) (k : Descriptor) (roots : Keys) → AreRoots graph referrers k roots → Contains roots k
+root_there graph referrers k roots are = (roots_are graph referrers k roots are k).1 (starts_there graph referrers k)
 
--- what is in a list stays there as keys are added, and what is added is there
-pub stays : (ks more : Keys) (k : Descriptor) → Contains ks k → Contains (with_keys ks more) k
-stays ks more k there = Contains-from_among (with_keys ks more) k (stays-with_keys ks more k (among_from_Contains ks k there))
+-- once the roots of a copy of one key are added, the roots are the old ones and those
+pub roots_placed : (graph : List Node) (referrers : Option ℕ) (k : Descriptor) (old more new : Keys) → AreRoots graph referrers k more → new ≡ with_keys old more
+    → (root : Descriptor) → Contains new root ↔ (Contains old root ⊎ IsRootOfKey graph referrers k root)
+roots_placed graph referrers k old more new are is root = subst (λ (keys : Keys). Contains keys root ↔ (Contains old root ⊎ IsRootOfKey graph referrers k root)) (sym is) (came, there)
+  where
+    came : Contains (with_keys old more) root → Contains old root ⊎ IsRootOfKey graph referrers k root
+    came h =
+        elim (among-with_keys old more root (among_from_Contains (with_keys old more) root h)) [
+          | inl before ↦ inl (Contains-from_among old root before)
+          | inr added ↦ inr ((roots_are graph referrers k more are root).0 (Contains-from_among more root added))
+        ]
 
-pub comes : (ks more : Keys) (k : Descriptor) → Contains more k → Contains (with_keys ks more) k
-comes ks more k there = Contains-from_among (with_keys ks more) k (there-with_keys ks more k (among_from_Contains more k there))
+    there : Contains old root ⊎ IsRootOfKey graph referrers k root → Contains (with_keys old more) root
+    there (inl before) = Contains-from_among (with_keys old more) root (stays-with_keys old more root (among_from_Contains old root before))
+    there (inr of) = Contains-from_among (with_keys old more) root (there-with_keys old more root (among_from_Contains more root ((roots_are graph referrers k more are root).1 of)))
+
+-- the roots of a copy of some keys and those of one key more are the roots of a copy of all these keys
+roots_more : (graph : List Node) (referrers : Option ℕ) (keys : Keys) (k : Descriptor) (old new : Keys)
+    → ((root : Descriptor) → Contains new root ↔ (Contains old root ⊎ IsRootOfKey graph referrers k root))
+    → ((root : Descriptor) → Contains old root ↔ IsRootOfKeys graph referrers keys root)
+    → (root : Descriptor) → Contains new root ↔ IsRootOfKeys graph referrers (keys ++ k ∷ []) root
+roots_more graph referrers keys k old new grown before root = (λ h. joined ((grown root).0 h), λ of. (grown root).1 (apart of))
+  where
+    joined : Contains old root ⊎ IsRootOfKey graph referrers k root → IsRootOfKeys graph referrers (keys ++ k ∷ []) root
+    joined (inl there) =
+        let of = (before root).0 there in
+        (of.0, Contains-append_left keys (k ∷ []) of.0 of.1, of.2)
+    joined (inr of) = (k, Contains-push keys k, of)
+
+    apart : IsRootOfKeys graph referrers (keys ++ k ∷ []) root → Contains old root ⊎ IsRootOfKey graph referrers k root
+    apart of =
+        elim (Contains-push_cases keys k of.0 of.1) [
+          | inl earlier ↦ inl ((before root).1 (of.0, earlier, of.2))
+          | inr last ↦ inr (subst (λ (key : Descriptor). IsRootOfKey graph referrers key root) (sym last) of.2)
+        ]
+
+-- the key of each tag is among the roots of a copy of the tags
+pub tagged_there : (graph : List Node) (referrers : Option ℕ) (tags : Tags) (roots : Keys) → AreRootsOfTags graph referrers tags roots → All (λ (k : Descriptor). Contains roots k) (values_of tags)
+tagged_there graph referrers tags roots are =
+    All-weaker (λ (k : Descriptor). Contains (values_of tags) k) (λ (k : Descriptor). Contains roots k) (λ k tagged. (are.each k).1 (k, tagged, starts_there graph referrers k)) (values_of tags) (All-contains_itself (values_of tags))
 
 -- a tag of a held key that has a name is refused for want of memory alone
 pub only_memory : {X : Type 0} (r : Result X RefFault) (name : List ℕ) (graph : List Node) (k : Descriptor)
@@ -75,18 +122,26 @@ module _ (tags : List (String Global × Descriptor)) (i : ℕ) (t : String Globa
       ap (λ (ts : List (String Global × Descriptor)). values_of (by_bytes ts)) taken ∙ ap values_of bytes
       ∙ map-append (λ (e : List ℕ × Descriptor). e.1) (by_bytes (take i tags)) ((string_bytes t.0, t.1) ∷ [])
 
-  -- once the roots of one more tag are placed, the keys of the tags so far are among the roots
-  pub placed_more : (roots new : List Descriptor) → ((k : Descriptor) → Contains roots k → Contains new k) → Contains new t.1
-      → All (λ (k : Descriptor). Contains roots k) (values_of (by_bytes (take i tags))) → All (λ (k : Descriptor). Contains new k) (values_of (by_bytes (take (i + 1) tags)))
-  placed_more roots new stays there all =
-      let P : Descriptor → Type 0 = λ k. Contains new k in
-      let before = All-weaker (λ (k : Descriptor). Contains roots k) P stays (values_of (by_bytes (take i tags))) all in
-      subst (All P) (sym keys_more) (All-append P (values_of (by_bytes (take i tags))) (t.1 ∷ []) before (All-cons P t.1 [] there (All-nil P)))
+  -- once the roots of one more tag are added, the roots are those of the tags so far
+  pub placed_more : (graph : List Node) (referrers : Option ℕ) (old new : Keys)
+      → ((root : Descriptor) → Contains new root ↔ (Contains old root ⊎ IsRootOfKey graph referrers t.1 root))
+      → ((root : Descriptor) → Contains old root ↔ IsRootOfKeys graph referrers (values_of (by_bytes (take i tags))) root)
+      → (root : Descriptor) → Contains new root ↔ IsRootOfKeys graph referrers (values_of (by_bytes (take (i + 1) tags))) root
+  placed_more graph referrers old new grown before root =
+      subst (λ (keys : Keys). Contains new root ↔ IsRootOfKeys graph referrers keys root) (sym keys_more) (roots_more graph referrers (values_of (by_bytes (take i tags))) t.1 old new grown before root)
 
--- once those of all tags are, the keys of the tags are among the roots
-pub placed_all : (roots : List Descriptor) (tags : List (String Global × Descriptor)) (i : ℕ) → length tags ≤ i
-    → All (λ (k : Descriptor). Contains roots k) (values_of (by_bytes (take i tags))) → All (λ (k : Descriptor). Contains roots k) (values_of (by_bytes tags))
-placed_all roots tags i past all = rw (take_all i tags past) at all
+-- before the first tag there are none, and once the roots of all tags are added, they are those of the tags
+pub placed_none : (graph : List Node) (referrers : Option ℕ) (roots : Keys) → roots ≡ [] → (root : Descriptor) → Contains roots root ↔ IsRootOfKeys graph referrers [] root
+placed_none graph referrers roots none root = subst (λ (keys : Keys). Contains keys root ↔ IsRootOfKeys graph referrers [] root) (sym none) (λ there. absurd (empty root there), λ of. absurd (empty of.0 of.1))
+  where
+    empty : (k : Descriptor) → Contains [] k → ⊥
+    empty k there = let h : there.0 < 0 = there.1 in omega arith
+
+pub placed_all : (graph : List Node) (referrers : Option ℕ) (roots : Keys) (tags : List (String Global × Descriptor)) (i : ℕ) → length tags ≤ i
+    → ((root : Descriptor) → Contains roots root ↔ IsRootOfKeys graph referrers (values_of (by_bytes (take i tags))) root)
+    → (root : Descriptor) → Contains roots root ↔ IsRootOfKeys graph referrers (values_of (by_bytes tags)) root
+placed_all graph referrers roots tags i past so_far root =
+    subst (λ (ts : List (String Global × Descriptor)). Contains roots root ↔ IsRootOfKeys graph referrers (values_of (by_bytes ts)) root) (take_all i tags past) (so_far root)
 
 -- what two facts on a result that succeeded give
 pub both_ok : {X E : Type 0} {P Q R : X → Type 0} (r : Result X E) → ((x : X) → P x → Q x → R x) → IfOk r P → IfOk r Q → IfOk r R

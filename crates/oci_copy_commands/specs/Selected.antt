@@ -1,11 +1,11 @@
 -- What a copy starts from, and the tags that it sets.
-use Rattle.std.specs.Prelude.{◌≡◌, ◌≢◌, ℕ, List, [], ◌∷◌, Option, None, Some, Contains}
-use Rattle.std.specs.List.{All}
+use Rattle.std.specs.Prelude.{◌≡◌, ◌≢◌, ◌↔◌, ℕ, List, [], ◌∷◌, Option, None, Some, Contains}
+use Rattle.std.specs.List.{All, IsDistinct}
 use Rattle.std.specs.Map.{keys_of, values_of}
-use Rattle.oci_manifest.specs.Descriptor.{Descriptor}
+use Rattle.oci_manifest.specs.Descriptor.{Descriptor, same_key}
 use Rattle.oci_store.specs.Graph.{Node}
 use Rattle.oci_store.specs.Tags.{Tags, set_tag}
-use Rattle.oci_plan.specs.Up.{IsUp}
+use Rattle.oci_plan.specs.Up.{HasPath, IsUp, IsWithinDepth}
 
 -- no tag is empty, and each tags a root
 pub record AreOfRoots (roots : List Descriptor) (tags : Tags) : Type 0 where
@@ -16,6 +16,20 @@ pub record AreOfRoots (roots : List Descriptor) (tags : Tags) : Type 0 where
 abbrev pub AreRoots : List Node → Option ℕ → Descriptor → List Descriptor → Type 0
 AreRoots graph None k roots = roots ≡ k ∷ []
 AreRoots graph (Some depth) k roots = IsUp graph k depth roots
+
+-- a key that a copy of one key starts from: that key itself, or with referrers one from which a path within the depth leads to it
+abbrev pub IsRootOfKey : List Node → Option ℕ → Descriptor → Descriptor → Type 0
+IsRootOfKey graph None k root = root ≡ k
+IsRootOfKey graph (Some depth) k root = (edges : ℕ) × IsWithinDepth depth edges × HasPath graph edges root k
+
+-- a key that a copy of these keys starts from: a root of one of them
+abbrev pub IsRootOfKeys : List Node → Option ℕ → List Descriptor → Descriptor → Type 0
+IsRootOfKeys graph referrers keys root = (k : Descriptor) × Contains keys k × IsRootOfKey graph referrers k root
+
+-- the roots of a copy of these tags: exactly the keys that a copy of the tagged keys starts from, each once
+pub record AreRootsOfTags (graph : List Node) (referrers : Option ℕ) (tags : Tags) (roots : List Descriptor) : Type 0 where
+  pub each : (root : Descriptor) → Contains roots root ↔ IsRootOfKeys graph referrers (values_of tags) root
+  pub distinct : IsDistinct same_key roots
 
 -- the tags, with each of these set in turn
 abbrev pub set_tags : Tags → Tags → Tags

@@ -1,10 +1,8 @@
-ghost use Rattle.std.specs.Prelude.{◌≡◌, ◌≢◌, [], ◌∷◌, string_bytes, Contains, IfOk, OnOk};
-ghost use Rattle.std.specs.List.{All};
-ghost use Rattle.std.specs.Map.{values_of};
+ghost use Rattle.std.specs.Prelude.{◌≡◌, ◌≢◌, ◌↔◌, ◌⊎◌, [], ◌∷◌, string_bytes, Contains, IfOk, OnOk};
 ghost use Rattle.oci_manifest.specs.Descriptor.{Descriptor};
 ghost use Rattle.oci_copy.specs.Tagged.{name_of, ResolvesIn};
 ghost use Rattle.oci_store.specs.Tags.{by_bytes};
-ghost use Rattle.oci_copy_commands.specs.Selected.{AreOfRoots, AreRoots};
+ghost use Rattle.oci_copy_commands.specs.Selected.{AreOfRoots, AreRoots, AreRootsOfTags, IsRootOfKey};
 
 use oci_command_line::{CopyWords, Selection};
 use oci_exit::ProgramFault;
@@ -99,6 +97,8 @@ impl Selected {
         referrers: Option<u32>,
     ) -> Result<Selected, ProgramFault>
         ensures tags { IfOk result (λ selected. selected.1 ≡ source.now.2) }
+        ensures roots { IfOk result (λ selected. AreRootsOfTags source.now.1 referrers source.now.2
+            selected.0) }
     {
         let tags = source.tags()?;
         let roots = roots_of_tags(alloc, source, &tags, referrers)?;
@@ -140,8 +140,8 @@ fn roots_of_tags<A: GraphSource>(
     tags: &[(String, Key)],
     referrers: Option<u32>,
 ) -> Result<Vec<Key>, ProgramFault>
-    ensures { IfOk result (λ roots. All (λ (k : Descriptor). Contains roots.items k)
-        (values_of (by_bytes tags.now))) }
+    ensures { IfOk result (λ roots. AreRootsOfTags (A.state source.now).nodes referrers
+        (by_bytes tags.now) roots.items) }
 {
     let mut roots = KeyList::new(alloc);
     for (_, key) in tags {
@@ -158,8 +158,8 @@ fn place_roots<A: GraphSource>(
     referrers: Option<u32>,
     roots: &mut KeyList,
 ) -> Result<(), ProgramFault>
-    ensures there { OnOk result (Contains roots.new key.now) }
-    ensures stays { OnOk result ((k : Descriptor) → Contains roots.old k → Contains roots.new k) }
+    ensures { OnOk result ((root : Descriptor) → Contains roots.new root
+        ↔ (Contains roots.old root ⊎ IsRootOfKey (A.state source.now).nodes referrers key.now root)) }
 {
     let more = roots_of(alloc, source, key, referrers)?;
     roots.place_all(&more)?;
