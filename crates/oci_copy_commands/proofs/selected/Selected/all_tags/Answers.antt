@@ -6,7 +6,7 @@ use Rattle.oci_copy_commands.proofs.selected.Selected.all_tags.Goals as goal
 pub invariant_of-result : goal.invariant_of-result
 invariant_of-result g c = record {
   named = rw c.in_ok-tags.ensures.exact c.tags.ensures.names.named;
-  rooted = rw c.deref.ensures.value at (tagged_there c.args.source.now.1 c.args.referrers (by_bytes c.deref.result.now) c.in_ok-roots.roots.items c.in_ok-roots.ensures);
+  rooted = rw c.deref.ensures.value at (tagged_there _ _ _ _ c.in_ok-roots.ensures);
 }
 
 pub returns-clause-roots : goal.returns-clause-roots
