@@ -12,7 +12,7 @@ use clap::{Arg, Command};
 use std::alloc::{AllocError, Global};
 
 /// What `--version` prints after the program's name.
-const VERSION: &str = "0.2.0";
+const VERSION: &str = "0.3.0";
 
 /// The command line of the program, of which a copy takes at most so many workers.
 pub(crate) fn command<'w>(alloc: Global, most_workers: u32) -> Result<Command<'w>, AllocError> {
