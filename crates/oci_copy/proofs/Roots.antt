@@ -1,5 +1,5 @@
 -- Extended copies: the key is one of the roots, and a copy from the roots is refused as a copy is.
-use Rattle.std.proofs.Common.{◌≡◌, ℕ, zero, true, List, [], inl, inr, refl, arith}
+use Rattle.std.proofs.Common.{◌≡◌, ℕ, zero, true, List, inl, inr, refl, arith}
 use Rattle.std.specs.Prelude.{Contains}
 use Rattle.std.proofs.lemmas.List.Elements.{All-contains}
 use Rattle.oci_manifest.specs.Descriptor.{Descriptor}

@@ -1,6 +1,5 @@
-use Rattle.std.proofs.Common.{List, [], inl, refl}
+use Rattle.std.proofs.Common.{[], inl, refl}
 use Rattle.std.proofs.lemmas.Result.{on_ok_weaker, IfErr-weaker}
-use Rattle.oci_manifest.specs.Descriptor.{Descriptor}
 use Rattle.oci_plan.specs.Up.{IsUp}
 use Rattle.oci_copy.specs.Cause.{CanFail, IsRefusal, IsStepCause, RefusedAt, RefusedByWorkers}
 use Rattle.oci_copy.specs.Plain.{NeitherFails, RefusedForPlan}

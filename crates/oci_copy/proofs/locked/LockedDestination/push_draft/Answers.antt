@@ -1,4 +1,4 @@
-use Rattle.std.proofs.Common.{◌≡◌, ◌∙◌, inl, inr, true, false, Err, List, [], refl, sym, ap, subst}
+use Rattle.std.proofs.Common.{◌≡◌, ◌∙◌, inl, inr, Err, [], refl, sym, ap, subst}
 use Rattle.oci_store.specs.Content.{successors_in}
 use Rattle.oci_store.specs.declared.fault.PushFault.{PushFault}
 use Rattle.oci_store.proofs.Leaves.{IsChecked-leaf, HasAll-leaf}
