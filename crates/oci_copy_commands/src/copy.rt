@@ -9,7 +9,7 @@ use crate::selected::Selected;
 use oci_command_line::CopyWords;
 use oci_copy::{Options, Report, plan_copy};
 use oci_exit::{Outcome, ProgramFault, finish_run, print_line};
-use oci_layout::{Dir, Layout};
+use oci_layout::{Dir, FolderLock, Layout};
 use oci_plan::Existing;
 use std::io::Write;
 
@@ -43,7 +43,7 @@ where
     finish_run(done, out, err)
 }
 
-/// Copies from one directory into another, whose folder is locked meanwhile, or only prints what would be copied.
+/// Copies from one directory into another, whose folder is locked during the copy, or only prints what would be copied.
 fn copy_layout<R: Host, S: Dir + Drop + Sync, D: Dir + Drop + Send, W: Write, X: Write + Send>(
     rt: &R,
     source: S,
@@ -56,30 +56,70 @@ where
     S::Draft: Send,
     D::Draft: Send,
 {
-    let alloc = rt.alloc();
-    let source = Layout::open(alloc, source)?;
-    let selected = Selected::of(alloc, &source, words)?;
-    let options = options_of(words);
+    let source = Layout::open(rt.alloc(), source)?;
+    let selected = Selected::of(rt.alloc(), &source, words)?;
     if words.is_dry {
-        return show_plan(alloc, &source, destination, selected.roots(), &options, out);
+        let options = options_of(words);
+        return show_plan(
+            rt.alloc(),
+            &source,
+            destination,
+            selected.roots(),
+            &options,
+            out,
+        );
     }
+    let report = copy_selected(rt, &source, destination, &selected, words, err)?;
+    print_copied(&selected, &report, out)
+}
+
+/// Copies what is selected of an open layout into a folder, which is locked from before it is opened until after it is saved.
+fn copy_selected<R: Host, S: Dir + Sync, D: Dir + Drop + Send, X: Write + Send>(
+    rt: &R,
+    source: &Layout<S>,
+    destination: D,
+    selected: &Selected,
+    words: &CopyWords<'_>,
+    err: &mut X,
+) -> Result<Report, ProgramFault>
+where
+    S::Draft: Send,
+    D::Draft: Send,
+{
     let lock = lock_folder(rt, words.destination, err)?;
-    let destination = open_or_create(alloc, destination)?;
-    let plan = plan_copy(alloc, &source, &destination, selected.roots(), &options)?;
-    remove_leftovers(rt, &lock)?;
+    let destination = open_or_create(rt.alloc(), destination)?;
+    copy_under_lock(rt, source, destination, selected, words, &lock, err)
+}
+
+/// Plans a copy into an open layout, removes what killed copies left in its folder, and copies.
+fn copy_under_lock<R: Host, S: Dir + Sync, D: Dir + Drop + Send, X: Write + Send>(
+    rt: &R,
+    source: &Layout<S>,
+    destination: Layout<D>,
+    selected: &Selected,
+    words: &CopyWords<'_>,
+    lock: &FolderLock<R>,
+    err: &mut X,
+) -> Result<Report, ProgramFault>
+where
+    S::Draft: Send,
+    D::Draft: Send,
+{
+    let options = options_of(words);
+    let plan = plan_copy(rt.alloc(), source, &destination, selected.roots(), &options)?;
+    remove_leftovers(rt, lock)?;
     let progress = Progress::new(rt, err, words.shown, &plan);
     let (_saved, copied) = copy_between(
         rt,
-        &source,
+        source,
         destination,
         &plan,
-        &selected,
+        selected,
         &options,
         &progress,
     );
     progress.end();
-    drop(lock);
-    print_copied(&selected, &copied?, out)
+    copied
 }
 
 /// How the words ask for the copy to be made.
