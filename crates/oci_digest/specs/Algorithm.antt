@@ -1,4 +1,5 @@
--- The digest algorithms that are known (OCI image specification 1.1, descriptor.md, "Registered Algorithms").
+-- The known digest algorithms (OCI image specification 1.1, descriptor.md, "Registered
+-- Algorithms").
 use Rattle.std.specs.Prelude.{ℕ, List, codes}
 use Rattle.sha2.specs.Sha256 as fips256
 use Rattle.sha2.specs.Sha512 as fips512
@@ -14,12 +15,12 @@ abbrev pub name_of : Algorithm → List ℕ
 name_of sha256 = codes "sha256"
 name_of sha512 = codes "sha512"
 
--- the number of hexadecimal digits of its hashes
+-- the number of hexadecimal digits of a hash by this algorithm
 abbrev pub digits_of : Algorithm → ℕ
 digits_of sha256 = 64
 digits_of sha512 = 128
 
--- the encoded part of a digest by this algorithm: so many characters of [a-f0-9]
+-- the encoded part of a digest by this algorithm: `digits_of` characters of [a-f0-9]
 abbrev pub IsEncodedBy : Algorithm → List ℕ → Type 0
 IsEncodedBy a s = IsLowerHex (digits_of a) s
 

@@ -1,4 +1,5 @@
--- The grammar of digest texts (OCI image specification 1.1, descriptor.md, "Digests"), on lists of bytes.
+-- The grammar of digest texts (OCI image specification 1.1, descriptor.md, "Digests"), on lists of
+-- bytes.
 use Rattle.std.specs.Prelude.{◌≡◌, ◌≢◌, ℕ, ◌==◌, ◌&&◌, ◌||◌, nat_le, Bool, true, List, [], ◌∷◌, ◌++◌, length}
 use Rattle.std.specs.List.{AllPass, AllByRecursion, flat_map}
 
@@ -23,7 +24,7 @@ pub record IsComponent (s : List ℕ) : Type 0 where
   pub nonempty : s ≢ []
   pub chars : AllPass is_component_char s
 
--- a further component of an algorithm: a separator, and then the component
+-- a further component of an algorithm: a separator, then the component
 abbrev pub IsFurther : ℕ × List ℕ → Type 0
 IsFurther p = (is_separator p.0 ≡ true) × IsComponent p.1
 
@@ -50,7 +51,7 @@ pub record Splits (text algorithm encoded : List ℕ) : Type 0 where
 abbrev pub IsDigestText : List ℕ → Type 0
 IsDigestText text = (algorithm : List ℕ) × (encoded : List ℕ) × Splits text algorithm encoded
 
--- so many characters of [a-f0-9]
+-- `count` characters of [a-f0-9]
 pub record IsLowerHex (count : ℕ) (s : List ℕ) : Type 0 where
   pub len : length s ≡ count
   pub chars : AllPass is_lower_hex s

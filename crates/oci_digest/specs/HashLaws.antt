@@ -1,4 +1,4 @@
--- A digest's text gives its hash back.
+-- The hash is recovered from the digest's text.
 use Rattle.std.proofs.Common.{◌≡◌, ℕ, List, [], ap, Result}
 use Rattle.std.specs.Result.{result_unwrap_or}
 use Rattle.hex.specs.declared.error.FromHexError.{FromHexError}

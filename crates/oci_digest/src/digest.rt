@@ -1,4 +1,4 @@
-//! A digest: made, verified, printed, compared.
+//! The digest type: made from content or from text, verified, printed and compared.
 ghost use Rattle.std.specs.Prelude.{◌≡◌, ◌↔◌, ◌++◌, codes, Some, IsTrue, IsOk, IfOk, IsErrOf, is_ok, string_bytes};
 ghost use Rattle.oci_digest.specs.Algorithm.{sha256, sha512};
 ghost use Rattle.oci_digest.specs.Digest.{digest_of, digest_by, text_by, algorithm_of, encoded_of, IsDigest, is_digest, Verifies, verifies};
@@ -14,7 +14,7 @@ use std::cmp::Ordering;
 use std::marker::Model;
 use std::{fmt, str};
 
-/// The digest of some content. A contract sees it as its text.
+/// The digest of a content. Contracts see it as its text.
 #[derive(Clone, Copy)]
 pub struct Digest {
     hash: Hash,
@@ -38,21 +38,21 @@ impl Model for Digest {
 }
 
 impl Digest {
-    /// The digest of `content`: its SHA-256 (FIPS 180-4).
+    /// Returns the SHA-256 digest of `content` (FIPS 180-4).
     pub fn of(content: &[u8]) -> Digest
         ensures { result ≡ digest_of content.now }
     {
         Digest::from_sha256(Sha256::digest(content))
     }
 
-    /// The digest of `content` by SHA-512 (FIPS 180-4).
+    /// Returns the SHA-512 digest of `content` (FIPS 180-4).
     pub fn of_sha512(content: &[u8]) -> Digest
         ensures { result ≡ digest_by sha512 content.now }
     {
         Digest::from_sha512(Sha512::digest(content))
     }
 
-    /// The digest with these 32 bytes of SHA-256.
+    /// Returns the SHA-256 digest with this hash.
     pub(crate) fn from_sha256(bytes: [u8; 32]) -> Digest
         ensures { result ≡ text_by sha256 bytes }
     {
@@ -61,7 +61,7 @@ impl Digest {
         }
     }
 
-    /// The digest with these 64 bytes of SHA-512.
+    /// Returns the SHA-512 digest with this hash.
     pub(crate) fn from_sha512(bytes: [u8; 64]) -> Digest
         ensures { result ≡ text_by sha512 bytes }
     {
@@ -70,10 +70,17 @@ impl Digest {
         }
     }
 
-    /// The digest with this text.
+    /// Reads a digest from its text (descriptor.md, "Digests"). Any text is allowed, also one that
+    /// is not ASCII. Does not allocate.
     ///
-    /// Any text may be given, also one that is no ASCII, and no memory is taken. [`DigestFault`] says when
-    /// each refusal comes (descriptor.md, "Digests"); no text meets two of them.
+    /// # Errors
+    ///
+    /// At most one of these applies to a text:
+    ///
+    /// - 1 `BadForm`: the text is not `algorithm:encoded` of the grammar.
+    /// - 2 `UnknownAlgorithm`: the algorithm is neither `sha256` nor `sha512`.
+    /// - 3 `BadEncoding`: the encoded part is not 64 (`sha256`) or 128 (`sha512`) lower-case
+    ///   hexadecimal digits.
     pub fn parse(text: &str) -> Result<Digest, DigestFault>
         ensures digest { IfOk result (λ digest. digest ≡ text.now) }
         ensures ok { IsOk result ↔ IsDigest text.now }
@@ -82,18 +89,18 @@ impl Digest {
             ↔ HasUnknownAlgorithm text.now }
         ensures bad_encoding { IsErrOf result DigestFault.BadEncoding ↔ HasBadEncoding text.now }
 
-        // The same as `ok`, for callers whose own definitions are tests.
+        // Equivalent to `ok`, for callers whose own definitions are Boolean tests.
         ensures accepts { is_ok result ≡ is_digest text.now }
     {
         parsed(text)
     }
 
-    /// Whether this is the digest of `content`, by the digest's own algorithm (descriptor.md,
-    /// "Verification").
+    /// Returns whether this is the digest of `content` by the digest's own algorithm
+    /// (descriptor.md, "Verification").
     pub fn matches(&self, content: &[u8]) -> bool
         ensures verifies { IsTrue result ↔ Verifies self.now content.now }
 
-        // The same, for callers whose own definitions are tests.
+        // Equivalent to `verifies`, for callers whose own definitions are Boolean tests.
         ensures tests { result ≡ verifies self.now content.now }
     {
         match &self.hash {
@@ -102,7 +109,7 @@ impl Digest {
         }
     }
 
-    /// The hash that it keeps.
+    /// Returns the stored hash.
     pub(crate) fn hash(&self) -> &Hash
         ensures is_hash { IsHash result.now }
         ensures text { self.now ≡ text_of result.now }
@@ -110,7 +117,8 @@ impl Digest {
         &self.hash
     }
 
-    /// The part of its text before the colon, `sha256` or `sha512` (descriptor.md, "Digests").
+    /// Returns the part of the text before the colon, `sha256` or `sha512` (descriptor.md,
+    /// "Digests").
     pub fn algorithm(&self) -> &'static str
         ensures part { result.now ≡ algorithm_of self.now }
         ensures joined { self.now ≡ result.now ++ codes ":" ++ encoded_of self.now }
@@ -122,25 +130,33 @@ impl Digest {
         }
     }
 
-    /// The part of its text after the colon. [`NoMemory`] where memory is refused.
+    /// Returns the part of the text after the colon.
+    ///
+    /// # Errors
+    ///
+    /// Returns [`NoMemory`] if an allocation fails.
     pub fn encoded(&self, alloc: Global) -> Result<String, NoMemory>
         ensures { IfOk result (λ text. string_bytes text ≡ encoded_of self.now) }
     {
         Ok(hex::encode(alloc, self.hash.as_bytes())?)
     }
 
-    /// The digest's text, which [`Digest::parse`] reads back as this digest. [`NoMemory`] where memory is refused.
+    /// Returns the digest's text. [`Digest::parse`] reads it back as this digest.
+    ///
+    /// # Errors
+    ///
+    /// Returns [`NoMemory`] if an allocation fails.
     pub fn text(&self, alloc: Global) -> Result<String, NoMemory>
         ensures text { IfOk result (λ text. string_bytes text ≡ self.now) }
         ensures parses { IsDigest self.now }
     {
-        // A look at a field tells the proof what every digest keeps, which `parses` hands on.
+        // Reading the field brings the hash's invariant into the proof, which `parses` needs.
         let _ = &self.hash;
         Ok(format!(in alloc; "{self}")?)
     }
 }
 
-/// Prints the digest's text. It takes no memory.
+/// Prints the digest's text. Does not allocate.
 impl fmt::Display for Digest {
     ghost output = { λ d. Some d };
 
@@ -185,7 +201,7 @@ impl Eq for Digest {
     ghost laws = { Prim.search rules };
 }
 
-/// The order of the texts, byte by byte.
+/// Orders digests by their texts, byte by byte.
 impl Ord for Digest {
     ghost use Rattle.std.proofs.Common.{rules};
     ghost use Rattle.std.specs.Cmp.Lexicographic.{slice_cmp};

@@ -1,9 +1,9 @@
-//! The hash that a digest keeps.
+//! The hash inside a digest.
 ghost use Rattle.std.specs.Prelude.{◌≡◌};
 
-/// The hash of some content, by one of the algorithms that are known (FIPS 180-4).
+/// The hash of a content by one of the known algorithms (FIPS 180-4).
 ///
-/// Hashes by SHA-256 stand before those by SHA-512, as their digests' texts do.
+/// SHA-256 hashes are ordered before SHA-512 hashes, as the texts of their digests are.
 #[derive(Clone, Copy, PartialEq, Eq, PartialOrd, Ord)]
 pub(crate) enum Hash {
     Sha256([u8; 32]),
@@ -13,7 +13,7 @@ pub(crate) enum Hash {
 impl Hash {
     ghost use Rattle.oci_digest.specs.Hash.{bytes_in};
 
-    /// The bytes of the hash.
+    /// Returns the bytes of the hash.
     pub(crate) fn as_bytes(&self) -> &[u8]
         ensures { result.now ≡ bytes_in self.now }
     {

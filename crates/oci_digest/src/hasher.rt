@@ -1,4 +1,4 @@
-//! A digest's own hash, taken of bytes that come part by part.
+//! Verification of content that arrives in parts.
 ghost use Rattle.std.specs.Prelude.{◌≡◌, ◌↔◌, ◌++◌, [], List, ℕ, IsTrue};
 ghost use Rattle.oci_digest.specs.Digest.{Verifies};
 ghost use Rattle.oci_digest.specs.Hash.{IsHash, text_of};
@@ -8,21 +8,21 @@ use crate::digest::Digest;
 use crate::hash::Hash;
 use sha2::{Digest as _, Sha256, Sha512};
 
-/// The bytes of a digest's hash, and what was taken so far.
+/// The expected hash, and the hasher of the bytes taken so far.
 #[derive(Drop)]
 enum Taking {
     Sha256([u8; 32], Sha256),
     Sha512([u8; 64], Sha512),
 }
 
-/// Verifies content against a digest part by part.
+/// Verifies content against a digest, part by part.
 #[derive(Drop)]
 pub struct Hasher {
     taking: Taking,
 }
 
 impl Hasher {
-    /// One that has taken nothing.
+    /// Creates a hasher for `digest` that has taken no bytes.
     #[tactic(auto, unfolding(crate::specs::Hashing::IsHashing))]
     pub fn new(digest: &Digest) -> Hasher
         ensures { IsHashing result digest.now [] }
@@ -32,7 +32,7 @@ impl Hasher {
         }
     }
 
-    /// Takes a part.
+    /// Takes the next part of the content.
     #[tactic(auto, unfolding(crate::specs::Hashing::IsHashing))]
     pub fn update(&mut self, part: &[u8])
         ensures { (digest m : List ℕ) → IsHashing self.old digest m
@@ -42,7 +42,7 @@ impl Hasher {
     }
 
     #[tactic(auto, unfolding(crate::specs::Hashing::IsHashing))]
-    /// Whether the digest is that of all that was taken.
+    /// Returns whether the digest is that of all bytes taken.
     pub fn matches(self) -> bool
         ensures { (digest m : List ℕ) → IsHashing self digest m → IsTrue result
             ↔ Verifies digest m }
@@ -52,7 +52,7 @@ impl Hasher {
 }
 
 impl Taking {
-    /// One that has taken nothing.
+    /// Creates a state for `hash` that has taken no bytes.
     fn of(hash: &Hash) -> Taking
         requires { IsHash hash.now }
         ensures { IsTaking result (text_of hash.now) [] }

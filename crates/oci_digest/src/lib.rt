@@ -1,7 +1,7 @@
-//! Content digests, as the OCI Image Specification 1.1 writes them (descriptor.md, "Digests").
+//! Content digests of the OCI Image Specification 1.1 (descriptor.md, "Digests").
 //!
-//! A digest is a text `algorithm:encoded`. The algorithms that are known here are `sha256` and
-//! `sha512`. The encoded part is the hash of the content by the algorithm (FIPS 180-4), in 64 or 128
+//! A digest is a text `algorithm:encoded`. This crate knows the algorithms `sha256` and `sha512`.
+//! The encoded part is the hash of the content by that algorithm (FIPS 180-4), in 64 or 128
 //! lower-case hexadecimal digits:
 //!
 //! ```text
@@ -10,16 +10,17 @@
 //!
 //! | Call | What it does |
 //! |---|---|
-//! | [`Digest::of`] | computes the digest of some bytes by SHA-256 |
-//! | [`Digest::of_sha512`] | the same by SHA-512 |
-//! | [`Digest::parse`] | reads the text of a digest, or says why it is none: a [`DigestFault`] |
-//! | [`Digest::matches`] | verifies bytes against a digest, by its own algorithm (descriptor.md, "Verification") |
-//! | [`Digest::text`], `Display` | the text of a digest |
+//! | [`Digest::of`] | computes the SHA-256 digest of some bytes |
+//! | [`Digest::of_sha512`] | computes the SHA-512 digest of some bytes |
+//! | [`Digest::parse`] | reads the text of a digest, or returns a [`DigestFault`] |
+//! | [`Digest::matches`] | verifies bytes against a digest (descriptor.md, "Verification") |
+//! | [`Digest::text`], `Display` | return or print the text of a digest |
+//! | [`Hasher`] | verifies content that arrives in parts |
 //!
-//! A contract sees a digest as its text, a list of bytes. So two digests are equal where their texts
-//! are, and they are in the order of their texts, byte by byte. A `Digest` is `Copy`, and only
-//! [`Digest::text`] and [`Digest::encoded`] take memory: their one fault is [`NoMemory`], which the
-//! crates above share.
+//! Contracts see a digest as its text, a list of bytes. Two digests are equal if their texts are
+//! equal, and they are ordered by their texts, byte by byte. A `Digest` is `Copy`. Only
+//! [`Digest::text`] and [`Digest::encoded`] allocate. Their only error is [`NoMemory`], which the
+//! crates above also use.
 //!
 //! ```rust
 //! let digest = Digest::parse(text)?;
@@ -28,8 +29,8 @@
 //! }
 //! ```
 //!
-//! [`tests_decide_definitions`] does nothing when it runs: its contract is the law that the tests of
-//! digests, which contracts above compute with, are the definitions.
+//! [`tests_decide_definitions`] does nothing at run time. Its contract states that the Boolean
+//! tests of digests, which contracts above use, agree with the definitions.
 #![tactic(auto)]
 
 mod digest;

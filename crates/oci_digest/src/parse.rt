@@ -8,11 +8,11 @@ use crate::digest::Digest;
 use crate::fault::DigestFault;
 use hex::FromHex;
 
-/// The digest with this text.
+/// Reads a digest from its text.
 pub(crate) fn parsed(text: &str) -> Result<Digest, DigestFault>
     ensures { Parses text.now result }
 {
-    // No algorithm holds a colon, so the first one ends it.
+    // An algorithm contains no colon, so the first colon ends it.
     let Some((algorithm, encoded)) = text.split_once(':') else {
         return Err(DigestFault::BadForm);
     };
@@ -34,7 +34,7 @@ pub(crate) fn parsed(text: &str) -> Result<Digest, DigestFault>
     }
 }
 
-/// The bytes whose hexadecimal digits these are.
+/// Returns the bytes that these hexadecimal digits encode.
 fn decoded<const N: usize>(digits: &str) -> [u8; N]
     requires { IsLowerHex (2 * N) digits.now }
     ensures { encode_lower result ≡ digits.now }
@@ -45,7 +45,7 @@ fn decoded<const N: usize>(digits: &str) -> [u8; N]
     }
 }
 
-/// Whether a text is components joined by single separators.
+/// Returns whether a text consists of components joined by single separators.
 fn is_algorithm(text: &str) -> bool
     ensures { IsTrue result ↔ IsAlgorithm text.now }
 {
@@ -75,7 +75,7 @@ fn is_separator_byte(byte: u8) -> bool
     matches!(byte, b'+' | b'.' | b'_' | b'-')
 }
 
-/// Whether a text is one or more characters of `[a-zA-Z0-9=_-]`.
+/// Returns whether a text is one or more characters of `[a-zA-Z0-9=_-]`.
 fn is_encoded(text: &str) -> bool
     ensures { IsTrue result ↔ IsEncoded text.now }
 {
@@ -84,7 +84,7 @@ fn is_encoded(text: &str) -> bool
             || matches!(byte, b'=' | b'_' | b'-'))
 }
 
-/// Whether a text is `count` characters of `[a-f0-9]`.
+/// Returns whether a text is `count` characters of `[a-f0-9]`.
 fn is_lower_hex(text: &str, count: usize) -> bool
     ensures { IsTrue result ↔ IsLowerHex count text.now }
 {
