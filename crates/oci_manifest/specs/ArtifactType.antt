@@ -1,5 +1,5 @@
--- Which type a manifest states of itself (OCI distribution-spec 1.1, "Listing Referrers"; OCI image-spec 1.1, manifest.md and
--- image-index.md, `artifactType`).
+-- The type that a manifest declares (OCI distribution-spec 1.1, "Listing Referrers"; OCI image-spec
+-- 1.1, manifest.md and image-index.md, `artifactType`).
 use Rattle.std.specs.Prelude.{ℕ, ◌==◌, List, length, codes, Option, Some, None, option_and_then, if◌then◌else◌}
 use Rattle.std.specs.Option.{option_or}
 use Rattle.serde_json.specs.Data.{Data}
@@ -8,11 +8,11 @@ use Rattle.oci_manifest.specs.Reading.{text_at, reading}
 use Rattle.oci_manifest.specs.declared.kind.Kind.{Kind}
 use Rattle.oci_manifest.specs.declared.kind.Kind.TheVariants.{Image, DockerImage, Leaf}
 
--- a text, where it is not empty
+-- a text, unless it is empty
 abbrev pub not_empty : List ℕ → Option (List ℕ)
 not_empty text = if length text == 0 then None else Some text
 
--- the text of this member, where it is not empty
+-- the text of the member with this name, unless it is empty
 abbrev pub type_at : List ℕ → Data → Option (List ℕ)
 type_at name value = option_and_then not_empty (text_at name value)
 
@@ -22,11 +22,11 @@ config_type Image manifest = option_and_then (type_at (codes "mediaType")) (get 
 config_type DockerImage manifest = option_and_then (type_at (codes "mediaType")) (get (codes "config") manifest)
 config_type kind manifest = None
 
--- the type that a manifest states: its `artifactType`, or else the media type of its `config`
+-- the type that a manifest declares: its `artifactType`, or else the media type of its `config`
 unfoldable pub stated_type : Kind → Data → Option (List ℕ)
 stated_type kind manifest = option_or (type_at (codes "artifactType") manifest) (config_type kind manifest)
 
--- the type that the bytes of a kind state: none, where they are a leaf or do not read
+-- the type that bytes of a kind declare; none, if the kind is a leaf or the bytes are not JSON
 unfoldable pub artifact_type_of : Kind → List ℕ → Option (List ℕ)
 artifact_type_of Leaf bytes = None
 artifact_type_of kind bytes = option_and_then (stated_type kind) (reading bytes)

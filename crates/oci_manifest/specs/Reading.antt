@@ -1,4 +1,5 @@
--- What `Manifest` says by relations, as functions, which compute: the crates above reason with `successors_of`.
+-- The relations of `Manifest` as functions that compute: the crates above reason with
+-- `successors_of`.
 use Rattle.std.specs.Prelude.{◌≡◌, ℕ, ◌+◌, ◌^◌, ◌&&◌, nat_lt, not, List, [], ◌∷◌, ◌++◌, codes, Option, Some, None, option_and_then, Result, Ok, Err, if◌then◌else◌}
 use Rattle.serde_json.specs.Data.{Data, Items, no_items, item}
 use Rattle.serde_json.specs.Find.{get, as_str, as_number, as_u64, as_array, as_object}
@@ -17,36 +18,36 @@ use Rattle.oci_manifest.specs.declared.kind.Kind.TheVariants.{Leaf}
 
 -- ---- chains of results
 
--- what comes of a result, or its fault
+-- the function applied to a successful result, or the result's error
 infixl 10 ◌>>=◌
 abbrev pub ◌>>=◌ : {A B : Type 0} → Result A Fault → (A → Result B Fault) → Result B Fault
 (Ok x) >>= f = f x
 (Err e) >>= f = Err e
 
--- what is there, or else this fault
+-- the value, or this error if there is none
 abbrev pub or_fault : {A : Type 0} → Fault → Option A → Result A Fault
 or_fault e (Some x) = Ok x
 or_fault e None = Err e
 
 -- ---- descriptors
 
--- the text of this member
+-- the text of the member with this name
 abbrev pub text_at : List ℕ → Data → Option (List ℕ)
 text_at name value = option_and_then as_str (get name value)
 
--- the whole number of this member
+-- the whole number of the member with this name
 abbrev pub size_at : List ℕ → Data → Option ℕ
 size_at name value = option_and_then as_u64 (option_and_then as_number (get name value))
 
--- the descriptor of these parts, where the digest is one and the size fits
+-- the descriptor with these parts, if the digest is one and the size fits
 abbrev pub checked : List ℕ → List ℕ → ℕ → Option Descriptor
 checked media_type digest size = if is_digest digest && nat_lt size (2 ^ 63) then Some (record { media_type = media_type; digest = digest; size = size }) else None
 
--- the descriptor that a value is
+-- the descriptor in a value
 unfoldable pub descriptor_of : Data → Option Descriptor
 descriptor_of value = option_and_then (λ media_type. option_and_then (λ digest. option_and_then (checked media_type digest) (size_at (codes "size") value)) (text_at (codes "digest") value)) (text_at (codes "mediaType") value)
 
--- the descriptors of a list's elements, the first of them at position i
+-- the descriptors in a list, with its first element at position i
 unfoldable pub descriptors_from : List ℕ → ℕ → Items → Result (List Descriptor) Fault
 descriptors_from name i no_items = Ok []
 descriptors_from name i (item d ds) = do
@@ -56,23 +57,23 @@ descriptors_from name i (item d ds) = do
 
 -- ---- members
 
--- the one key of a member that is a descriptor
+-- the key of a member that is a descriptor
 abbrev pub single : List ℕ → Data → Result (List Descriptor) Fault
 single name value = do
   k ← or_fault (bad_descriptor name 0) (descriptor_of value)
   Ok (k ∷ [])
 
--- the keys of a member that may hold a descriptor
+-- the keys of an optional descriptor
 abbrev pub optional_in : List ℕ → Option Data → Result (List Descriptor) Fault
 optional_in name None = Ok []
 optional_in name (Some d) = single name d
 
--- the keys of a member that has to hold a descriptor
+-- the keys of a required descriptor
 abbrev pub required_in : List ℕ → Option Data → Result (List Descriptor) Fault
 required_in name None = Err no_config
 required_in name (Some d) = single name d
 
--- the keys of a member that may hold a list
+-- the keys of an optional list
 abbrev pub listed_in : List ℕ → Option Data → Result (List Descriptor) Fault
 listed_in name None = Ok []
 listed_in name (Some d) = do
@@ -85,7 +86,7 @@ keys_of manifest (optional name) = optional_in name (member_of manifest name)
 keys_of manifest (required name) = required_in name (member_of manifest name)
 keys_of manifest (listed name) = listed_in name (member_of manifest name)
 
--- the keys of these members, in their order
+-- the keys of these members, in order
 unfoldable pub all_keys : Data → List Field → Result (List Descriptor) Fault
 all_keys manifest [] = Ok []
 all_keys manifest (f ∷ fs) = do
@@ -93,13 +94,13 @@ all_keys manifest (f ∷ fs) = do
   rest ← all_keys manifest fs
   Ok (front ++ rest)
 
--- ---- the whole
+-- ---- contents
 
--- the value that the bytes are, where they are a text
+-- the value of the bytes, if they are UTF-8 and JSON
 abbrev pub reading : List ℕ → Option Data
 reading bytes = if is_utf8 bytes then read bytes else None
 
--- the keys of a manifest's members, doubled ones and those of undistributed layers too
+-- the keys of a manifest's members, including repeated keys and undistributed layers
 unfoldable pub manifest_keys : Kind → List ℕ → Result (List Descriptor) Fault
 manifest_keys kind bytes = do
   manifest ← or_fault not_json (reading bytes)
@@ -117,27 +118,27 @@ unfoldable pub successors_of : Kind → List ℕ → Result (List Descriptor) Fa
 successors_of Leaf bytes = Ok []
 successors_of kind bytes = manifest_keys kind bytes >>= λ keys. Ok (distributed_once keys)
 
--- ---- what the parts of the code do
+-- ---- parts of the code
 
--- the member that the code's field names
+-- the member that a field of the code names
 abbrev pub field_of : code.Field → Field
 field_of (variant.Optional name) = optional name.now
 field_of (variant.Required name) = required name.now
 field_of (variant.Listed name) = listed name.now
 
--- these keys, and then those of a result
+-- these keys, followed by those of a result
 abbrev pub prepend : List Descriptor → Result (List Descriptor) Fault → Result (List Descriptor) Fault
 prepend front r = r >>= λ keys. Ok (front ++ keys)
 
--- on Ok the keys of a result went to the end of a list, and on Err it has this fault
+-- on Ok the keys of a result were appended to a list, and on Err the result has this error
 abbrev pub Adds : List Descriptor → List Descriptor → Result Unit ManifestFault → Result (List Descriptor) Fault → Type 0
 Adds old new (Ok u) r = prepend old r ≡ Ok new
 Adds old new (Err e) r = Fails e r
 
--- the keys with one more at the end, where it is distributed and not there yet
+-- the keys, with one appended if it is distributed and not among them
 abbrev pub with_successor : List Descriptor → Descriptor → List Descriptor
 with_successor kept k = if is_distributed k && not (is_among kept k) then kept ++ k ∷ [] else kept
 
--- a set has the keys of a list, and no other
+-- a set has exactly the keys of a list
 abbrev pub Remembers : BTreeSet Descriptor → List Descriptor → Type 0
 Remembers seen kept = (k : Descriptor) → contains key_cmp seen k ≡ is_among kept k

@@ -5,7 +5,7 @@ use oci_digest::NoMemory;
 use std::alloc::AllocFailed;
 use thiserror::Error;
 
-/// Why parts make no key.
+/// Why a key cannot be created from its parts.
 #[derive(Clone, Copy, Debug, PartialEq, Eq, Error)]
 pub enum KeyFault {
     /// The size is over 2^63 - 1.
@@ -14,7 +14,7 @@ pub enum KeyFault {
 }
 
 impl KeyFault {
-    /// The number of the refusal.
+    /// Returns the error number.
     pub fn number(&self) -> u8
         ensures { result ≡ key_number_of self.now }
     {
@@ -26,33 +26,35 @@ impl KeyFault {
 
 /// Why a content's successors cannot be determined.
 ///
-/// It names the first broken rule, in the order that [`successors`](crate::successors) gives. It
-/// prints as its number, its name and what it carries, as in `14 BadDescriptor layers 0`.
+/// The variant names the first broken rule, in the order listed at
+/// [`successors`](crate::successors). It prints as its number, its name and its fields, as in
+/// `14 BadDescriptor layers 0`.
 #[derive(Clone, Copy, Debug, PartialEq, Eq, Error)]
 pub enum ManifestFault {
-    /// The bytes are no JSON text (RFC 8259) that `serde_json` reads. Of the texts of RFC 8259 it does not read those that
-    /// nest deeper than 127, and those with a number that is too large for a float, as `1e400`.
+    /// The bytes are not a JSON text (RFC 8259) that `serde_json` reads. It does not read texts
+    /// that nest deeper than 127, or that have a number too large for a float, such as `1e400`.
     #[error("10 NotJson")]
     NotJson,
-    /// The JSON value is no object.
+    /// The JSON value is not an object.
     #[error("11 NotObject")]
     NotObject,
-    /// An image has no `config`, or a null one.
+    /// The `config` of an image is absent or null.
     #[error("12 NoConfig")]
     NoConfig,
-    /// The member of this name is neither a list nor null.
+    /// The member with this name is neither a list nor null.
     #[error("13 BadList {0}")]
     BadList(&'static str),
-    /// In the member of this name, at this position (0 where the member is no list), stands no descriptor.
+    /// The member with this name has no descriptor at this position. The position is 0 if the
+    /// member is not a list.
     #[error("14 BadDescriptor {0} {1}")]
     BadDescriptor(&'static str, u64),
-    /// Memory was refused.
+    /// An allocation failed.
     #[error("15 Memory")]
     Memory,
 }
 
 impl ManifestFault {
-    /// The number of the refusal.
+    /// Returns the error number.
     pub fn number(&self) -> u8
         ensures { result ≡ number_of self.now }
     {

@@ -11,14 +11,16 @@ use std::cmp::Ordering;
 use std::fmt;
 use std::marker::Model;
 
-/// The greatest size that a descriptor may state, 2^63 - 1 (OCI image-spec 1.1, descriptor.md: `size` is an int64).
+/// The greatest size that a descriptor may state, 2^63 - 1. In the specification `size` is an int64
+/// (OCI image-spec 1.1, descriptor.md).
 pub const MAX_SIZE: u64 = 9_223_372_036_854_775_807;
 
-/// What names a content: its media type, its digest and its size in bytes.
+/// The identity of a content: its media type, its digest and its size in bytes.
 ///
-/// These are the required properties of a descriptor (OCI image-spec 1.1, descriptor.md, "Properties"); oras-go names
-/// a node of a graph by the same three. Two media types over the same bytes are two keys. A contract sees a key as a
-/// record of the media type's bytes, the digest's text and the size.
+/// These are the required properties of a descriptor (OCI image-spec 1.1, descriptor.md,
+/// "Properties"). oras-go identifies the nodes of a graph by the same three. The same bytes under
+/// two media types have two keys. Contracts see a key as a record of the media type's bytes, the
+/// digest's text and the size.
 #[derive(Drop)]
 pub struct Key {
     alloc: Global,
@@ -42,9 +44,12 @@ impl Model for Key {
 impl Key {
     ghost use Rattle.oci_manifest.specs.Descriptor.{Descriptor};
 
-    /// The key of these parts. Any text is a media type, the empty one too. Takes no memory.
+    /// Creates a key from its parts. Any text is a valid media type, also the empty one. Does not
+    /// allocate.
     ///
-    /// [4] BadSize where the size is over [`MAX_SIZE`], and only there.
+    /// # Errors
+    ///
+    /// - 4 `BadSize`: the size is over [`MAX_SIZE`].
     pub fn new(media_type: String, digest: Digest, size: u64) -> Result<Key, KeyFault>
         ensures parts { IfOk result
             (λ k. k ≡ record {
@@ -59,7 +64,7 @@ impl Key {
         Key::from_parts(alloc, MediaType::new(media_type), digest, size)
     }
 
-    /// The key of these parts.
+    /// Creates a key from its parts.
     pub(crate) fn from_parts(
         alloc: Global,
         media_type: MediaType,
@@ -82,21 +87,21 @@ impl Key {
         })
     }
 
-    /// The media type, as it was given.
+    /// Returns the media type, unchanged.
     pub fn media_type(&self) -> &str
         ensures { result.now ≡ self.now.media_type }
     {
         self.media_type.as_str()
     }
 
-    /// The digest of the content.
+    /// Returns the digest of the content.
     pub fn digest(&self) -> &Digest
         ensures { result.now ≡ self.now.digest }
     {
         &self.digest
     }
 
-    /// The size of the content, in bytes.
+    /// Returns the size of the content in bytes.
     pub fn size(&self) -> u64
         ensures size { result ≡ self.now.size }
         ensures fits { result < 2 ^ 63 }
@@ -107,20 +112,25 @@ impl Key {
         self.size
     }
 
-    /// Whether these bytes are the key's content: they have its size and its digest (OCI image-spec
-    /// 1.1, descriptor.md, "Verification"). Bytes of another size are not hashed. Takes no memory.
+    /// Returns whether these bytes are the key's content: they have its size and its digest (OCI
+    /// image-spec 1.1, descriptor.md, "Verification"). Bytes of another size are not hashed. Does
+    /// not allocate.
     pub fn matches(&self, bytes: &[u8]) -> bool
         ensures { IsTrue result ↔ Matches self.now bytes.now }
     {
         bytes.len() as u64 == self.size && self.digest.matches(bytes)
     }
 
-    /// Where its memory comes from.
+    /// Returns the allocator.
     pub fn allocator(&self) -> Global {
         self.alloc
     }
 
-    /// An equal key. It takes memory for a media type that is not a common one.
+    /// Returns an equal key. Allocates only if the media type is not a common one.
+    ///
+    /// # Errors
+    ///
+    /// Returns [`NoMemory`] if an allocation fails.
     pub fn try_clone(&self) -> Result<Key, NoMemory>
         ensures { IfOk result (λ k. k ≡ self.now) }
     {
@@ -133,7 +143,7 @@ impl Key {
     }
 }
 
-/// `<digest> <size> <mediaType>`, with the size in decimal.
+/// Prints `<digest> <size> <mediaType>`, with the size in decimal.
 impl fmt::Display for Key {
     ghost use Rattle.oci_manifest.specs.Descriptor.{key_text};
 
@@ -156,7 +166,7 @@ impl fmt::Debug for Key {
     }
 }
 
-/// Whether all three parts are equal.
+/// Two keys are equal if all three parts are equal.
 impl PartialEq for Key {
     ghost use Rattle.std.proofs.Common.{rules};
     ghost use Rattle.std.specs.Cmp.Rules.{comparing};
@@ -180,7 +190,7 @@ impl Eq for Key {
     ghost laws = { Prim.search (comparing, rules) };
 }
 
-/// By the bytes of the media type, then by those of the digest text, then by size.
+/// Orders keys by the bytes of the media type, then by the digest's text, then by size.
 impl Ord for Key {
     ghost use Rattle.std.proofs.Common.{rules};
     ghost use Rattle.std.specs.Cmp.Rules.{comparing};

@@ -1,16 +1,16 @@
 ghost use Rattle.std.specs.Prelude.{◌≡◌};
 ghost use Rattle.oci_manifest.specs.MediaTypes.{kind_of, is_undistributed};
 
-/// What a content of some media type is read as.
+/// The kind of content, which decides how its bytes are read.
 #[derive(Clone, Copy, Debug, PartialEq, Eq)]
 pub enum Kind {
     /// An image manifest (OCI image-spec 1.1, manifest.md).
     Image,
     /// An image index (OCI image-spec 1.1, image-index.md).
     Index,
-    /// An image manifest of Docker (Image Manifest V2, Schema 2).
+    /// A Docker image manifest (Image Manifest V2, Schema 2).
     DockerImage,
-    /// A manifest list of Docker (Image Manifest V2, Schema 2).
+    /// A Docker manifest list (Image Manifest V2, Schema 2).
     DockerList,
     /// An artifact manifest (OCI image-spec 1.1.0-rc2, artifact.md).
     Artifact,
@@ -19,9 +19,10 @@ pub enum Kind {
 }
 
 impl Kind {
-    /// The kind of a media type, which is compared byte for byte. Takes no memory.
+    /// Returns the kind of a media type. Does not allocate.
     ///
-    /// A media type with a parameter, in upper case or with a space is another one, and so a Leaf.
+    /// Media types are compared byte for byte. One with a parameter, an upper-case letter or a
+    /// space is a `Leaf`.
     #[tactic(auto, unfolding(crate::specs::MediaTypes::kind_of))]
     pub fn of(media_type: &str) -> Kind
         ensures { result ≡ kind_of media_type.now }
@@ -37,7 +38,8 @@ impl Kind {
     }
 }
 
-/// Whether layers of this media type stay where they are (OCI image-spec 1.1, layer.md, "Non-Distributable Layers").
+/// Returns whether layers of this media type are not distributed (OCI image-spec 1.1, layer.md,
+/// "Non-Distributable Layers").
 #[tactic(auto, unfolding(crate::specs::MediaTypes::is_undistributed))]
 pub(crate) fn is_undistributed_type(media_type: &str) -> bool
     ensures { result ≡ is_undistributed media_type.now }

@@ -5,10 +5,10 @@ ghost use Rattle.oci_manifest.specs.Manifest.{Reads, Breaks};
 ghost use Rattle.oci_manifest.specs.Reading.{successors_of};
 ghost use Rattle.oci_manifest.specs.declared.kind.Kind.{Kind};
 
-/// The function that contracts above compute with says what the relations say that are written to
-/// be read: `successors_of` gives some keys exactly where the bytes read and list these, and a fault
-/// exactly where it is the first rule that the bytes break. So the edges of every graph that is
-/// stored or copied are what a manifest lists.
+/// States that `successors_of`, which contracts above compute with, agrees with the readable
+/// relations. It returns some keys exactly if the bytes read and list these keys. It returns an
+/// error exactly if that is the first rule that the bytes break. So the edges of every stored or
+/// copied graph are the keys that a manifest lists. The function does nothing at run time.
 pub fn successors_are_what_is_listed()
     ensures reads { (kind : Kind) (bytes : List ℕ) (listed : List Descriptor)
         → (successors_of kind bytes ≡ Ok listed) ↔ Reads kind bytes listed }

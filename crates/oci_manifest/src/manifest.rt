@@ -22,7 +22,12 @@ use oci_digest::NoMemory;
 use serde_json::Value;
 use std::alloc::Global;
 
-/// The value that the bytes are, where they are JSON.
+/// Reads the bytes as JSON.
+///
+/// # Errors
+///
+/// - 10 `NotJson`: the bytes are not JSON that `serde_json` reads.
+/// - 15 `Memory`: an allocation failed.
 pub fn read_json(alloc: Global, bytes: &[u8]) -> Result<Value, ManifestFault>
     ensures { Gives view result (or_fault not_json (reading bytes.now)) }
 {
@@ -32,7 +37,7 @@ pub fn read_json(alloc: Global, bytes: &[u8]) -> Result<Value, ManifestFault>
     }
 }
 
-/// The value that the bytes are, or none where they are no JSON.
+/// Reads the bytes as JSON. Returns `None` if they are not JSON.
 fn read_value(alloc: Global, bytes: &[u8]) -> Result<Option<Value>, NoMemory>
     ensures { IfOk result (λ found. option_map view found ≡ reading bytes.now) }
 {
@@ -48,7 +53,8 @@ fn read_value(alloc: Global, bytes: &[u8]) -> Result<Option<Value>, NoMemory>
     }
 }
 
-/// The keys of a manifest's members, in their order, doubled ones and those of undistributed layers too.
+/// Returns the keys of a manifest's members in order, including repeated keys and undistributed
+/// layers.
 #[tactic(auto, unfolding(crate::specs::Reading::manifest_keys))]
 fn keys(alloc: Global, kind: Kind, bytes: &[u8]) -> Result<Vec<Key>, ManifestFault>
     ensures { Gives (λ keys. keys.items) result (manifest_keys kind bytes.now) }
@@ -62,8 +68,15 @@ fn keys(alloc: Global, kind: Kind, bytes: &[u8]) -> Result<Vec<Key>, ManifestFau
     Ok(found)
 }
 
-/// The keys of the `manifests` of an index, in their order, doubled ones and those of
-/// undistributed layers too. No other member is looked at.
+/// Returns the keys in the member `manifests` of an index in order, including repeated keys and
+/// undistributed layers. No other member is read.
+///
+/// # Errors
+///
+/// - 11 `NotObject`: the index is not a JSON object.
+/// - 13 `BadList`: `manifests` is neither a list nor null nor absent.
+/// - 14 `BadDescriptor`: an element of `manifests` is not a descriptor. The first one is reported.
+/// - 15 `Memory`: an allocation failed.
 #[tactic(auto, unfolding(crate::specs::Reading::index_keys))]
 pub fn index_keys(alloc: Global, index: &Value) -> Result<Vec<Key>, ManifestFault>
     ensures { Gives (λ keys. keys.items) result (index_keys (view index.now)) }
@@ -76,7 +89,7 @@ pub fn index_keys(alloc: Global, index: &Value) -> Result<Vec<Key>, ManifestFaul
     Ok(found)
 }
 
-/// The answer of `successors`.
+/// Computes the result of `successors`.
 #[tactic(auto, unfolding(crate::specs::Reading::successors_of))]
 fn answer(alloc: Global, kind: Kind, bytes: &[u8]) -> Result<Vec<Key>, ManifestFault>
     ensures exact { Gives (λ keys. keys.items) result (successors_of kind bytes.now) }
@@ -89,38 +102,46 @@ fn answer(alloc: Global, kind: Kind, bytes: &[u8]) -> Result<Vec<Key>, ManifestF
     Ok(keep_distributed(alloc, keys)?)
 }
 
-/// The keys that a content of this kind lists, in the order of its members, each once at its first place.
+/// Returns the keys that a content of this kind lists, in the order of its members. Each key is
+/// returned once, at its first place.
 ///
-/// A descriptor is an object with a text `mediaType`, a text `digest` that `Digest::parse` accepts, and a `size` that
-/// is written as a whole number from 0 to 2^63 - 1 (OCI image-spec 1.1, descriptor.md, "Properties"). Its other members
-/// are not looked at. A member of the manifest that is null is read as absent. Keys of the four layer types that are
-/// not distributed are left out, in whatever member they stand, once their descriptors were found to be well formed.
+/// A descriptor is an object with a text `mediaType`, a text `digest` that `Digest::parse` accepts,
+/// and a `size` that is written as a whole number from 0 to 2^63 - 1 (OCI image-spec 1.1,
+/// descriptor.md, "Properties"). Its other members are ignored. A null member of the manifest
+/// counts as absent. Keys of the four layer types that are not distributed are left out of every
+/// member, but their descriptors must be well formed.
 ///
-/// The rules are looked at in this order, and the first that is broken is reported:
-/// 1. [10] NotJson: the bytes are no JSON text (RFC 8259), or they nest deeper than 127 or have a number that is too
-///    large for a float, as `1e400`, which `serde_json` does not read.
-/// 2. [11] NotObject: the value is no object.
-/// 3. Then member by member, in the kind's order. `subject`, where it is there: [14] BadDescriptor where it is no
-///    descriptor. `config`: [12] NoConfig where it is absent, [14] where it is no descriptor. `layers`, `manifests` or
-///    `blobs`, where it is there: [13] BadList where it is no list, [14] at the first element that is no descriptor.
+/// # Errors
 ///
-/// [15] Memory may come at any point, but not for a Leaf.
+/// The rules are checked in this order, and the first broken one is reported:
+///
+/// 1. 10 `NotJson`: the bytes are not a JSON text (RFC 8259), nest deeper than 127, or have a
+///    number that is too large for a float, such as `1e400`. `serde_json` does not read the last
+///    two.
+/// 2. 11 `NotObject`: the value is not an object.
+/// 3. The members, in the kind's order:
+///    - `subject`, if present: 14 `BadDescriptor` if it is not a descriptor.
+///    - `config`: 12 `NoConfig` if it is absent, 14 `BadDescriptor` if it is not a descriptor.
+///    - `layers`, `manifests` or `blobs`, if present: 13 `BadList` if it is not a list, 14
+///      `BadDescriptor` at its first element that is not a descriptor.
+///
+/// 15 `Memory` is possible at any point, but not for a leaf.
 pub fn successors(alloc: Global, kind: Kind, bytes: &[u8]) -> Result<Vec<Key>, ManifestFault>
-    // What is answered is what the content lists.
+    // The returned keys are the ones that the content lists.
     ensures found { IfOk result (λ keys. Reads kind bytes.now keys.items) }
-    // What reads is answered, unless memory runs out.
+    // If the content reads, its keys are returned, unless memory runs out.
     ensures reads { (L : List Descriptor) → Reads kind bytes.now L
         → Gives (λ keys. keys.items) result (Ok L) }
-    // A refusal names the first rule that is broken.
+    // An error names the first broken rule.
     ensures refused { IfErr result (λ e. Refuses e (Breaks kind bytes.now)) }
-    // The first broken rule is refused, unless memory runs out.
+    // If a rule is broken, the first one is reported, unless memory runs out.
     ensures breaks { (f : Fault) → Breaks kind bytes.now f
         → Gives (λ keys. keys.items) result (Err f) }
-    // No key stands there twice.
+    // No key is returned twice.
     ensures distinct { IfOk result (λ keys. IsDistinct same_key keys.items) }
-    // A leaf takes no memory.
+    // A leaf never fails.
     ensures leaf { kind ≡ Leaf → IsOk result }
-    // All of it as a function, for the crates above.
+    // All of the above as a function, for the crates above.
     ensures exact { Gives (λ keys. keys.items) result (successors_of kind bytes.now) }
 {
     answer(alloc, kind, bytes)

@@ -1,11 +1,12 @@
-//! How a key keeps its media type: without memory where it is one that nearly every image has.
+//! The stored form of a media type. The common ones, which nearly every image has, need no memory.
 ghost use Rattle.std.specs.Prelude.{◌≡◌, IfOk, IfSome, string_bytes};
 ghost use Rattle.oci_manifest.specs.MediaTypes.{common_text, text_in};
 
 use oci_digest::NoMemory;
 use std::alloc::Global;
 
-/// The media types that images are commonly made of (OCI image-spec 1.1, media-types.md; Docker Image Manifest V2, Schema 2).
+/// The media types of common images (OCI image-spec 1.1, media-types.md; Docker Image Manifest V2,
+/// Schema 2).
 #[derive(Clone, Copy)]
 pub(crate) enum Common {
     Image,
@@ -21,7 +22,7 @@ pub(crate) enum Common {
     DockerLayer,
 }
 
-/// All of them, those first that most keys have.
+/// All common media types, the most frequent ones first.
 const ALL: [Common; 11] = [
     Common::LayerGzip,
     Common::Layer,
@@ -37,7 +38,7 @@ const ALL: [Common; 11] = [
 ];
 
 impl Common {
-    /// The common media type with this text.
+    /// Returns the common media type with this text.
     fn of(text: &str) -> Option<Common>
         ensures { IfSome result (λ common. common_text common ≡ text.now) }
     {
@@ -63,13 +64,14 @@ impl Common {
     }
 }
 
-/// A media type, which is any text. A common one is copied and compared without a look into the heap.
+/// A media type, which is any text. A common one is copied and compared without heap access.
 pub(crate) enum MediaType {
     Common(Common),
     Other(String),
 }
 
-/// Written out, and not derived: so a drop of a key is one call, and not one path for each variant, in the proofs above.
+/// Not derived: with a written `Drop`, the proofs above see one call per dropped key instead of one
+/// path per variant.
 impl Drop for MediaType {
     fn drop(self) {
         match self {
@@ -80,7 +82,8 @@ impl Drop for MediaType {
 }
 
 impl MediaType {
-    /// The media type with this text. It takes no memory, and gives back that of a common one.
+    /// Creates the media type with this text. Does not allocate, and drops the text of a common
+    /// one.
     pub(crate) fn new(text: String) -> MediaType
         ensures { text_in result ≡ string_bytes text }
     {
@@ -90,7 +93,7 @@ impl MediaType {
         }
     }
 
-    /// The media type with a copy of this text. One that is not common takes memory.
+    /// Creates the media type with a copy of this text. Allocates only if it is not a common one.
     pub(crate) fn copied(alloc: Global, text: &str) -> Result<MediaType, NoMemory>
         ensures { IfOk result (λ copy. text_in copy ≡ text.now) }
     {
@@ -109,7 +112,7 @@ impl MediaType {
         }
     }
 
-    /// An equal media type. One that is not common takes memory.
+    /// Returns an equal media type. Allocates only if it is not a common one.
     pub(crate) fn try_clone(&self) -> Result<MediaType, NoMemory>
         ensures { IfOk result (λ copy. text_in copy ≡ text_in self.now) }
     {

@@ -8,10 +8,15 @@ use oci_digest::NoMemory;
 use serde_json::Value;
 use std::alloc::Global;
 
-/// The type that a manifest states of itself: its `artifactType`, or else the media type of an image's `config` (OCI
-/// distribution-spec 1.1, "Listing Referrers"). A type is a text that is not empty.
+/// Returns the type that a manifest declares: its `artifactType`, or else the media type of an
+/// image's `config` (OCI distribution-spec 1.1, "Listing Referrers"). An empty text does not count
+/// as a type.
 ///
-/// None if the manifest states no type, for a leaf, and for bytes that are no JSON.
+/// Returns `None` if the manifest declares no type, for a leaf, and for bytes that are not JSON.
+///
+/// # Errors
+///
+/// Returns [`NoMemory`] if an allocation fails.
 #[tactic(auto, unfolding(crate::specs::ArtifactType::artifact_type_of))]
 pub fn artifact_type(alloc: Global, kind: Kind, bytes: &[u8]) -> Result<Option<String>, NoMemory>
     ensures { IfOk result (λ found. option_map string_bytes found
@@ -29,7 +34,7 @@ pub fn artifact_type(alloc: Global, kind: Kind, bytes: &[u8]) -> Result<Option<S
     }
 }
 
-/// The type that a manifest states.
+/// Returns the type that a manifest declares.
 #[tactic(auto, unfolding(crate::specs::ArtifactType::stated_type))]
 fn stated_type<'v>(kind: Kind, manifest: &'v Value) -> Option<&'v str>
     ensures { option_copied result ≡ stated_type kind (view manifest.now) }
@@ -37,7 +42,7 @@ fn stated_type<'v>(kind: Kind, manifest: &'v Value) -> Option<&'v str>
     type_at(manifest, "artifactType").or(config_type(kind, manifest))
 }
 
-/// The media type of an image's `config`.
+/// Returns the media type of an image's `config`.
 #[tactic(auto, unfolding(crate::specs::ArtifactType::config_type))]
 fn config_type<'v>(kind: Kind, manifest: &'v Value) -> Option<&'v str>
     ensures { option_copied result ≡ config_type kind (view manifest.now) }
@@ -48,7 +53,7 @@ fn config_type<'v>(kind: Kind, manifest: &'v Value) -> Option<&'v str>
     }
 }
 
-/// The text of a member, if it is not empty.
+/// Returns the text of a member unless it is empty.
 fn type_at<'v>(value: &'v Value, name: &str) -> Option<&'v str>
     ensures { option_copied result ≡ type_at name.now (view value.now) }
 {

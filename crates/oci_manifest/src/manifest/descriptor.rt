@@ -9,7 +9,8 @@ use oci_digest::{Digest, NoMemory};
 use serde_json::Value;
 use std::alloc::Global;
 
-/// The key of the descriptor that a value is (OCI image-spec 1.1, descriptor.md, "Properties"), or None.
+/// Returns the key of the descriptor in `value` (OCI image-spec 1.1, descriptor.md, "Properties"),
+/// or `None` if `value` is not a descriptor.
 #[tactic(auto, unfolding(crate::specs::Reading::descriptor_of))]
 fn key_of(alloc: Global, value: &Value) -> Result<Option<Key>, NoMemory>
     ensures { IfOk result (λ found. found ≡ descriptor_of (view value.now)) }
@@ -30,7 +31,7 @@ fn key_of(alloc: Global, value: &Value) -> Result<Option<Key>, NoMemory>
     Ok(Key::from_parts(alloc, media_type, digest, size).ok())
 }
 
-/// Adds the key of the descriptor that the member `name` is.
+/// Appends the key of the descriptor in the member `name` to `found`.
 pub(crate) fn push_single(
     alloc: Global,
     name: &'static str,
@@ -46,7 +47,7 @@ pub(crate) fn push_single(
     Ok(())
 }
 
-/// Adds the keys of the descriptors in the list that the member `name` is.
+/// Appends the keys of the descriptors in the list of the member `name` to `found`.
 pub(crate) fn push_list(
     alloc: Global,
     name: &'static str,

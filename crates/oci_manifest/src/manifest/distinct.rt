@@ -8,7 +8,7 @@ use oci_digest::NoMemory;
 use std::alloc::Global;
 use std::collections::BTreeSet;
 
-/// Keeps a key that is distributed and was not seen before. `seen` has the keys that are kept.
+/// Appends `key` to `kept` if it is distributed and not in `seen`. `seen` has the keys of `kept`.
 fn keep(kept: &mut Vec<Key>, seen: &mut BTreeSet<Key>, key: Key) -> Result<(), NoMemory>
     requires { Remembers seen.old kept.old.items }
     ensures kept { OnOk result (kept.new.items ≡ with_successor kept.old.items key) }
@@ -20,7 +20,8 @@ fn keep(kept: &mut Vec<Key>, seen: &mut BTreeSet<Key>, key: Key) -> Result<(), N
     Ok(())
 }
 
-/// The keys that are distributed, each once, at its first place. Takes n log n comparisons.
+/// Returns the keys that are distributed, each once, at its first place. Makes O(n log n)
+/// comparisons.
 #[tactic(auto, using(crate::proofs::Keys::distributed_once_push))]
 pub(crate) fn keep_distributed(alloc: Global, keys: Vec<Key>) -> Result<Vec<Key>, NoMemory>
     ensures { IfOk result (λ kept. kept.items ≡ distributed_once keys.items) }

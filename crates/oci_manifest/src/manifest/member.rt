@@ -10,14 +10,14 @@ use crate::kind::Kind;
 use serde_json::Value;
 use std::alloc::Global;
 
-/// A member of a manifest that has successors, with its name, by what it may hold.
+/// A member of a manifest that has successors: its name, and the form of its value.
 #[derive(Clone, Copy)]
 pub(crate) enum Field {
-    /// A descriptor, or nothing.
+    /// An optional descriptor.
     Optional(&'static str),
-    /// A descriptor.
+    /// A required descriptor.
     Required(&'static str),
-    /// A list of descriptors, or nothing.
+    /// An optional list of descriptors.
     Listed(&'static str),
 }
 
@@ -31,7 +31,7 @@ const MANIFESTS: Field = Field::Listed("manifests");
 
 const BLOBS: Field = Field::Listed("blobs");
 
-/// The members of a kind, in their order.
+/// Returns the members of a kind that have successors, in order.
 pub(crate) fn fields(kind: Kind) -> &'static [Field]
     ensures { map field_of result.now ≡ fields_of kind }
 {
@@ -45,7 +45,7 @@ pub(crate) fn fields(kind: Kind) -> &'static [Field]
     }
 }
 
-/// The member of a name, unless it is null.
+/// Returns the member with this name, unless it is null.
 fn present<'v>(manifest: &'v Value, name: &str) -> Option<&'v Value>
     ensures { option_map (λ v. view v.now) result ≡ member_of (view manifest.now) name.now }
 {
@@ -53,7 +53,7 @@ fn present<'v>(manifest: &'v Value, name: &str) -> Option<&'v Value>
     if value.is_null() { None } else { Some(value) }
 }
 
-/// Adds the keys of one member.
+/// Appends the keys of one member to `found`.
 #[tactic(auto, unfolding(crate::specs::Reading::keys_of))]
 fn push_field(
     alloc: Global,
@@ -83,7 +83,7 @@ fn push_field(
     }
 }
 
-/// Adds the keys of these members, in their order.
+/// Appends the keys of these members to `found`, in order.
 pub(crate) fn push_fields(
     alloc: Global,
     fields: &[Field],
@@ -99,7 +99,7 @@ pub(crate) fn push_fields(
     Ok(())
 }
 
-/// Adds the keys of the member `manifests`.
+/// Appends the keys of the member `manifests` to `found`.
 pub(crate) fn push_manifests(
     alloc: Global,
     index: &Value,
