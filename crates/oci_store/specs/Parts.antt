@@ -1,4 +1,4 @@
--- Contents that come part by part.
+-- Contents that are read in parts.
 use Rattle.std.specs.Prelude.{◌≡◌, ◌≤◌, ◌<◌, ◌⊎◌, ℕ, ◌+◌, List, [], take, drop, length, Option, Some, Result, Ok, Err, if◌then◌else◌, OnOk, IsErrOf}
 use Rattle.oci_digest.specs.Hashing.{IsHashing}
 use Rattle.oci_digest.specs.declared.hasher.Hasher.{Hasher}
@@ -17,53 +17,54 @@ use Rattle.oci_store.specs.declared.fault.PushFault.TheVariants as fault
 abbrev pub IsLeaf : Descriptor → Type 0
 IsLeaf k = kind_of k.media_type ≡ Leaf
 
--- of the bytes that were found, at most so many from a place on
+-- at most `most` of the found bytes, from an offset on
 abbrev pub IsPart : Option (List ℕ) → ℕ → ℕ → List ℕ → Type 0
 IsPart found from most part = (bytes : List ℕ) × (found ≡ Some bytes) × (part ≡ take most (drop from bytes))
 
--- these bytes are a beginning of those that were found
+-- the found bytes begin with these bytes
 abbrev pub IsBeginning : Option (List ℕ) → List ℕ → Type 0
 IsBeginning found m = (bytes : List ℕ) → found ≡ Some bytes → m ≡ take (length m) bytes
 
--- these bytes were hashed and drafted, so many are left of the key's size, and an honest source begins with them
+-- these bytes were hashed and drafted, `left` bytes of the key's size remain, and the content of an
+-- honest source begins with them
 pub record IsReading (hasher : Hasher) (drafted : List ℕ → Type 0) (k : Descriptor) (honest : Type 0) (found : Option (List ℕ)) (left : ℕ) (m : List ℕ) : Type 0 where
   pub hashed : IsHashing hasher k.digest m
   pub is_drafted : drafted m
   pub size : length m + left ≡ k.size
   pub begins : honest → IsBeginning found m
 
--- the draft has all bytes of the key, and those of an honest source
+-- the draft has all bytes of the key; if the source is honest, they are its bytes
 pub record IsDraftOf (drafted : List ℕ → Type 0) (k : Descriptor) (honest : Type 0) (found : Option (List ℕ)) (bytes : List ℕ) : Type 0 where
   pub is_drafted : drafted bytes
   pub matching : Matches k bytes
   pub own : honest → found ≡ Some bytes
 
--- a leaf may be pushed where its key is not held
+-- a leaf may be pushed if its key is not held
 unfoldable pub leaf_check : List Node → Descriptor → Result (List Descriptor) Refusal
 leaf_check graph k = if has_key graph k then Err already_exists else Ok []
 
--- what a push of a lost draft did to the held keys, by what it answered
+-- the effect of pushing a lost draft on the held keys, by its result
 pub record LeavesKeys (old new : List Node) (k : Descriptor) (answer : Result ℕ PushFault) : Type 0 where
   pub refused : OnOk answer ⊥
-  -- it is refused for what the check finds, or for memory, a device or a halt
+  -- an error agrees with the check, or is a memory error, a device error or a halt
   pub checked : Answers answer (leaf_check old k)
   pub same : new ≡ old
 
--- what a push of a lost draft did to a store, by what it answered
+-- the effect of pushing a lost draft on a store, by its result
 pub record IsLostPush (old new : State) (k : Descriptor) (answer : Result ℕ PushFault) : Type 0 where
   pub keys : LeavesKeys old.nodes new.nodes k answer
-  -- the bytes of a sound store stay if no put failed meanwhile, and the store stays sound
+  -- if the store is sound and no put fails during the call, its entries stay, and it stays sound
   pub entries : old.is_sound → IsCalm old.failures new.failures → new.entries ≡ old.entries
   pub sound : old.is_sound → IsCalm old.failures new.failures → new.is_sound
-  -- it is refused for the device if a put failed, which is counted, and no other push is
+  -- a device error raises the count of failures, and the count rises only with a device error
   pub failures : old.failures ≤ new.failures
   pub device : IsErrOf answer fault.Device → IsRaised old.failures new.failures
   pub calm : old.failures < new.failures → IsErrOf answer fault.Device
-  -- it is refused for a halt if the store had halted, and only a memory error halts a store
+  -- a halt is reported only if the store had halted, and only a memory error halts a store
   pub halted : IsErrOf answer fault.Halted → old.is_halted
   pub running : new.is_halted → old.is_halted ⊎ IsErrOf answer fault.Memory
-  -- a store that had halted remains halted
+  -- a halted store stays halted
   pub stays : old.is_halted → new.is_halted
-  -- its tags stay, and it is the same store
+  -- the tags and the name of the store stay
   pub tags : new.tags ≡ old.tags
   pub name : new.name ≡ old.name

@@ -1,33 +1,34 @@
--- What a store means at one moment.
+-- The meaning of a store at one moment.
 use Rattle.std.specs.Prelude.{ℕ, Bool, false, List, [], ⊤}
 use Rattle.oci_manifest.specs.Descriptor.{Descriptor}
 use Rattle.oci_store.specs.Content.{Entry}
 use Rattle.oci_store.specs.Graph.{Node, nodes_of}
 use Rattle.oci_store.specs.Tags.{Tags}
 
--- What a store means, whichever way it keeps what it holds. Keys and what they list are always exact. What is
--- said of bytes rests on its device: a file may have been changed, and a put that failed may have left anything in it.
+-- The meaning of a store, independent of how it keeps its contents. Keys and the keys that they
+-- list are always exact. Statements about bytes depend on the device: a file may have been changed,
+-- and a failed put may have left anything in it.
 pub record State : Type 1 where
-  -- the held keys in the order in which they came, each with the keys that its content listed when it came
+  -- the held keys in order of arrival, each with the keys that its content listed when it arrived
   pub nodes : List Node
-  -- the held keys in that order, each with the bytes that the device has under it
+  -- the held keys in the same order, each with the bytes that the device has for it
   pub entries : List Entry
   -- the names of keys
   pub tags : Tags
-  -- which store it is: empty for every store but one that others look into while it grows
+  -- the name of the store: empty, unless others look into the store while it grows
   pub name : List ℕ
-  -- how many puts its device has failed, up to the greatest `u64`, where the count stays
+  -- the number of failed puts of the device, which stays at the greatest `u64`
   pub failures : ℕ
-  -- whether a fetch of a key may be refused although the key is held
+  -- whether a fetch of a key may fail although the key is held
   pub fails_at : Descriptor → Bool
-  -- the device returns what was written, and nobody else writes it
+  -- the device returns the written bytes, and nobody else writes to it
   pub is_honest : Type 0
-  -- it is honest, and the bytes under each key are those that were pushed
+  -- the store is honest, and the bytes under each key are the ones that were pushed
   pub is_sound : Type 0
-  -- it takes nothing any more
+  -- the store accepts no more content
   pub is_halted : Type 0
 
--- a store that keeps these in memory
+-- a store that keeps these entries and tags in memory
 abbrev pub in_memory : List Entry → Tags → State
 in_memory held tags = record {
   nodes = nodes_of held;

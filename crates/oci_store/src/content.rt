@@ -10,8 +10,9 @@ use oci_digest::NoMemory;
 use oci_manifest::{Key, Kind, successors};
 use std::marker::Model;
 
-/// Content that was looked at: bytes that match their key and read, with the keys that they list.
-/// Its type keeps that, so a store that is given it hashes and reads nothing.
+/// Content that was checked: the bytes match the key and can be read as its kind, and the keys that
+/// they list are known. The type guarantees this, so a store that takes it hashes and reads
+/// nothing.
 #[derive(Drop)]
 pub struct CheckedContent {
     key: Key,
@@ -30,10 +31,17 @@ impl Model for CheckedContent {
 }
 
 impl CheckedContent {
-    /// Looks at bytes under a key.
+    /// Checks bytes against a key.
     ///
-    /// Refused in this order with `SizeMismatch`, `DigestMismatch`, `BadManifest` and `Memory` (at
-    /// any point).
+    /// # Errors
+    ///
+    /// The causes are checked in this order:
+    ///
+    /// - 31 `SizeMismatch`: the length of the bytes is not the key's size.
+    /// - 32 `DigestMismatch`: the digest of the bytes is not the key's.
+    /// - 33 `BadManifest`: the bytes cannot be read as the kind of the media type.
+    ///
+    /// 34 `Memory` is possible at any point.
     #[tactic(auto, unfolding(crate::specs::Push::content_check))]
     pub fn check(key: &Key, bytes: Bytes) -> Result<CheckedContent, PushFault>
         ensures same { IfOk result (λ content. content ≡ (key.now, bytes)) }
@@ -49,9 +57,12 @@ impl CheckedContent {
         CheckedContent::of_matching(key, bytes)
     }
 
-    /// Reads bytes that are known to match their key, as what a fetch gave does. Nothing is hashed.
+    /// Reads bytes that are known to match their key, such as fetched bytes. Nothing is hashed.
     ///
-    /// Refused with `BadManifest` or `Memory`.
+    /// # Errors
+    ///
+    /// - 33 `BadManifest`: the bytes cannot be read as the kind of the media type.
+    /// - 34 `Memory`: an allocation failed.
     pub fn of_matching(key: &Key, bytes: Bytes) -> Result<CheckedContent, PushFault>
         requires { Matches key.now bytes }
         ensures same { IfOk result (λ content. content ≡ (key.now, bytes)) }
@@ -69,7 +80,12 @@ impl CheckedContent {
         }
     }
 
-    /// The same of bytes that list nothing. Nothing is read.
+    /// Creates checked content for a key that lists nothing, from bytes that are known to match it.
+    /// Nothing is hashed or read.
+    ///
+    /// # Errors
+    ///
+    /// Returns [`NoMemory`] if an allocation fails.
     pub fn of_leaf(key: &Key, bytes: Bytes) -> Result<CheckedContent, NoMemory>
         requires leaf { IsLeaf key.now }
         requires matching { Matches key.now bytes }
@@ -82,14 +98,14 @@ impl CheckedContent {
         })
     }
 
-    /// The key that the bytes match.
+    /// Returns the key that the bytes match.
     pub fn key(&self) -> &Key
         ensures { result.now ≡ self.now.0 }
     {
         &self.key
     }
 
-    /// The bytes.
+    /// Returns the bytes.
     pub fn bytes(&self) -> &Bytes
         ensures bytes { result.now ≡ self.now.1 }
         ensures matching { Matches self.now.0 result.now }
@@ -97,14 +113,14 @@ impl CheckedContent {
         &self.bytes
     }
 
-    /// The keys that the bytes list.
+    /// Returns the keys that the bytes list.
     pub fn successors(&self) -> &[Key]
         ensures { IsChecked self.now.0 self.now.1 result.now }
     {
         &self.successors
     }
 
-    /// The key, the bytes, and the keys that they list.
+    /// Returns the key, the bytes, and the keys that they list.
     pub fn into_parts(self) -> (Key, Bytes, Vec<Key>)
         ensures key { result.0 ≡ self.0 }
         ensures bytes { result.1 ≡ self.1 }
@@ -113,7 +129,11 @@ impl CheckedContent {
         (self.key, self.bytes, self.successors)
     }
 
-    /// Equal content. The bytes are shared: nothing is copied of them, hashed or read.
+    /// Returns equal content. The bytes are shared: they are not copied, hashed or read.
+    ///
+    /// # Errors
+    ///
+    /// Returns [`NoMemory`] if an allocation fails.
     pub fn try_clone(&self) -> Result<CheckedContent, NoMemory>
         ensures { IfOk result (λ content. content ≡ self.now) }
     {

@@ -8,20 +8,25 @@ use oci_digest::NoMemory;
 use oci_manifest::Key;
 use std::alloc::Global;
 
-/// Bytes of one content on their way into a store. They are under no name there.
+/// Content being written to a store. It is not visible under any key until it is pushed.
 pub trait Drafting {
-    // These bytes were appended, and no others. If the device is not trusted, this may hold of any.
+    // The draft has exactly these bytes. If the device is not trusted, this may hold for any bytes.
     ghost drafted: { Self → List ℕ → Type 0 };
 
-    // A write of it failed, so its push is refused. Unless an impl says otherwise, no write fails.
+    // A write of the draft failed, so its push fails. By default no write fails.
     ghost is_lost: { Self → Type 0 } = { λ _. ⊥ };
 
-    /// Adds bytes at the end. A device failure is reported by the push.
+    /// Appends bytes. A device failure is reported by the push.
+    ///
+    /// # Errors
+    ///
+    /// Returns [`NoMemory`] if an allocation fails.
     fn append(&mut self, part: &[u8]) -> Result<(), NoMemory>
         ensures { OnOk result ((bytes : List ℕ) → drafted self.old bytes
             → drafted self.new (bytes ++ part.now)) };
 
-    /// Whether a write of it failed. If so nothing more need be appended: its push is refused.
+    /// Returns `true` only if a write of the draft failed. Its push then fails, so the rest need
+    /// not be appended.
     fn is_broken(&self) -> bool
         ensures { IsTrue result → is_lost self.now }
     {
@@ -36,7 +41,7 @@ pub struct MemoryDraft {
 }
 
 impl MemoryDraft {
-    /// One that has nothing.
+    /// Creates an empty draft.
     pub fn new(alloc: Global) -> MemoryDraft
         ensures { result.bytes.items ≡ [] }
     {
@@ -45,7 +50,11 @@ impl MemoryDraft {
         }
     }
 
-    /// What it has, as the content of a key that lists nothing.
+    /// Converts the draft into the content of a key that lists nothing.
+    ///
+    /// # Errors
+    ///
+    /// Returns [`NoMemory`] if an allocation fails.
     pub fn into_content(self, key: &Key) -> Result<CheckedContent, NoMemory>
         requires leaf { IsLeaf key.now }
         requires matching { Matches key.now self.bytes.items }
@@ -54,7 +63,7 @@ impl MemoryDraft {
         CheckedContent::of_leaf(key, Bytes::from_vec(self.bytes)?)
     }
 
-    /// What it has.
+    /// Returns the drafted bytes.
     pub fn into_bytes(self) -> Vec<u8>
         ensures { result.items ≡ self.bytes.items }
     {

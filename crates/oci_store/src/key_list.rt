@@ -10,9 +10,9 @@ use std::alloc::Global;
 use std::collections::BTreeMap;
 use std::marker::Model;
 
-/// Keys, each once, in the order in which they came. A key is found in logarithmic time.
+/// Distinct keys in order of arrival. A key is found in logarithmic time.
 ///
-/// It is the list that a walk along successors keeps of the keys that it has come to.
+/// A walk along successors keeps the keys that it has reached in such a list.
 #[derive(Drop)]
 pub struct KeyList {
     keys: Vec<Key>,
@@ -32,7 +32,7 @@ impl Model for KeyList {
 }
 
 impl KeyList {
-    /// No keys. It takes no memory.
+    /// Creates an empty list. Does not allocate.
     pub fn new(alloc: Global) -> KeyList
         ensures { result ≡ [] }
     {
@@ -42,21 +42,25 @@ impl KeyList {
         }
     }
 
-    /// How many keys it has.
+    /// Returns the number of keys.
     pub fn len(&self) -> usize
         ensures { result ≡ length self.now }
     {
         self.keys.len()
     }
 
-    /// The key at a place, from 0.
+    /// Returns the key at a place, counted from 0.
     pub fn get(&self, place: usize) -> Option<&Key>
         ensures { option_copied result ≡ slice_get self.now place }
     {
         self.keys.get(place)
     }
 
-    /// The place of a key, which goes to the end where it is new. It is copied; where memory is refused nothing is changed.
+    /// Returns the place of a key. If the key is new, a copy of it is appended.
+    ///
+    /// # Errors
+    ///
+    /// Returns [`NoMemory`] if an allocation fails. The list is then unchanged.
     pub fn place(&mut self, key: &Key) -> Result<usize, NoMemory>
         ensures keys { OnOk result (self.new ≡ with_key self.old key.now) }
         ensures place { IfOk result (λ place. slice_get self.new place ≡ Some key.now) }
@@ -77,7 +81,11 @@ impl KeyList {
         }
     }
 
-    /// Puts each of these keys at the end, where it is new. Where memory is refused some of them may be there.
+    /// Appends each of these keys that is new.
+    ///
+    /// # Errors
+    ///
+    /// Returns [`NoMemory`] if an allocation fails. Some of the keys may then be in the list.
     pub fn place_all(&mut self, keys: &[Key]) -> Result<(), NoMemory>
         ensures { OnOk result (self.new ≡ with_keys self.old keys.now) }
     {
@@ -87,7 +95,7 @@ impl KeyList {
         Ok(())
     }
 
-    /// The keys in their order.
+    /// Returns the keys in order.
     pub fn into_keys(self) -> Vec<Key>
         ensures keys { result.items ≡ self }
         ensures distinct { IsDistinct same_key result.items }

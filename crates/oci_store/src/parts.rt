@@ -8,11 +8,11 @@ use crate::source::Source;
 use oci_digest::Hasher;
 use oci_manifest::Key;
 
-/// How many bytes are read at a time.
+/// The largest number of bytes that one read requests.
 const PART: usize = 1_048_576;
 
-/// How many bytes are asked for where so many are left of a key's size: a part, or what is left and one byte more. So one
-/// answer that is shorter shows the end of the content, and of a longer content one byte too many is read, and no rest.
+/// Returns the size of the next read: a full part, or the remainder plus one byte, so that a short
+/// read marks the end and an over-long blob is noticed.
 fn part_size(left: u64) -> usize
     ensures some { 1 ≤ result }
     ensures most { result ≤ 1048576 }
@@ -24,13 +24,21 @@ fn part_size(left: u64) -> usize
     }
 }
 
-/// Reads the content of a key part by part into a draft, and verifies it. It asks for at most one byte more than the key's
-/// size: that is by how it is written, and no clause says it.
+/// Reads the content of a key part by part into a draft, and verifies it. It requests at most one
+/// byte more than the key's size. The contract does not state this bound.
 ///
-/// If a write of the draft fails, the rest is not read, nothing is verified, and the answer is Ok: the push of the draft reports
-/// the failure.
+/// If a write of the draft fails, the rest is not read, nothing is verified, and the result is
+/// `Ok`. The push of the draft reports the failure.
 ///
-/// Refused as a fetch is. What the draft has then is unspecified: drop it.
+/// # Errors
+///
+/// - 20 `NotFound`: the key is not held.
+/// - 21 `Corrupt`: the content is shorter or longer than the key's size or has another digest, or
+///   the source reported this error.
+/// - 22 `Device`: the device could not be read.
+/// - 23 `Memory`: an allocation failed.
+///
+/// After an error the bytes of the draft are unspecified: drop it.
 pub fn fetch_into<A: Source, W: Drafting>(
     source: &A,
     key: &Key,

@@ -17,7 +17,7 @@ use std::alloc::Global;
 use std::collections::BTreeMap;
 use std::marker::Model;
 
-/// Tags of keys.
+/// The tags of a store: names of keys.
 #[derive(Drop)]
 pub struct Tags {
     alloc: Global,
@@ -33,7 +33,7 @@ impl Model for Tags {
 }
 
 impl Tags {
-    /// No names.
+    /// Creates an empty set of tags.
     pub fn new(alloc: Global) -> Tags
         ensures { result ≡ [] }
     {
@@ -43,14 +43,18 @@ impl Tags {
         }
     }
 
-    /// The key that has a name.
+    /// Returns the key of a tag.
     pub fn get(&self, name: &str) -> Option<&Key>
         ensures { option_copied result ≡ tag_at self.now name.now }
     {
         self.keys.get(name)
     }
 
-    /// Tags a key. A name that is there is moved.
+    /// Tags a key. A tag that exists is moved.
+    ///
+    /// # Errors
+    ///
+    /// Returns [`NoMemory`] if an allocation fails. The tags are then unchanged.
     pub fn set(&mut self, name: &str, key: &Key) -> Result<(), NoMemory>
         ensures set { OnOk result (self.new ≡ set_tag self.old name.now key.now) }
         ensures refused { OnErr result (self.new ≡ self.old) }
@@ -61,7 +65,11 @@ impl Tags {
         Ok(())
     }
 
-    /// The names and their keys, in byte order of the names.
+    /// Returns the names and their keys, in byte order of the names.
+    ///
+    /// # Errors
+    ///
+    /// Returns [`NoMemory`] if an allocation fails.
     pub fn to_vec(&self) -> Result<Vec<(String, Key)>, NoMemory>
         ensures exact { IfOk result (λ tags. by_bytes tags.items ≡ self.now) }
         ensures order { IfOk result (λ tags. IsStrictlySortedBy (slice_cmp nat_cmp)
@@ -74,10 +82,15 @@ impl Tags {
         Ok(tags)
     }
 
-    /// Tags a key of a graph.
+    /// Tags a key of a graph. A tag that exists is moved.
     ///
-    /// Refused with `EmptyReference`, looked at first, `NotHeld`, or `Memory`. A refusal changes
-    /// nothing.
+    /// # Errors
+    ///
+    /// - 35 `EmptyReference`: the name is empty. Checked first.
+    /// - 37 `NotHeld`: the key is not in the graph.
+    /// - 38 `Memory`: an allocation failed.
+    ///
+    /// An error changes nothing.
     pub fn tag(&mut self, graph: &Graph, key: &Key, name: &str) -> Result<(), RefFault>
         requires names { AreNames graph.now self.old }
         ensures tagged { OnOk result (self.new ≡ set_tag self.old name.now key.now) }
@@ -97,10 +110,15 @@ impl Tags {
         Ok(self.set(name, key)?)
     }
 
-    /// The key that a reference resolves to: a tag of that name first; otherwise, where the
-    /// reference is the text of a digest, the least key of the graph with that digest.
+    /// Returns the key that a reference resolves to. A tag with that name has precedence.
+    /// Otherwise, if the reference is the text of a digest, this is the least key of the graph with
+    /// that digest.
     ///
-    /// Refused with `EmptyReference`, looked at first, `UnknownReference`, or `Memory`.
+    /// # Errors
+    ///
+    /// - 35 `EmptyReference`: the reference is empty. Checked first.
+    /// - 36 `UnknownReference`: no tag has this name, and no key of the graph this digest.
+    /// - 38 `Memory`: an allocation failed.
     pub fn resolve(&self, graph: &Graph, reference: &str) -> Result<Key, RefFault>
         requires names { AreNames graph.now self.now }
         ensures found { IfOk result (Resolves (keys_of graph.now) self.now reference.now) }
@@ -121,7 +139,7 @@ impl Tags {
     }
 }
 
-/// The key that a reference resolves to.
+/// Returns the key that a reference resolves to.
 fn named<'s>(graph: &'s Graph, tags: &'s Tags, reference: &str) -> Option<&'s Key>
     requires names { AreNames graph.now tags.now }
     ensures resolved { IsResolved (keys_of graph.now) tags.now reference.now
@@ -131,7 +149,7 @@ fn named<'s>(graph: &'s Graph, tags: &'s Tags, reference: &str) -> Option<&'s Ke
     if let Some(key) = tags.get(reference) {
         return Some(key);
     }
-    // The contract of `len` says that the graph's keys are keys, and distinct.
+    // The contract of `len` states that the graph's keys are valid and distinct.
     let _ = graph.len();
     let Some(digest) = parsed(reference) else {
         return None;
@@ -139,7 +157,7 @@ fn named<'s>(graph: &'s Graph, tags: &'s Tags, reference: &str) -> Option<&'s Ke
     graph.least_with(&digest)
 }
 
-/// The digest with this text.
+/// Returns the digest with this text.
 fn parsed(text: &str) -> Option<Digest>
     ensures { MatchOption result (is_digest text.now ≡ false) (λ digest. digest ≡ text.now) }
 {

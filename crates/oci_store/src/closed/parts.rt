@@ -7,7 +7,7 @@ use crate::entries::Entries;
 use crate::memory::MemoryStore;
 
 impl ClosedStore {
-    /// The store of these entries, with no names. Nothing is hashed or read.
+    /// Creates a store with these entries and no tags. Nothing is hashed or read.
     pub fn from_entries(entries: Entries) -> ClosedStore
         requires { IsClosed (nodes_of entries) }
         ensures { result ≡ record { entries = entries; tags = [] } }
@@ -17,7 +17,7 @@ impl ClosedStore {
         }
     }
 
-    /// What it holds, without the names.
+    /// Returns the entries of the store.
     pub fn entries(&self) -> &Entries
         ensures same { result.now ≡ self.now.entries }
         ensures closed { IsClosed (nodes_of result.now) }
@@ -25,7 +25,7 @@ impl ClosedStore {
         self.store.entries()
     }
 
-    /// What it holds, without the names.
+    /// Converts the store into its entries. The tags are dropped.
     pub fn into_entries(self) -> Entries
         ensures same { result ≡ self.entries }
         ensures closed { IsClosed (nodes_of result) }

@@ -13,7 +13,7 @@ use oci_manifest::Key;
 use std::alloc::Global;
 use std::collections::BTreeSet;
 
-/// Keys by their digests.
+/// Keys in the order of their digests.
 #[derive(Drop)]
 pub(crate) struct ByDigest {
     keys: BTreeSet<DigestFirst>,
@@ -46,12 +46,12 @@ impl ByDigest {
         self.keys.remove(&key);
     }
 
-    /// The least key with a digest.
+    /// Returns the least key with a digest.
     pub(crate) fn least(&self, alloc: Global, digest: &Digest) -> Option<&Key>
         ensures { (graph : List Node) → AreKeysOf graph self.now.keys
             → IsLeastOf (keys_of graph) digest.now (option_copied result) }
     {
-        // No key of the digest is before the one with no media type and no bytes.
+        // The least possible key of this digest has an empty media type and size 0.
         let Ok(first) = Key::new(String::new(alloc), *digest, 0) else {
             unreachable!();
         };

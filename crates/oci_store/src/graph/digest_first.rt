@@ -2,7 +2,7 @@ use oci_manifest::Key;
 use std::cmp::Ordering;
 use std::marker::Model;
 
-/// A key in the order of digests; keys of one digest are in key order.
+/// A key, ordered by digest first; keys with the same digest are in key order.
 #[derive(Debug, Drop)]
 pub(crate) struct DigestFirst {
     key: Key,

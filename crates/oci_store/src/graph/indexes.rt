@@ -16,7 +16,8 @@ use oci_manifest::Key;
 use std::alloc::Global;
 use std::collections::BTreeMap;
 
-/// By what a graph finds its keys: the place of each, those that list each, and those of a digest.
+/// The indexes of a graph: the place of each key, the predecessors of each key, and the keys by
+/// digest.
 #[derive(Drop)]
 pub(crate) struct Indexes {
     pub(crate) places: BTreeMap<Key, usize>,
@@ -35,7 +36,7 @@ impl Indexes {
         }
     }
 
-    /// Notes a node that comes after these. A refusal takes back what was noted.
+    /// Adds a node that follows these nodes. An error leaves the indexes as they were.
     pub(crate) fn note(
         &mut self,
         alloc: Global,
@@ -63,7 +64,7 @@ impl Indexes {
         }
     }
 
-    /// Takes back the last node. It needs no memory.
+    /// Removes the last node. Does not allocate.
     pub(crate) fn forget(&mut self, node: Listing)
         ensures { (graph : List Node)
             → IsIndexed (graph ++ node ∷ []) self.old.places self.old.predecessors.lists
@@ -76,15 +77,15 @@ impl Indexes {
     }
 }
 
-/// Takes the place of a key away.
+/// Removes the place of a key.
 fn forget_place(places: &mut BTreeMap<Key, usize>, key: &Key)
     ensures { Updates key_cmp places.old places.new key.now None }
 {
     places.remove(key);
 }
 
-/// Notes a key under each key that it lists, and under its digest. A refusal takes back what was
-/// noted.
+/// Adds a key as a predecessor of each key that it lists, and under its digest. An error leaves
+/// both indexes as they were.
 fn note_key(
     predecessors: &mut Predecessors,
     by_digest: &mut ByDigest,

@@ -9,7 +9,7 @@ use oci_manifest::Key;
 use std::alloc::Global;
 use std::collections::{BTreeMap, BTreeSet};
 
-/// The keys that list a key, for each key that is listed, in the order in which they came.
+/// The predecessors of each listed key, in order of arrival.
 #[derive(Drop)]
 pub(crate) struct Predecessors {
     lists: BTreeMap<Key, Vec<Key>>,
@@ -25,8 +25,7 @@ impl Predecessors {
         }
     }
 
-    /// Adds a predecessor of each of these keys, which it does not hold yet. A refusal takes back what
-    /// was added.
+    /// Adds a new predecessor to each of these keys. An error leaves the lists as they were.
     pub(crate) fn note_all(
         &mut self,
         alloc: Global,
@@ -50,7 +49,8 @@ impl Predecessors {
         Ok(())
     }
 
-    /// Takes a predecessor of each of these keys away. It needs no memory, and looks at all predecessors of each.
+    /// Removes a predecessor from each of these keys. Does not allocate, and looks at all
+    /// predecessors of each key.
     pub(crate) fn forget_all(&mut self, predecessor: &Key, listed: &[Key])
         ensures { (other key : Descriptor) → is_predecessor self.new.lists other key
             ≡ (is_predecessor self.old.lists other key && not
@@ -61,7 +61,7 @@ impl Predecessors {
         }
     }
 
-    /// The predecessors of a key, in key order.
+    /// Returns the predecessors of a key, in key order.
     pub(crate) fn of(&self, alloc: Global, listed: &Key) -> Result<Vec<Key>, NoMemory>
         ensures each { IfOk result (λ keys. (predecessor : Descriptor)
             → Contains keys.items predecessor
@@ -106,7 +106,7 @@ impl Predecessors {
     }
 }
 
-/// Puts a key at the end.
+/// Appends a key.
 fn put(keys: &mut Vec<Key>, predecessor: Key) -> Result<(), NoMemory>
     ensures put { OnOk result (keys.new.items ≡ keys.old.items ++ predecessor ∷ []) }
     ensures refused { OnErr result (keys.new.items ≡ keys.old.items) }
@@ -115,14 +115,14 @@ fn put(keys: &mut Vec<Key>, predecessor: Key) -> Result<(), NoMemory>
     Ok(())
 }
 
-/// Takes a key out, wherever it stands.
+/// Removes a key from a list.
 fn take_out(keys: &mut Vec<Key>, predecessor: &Key)
     ensures { keys.new.items ≡ filter (λ key. not (same_key key predecessor.now)) keys.old.items }
 {
     keys.retain(|key| *key != *predecessor);
 }
 
-/// These keys, each once.
+/// Returns the set of these keys.
 fn set_of(alloc: Global, keys: &[Key]) -> Result<BTreeSet<Key>, NoMemory>
     ensures { IfOk result (λ set. (key : Descriptor)
         → contains key_cmp set key ≡ is_among keys.now key) }
@@ -134,7 +134,11 @@ fn set_of(alloc: Global, keys: &[Key]) -> Result<BTreeSet<Key>, NoMemory>
     Ok(set)
 }
 
-/// The keys of a set, in key order.
+/// Returns the keys of a set, in key order.
+///
+/// # Errors
+///
+/// Returns [`NoMemory`] if an allocation fails.
 pub fn keys_of_set(alloc: Global, set: &BTreeSet<Key>) -> Result<Vec<Key>, NoMemory>
     ensures keys { IfOk result (λ keys. keys.items ≡ set.now.keys) }
     ensures order { IfOk result (λ keys. IsStrictlySortedBy key_cmp keys.items) }
