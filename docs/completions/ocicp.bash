@@ -1,0 +1,66 @@
+# Completes the words of ocicp in bash. docs/manual makes this file from the help texts of the program.
+_ocicp() {
+  local word=${COMP_WORDS[COMP_CWORD]} flags='' valued='' last='' kinds=() words=() at line
+  COMPREPLY=()
+  if ((COMP_CWORD == 1)); then
+    mapfile -t COMPREPLY < <(compgen -W 'copy tags resolve predecessors tree verify mem explain --help --version' -- "$word")
+    return
+  fi
+  case ${COMP_WORDS[1]} in
+    copy)
+      flags='--all --referrers --depth --descend --workers --progress --dry-run --help' valued='--depth --workers' kinds=(folder tag folder tag)
+      [[ " ${COMP_WORDS[*]} " != *' --all '* ]] || kinds=(folder folder)
+      ;;
+    tags)
+      flags='--help' kinds=(folder)
+      ;;
+    resolve)
+      flags='--help' kinds=(folder tag)
+      ;;
+    predecessors)
+      flags='--help' kinds=(folder tag)
+      ;;
+    tree)
+      flags='--referrers --help' kinds=(folder tag)
+      ;;
+    verify)
+      flags='--help' kinds=(folder)
+      ;;
+    mem)
+      flags='--workers --sha512 --help' valued='--workers' last=file
+      ;;
+    explain)
+      flags='--help' kinds=(none)
+      ;;
+  esac
+  for ((at = 2; at < COMP_CWORD; at++)); do
+    if [[ ${COMP_WORDS[at]} != -* ]]; then
+      words+=("${COMP_WORDS[at]}")
+    elif [[ " $valued " == *" ${COMP_WORDS[at]} "* ]]; then
+      ((at++))
+    fi
+  done
+  ((at == COMP_CWORD)) || return 0
+  if [[ $word == -* ]]; then
+    mapfile -t COMPREPLY < <(compgen -W "$flags" -- "$word")
+    return
+  fi
+  case ${kinds[${#words[@]}]:-$last} in
+    folder)
+      compopt -o filenames 2>/dev/null
+      mapfile -t COMPREPLY < <(compgen -d -- "$word")
+      ;;
+    file)
+      compopt -o filenames 2>/dev/null
+      mapfile -t COMPREPLY < <(compgen -f -- "$word")
+      ;;
+    tag)
+      # (not by `compgen -W`, which would run what is in a tag)
+      while IFS= read -r line; do
+        line=${line% * * *}
+        [[ $line != "$word"* ]] || COMPREPLY+=("$(printf %q "$line")")
+      done < <(ocicp tags "${words[-1]/#\~\//$HOME/}" 2>/dev/null)
+      ;;
+  esac
+}
+complete -F _ocicp ocicp
