@@ -1,4 +1,5 @@
-"""Runs each fenced command of the README in a copy of the folder, and compares what those of the sessions print."""
+"""Runs each fenced command of the README in a copy of the folder, and compares what those of the sessions print. Code in the README
+is to be the example that it names."""
 import os
 import re
 import shutil
@@ -7,6 +8,7 @@ import subprocess
 from program import PROGRAM, TOP
 
 SECONDS = 60
+EXAMPLE = "/crates/example_copy/src/main.rt"
 # Comes after the output of each command. No README has it.
 END = "== that was it =="
 # What a stranger's clone has and a session does not need.
@@ -14,7 +16,7 @@ LARGE = shutil.ignore_patterns("crates", ".git", "out", "ocicp")
 
 
 def blocks():
-    """The fenced blocks of the README, each with its kind: `console` for a session, `sh` for commands alone."""
+    """The fenced blocks of the README, each with its kind: `console` for a session, `sh` for commands alone, `rust` for the example."""
     with open(TOP + "/README.md") as file:
         return re.findall(r"^```(\w*)\n(.*?)^```$", file.read(), re.M | re.S)
 
@@ -48,6 +50,7 @@ def checks(room):
         shutil.copyfile(PROGRAM, "%s/%s" % (folder, place))
         os.chmod("%s/%s" % (folder, place), 0o755)
     yield from commands_alone(folder)
+    yield "the code", wrong_code()
     found = list(sessions())
     if not found:
         yield "sessions", "README.md has none"
@@ -64,7 +67,7 @@ def commands_alone(folder):
     found = [line for kind, text in blocks() if kind == "sh" for line in text.splitlines()]
     if not found:
         yield "commands", "README.md has none"
-    others = {kind for kind, _ in blocks()} - {"console", "sh"}
+    others = {kind for kind, _ in blocks()} - {"console", "sh", "rust"}
     if others:
         yield "blocks", "nothing runs those of the kinds %s" % others
     for command in found:
@@ -74,6 +77,13 @@ def commands_alone(folder):
             continue
         lines, = printed([command + " && echo done"], folder)[:1]
         yield "$ " + command, None if lines[-1:] == ["done"] else "it prints %r" % lines[-3:]
+
+
+def wrong_code():
+    """What is wrong with the code of the README, which is to be the whole example."""
+    with open(TOP + EXAMPLE) as file:
+        found = [text for kind, text in blocks() if kind == "rust"]
+        return None if found == [file.read()] else "it is not what %s has" % EXAMPLE[1:]
 
 
 def difference(lines, wanted):
