@@ -1,0 +1,74 @@
+"""Checks that the documents name what is there: files and sections that they link to, paths in backquotes, and the functions on
+the way of a layer in docs/map.md."""
+import glob
+import os
+import re
+
+from program import TOP, first
+
+DOCUMENTS = ["README.md", "CHANGELOG.md", *sorted(os.path.relpath(path, TOP) for path in glob.glob(TOP + "/docs/*.md"))]
+LINK = re.compile(r"\[[^]]*\]\(([^)\s]+)\)")
+# A path from the top of the repository, without a pattern in it.
+PATH = re.compile(r"`((?:crates|checks|bench|docs|release|examples)/[\w./-]*)`")
+# Folders of what a build makes.
+BUILT = "/out/"
+CALLS = "| Crate | Functions, each called by the one before |"
+STANDARD = "std"
+
+
+def read(path):
+    with open(os.path.join(TOP, path), encoding="utf-8") as file:
+        return file.read()
+
+
+def prose(path):
+    """A document without its fenced blocks."""
+    return re.sub(r"^```.*?^```$", "", read(path), flags=re.M | re.S)
+
+
+def anchors(path):
+    """The names of a document's sections, as links have them."""
+    titles = re.findall(r"^#+ (.*)$", prose(path), re.M)
+    return {re.sub(r"[^\w -]", "", title).lower().replace(" ", "-") for title in titles}
+
+
+def wrong_link(document, target):
+    """What is wrong with a link of a document, or none. Links into the network are not followed."""
+    if re.match(r"\w+:", target):
+        return None
+    path, _, anchor = target.partition("#")
+    place = os.path.normpath(os.path.join(os.path.dirname(document), path)) if path else document
+    if not os.path.exists(os.path.join(TOP, place)):
+        return "there is no %s" % place
+    if anchor and anchor not in anchors(place):
+        return "%s has no section #%s" % (place, anchor)
+
+
+def wrong_path(path):
+    return None if BUILT in path or os.path.exists(os.path.join(TOP, path)) else "there is no %s" % path
+
+
+def sources(crate):
+    paths = glob.glob("%s/crates/%s/src/**/*.rt" % (TOP, crate), recursive=True)
+    return "\n".join(read(path) for path in paths)
+
+
+def wrong_calls():
+    """The first function of the table in docs/map.md that its crate does not have."""
+    rows = read("docs/map.md").split(CALLS, 1)[1].split("\n\n", 1)[0].splitlines()[2:]
+    for crate, functions, *_ in (row.strip("|").split("|") for row in rows):
+        crate = crate.strip(" `")
+        names = [name.split("::")[-1] for name in re.findall(r"`([^`]+)`", functions)]
+        if not names:
+            return "the row of %s names no function" % crate
+        text = "" if crate == STANDARD else sources(crate)
+        for name in names:
+            if crate != STANDARD and not re.search(r"\bfn %s\b" % name, text):
+                return "%s has no function %s" % (crate, name)
+
+
+def checks(room):
+    for document in DOCUMENTS:
+        yield "links of " + document, first(wrong_link(document, target) for target in LINK.findall(prose(document)))
+        yield "paths of " + document, first(wrong_path(path) for path in PATH.findall(prose(document)))
+    yield "the way of a layer", wrong_calls()
