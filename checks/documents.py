@@ -1,12 +1,13 @@
-"""Checks that the documents name what is there: files and sections that they link to, paths in backquotes, and the functions on
-the way of a layer in docs/map.md."""
+"""Checks the names in the documents: files and sections that they link to, paths in backquotes, and
+the functions on the way of a layer in docs/map.md."""
 import glob
 import os
 import re
 
 from program import TOP, first
 
-DOCUMENTS = ["README.md", "CHANGELOG.md", *sorted(os.path.relpath(path, TOP) for path in glob.glob(TOP + "/docs/*.md"))]
+DOCUMENTS = ["README.md", "CHANGELOG.md"]
+DOCUMENTS += sorted(os.path.relpath(path, TOP) for path in glob.glob(TOP + "/docs/*.md"))
 LINK = re.compile(r"\[[^]]*\]\(([^)\s]+)\)")
 # A path from the top of the repository, without a pattern in it.
 PATH = re.compile(r"`((?:crates|checks|bench|docs|release|examples)/[\w./-]*)`")
@@ -45,10 +46,12 @@ def wrong_link(document, target):
 
 
 def wrong_path(path):
+    """What is wrong with a path that a document names. One that a build makes need not be there."""
     return None if BUILT in path or os.path.exists(os.path.join(TOP, path)) else "there is no %s" % path
 
 
 def sources(crate):
+    """The sources of a crate as one text."""
     paths = glob.glob("%s/crates/%s/src/**/*.rt" % (TOP, crate), recursive=True)
     return "\n".join(read(path) for path in paths)
 
