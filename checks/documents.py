@@ -47,7 +47,8 @@ def wrong_link(document, target):
 
 def wrong_path(path):
     """What is wrong with a path that a document names. One that a build makes need not be there."""
-    return None if BUILT in path or os.path.exists(os.path.join(TOP, path)) else "there is no %s" % path
+    if BUILT not in path and not os.path.exists(os.path.join(TOP, path)):
+        return "there is no %s" % path
 
 
 def sources(crate):
@@ -72,6 +73,8 @@ def wrong_calls():
 
 def checks(room):
     for document in DOCUMENTS:
-        yield "links of " + document, first(wrong_link(document, target) for target in LINK.findall(prose(document)))
-        yield "paths of " + document, first(wrong_path(path) for path in PATH.findall(prose(document)))
+        text = prose(document)
+        links, paths = LINK.findall(text), PATH.findall(text)
+        yield "links of " + document, first(wrong_link(document, target) for target in links)
+        yield "paths of " + document, first(wrong_path(path) for path in paths)
     yield "the way of a layer", wrong_calls()
