@@ -4,8 +4,8 @@ use Rattle.oci_manifest.specs.Descriptor.{Descriptor}
 use Rattle.oci_store.specs.Closed.{IsClosed}
 use Rattle.oci_store.specs.Graph.{Node}
 use Rattle.oci_store.proofs.ClosedGraphs.{first_missing_successor-from_IsClosed}
-use Rattle.oci_plan.specs.declared.existing.Existing.{Existing}
-use Rattle.oci_plan.specs.declared.existing.Existing.TheVariants.{Skip, Descend}
+use Rattle.oci_plan.specs.declared.gathering.Existing.{Existing}
+use Rattle.oci_plan.specs.declared.gathering.Existing.TheVariants.{Skip, Descend}
 use Rattle.oci_copy.specs.Destination.{IsClosedWhenSkipping, IsNotClosedWhenSkipping}
 
 -- a closed destination is closed where a copy skips

@@ -20,8 +20,8 @@ use Rattle.oci_plan.specs.Met as path
 use Rattle.oci_plan.specs.Outside.{IsOutside, IsToBring}
 use Rattle.oci_plan.specs.Outside as outside
 use Rattle.oci_plan.specs.Plan.{Planned}
-use Rattle.oci_plan.specs.declared.existing.Existing.{Existing}
-use Rattle.oci_plan.specs.declared.existing.Existing.TheVariants.{Skip, Descend}
+use Rattle.oci_plan.specs.declared.gathering.Existing.{Existing}
+use Rattle.oci_plan.specs.declared.gathering.Existing.TheVariants.{Skip, Descend}
 use Rattle.oci_store.specs.State.{State}
 use Rattle.oci_copy.specs.declared.options.Options.{Options}
 use Rattle.oci_copy.specs.Destination.{IsClosedWhenSkipping}

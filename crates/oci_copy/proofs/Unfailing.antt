@@ -9,7 +9,7 @@ use Rattle.oci_store.specs.Contents.{Contents}
 use Rattle.oci_store.specs.Graph.{nodes_of}
 use Rattle.oci_store.specs.State.{State, in_memory}
 use Rattle.oci_store.specs.declared.fault.PushFault.TheVariants as push
-use Rattle.oci_plan.specs.declared.existing.Existing.{Existing}
+use Rattle.oci_plan.specs.declared.gathering.Existing.{Existing}
 use Rattle.oci_store.proofs.Lookups.{All-value_at}
 use Rattle.oci_plan.specs.declared.fault.PlanFault.{PlanFault}
 use Rattle.oci_plan.specs.declared.fault.PlanFault.TheVariants as plan

@@ -8,7 +8,7 @@ use Rattle.oci_store.specs.declared.fault.PushFault.TheVariants as push
 use Rattle.oci_plan.specs.Met.{NamesMet}
 use Rattle.oci_plan.specs.Outside.{IsToBring}
 use Rattle.oci_plan.specs.Refusal.{IsDeviceFault, IsUnread, IsKeyFault, NamesNoneOnlyInDestination, NamesVisited, IsFirstFault}
-use Rattle.oci_plan.specs.declared.existing.Existing.{Existing}
+use Rattle.oci_plan.specs.declared.gathering.Existing.{Existing}
 use Rattle.oci_plan.specs.declared.fault.PlanFault.{PlanFault}
 use Rattle.oci_plan.specs.declared.fault.PlanFault.TheVariants as plan
 use Rattle.oci_copy.specs.Grown.{graph_of}

@@ -10,7 +10,7 @@ use Rattle.oci_store.specs.State.{State}
 use Rattle.oci_plan.specs.Met.{IsMet}
 use Rattle.oci_plan.specs.Outside.{IsVisited}
 use Rattle.oci_plan.specs.Visiting.{IsSoundVisit}
-use Rattle.oci_plan.specs.declared.existing.Existing.TheVariants.{Descend}
+use Rattle.oci_plan.specs.declared.gathering.Existing.TheVariants.{Descend}
 use Rattle.oci_copy.specs.declared.options.Options.{Options}
 use Rattle.oci_copy.specs.Options.{limit_of}
 use Rattle.oci_copy.specs.Destination.{IsClosedWhenSkipping}

@@ -3,8 +3,8 @@ use Rattle.std.specs.Prelude.{◌≡◌, List, Some}
 use Rattle.oci_manifest.specs.Descriptor.{Descriptor}
 use Rattle.oci_store.specs.Closed.{IsClosed, first_missing_successor}
 use Rattle.oci_store.specs.Graph.{Node}
-use Rattle.oci_plan.specs.declared.existing.Existing.{Existing}
-use Rattle.oci_plan.specs.declared.existing.Existing.TheVariants.{Skip, Descend}
+use Rattle.oci_plan.specs.declared.gathering.Existing.{Existing}
+use Rattle.oci_plan.specs.declared.gathering.Existing.TheVariants.{Skip, Descend}
 
 -- where a copy skips the keys that the destination has, the destination is closed; a copy that descends asks nothing
 abbrev pub IsClosedWhenSkipping : Existing → List Node → Type 0

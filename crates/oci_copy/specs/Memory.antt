@@ -8,7 +8,7 @@ use Rattle.oci_store.specs.Content.{IsContent}
 use Rattle.oci_store.specs.Contents.{Contents}
 use Rattle.oci_store.specs.Copied.{Agree, IsCopied}
 use Rattle.oci_store.specs.Graph.{Node, nodes_of, Reaches}
-use Rattle.oci_plan.specs.declared.existing.Existing.{Existing}
+use Rattle.oci_plan.specs.declared.gathering.Existing.{Existing}
 use Rattle.oci_copy.specs.Grown.{BeginsWith, IsGrown}
 use Rattle.oci_copy.specs.Report.{IsToBringCount, held_count}
 use Rattle.oci_copy.specs.declared.report.Report.{Report}

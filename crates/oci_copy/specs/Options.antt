@@ -1,6 +1,6 @@
 -- What the options of a copy mean.
 use Rattle.std.specs.Prelude.{ℕ, ◌==◌, if◌then◌else◌}
-use Rattle.oci_plan.specs.declared.existing.Existing.TheVariants.{Descend}
+use Rattle.oci_plan.specs.declared.gathering.Existing.TheVariants.{Descend}
 use Rattle.oci_copy.specs.declared.options.Options.{Options}
 
 -- the greatest size of a manifest, in bytes: 4 MiB where the option is 0

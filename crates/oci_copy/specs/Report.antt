@@ -8,7 +8,7 @@ use Rattle.oci_store.specs.Keyed.{has_key}
 use Rattle.oci_store.specs.Graph.{Node}
 use Rattle.oci_store.specs.State.{State}
 use Rattle.oci_plan.specs.Outside.{IsToBring}
-use Rattle.oci_plan.specs.declared.existing.Existing.{Existing}
+use Rattle.oci_plan.specs.declared.gathering.Existing.{Existing}
 use Rattle.oci_copy.specs.Grown.{graph_of}
 use Rattle.oci_copy.specs.declared.report.Report.{Report}
 

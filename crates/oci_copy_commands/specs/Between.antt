@@ -8,7 +8,7 @@ use Rattle.oci_store.specs.Keyed.{has_key, HasAll}
 use Rattle.oci_store.specs.Push.{IsCalm}
 use Rattle.oci_store.specs.State.{State}
 use Rattle.oci_plan.specs.Met.{IsMet}
-use Rattle.oci_plan.specs.declared.existing.Existing.TheVariants.{Descend}
+use Rattle.oci_plan.specs.declared.gathering.Existing.TheVariants.{Descend}
 use Rattle.oci_copy.specs.Grown.{graph_of, ListsByBytes, SameByDigest}
 
 -- What is known of the bytes of a copy between two layouts needs this: nobody else writes into either folder, each file that the

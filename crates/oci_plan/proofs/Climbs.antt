@@ -1,16 +1,16 @@
 -- How a climb goes on, and what it has found at its end.
-use Rattle.std.proofs.Common.{◌≡◌, ◌≢◌, ℕ, zero, suc, ◌+◌, ◌<◌, ◌≤◌, true, ◌⊎◌, inl, inr, List, [], ◌∷◌, ◌++◌, length, get_or, Some, refl, sym, subst, ◌∙◌, arith}
+use Rattle.std.proofs.Common.{◌≡◌, ◌≢◌, ℕ, zero, suc, ◌+◌, ◌<◌, ◌≤◌, true, ◌⊎◌, inl, inr, List, [], ◌∷◌, length, get_or, Some, refl, sym, subst, ◌∙◌, arith}
 use Rattle.std.specs.Prelude.{Contains, ◌↔◌}
 use Rattle.std.specs.List.{slice_get}
 use Rattle.std.specs.List.Sorted.{IsStrictlySortedBy}
 use Rattle.std.proofs.lemmas.Bool.{or_cases, or_left, cases_lt, cases_order}
 use Rattle.std.proofs.lemmas.Option.{slice_get_within, slice_get-get_or}
 use Rattle.oci_manifest.specs.Descriptor.{Descriptor, same_key, key_cmp, is_among}
-use Rattle.oci_manifest.proofs.Keys.{Decides-same_key, cases}
+use Rattle.oci_manifest.proofs.Keys.{Decides-same_key}
 use Rattle.oci_store.specs.Graph.{Node, IsEdge}
 use Rattle.oci_plan.specs.Climb.{IsFoundWithin, IsClimbed, IsRaised, IsStep}
 use Rattle.oci_plan.specs.Up.{HasPath, IsWithinDepth, IsUp}
-use Rattle.oci_store.specs.Visiting.{with_key, with_keys}
+use Rattle.oci_store.specs.Visiting.{with_keys}
 use Rattle.oci_store.proofs.Membership.{Keys, Contains-from_among, among_from_Contains, among-with_keys, among_from_place, place_from_among, slice_get-with_keys, stays-with_keys, there-with_keys}
 
 -- ---- a step

@@ -9,8 +9,8 @@ use Rattle.oci_store.specs.Visiting.{with_key, with_keys}
 use Rattle.oci_store.proofs.Membership.{Keys, among-filter, among_filter_from}
 use Rattle.oci_store.proofs.Visits.{first_places-all}
 use Rattle.oci_plan.specs.Visiting.{is_fresh, passes}
-use Rattle.oci_plan.specs.declared.existing.Existing.{Existing}
-use Rattle.oci_plan.specs.declared.existing.Existing.TheVariants.{Skip, Descend}
+use Rattle.oci_plan.specs.declared.gathering.Existing.{Existing}
+use Rattle.oci_plan.specs.declared.gathering.Existing.TheVariants.{Skip, Descend}
 
 -- ---- the keys that pass, of a list with one more key
 

@@ -1,6 +1,6 @@
 -- One visited key: what its checks, its fetch and its reading say of it.
-use Rattle.std.proofs.Common.{◌≡◌, ◌≢◌, ℕ, Bool, true, false, inl, inr, List, [], ◌∷◌, Option, Some, None, Result, Ok, Err, refl, sym, ap, subst, ◌∙◌}
-use Rattle.std.specs.Prelude.{option_map, is_some, unwrap_or, IfOk, IfErr, OnOk}
+use Rattle.std.proofs.Common.{◌≡◌, ◌≢◌, ℕ, Bool, true, false, inl, inr, List, [], ◌∷◌, Option, Some, None, Result, Ok, Err, refl, sym, ap, ◌∙◌}
+use Rattle.std.specs.Prelude.{option_map, is_some, unwrap_or}
 use Rattle.std.specs.Result.{result_unwrap_or}
 use Rattle.std.specs.List.{All, IsDistinct}
 use Rattle.oci_manifest.specs.Descriptor.{Descriptor, same_key}
@@ -23,9 +23,6 @@ use Rattle.oci_plan.specs.Met.{IsListedUnder}
 use Rattle.oci_plan.specs.Visiting.{successors_at, IsWithin}
 use Rattle.oci_plan.specs.Refusal.{IsKeyFault, IsOfKey, IsUnread}
 use Rattle.oci_plan.specs.Walk.{IsPassed, fetch_refusal, read_refusal}
-use Rattle.std.specs.Global.{Vec}
-use Rattle.oci_plan.specs.declared.fault.PlanFault.{PlanFault}
-use Rattle.oci_plan.specs.declared.fault.PlanFault.TheVariants as fault
 
 -- ---- the source's content under a key
 

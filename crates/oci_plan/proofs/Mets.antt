@@ -16,8 +16,7 @@ use Rattle.oci_plan.specs.Met.{IsListedUnder, IsMet, AreTooMany, NamesMet}
 use Rattle.oci_plan.specs.Met as path
 use Rattle.oci_plan.specs.Refusal.{IsOfKey}
 use Rattle.oci_plan.specs.Visiting.{is_fresh, passes}
-use Rattle.oci_plan.specs.Walk.{IsNumberFault}
-use Rattle.oci_plan.specs.declared.existing.Existing.{Existing}
+use Rattle.oci_plan.specs.declared.gathering.Existing.{Existing}
 use Rattle.oci_plan.specs.declared.fault.PlanFault.{PlanFault}
 use Rattle.oci_plan.specs.declared.fault.PlanFault.TheVariants as fault
 use Rattle.oci_plan.proofs.Visits.{fresh_passes}
@@ -33,7 +32,7 @@ names_key key cycle many k fault.Memory h same = tt
 names_key key cycle many k fault.TooMany h same = absurd same
 
 -- where numbers are refused there are too many keys, or a memory error
-pub names_many : (key : Descriptor → Type 0) (cycle : Keys → Type 0) (many : Type 0) (keys : Keys) (e : PlanFault) → (4294967295 < length keys → many) → IsNumberFault keys e → Names key cycle many e
+pub names_many : (key : Descriptor → Type 0) (cycle : Keys → Type 0) (many : Type 0) (keys : Keys) (e : PlanFault) → (4294967295 < length keys → many) → Names (λ _. ⊥) (λ _. ⊥) (4294967295 < length keys) e → Names key cycle many e
 names_many key cycle many keys (fault.NotFound named) h refused = absurd refused
 names_many key cycle many keys (fault.TooLarge named l) h refused = absurd refused
 names_many key cycle many keys (fault.Cycle ks) h refused = absurd refused
@@ -82,7 +81,7 @@ module _ (existing : Existing) (entries : List Entry) (held : List Node) (roots 
   fresh_kept ks = All-from_among NotHeld (filter (is_fresh held) ks) (λ k there. not-true (has_key held k) (among-filter (is_fresh held) ks k there).0)
 
   -- where numbers are refused there are too many keys
-  pub numbers_met : (keys offered more : Keys) (e : PlanFault) → keys ≡ first_places offered → All NotHeld keys → All Met keys → All NotHeld more → All Met more → IsNumberFault (with_keys keys more) e
+  pub numbers_met : (keys offered more : Keys) (e : PlanFault) → keys ≡ first_places offered → All NotHeld keys → All Met keys → All NotHeld more → All Met more → Names (λ _. ⊥) (λ _. ⊥) (4294967295 < length (with_keys keys more)) e
       → NamesMet existing entries held roots e
   numbers_met keys offered more e once old_fresh old_met new_fresh new_met refused = names_many _ _ _ (with_keys keys more) e many refused
     where
@@ -98,5 +97,5 @@ module _ (existing : Existing) (entries : List Entry) (held : List Node) (roots 
       )
 
   -- the same for the roots
-  pub roots_met : (e : PlanFault) → IsNumberFault (with_keys [] (filter (is_fresh held) roots)) e → NamesMet existing entries held roots e
+  pub roots_met : (e : PlanFault) → Names (λ _. ⊥) (λ _. ⊥) (4294967295 < length (with_keys [] (filter (is_fresh held) roots))) e → NamesMet existing entries held roots e
   roots_met e refused = numbers_met [] [] (filter (is_fresh held) roots) e refl (All-nil NotHeld) (All-nil Met) (fresh_kept roots) (met_roots (is_fresh held) fresh_visited) refused

@@ -8,7 +8,7 @@ use Rattle.oci_manifest.specs.Manifest.{first_places}
 use Rattle.oci_manifest.proofs.Keys.{first_places-push, cases}
 use Rattle.oci_plan.specs.Plan.{Number}
 use Rattle.oci_store.specs.Visiting.{with_key, with_keys}
-use Rattle.oci_plan.specs.Walk.{IsNumberFault}
+use Rattle.oci_plan.specs.Fault.{Names}
 use Rattle.oci_plan.specs.declared.fault.PlanFault.{PlanFault}
 use Rattle.oci_store.proofs.Membership.{Keys, slice_get-with_keys, with_keys-append, with_keys-push, with_keys-grows}
 use Rattle.std.proofs.lemmas.List.{length-append, take-append-drop}
@@ -78,9 +78,9 @@ numbered_more p old before after successors numbers i n k lt is passes keys name
     }
 
 -- too many keys after some of the successors are too many after all of them
-pub IsNumberFault-all : (p : Descriptor → Bool) (old before successors : Keys) (i : ℕ) (k : Descriptor) (e : PlanFault) → i < length successors → k ≡ get_or successors i k → p k ≡ true
-    → before ≡ with_keys old (filter p (take i successors)) → IsNumberFault (with_key before k) e → IsNumberFault (with_keys old (filter p successors)) e
-IsNumberFault-all p old before successors i k e lt is passes keys h =
+pub names_many-all : (p : Descriptor → Bool) (old before successors : Keys) (i : ℕ) (k : Descriptor) (e : PlanFault) → i < length successors → k ≡ get_or successors i k → p k ≡ true
+    → before ≡ with_keys old (filter p (take i successors)) → Names (λ _. ⊥) (λ _. ⊥) (4294967295 < length (with_key before k)) e → Names (λ _. ⊥) (λ _. ⊥) (4294967295 < length (with_keys old (filter p successors))) e
+names_many-all p old before successors i k e lt is passes keys h =
     let step = filter-passes p successors i k lt is passes in
     let front : with_key before k ≡ with_keys old (filter p (take (i + 1) successors)) = ap (λ (t : Keys). with_key t k) keys ∙ sym (with_keys-push old (filter p (take i successors)) k) ∙ ap (with_keys old) (sym step) in
     let whole : filter p successors ≡ filter p (take (i + 1) successors) ++ filter p (drop (i + 1) successors) = ap (filter p) (sym (take-append-drop (i + 1) successors)) ∙ filter-append p (take (i + 1) successors) (drop (i + 1) successors) in

@@ -1,11 +1,11 @@
 -- What a finished walk and an order of its lists make: a plan, or a cycle of keys.
 use Rattle.std.proofs.Common.{◌≡◌, ℕ, zero, suc, ◌+◌, ◌-◌, ◌<◌, Bool, true, false, not, ◌⊎◌, inl, inr, List, [], ◌∷◌, length, map, take, get_or, eqb, Option, Some, None, refl, sym, ap, subst, ◌∙◌, arith}
-use Rattle.std.specs.Prelude.{Contains, filter_map, nat_le}
+use Rattle.std.specs.Prelude.{Contains, filter_map}
 use Rattle.std.specs.Global.{Vec}
-use Rattle.std.specs.List.{filter, slice_get, find, cons_option, All, AllZip, AllByRecursion, IsDistinct}
-use Rattle.std.proofs.lemmas.Bool.{both_ways, eqb-true, lt-leb, cases_lt, or_left, or_right}
+use Rattle.std.specs.List.{filter, slice_get, cons_option, All, AllZip, AllByRecursion, IsDistinct}
+use Rattle.std.proofs.lemmas.Bool.{both_ways, eqb-true, cases_lt, or_left, or_right}
 use Rattle.std.proofs.lemmas.List.{length-map, get_or_past, get_or_default}
-use Rattle.std.proofs.lemmas.List.Elements.{All-head, All-tail, All-weaker, All-contains, All-contains_itself}
+use Rattle.std.proofs.lemmas.List.Elements.{All-weaker, All-contains, All-contains_itself}
 use Rattle.std.proofs.lemmas.Map.Keys.{IsDistinct-head, IsDistinct-tail, IsDistinct-from_apart}
 use Rattle.std.proofs.lemmas.Option.{slice_get_within, get_or_from_slice_get, slice_get-get_or}
 use Rattle.oci_manifest.specs.Descriptor.{Descriptor, same_key, is_among}
@@ -13,13 +13,13 @@ use Rattle.oci_manifest.proofs.Keys.{Decides-same_key, cases}
 use Rattle.oci_store.specs.Keyed.{has_key}
 use Rattle.oci_store.specs.Content.{Entry}
 use Rattle.oci_store.specs.Graph.{Node, nodes_of, IsEdge}
-use Rattle.oci_plan.specs.Graph.{lists_of, successors_of, without_doubles, HasEdge, IsGraph, IsCycle, IsFirstBad}
+use Rattle.oci_plan.specs.Graph.{lists_of, successors_of, without_doubles, HasEdge, IsGraph, IsCycle}
 use Rattle.oci_plan.specs.Order.{Ordered, IsOrder}
 use Rattle.oci_plan.specs.Fault.{IsCauseOf}
 use Rattle.oci_plan.specs.Met.{IsMet, IsListedUnder, NamesMet}
 use Rattle.oci_plan.specs.Outside.{IsToBring, IsCycleAlong}
 use Rattle.oci_plan.specs.Visiting.{successors_at, is_fresh, IsWithin, IsOnlyInDestination, IsSoundItem}
-use Rattle.oci_plan.specs.declared.existing.Existing.{Existing}
+use Rattle.oci_plan.specs.declared.gathering.Existing.{Existing}
 use Rattle.oci_plan.specs.Plan.{Number, HasEdges, FollowsListed}
 use Rattle.oci_plan.specs.Refusal.{IsListedCycle, IsKeyFault, NamesNoneOnlyInDestination, NamesVisited, IsFirstFault}
 use Rattle.oci_plan.specs.Walk.{IsListOf, IsPassed, IsGathered, HasKeyOfEach, NamesByKeys, IsNamedCycle}
@@ -30,6 +30,7 @@ use Rattle.oci_plan.specs.declared.fault.PlanFault.TheVariants as fault
 use Rattle.oci_store.proofs.Membership.{Keys, Contains-from_among, among-filter, among_filter_from, among_from_place, place_from_among, All-from_among, All-among, one_place}
 use Rattle.oci_plan.proofs.Visits.{successors_at-edge}
 use Rattle.oci_plan.proofs.Names.{first_two}
+use Rattle.oci_plan.proofs.Numbers.{no_bad_number}
 use Rattle.oci_plan.proofs.Walks.{sound_item}
 
 -- ---- numbers and the keys that they name
@@ -213,19 +214,10 @@ module _ (honest : Type 0) (existing : Existing) (entries : List Entry) (held : 
       let it = cycle_key numbers cycle i lt in
       subst (λ (n : ℕ). n < length keys) (get_or_default numbers i 0 d lt) (slice_get_within keys (get_or numbers i 0) it.0 it.1)
 
-  no_bad_number : (i n : ℕ) → IsFirstBad (lists_of lists) i n → ⊥
-  no_bad_number i n bad = none (successors_of (lists_of lists) i) (is_graph i) bad.first
-    where
-      none : (ms : List ℕ) → All (λ m. m < length (lists_of lists)) ms → find (λ m. nat_le (length (lists_of lists)) m) ms ≡ Some n → ⊥
-      none [] all found = cc found
-      none (m ∷ ms) all found =
-          let small : nat_le (length (lists_of lists)) m ≡ false = lt-leb (length (lists_of lists)) m (All-head (λ m. m < length (lists_of lists)) m ms all) in
-          none ms (All-tail (λ m. m < length (lists_of lists)) m ms all) (rw small at found)
-
   -- an order's fault can be told of the keys
   pub tellable : (f : OrderFault) → IsCauseOf (lists_of lists) f → HasKeyOfEach keys f
   tellable (ordering.Cycle numbers) cause = cycle_numbers numbers.items cause.1
-  tellable (ordering.BadNumber list number) cause = no_bad_number list number cause
+  tellable (ordering.BadNumber list number) cause = no_bad_number (lists_of lists) list number is_graph cause
   tellable ordering.Memory cause = tt
 
   -- the keys of a cycle's numbers are distinct

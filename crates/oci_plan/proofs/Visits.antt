@@ -14,8 +14,8 @@ use Rattle.oci_store.proofs.Membership.{Keys, Contains-from_among, among_from_Co
 use Rattle.oci_plan.specs.Outside.{IsOutside, IsVisited, IsToBring}
 use Rattle.oci_plan.specs.Outside as outside
 use Rattle.oci_plan.specs.Visiting.{successors_at, is_fresh, passes}
-use Rattle.oci_plan.specs.declared.existing.Existing.{Existing}
-use Rattle.oci_plan.specs.declared.existing.Existing.TheVariants.{Skip, Descend}
+use Rattle.oci_plan.specs.declared.gathering.Existing.{Existing}
+use Rattle.oci_plan.specs.declared.gathering.Existing.TheVariants.{Skip, Descend}
 
 -- ---- edges
 

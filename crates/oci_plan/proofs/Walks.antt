@@ -14,14 +14,15 @@ use Rattle.oci_store.specs.Keyed.{has_key}
 use Rattle.oci_store.specs.Content.{Entry, succ_of}
 use Rattle.oci_store.specs.Graph.{Node, nodes_of}
 use Rattle.oci_store.specs.Visiting.{candidates, with_keys, IsVisiting, start, next}
+use Rattle.oci_plan.specs.Fault.{Names}
 use Rattle.oci_plan.specs.Met.{IsMet, IsListedUnder, NamesMet}
 use Rattle.oci_plan.specs.Outside.{IsToBring, IsVisited}
 use Rattle.oci_plan.specs.Visiting.{successors_at, is_fresh, passes, IsOnlyInDestination, IsSoundItem, IsSoundVisit, IsNextVisited}
 use Rattle.oci_plan.specs.Plan.{Number}
 use Rattle.oci_plan.specs.Refusal.{IsOfKey, HasTooMany, IsFirstFault, NamesNoneOnlyInDestination}
-use Rattle.oci_plan.specs.Walk.{IsListOf, IsPassed, MayPass, IsVisitPassed, IsWalk, IsGathered, IsNumberFault, held_at, visits_of, noted}
-use Rattle.oci_plan.specs.declared.existing.Existing.{Existing}
-use Rattle.oci_plan.specs.declared.existing.Existing.TheVariants.{Skip, Descend}
+use Rattle.oci_plan.specs.Walk.{IsListOf, IsPassed, MayPass, IsVisitPassed, IsWalk, IsGathered, held_at, visits_of, noted}
+use Rattle.oci_plan.specs.declared.gathering.Existing.{Existing}
+use Rattle.oci_plan.specs.declared.gathering.Existing.TheVariants.{Skip, Descend}
 use Rattle.oci_plan.specs.declared.fault.PlanFault.{PlanFault}
 use Rattle.oci_store.proofs.Membership.{Keys, Contains-from_among, among_from_Contains, among-filter, among_filter_from, among-first_places, first_places-append, with_keys-grows, among-append_left, among-with_keys, All-from_among, All-among, among_from_place, slice_get-with_keys}
 use Rattle.oci_store.proofs.Visits.{next_visit-at, candidates-push, first_places-all}
@@ -338,7 +339,7 @@ module _ (honest : Type 0) (existing : Existing) (entries : List Entry) (held : 
       names_key (IsNextVisited existing source entries held roots limit) _ _ k e (take i all, walk_visiting all keys lists i k walk at h, all_sound h (take i all) walk.passed) of_key
 
   -- where numbers are refused there are too many keys to bring
-  number_first : (keys visited : Keys) (e : PlanFault) → IsNumberFault keys e → IsVisiting (successors_at source) (passes existing held) roots visited → All (IsSoundVisit existing entries held limit) visited → keys ≡ first_places (filter (is_fresh held) (candidates (successors_at source) roots visited))
+  number_first : (keys visited : Keys) (e : PlanFault) → Names (λ _. ⊥) (λ _. ⊥) (4294967295 < length keys) e → IsVisiting (successors_at source) (passes existing held) roots visited → All (IsSoundVisit existing entries held limit) visited → keys ≡ first_places (filter (is_fresh held) (candidates (successors_at source) roots visited))
       → IsFirstFault existing entries held roots limit e
   number_first keys visited e refused visiting sound found = names_many _ _ _ keys e many refused
     where
@@ -363,17 +364,17 @@ module _ (honest : Type 0) (existing : Existing) (entries : List Entry) (held : 
 
   -- where numbers are refused for the successors of the next key, there are too many keys that were met
   pub successors_met : (all keys visited successors : Keys) (lists : List (Vec ℕ)) (i : ℕ) (k : Descriptor) (e : PlanFault) → IsWalk honest existing entries held roots limit all keys visited lists → slice_get all i ≡ Some k
-      → All (IsListedUnder entries k) successors → IsNumberFault (with_keys keys (filter (is_fresh held) successors)) e → NamesMet existing entries held roots e
+      → All (IsListedUnder entries k) successors → Names (λ _. ⊥) (λ _. ⊥) (4294967295 < length (with_keys keys (filter (is_fresh held) successors))) e → NamesMet existing entries held roots e
   successors_met all keys visited successors lists i k e walk at under refused =
       numbers_met existing entries held roots keys walk.once.0 (filter (is_fresh held) successors) e walk.once.1 (kept_fresh all keys visited lists walk) (kept_met all keys visited lists walk) (fresh_kept existing entries held roots successors)
       (met_listed existing entries held roots (is_fresh held) (fresh_visited existing entries held roots) k successors (place_met all keys visited lists i k walk at) under) refused
 
   -- the same for the roots, and for the successors of the next key
-  pub roots_first : (e : PlanFault) → IsNumberFault (with_keys [] (filter (is_fresh held) roots)) e → IsFirstFault existing entries held roots limit e
+  pub roots_first : (e : PlanFault) → Names (λ _. ⊥) (λ _. ⊥) (4294967295 < length (with_keys [] (filter (is_fresh held) roots))) e → IsFirstFault existing entries held roots limit e
   roots_first e h = number_first (with_keys [] (filter (is_fresh held) roots)) [] e h start (All-nil (IsSoundVisit existing entries held limit)) (started (is_fresh held) (with_keys [] (filter (is_fresh held) roots)) refl)
 
   pub successors_first : (all keys successors : Keys) (lists : List (Vec ℕ)) (i : ℕ) (k : Descriptor) (e : PlanFault) → IsWalk honest existing entries held roots limit all keys (take i all) lists → slice_get all i ≡ Some k
-      → MayPass honest entries (held_at existing held k) limit k → (honest → successors ≡ successors_at source k) → IsNumberFault (with_keys keys (filter (is_fresh held) successors)) e → honest → IsFirstFault existing entries held roots limit e
+      → MayPass honest entries (held_at existing held k) limit k → (honest → successors ≡ successors_at source k) → Names (λ _. ⊥) (λ _. ⊥) (4294967295 < length (with_keys keys (filter (is_fresh held) successors))) e → honest → IsFirstFault existing entries held roots limit e
   successors_first all keys successors lists i k e walk at may own fault h =
       number_first (with_keys keys (filter (is_fresh held) successors)) (take i all ++ k ∷ []) e fault (walk_visiting all keys lists i k walk at h)
       (All-push (IsSoundVisit existing entries held limit) (take i all) k (all_sound h (take i all) walk.passed) (sound_visit honest existing entries held limit h k (visit_passed all keys (take i all) lists i k walk at may)))

@@ -7,7 +7,7 @@ use Rattle.oci_store.specs.Content.{Entry, IsChecked}
 use Rattle.oci_store.specs.Graph.{Node}
 use Rattle.oci_plan.specs.Fault.{Names}
 use Rattle.oci_plan.specs.Visiting.{passes}
-use Rattle.oci_plan.specs.declared.existing.Existing.{Existing}
+use Rattle.oci_plan.specs.declared.gathering.Existing.{Existing}
 use Rattle.oci_plan.specs.declared.fault.PlanFault.{PlanFault}
 
 -- the source has the first key, and bytes that match it list the second

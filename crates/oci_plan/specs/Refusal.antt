@@ -17,7 +17,7 @@ use Rattle.oci_plan.specs.Met.{IsListedUnder}
 use Rattle.oci_plan.specs.Outside.{IsVisited, IsToBring, IsCycleAlong, IsKeyCycle}
 use Rattle.oci_store.specs.Visiting.{candidates, IsVisiting}
 use Rattle.oci_plan.specs.Visiting.{successors_at, is_fresh, passes, IsWithin, IsOnlyInDestination, IsSoundVisit, IsNextVisited}
-use Rattle.oci_plan.specs.declared.existing.Existing.{Existing}
+use Rattle.oci_plan.specs.declared.gathering.Existing.{Existing}
 use Rattle.oci_plan.specs.declared.fault.PlanFault.{PlanFault}
 use Rattle.oci_plan.specs.declared.fault.PlanFault.TheVariants as fault
 

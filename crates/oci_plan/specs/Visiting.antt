@@ -8,8 +8,8 @@ use Rattle.oci_store.specs.Keyed.{value_at, has_key}
 use Rattle.oci_store.specs.Content.{Entry, succ_of}
 use Rattle.oci_store.specs.Graph.{Node}
 use Rattle.oci_store.specs.Visiting.{IsVisiting}
-use Rattle.oci_plan.specs.declared.existing.Existing.{Existing}
-use Rattle.oci_plan.specs.declared.existing.Existing.TheVariants.{Skip, Descend}
+use Rattle.oci_plan.specs.declared.gathering.Existing.{Existing}
+use Rattle.oci_plan.specs.declared.gathering.Existing.TheVariants.{Skip, Descend}
 
 -- the keys that the source lists under a key; none where it does not have the key
 abbrev pub successors_at : List Node → Descriptor → List Descriptor

@@ -12,13 +12,12 @@ use Rattle.oci_manifest.specs.declared.fault.ManifestFault.TheVariants as readin
 use Rattle.oci_store.specs.declared.fault.FetchFault.{FetchFault}
 use Rattle.oci_store.specs.declared.fault.FetchFault.TheVariants as fetch
 use Rattle.oci_store.specs.Visiting.{candidates, with_keys, IsVisiting}
-use Rattle.oci_plan.specs.Fault.{Names}
 use Rattle.oci_plan.specs.Met.{IsMet, IsListedUnder}
 use Rattle.oci_plan.specs.Outside.{IsVisited, IsToBring}
 use Rattle.oci_plan.specs.Visiting.{successors_at, is_fresh, passes, IsWithin, IsSoundVisit}
 use Rattle.oci_plan.specs.Plan.{Number}
-use Rattle.oci_plan.specs.declared.existing.Existing.{Existing}
-use Rattle.oci_plan.specs.declared.existing.Existing.TheVariants.{Skip, Descend}
+use Rattle.oci_plan.specs.declared.gathering.Existing.{Existing}
+use Rattle.oci_plan.specs.declared.gathering.Existing.TheVariants.{Skip, Descend}
 use Rattle.oci_plan.specs.declared.fault.OrderFault.{OrderFault}
 use Rattle.oci_plan.specs.declared.fault.OrderFault.TheVariants as ordering
 use Rattle.oci_plan.specs.declared.fault.PlanFault.{PlanFault}
@@ -87,10 +86,6 @@ pub record IsGathered (honest : Type 0) (existing : Existing) (entries : List En
   pub listed : AllZip (IsListOf honest entries held keys) keys lists
   pub exactly : honest → (k : Descriptor) → Contains keys k ↔ IsToBring existing (nodes_of entries) held roots k
   pub sound : honest → (k : Descriptor) → IsVisited existing (nodes_of entries) held roots k → IsSoundVisit existing entries held limit k
-
--- numbers are refused if memory ran out, or if there are more keys than numbers
-abbrev pub IsNumberFault : List Descriptor → PlanFault → Type 0
-IsNumberFault keys e = Names (λ k. ⊥) (λ cycle. ⊥) (4294967295 < length keys) e
 
 -- a fetch is refused for what the store answers, which is no memory error
 abbrev pub fetch_refusal : Descriptor → FetchFault → PlanFault

@@ -16,7 +16,6 @@ ghost use Rattle.oci_plan.specs.Walk.{HasKeyOfEach, NamesByKeys};
 mod successors;
 mod walk;
 
-use crate::existing::Existing;
 use crate::fault::{OrderFault, PlanFault};
 use crate::ordering::topological::order;
 use crate::plan::Plan;
@@ -25,6 +24,18 @@ use oci_manifest::Key;
 use oci_store::{Dest, KeyList, Source};
 use std::alloc::Global;
 use walk::{Visited, visit};
+
+/// How a plan treats a key that the destination has.
+#[derive(Clone, Copy, Debug, PartialEq, Eq, Default)]
+pub enum Existing {
+    /// The plan assumes that the destination also has all keys below it: neither the key nor
+    /// anything below it is visited.
+    #[default]
+    Skip,
+    /// The plan visits the key too, so that missing keys below it are found. If the source does not
+    /// have the key, the plan goes on with the next one.
+    Descend,
+}
 
 /// Clones the keys of these numbers.
 fn keys_of(alloc: Global, keys: &[Key], numbers: &[u32]) -> Result<Vec<Key>, NoMemory>

@@ -15,16 +15,14 @@
 #![tactic(auto)]
 
 mod climbing;
-mod existing;
 mod fault;
 mod gathering;
 mod ordering;
 mod plan;
 
 pub use climbing::{climb, up_is_one_list};
-pub use existing::Existing;
 pub use fault::{OrderFault, PlanFault};
-pub use gathering::gather;
+pub use gathering::{Existing, gather};
 pub use ordering::Order;
 pub use ordering::topological::order;
 pub use plan::Plan;

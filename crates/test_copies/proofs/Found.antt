@@ -17,7 +17,7 @@ use Rattle.oci_store.proofs.Places.{place_of-some, place_of-none}
 use Rattle.oci_store.proofs.Visits.{candidates-push}
 use Rattle.oci_plan.specs.Outside.{IsLacking}
 use Rattle.oci_plan.specs.Visiting.{successors_at, is_fresh}
-use Rattle.oci_plan.specs.declared.existing.Existing.TheVariants.{Descend}
+use Rattle.oci_plan.specs.declared.gathering.Existing.TheVariants.{Descend}
 use Rattle.oci_plan.proofs.Visits.{successors_at-edge, visited_found}
 use Rattle.test_copies.specs.Found.{IsFound}
 

@@ -2,15 +2,16 @@ ghost use Rattle.std.specs.Prelude.{◌≡◌, ◌<◌, ◌≤◌, ◌++◌, [],
 ghost use Rattle.std.specs.List.{IsDistinct};
 ghost use Rattle.std.specs.Option.{option_copied};
 ghost use Rattle.oci_manifest.specs.Descriptor.{same_key};
+ghost use Rattle.oci_plan.specs.Fault.{Names};
 ghost use Rattle.oci_plan.specs.Met.{NamesMet};
 ghost use Rattle.oci_plan.specs.Plan.{Number};
 ghost use Rattle.oci_plan.specs.Refusal.{IsKeyFault, IsFirstFault, NamesNoneOnlyInDestination, NamesVisited};
 ghost use Rattle.oci_store.specs.Visiting.{with_key, with_keys};
 ghost use Rattle.oci_plan.specs.Visiting.{is_fresh};
-ghost use Rattle.oci_plan.specs.Walk.{visits_of, noted, held_at, IsNumberFault, IsGathered};
+ghost use Rattle.oci_plan.specs.Walk.{visits_of, noted, held_at, IsGathered};
 
+use super::Existing;
 use super::successors::visited_successors;
-use crate::existing::Existing;
 use crate::fault::PlanFault;
 use oci_digest::NoMemory;
 use oci_manifest::Key;
@@ -28,7 +29,8 @@ fn number(keys: &mut KeyList, key: &Key) -> Result<u32, PlanFault>
     ensures keys { OnOk result (keys.new ≡ with_key keys.old key.now) }
     ensures number { IfOk result (λ number. slice_get keys.new number ≡ Some key.now) }
     ensures few { OnOk result (length keys.new ≤ 4294967295) }
-    ensures refused { IfErr result (IsNumberFault (with_key keys.old key.now)) }
+    ensures refused { IfErr result (Names (λ _. ⊥) (λ _. ⊥)
+        (4294967295 < length (with_key keys.old key.now))) }
 {
     let place = keys.place(key)?;
     if keys.len() > u32::MAX as usize {
@@ -50,8 +52,9 @@ fn number_fresh<D: Dest>(
     ensures numbers { IfOk result (λ numbers. Number keys.new numbers.items
         (filter (is_fresh (D.state destination.now).nodes) successors.now)) }
     ensures few { OnOk result (length keys.new ≤ 4294967295) }
-    ensures refused { IfErr result (IsNumberFault (with_keys keys.old
-        (filter (is_fresh (D.state destination.now).nodes) successors.now))) }
+    ensures refused { IfErr result (Names (λ _. ⊥) (λ _. ⊥) (4294967295 < length
+        (with_keys keys.old (filter (is_fresh (D.state destination.now).nodes)
+        successors.now)))) }
 {
     let mut numbers = Vec::new(alloc);
     for key in successors {

@@ -2,7 +2,7 @@ use Rattle.std.proofs.lemmas.Result.{IfErr-weaker}
 use Rattle.oci_store.specs.Graph.{nodes_of}
 use Rattle.oci_store.specs.State.{in_memory}
 use Rattle.oci_store.specs.Contents.{Contents}
-use Rattle.oci_plan.specs.declared.existing.Existing.TheVariants.{Descend}
+use Rattle.oci_plan.specs.declared.gathering.Existing.TheVariants.{Descend}
 use Rattle.oci_copy.specs.Options.{descending}
 use Rattle.oci_copy.specs.Cause.{RefusedByWorkers}
 use Rattle.oci_copy.specs.Plain.{IsUnfailing, RefusedForPlan}

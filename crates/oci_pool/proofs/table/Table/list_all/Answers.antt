@@ -1,4 +1,4 @@
-use Rattle.std.proofs.Common.{rules, ◌≡◌, ◌+◌, ◌<◌, ℕ, List, ◌∙◌, sym, subst, arith, length, vec_len, get_or}
+use Rattle.std.proofs.Common.{rules, ◌≡◌, ℕ, List, ◌∙◌, sym, subst, arith, length, get_or}
 use Rattle.oci_pool.proofs.Pushes.{push_each}
 use Rattle.oci_pool.proofs.table.Table.list_all.Goals as goal
 
