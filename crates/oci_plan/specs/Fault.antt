@@ -1,4 +1,4 @@
--- The faults of an order and of a plan: their numbers, and what they name.
+-- The faults of an order and of a plan: their numbers, and the keys that they name.
 use Rattle.std.specs.Prelude.{ℕ, List}
 use Rattle.oci_manifest.specs.Descriptor.{Descriptor}
 use Rattle.oci_plan.specs.Graph.{IsGraph, IsCycle, IsFirstBad}
@@ -13,7 +13,8 @@ number_of (Cycle numbers) = 50
 number_of (BadNumber list number) = 51
 number_of Memory = 52
 
--- what a fault says of the graph: that this is a cycle of it, or that this list is the first with a bad number, and which
+-- the fault is true of the graph: this is a cycle of it; or this list is the first with a bad
+-- number, and this is its first bad number
 abbrev pub IsCauseOf : List (List ℕ) → OrderFault → Type 0
 IsCauseOf lists (Cycle numbers) = IsGraph lists × IsCycle lists numbers.items
 IsCauseOf lists (BadNumber list number) = IsFirstBad lists list number
@@ -29,8 +30,8 @@ plan_number_of (plan.Fetch k e) = 57
 plan_number_of plan.Memory = 58
 plan_number_of plan.TooMany = 59
 
--- what a plan's fault names: the first is said of its key, the second of the keys of its cycle, and the third where there are
--- too many keys
+-- statements about a plan's fault: the first is about its key, the second about the keys of its
+-- cycle, and the third must hold if there are too many keys
 abbrev pub Names : (Descriptor → Type 0) → (List Descriptor → Type 0) → Type 0 → PlanFault → Type 0
 Names key cycle many (plan.NotFound k) = key k
 Names key cycle many (plan.TooLarge k limit) = key k

@@ -2,7 +2,7 @@
 use Rattle.std.specs.Prelude.{◌≡◌, ℕ, ◌<◌, ◌≤◌, List, length, take, All, Contains, EachIndex, slice_index}
 use Rattle.oci_plan.specs.Graph.{successors_of, AreNumbers, IsGraph, IsDistinct}
 
--- each number of the sequence stands after its successors
+-- each number of the sequence follows its successors
 abbrev pub FollowsSuccessors : List (List ℕ) → List ℕ → Type 0
 FollowsSuccessors lists sequence = EachIndex sequence (λ i. All (Contains (take i sequence)) (successors_of lists (slice_index sequence i)))
 
@@ -14,13 +14,14 @@ pub record IsTopological (lists : List (List ℕ)) (sequence : List ℕ) : Type 
   pub len : length sequence ≡ length lists
   pub follows : FollowsSuccessors lists sequence
 
--- what callers see of an `Order`: the successors of each number, and the numbers in their order
+-- the value of an `Order` for its callers: the successors of each number, and the numbers in their
+-- order
 pub record Ordered : Type 0 where
   pub lists : List (List ℕ)
   pub sequence : List ℕ
 
--- what holds of every order: its lists are a graph's, at most 4294967295, none has a number twice, and its sequence is a
--- topological order
+-- This holds of every order: its lists are the lists of a graph, at most 4294967295, and none has a
+-- number twice. Its sequence is a topological order.
 pub record IsOrder (o : Ordered) : Type 0 where
   pub count : length o.lists ≤ 4294967295
   pub graph : IsGraph o.lists

@@ -1,4 +1,4 @@
--- When a plan is refused, and what the refusal says.
+-- When there is no plan, and the meaning of each fault.
 use Rattle.std.specs.Prelude.{◌≡◌, ◌≢◌, ℕ, ◌<◌, Bool, true, false, List, length, filter, Some, Err}
 use Rattle.std.specs.List.{All, IsDistinct}
 use Rattle.oci_manifest.specs.Descriptor.{Descriptor, same_key}
@@ -21,7 +21,7 @@ use Rattle.oci_plan.specs.declared.gathering.Existing.{Existing}
 use Rattle.oci_plan.specs.declared.fault.PlanFault.{PlanFault}
 use Rattle.oci_plan.specs.declared.fault.PlanFault.TheVariants as fault
 
--- the key is a manifest's, of a size over the limit
+-- the key is a manifest's, and its size is over the limit
 abbrev pub IsTooLarge : ℕ → Descriptor → Type 0
 IsTooLarge limit k = (kind_of k.media_type ≢ Leaf) × (limit < k.size)
 
@@ -32,7 +32,8 @@ IsDeviceFault fetch.Corrupt = Unit {0}
 IsDeviceFault fetch.Device = Unit {0}
 IsDeviceFault fetch.Memory = ⊥
 
--- bytes that match the key do not read, for this reason, which is no memory error; of an honest source they are the key's
+-- bytes that match the key do not read, for this reason, which is no memory error; if the source is
+-- honest, they are the key's bytes
 pub record IsUnread (honest : Type 0) (entries : List Entry) (k : Descriptor) (e : ManifestFault) : Type 0 where
   pub bytes : List ℕ
   pub cause : Fault
@@ -41,14 +42,15 @@ pub record IsUnread (honest : Type 0) (entries : List Entry) (k : Descriptor) (e
   pub breaks : succ_of k bytes ≡ Err cause
   pub tells : IsFault e cause
 
--- one or more distinct keys are a cycle, since bytes that match each of them list the next; the source has each, of a size within
--- the limit
+-- One or more distinct keys are a cycle: bytes that match each of them list the next. The source
+-- has each, and the size of each is within the limit.
 pub record IsListedCycle (entries : List Entry) (limit : ℕ) (keys : List Descriptor) : Type 0 where
   pub cycle : IsCycleAlong (IsListedUnder entries) keys
   pub there : HasAll entries keys
   pub within : All (IsWithin limit) keys
 
--- what a fault says of what it names: each check is made only where those before it pass; a leaf is not fetched
+-- The fault is true of the keys that it names. Each check is made only if the checks before it
+-- pass. A leaf is not fetched.
 abbrev pub IsKeyFault : Type 0 → (Descriptor → Bool) → List Entry → ℕ → PlanFault → Type 0
 IsKeyFault honest fails entries limit (fault.TooLarge k l) = (l ≡ limit) × IsTooLarge limit k
 IsKeyFault honest fails entries limit (fault.NotFound k) = IsWithin limit k × (has_key entries k ≡ false)
@@ -67,18 +69,18 @@ abbrev pub NamesNoneOnlyInDestination : List Entry → List Node → PlanFault �
 NamesNoneOnlyInDestination entries held e =
     Names (λ k. IsOnlyInDestination entries held k → ⊥) (All (λ k. IsOnlyInDestination entries held k → ⊥)) (Unit {0}) e
 
--- the fault names a key that the plan visits: none that is held, where it stops at these; and a cycle is one of keys that
--- are not held
+-- The fault names a key that the plan visits; a plan that stops at held keys visits none that is
+-- held. The keys of a cycle are not held.
 abbrev pub NamesVisited : Existing → List Node → PlanFault → Type 0
 NamesVisited existing held e = Names (λ k. passes existing held k ≡ true) (All (λ k. has_key held k ≡ false)) (Unit {0}) e
 
--- the keys are a cycle of the source, all of them are to be brought, and every visited key is sound
+-- the keys are a cycle of the source, all of them are keys to bring, and every visited key is sound
 abbrev pub IsCycleToBring : Existing → List Entry → List Node → List Descriptor → ℕ → List Descriptor → Type 0
 IsCycleToBring existing entries held roots limit keys = IsKeyCycle (nodes_of entries) keys × All (IsToBring existing (nodes_of entries) held roots) keys
     × ((k : Descriptor) → IsVisited existing (nodes_of entries) held roots k → IsSoundVisit existing entries held limit k)
 
--- Every key visited so far is sound. Of the roots and the keys that the visited ones list, each taken once, more are not held
--- than there are numbers; all of these are to be brought.
+-- Every key visited so far is sound. Of the roots and the keys that the visited keys list, each
+-- taken once, more than 4294967295 are not held. All of these are keys to bring.
 pub record HasTooMany (existing : Existing) (entries : List Entry) (held : List Node) (roots : List Descriptor) (limit : ℕ) : Type 0 where
   pub visited : List Descriptor
   pub visiting : IsVisiting (successors_at (nodes_of entries)) (passes existing held) roots visited
@@ -89,9 +91,9 @@ pub record HasTooMany (existing : Existing) (entries : List Entry) (held : List 
   pub distinct : IsDistinct same_key keys
   pub outside : All (IsToBring existing (nodes_of entries) held roots) keys
 
--- Where the plan is refused, of what an honest source lists: every key visited before the key that a fault names is sound; a
--- cycle is one of keys to bring, and every visited key is sound; where there are too many keys, they are to be brought, and
--- every key visited so far is sound.
+-- The first fault of an honest source. If the fault names a key, every key visited before it is
+-- sound. If it names a cycle, the keys of the cycle are keys to bring, and every visited key is
+-- sound. If there are too many keys, they are keys to bring, and every key visited so far is sound.
 abbrev pub IsFirstFault : Existing → List Entry → List Node → List Descriptor → ℕ → PlanFault → Type 0
 IsFirstFault existing entries held roots limit e = Names (IsNextVisited existing (nodes_of entries) entries held roots limit)
     (IsCycleToBring existing entries held roots limit) (HasTooMany existing entries held roots limit) e

@@ -1,4 +1,4 @@
--- The search that finds an order: how far it is at each moment, and that it ends.
+-- The search that finds an order: its state at each moment, and that it ends.
 use Rattle.std.specs.Prelude.{◌≡◌, ◌≢◌, ℕ, ◌+◌, ◌-◌, ◌<◌, ◌≤◌, ◌^◌, List, length, take, drop, All, Contains, sum_by, slice_index}
 use Rattle.std.specs.List.{slice_index_or}
 use Rattle.oci_plan.specs.Graph.{successors_of, IsDistinct, IsPath}
@@ -7,7 +7,7 @@ use Rattle.oci_plan.specs.declared.ordering.search.Progress.{Progress}
 use Rattle.oci_plan.specs.declared.ordering.search.Search.{Search}
 use Rattle.oci_plan.specs.declared.ordering.search.Progress.TheVariants.{New, Open, Done}
 
--- how far the search is with a number
+-- the state of a number in the search
 abbrev pub progress_of : List Progress → ℕ → Progress
 progress_of progress n = slice_index_or progress n New
 
@@ -27,7 +27,7 @@ steps_left Done = 0
 abbrev pub work_left : List Progress → ℕ
 work_left progress = sum_by steps_left progress
 
--- each number that the search has met, it has still met
+-- each number that was met before is still met
 abbrev pub KeepsMet : List Progress → List Progress → Type 0
 KeepsMet old new = (n : ℕ) → progress_of old n ≢ New → progress_of new n ≢ New
 
@@ -36,8 +36,8 @@ pub record EndsWith (numbers : List ℕ) (n : ℕ) : Type 0 where
   pub some : 0 < length numbers
   pub last : slice_index numbers (length numbers - 1) ≡ n
 
--- What holds between two steps: the path is one of open numbers, each of which stands on it; the sequence has the done
--- numbers, each after its successors; and the finished successors of an open number are done.
+-- This holds between two steps: the path has the open numbers; the sequence has the done numbers,
+-- each after its successors; and the finished successors of an open number are done.
 pub record IsSound (lists : List (List ℕ)) (progress : List Progress) (path sequence : List ℕ) : Type 0 where
   pub known : length progress ≡ length lists
   pub path_open : (n : ℕ) → Contains path n → (count : ℕ) × (progress_of progress n ≡ Open count)
@@ -58,6 +58,6 @@ pub record IsTailFrom (path : List ℕ) (n : ℕ) (tail : List ℕ) : Type 0 whe
   pub starts : slice_index path place ≡ n
   pub rest : tail ≡ drop place path
 
--- the search stands between two steps
+-- the search is between two steps
 abbrev pub IsBetween : List (List ℕ) → Search → Type 0
 IsBetween lists s = IsSound lists s.progress.items s.path.items s.sequence.items

@@ -1,4 +1,4 @@
--- Which keys a plan visits, and which of them it may visit past.
+-- The keys that a plan visits, and the keys that it may pass without a fault.
 use Rattle.std.specs.Prelude.{◌≡◌, ◌≢◌, ℕ, ◌≤◌, ◌⊎◌, Bool, true, false, not, List, [], ◌∷◌, ◌++◌, Some, unwrap_or, IsOk}
 use Rattle.std.specs.List.{All}
 use Rattle.oci_manifest.specs.Descriptor.{Descriptor}
@@ -11,7 +11,7 @@ use Rattle.oci_store.specs.Visiting.{IsVisiting}
 use Rattle.oci_plan.specs.declared.gathering.Existing.{Existing}
 use Rattle.oci_plan.specs.declared.gathering.Existing.TheVariants.{Skip, Descend}
 
--- the keys that the source lists under a key; none where it does not have the key
+-- the keys that the source lists under a key; none if it does not have the key
 abbrev pub successors_at : List Node → Descriptor → List Descriptor
 successors_at source k = unwrap_or (value_at source k) []
 
@@ -19,7 +19,7 @@ successors_at source k = unwrap_or (value_at source k) []
 abbrev pub is_fresh : List Node → Descriptor → Bool
 is_fresh held k = not (has_key held k)
 
--- which keys a plan visits: those that are not held, or all
+-- whether a plan visits a key: if it is not held, or always
 abbrev pub passes : Existing → List Node → Descriptor → Bool
 passes Skip held = is_fresh held
 passes Descend held = λ _. true
@@ -28,7 +28,7 @@ passes Descend held = λ _. true
 abbrev pub IsWithin : ℕ → Descriptor → Type 0
 IsWithin limit k = kind_of k.media_type ≢ Leaf → k.size ≤ limit
 
--- the source has the key; of a manifest the size is within the limit, and the bytes read
+-- the source has the key; a manifest's size is within the limit, and its bytes read
 pub record IsSoundItem (entries : List Entry) (limit : ℕ) (k : Descriptor) : Type 0 where
   pub there : has_key entries k ≡ true
   pub within : IsWithin limit k
@@ -38,13 +38,14 @@ pub record IsSoundItem (entries : List Entry) (limit : ℕ) (k : Descriptor) : T
 abbrev pub IsOnlyInDestination : List Entry → List Node → Descriptor → Type 0
 IsOnlyInDestination entries held k = (has_key held k ≡ true) × (has_key entries k ≡ false)
 
--- a visited key is sound: it is a sound item of the source; where held keys are visited, it may also be one that only the
--- destination has
+-- a visited key is sound: it is a sound item of the source; if held keys are visited too, it may
+-- also be a key that only the destination has
 abbrev pub IsSoundVisit : Existing → List Entry → List Node → ℕ → Descriptor → Type 0
 IsSoundVisit Skip entries held limit = IsSoundItem entries limit
 IsSoundVisit Descend entries held limit = λ k. IsOnlyInDestination entries held k ⊎ IsSoundItem entries limit k
 
--- the key is the next to visit: it is the last of a visiting list, and every key visited before it is sound
+-- the key is the next to visit: it is the last of a visiting list, and every key visited before it
+-- is sound
 abbrev pub IsNextVisited : Existing → List Node → List Entry → List Node → List Descriptor → ℕ → Descriptor → Type 0
 IsNextVisited existing source entries held roots limit k = (earlier : List Descriptor)
     × IsVisiting (successors_at source) (passes existing held) roots (earlier ++ k ∷ []) × All (IsSoundVisit existing entries held limit) earlier

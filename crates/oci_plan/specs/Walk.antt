@@ -1,4 +1,5 @@
--- The walk that finds what a plan needs: which keys were visited, and the numbers that stand for their successors.
+-- The walk that finds the keys of a plan: the keys that were visited, and the numbers of their
+-- successors.
 use Rattle.std.specs.Prelude.{◌≡◌, ◌↔◌, ℕ, ◌<◌, ◌≤◌, ◌⊎◌, Bool, true, false, List, length, Some, Ok, filter, Contains}
 use Rattle.std.specs.List.{All, AllZip, IsDistinct}
 use Rattle.std.specs.Global.{Vec}
@@ -23,7 +24,8 @@ use Rattle.oci_plan.specs.declared.fault.OrderFault.TheVariants as ordering
 use Rattle.oci_plan.specs.declared.fault.PlanFault.{PlanFault}
 use Rattle.oci_plan.specs.declared.fault.PlanFault.TheVariants as fault
 
--- the numbers name distinct keys that are listed; of an honest source these are the listed keys that are not held
+-- the numbers name distinct keys that are listed; if the source is honest, they name exactly the
+-- listed keys that are not held
 pub record IsListOf (honest : Type 0) (entries : List Entry) (held : List Node) (keys : List Descriptor) (k : Descriptor) (numbers : Vec ℕ) : Type 0 where
   pub named : List Descriptor
   pub numbers_name : Number keys numbers.items named
@@ -37,7 +39,8 @@ pub record IsPassed (honest : Type 0) (entries : List Entry) (limit : ℕ) (k : 
   pub within : IsWithin limit k
   pub reads : honest → (bytes : List ℕ) × (successors : List Descriptor) × (value_at entries k ≡ Some bytes) × (succ_of k bytes ≡ Ok successors)
 
--- the key passed its checks; or nothing was checked, since it is held, as the Bool says, and the source does not have it
+-- the key passed its checks; or it was not checked, since it is held, as the Bool says, and the
+-- source does not have it
 abbrev pub MayPass : Type 0 → List Entry → Bool → ℕ → Descriptor → Type 0
 MayPass honest entries is_held limit k = ((is_held ≡ true) × (has_key entries k ≡ false)) ⊎ IsPassed honest entries limit k
 
@@ -46,23 +49,24 @@ abbrev pub held_at : Existing → List Node → Descriptor → Bool
 held_at Skip held k = false
 held_at Descend held k = has_key held k
 
--- the keys to visit, of those to bring and of all that were met
+-- the keys to visit: the keys to bring, or all that were met
 abbrev pub visits_of : Existing → List Descriptor → List Descriptor → List Descriptor
 visits_of Skip keys all = keys
 visits_of Descend keys all = all
 
--- all keys that were met, with these, where they are noted
+-- all keys that were met, with these added if held keys are visited too
 abbrev pub noted : Existing → List Descriptor → List Descriptor → List Descriptor
 noted Skip all met = all
 noted Descend all met = with_keys all met
 
--- a visited key is one to visit, and passed its checks where it had to
+-- the plan visits the key, and the key passed its checks or was spared them
 pub record IsVisitPassed (honest : Type 0) (existing : Existing) (entries : List Entry) (held : List Node) (limit : ℕ) (k : Descriptor) : Type 0 where
   pub pass : passes existing held k ≡ true
   pub may : MayPass honest entries (has_key held k) limit k
 
--- How far the walk is: the visited keys are the first of all keys to visit; these are what passes among the roots and what the
--- visited ones list; and the keys to bring are those of them that are not held.
+-- The state of the walk. The visited keys are the first of all keys to visit. The keys to visit are
+-- taken from the roots and from the lists of the visited keys. The keys to bring are the keys to
+-- visit that are not held.
 pub record IsWalk (honest : Type 0) (existing : Existing) (entries : List Entry) (held : List Node) (roots : List Descriptor) (limit : ℕ) (all keys visited : List Descriptor) (lists : List (Vec ℕ)) : Type 0 where
   pub few : length keys ≤ 4294967295
   pub kept : keys ≡ filter (is_fresh held) all
@@ -76,7 +80,7 @@ pub record IsWalk (honest : Type 0) (existing : Existing) (entries : List Entry)
   pub found : honest → all ≡ first_places (filter (passes existing held) (candidates (successors_at (nodes_of entries)) roots visited))
   pub found_keys : honest → keys ≡ first_places (filter (is_fresh held) (candidates (successors_at (nodes_of entries)) roots visited))
 
--- what a walk that came to its end found: the keys to bring, with a list for each
+-- a finished walk found the keys to bring, with a list for each
 pub record IsGathered (honest : Type 0) (existing : Existing) (entries : List Entry) (held : List Node) (roots : List Descriptor) (limit : ℕ) (keys : List Descriptor) (lists : List (Vec ℕ)) : Type 0 where
   pub few : length keys ≤ 4294967295
   pub fresh : All (λ k. has_key held k ≡ false) keys
@@ -87,14 +91,14 @@ pub record IsGathered (honest : Type 0) (existing : Existing) (entries : List En
   pub exactly : honest → (k : Descriptor) → Contains keys k ↔ IsToBring existing (nodes_of entries) held roots k
   pub sound : honest → (k : Descriptor) → IsVisited existing (nodes_of entries) held roots k → IsSoundVisit existing entries held limit k
 
--- a fetch is refused for what the store answers, which is no memory error
+-- the fault of the plan for a fault of a fetch: a memory error stays one
 abbrev pub fetch_refusal : Descriptor → FetchFault → PlanFault
 fetch_refusal k fetch.NotFound = fault.NotFound k
 fetch_refusal k fetch.Corrupt = fault.Fetch k fetch.Corrupt
 fetch_refusal k fetch.Device = fault.Fetch k fetch.Device
 fetch_refusal k fetch.Memory = fault.Memory
 
--- a manifest is refused for what its reading answers, which is no memory error
+-- the fault of the plan for a fault of a manifest: a memory error stays one
 abbrev pub read_refusal : Descriptor → ManifestFault → PlanFault
 read_refusal k reading.NotJson = fault.Manifest k reading.NotJson
 read_refusal k reading.NotObject = fault.Manifest k reading.NotObject
@@ -113,13 +117,14 @@ IsNamedCycle keys numbers (fault.Cycle named) = Number keys numbers named.items
 IsNamedCycle keys numbers fault.Memory = Unit {0}
 IsNamedCycle keys numbers fault.TooMany = ⊥
 
--- there is a key for each number that an order's fault names: its cycle is one of numbers of keys, and no number is bad
+-- there is a key for each number that the fault of an order names: its cycle has only numbers of
+-- keys, and no number is bad
 abbrev pub HasKeyOfEach : List Descriptor → OrderFault → Type 0
 HasKeyOfEach keys (ordering.Cycle numbers) = All (λ n. n < length keys) numbers.items
 HasKeyOfEach keys (ordering.BadNumber list number) = ⊥
 HasKeyOfEach keys ordering.Memory = Unit {0}
 
--- this fault of a plan names keys where the order's fault names numbers
+-- the fault of the plan names the keys of the numbers that the fault of the order names
 abbrev pub NamesByKeys : List Descriptor → OrderFault → PlanFault → Type 0
 NamesByKeys keys (ordering.Cycle numbers) e = IsNamedCycle keys numbers.items e
 NamesByKeys keys (ordering.BadNumber list number) e = ⊥

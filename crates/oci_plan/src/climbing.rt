@@ -18,7 +18,7 @@ fn goes_on(depth: u32, edges: usize) -> bool
     depth == 0 || edges < depth as usize
 }
 
-/// Adds the predecessors of the key at this place.
+/// Adds the predecessors of the key at a place.
 fn climb_from<G: GraphSource>(source: &G, found: &mut KeyList, place: usize) -> Result<(), NoMemory>
     requires { place < length found.old }
     ensures { OnOk result (IsStep (G.state source.now).nodes place found.old found.new) }
@@ -30,7 +30,7 @@ fn climb_from<G: GraphSource>(source: &G, found: &mut KeyList, place: usize) -> 
     found.place_all(&predecessors)
 }
 
-/// Adds the predecessors of the keys from `start` to before `end`.
+/// Adds the predecessors of the keys at the places from `start` up to, but not including, `end`.
 fn climb_level<G: GraphSource>(
     source: &G,
     found: &mut KeyList,
@@ -61,14 +61,21 @@ fn sorted(keys: Vec<Key>) -> Result<Vec<Key>, NoMemory>
     Ok(keys)
 }
 
-/// The key, and every key from which a path of at most `depth` edges leads to it, in key order. Depth 0 sets no limit.
+/// Returns the key and every key from which a path of at most `depth` edges leads to it, in key
+/// order. Depth 0 sets no limit.
 ///
-/// An edge leads from a key to one that its content lists. A key's depth is the least number of edges of its paths to the
-/// key, so one that is met again after more edges stays. The key itself need not be held, and is always in the answer.
+/// An edge leads from a key to a key that its content lists. The shortest path counts: a key that
+/// is met again on a longer path stays in the result. The key itself need not be held, and is
+/// always in the result.
 ///
-/// These are the roots of an extended copy, which brings what lists a content along with it (oras-go v2, "ExtendedCopy",
-/// its option "Depth"). The climb goes by levels: the key, then what lists it, then what lists those. The time grows with
-/// the keys and what they list, times a logarithm.
+/// These are the roots of an extended copy, which also copies the content that lists a key (oras-go
+/// v2, "ExtendedCopy", its option "Depth"). The climb goes by levels: the key, then its
+/// predecessors, then theirs. The time grows with the keys found and the keys that they list, times
+/// a logarithm.
+///
+/// # Errors
+///
+/// [`NoMemory`] if memory is refused. The source is unchanged.
 pub fn climb<G: GraphSource>(
     alloc: Global,
     source: &G,

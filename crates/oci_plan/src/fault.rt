@@ -9,7 +9,7 @@ use std::fmt;
 use std::fmt::Display;
 use thiserror::Error;
 
-/// Prints each item with a space before it, as the line of a fault does.
+/// Items that are printed with a space before each.
 #[derive(Drop)]
 struct SpaceSeparated<'a, T: Display>(&'a [T]);
 
@@ -22,14 +22,15 @@ impl<T: Display> Display for SpaceSeparated<'_, T> {
     }
 }
 
-/// Why the numbers of a graph have no order.
+/// The reason why the numbers of a graph have no order.
 #[derive(Debug, Drop, Error)]
 pub enum OrderFault {
-    /// A cycle of the graph: distinct numbers, each a successor of the one before, and the first a successor of the last.
-    /// Which of several cycles is reported is unspecified.
+    /// A cycle of the graph: distinct numbers, each a successor of the one before, and the first a
+    /// successor of the last. Which of several cycles is reported is unspecified.
     #[error("50 Cycle{}", SpaceSeparated(.0))]
     Cycle(Vec<u32>),
-    /// A list, and a number in it that is none of the graph's: of the first such list the first such number.
+    /// A list, and an element of it that is no number of the graph. It is the first such element of
+    /// the first such list.
     #[error("51 BadNumber {0} {1}")]
     BadNumber(u32, u32),
     /// Memory was refused.
@@ -38,7 +39,7 @@ pub enum OrderFault {
 }
 
 impl OrderFault {
-    /// The number that the fault's line begins with.
+    /// Returns the number that the fault's line begins with.
     pub fn number(&self) -> u8
         ensures { result ≡ number_of self.now }
     {
@@ -70,7 +71,7 @@ impl<T: Drop> From<AllocFailed<T>> for OrderFault {
     }
 }
 
-/// Why a copy has no plan.
+/// The reason why a copy has no plan.
 #[derive(Debug, Drop, Error)]
 pub enum PlanFault {
     /// The source does not have the key.
@@ -79,14 +80,15 @@ pub enum PlanFault {
     /// The key is a manifest's, and its size is over the limit.
     #[error("54 TooLarge {0} {1}")]
     TooLarge(Key, u64),
-    /// A cycle of the source: distinct keys, each listed by the one before, and the first by the last. Where there are
-    /// several cycles, which one is reported is unspecified.
+    /// A cycle of the source: distinct keys, each listed by the one before, and the first by the
+    /// last. Which of several cycles is reported is unspecified.
     #[error("55 Cycle{}", SpaceSeparated(.0))]
     Cycle(Vec<Key>),
-    /// The content of the key is no manifest of its media type.
+    /// The content of the key is not a manifest of its media type.
     #[error("56 Manifest {0} {1}")]
     Manifest(Key, ManifestFault),
-    /// The content of the key was not to be had: the device has other bytes, or could not be read.
+    /// The content of the key could not be fetched: the device has other bytes, or could not be
+    /// read.
     #[error("57 Fetch {0} {1}")]
     Fetch(Key, FetchFault),
     /// Memory was refused.
@@ -98,7 +100,7 @@ pub enum PlanFault {
 }
 
 impl PlanFault {
-    /// The number that the fault's line begins with.
+    /// Returns the number that the fault's line begins with.
     pub fn number(&self) -> u8
         ensures { result ≡ plan_number_of self.now }
     {

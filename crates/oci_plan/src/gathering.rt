@@ -37,7 +37,7 @@ pub enum Existing {
     Descend,
 }
 
-/// Clones the keys of these numbers.
+/// Clones the keys with these numbers.
 fn keys_of(alloc: Global, keys: &[Key], numbers: &[u32]) -> Result<Vec<Key>, NoMemory>
     requires { All (λ number. number < length keys.now) numbers.now }
     ensures { IfOk result (λ named. Number keys.now numbers.now named.items) }
@@ -49,7 +49,7 @@ fn keys_of(alloc: Global, keys: &[Key], numbers: &[u32]) -> Result<Vec<Key>, NoM
     Ok(named)
 }
 
-/// An order's fault, as a fault of the plan, which names keys in the place of numbers.
+/// Converts the fault of an order into one of the plan, which names keys instead of numbers.
 fn plan_fault(alloc: Global, keys: &[Key], fault: OrderFault) -> PlanFault
     requires { HasKeyOfEach keys.now fault }
     ensures { NamesByKeys keys.now fault result }
@@ -87,21 +87,35 @@ fn held_roots<D: Dest>(alloc: Global, destination: &D, roots: &[Key]) -> Result<
     Ok(held.into_keys())
 }
 
-/// The plan of a copy from a source: what it has to bring so that the destination has the roots.
+/// Returns the plan of a copy: the keys to copy so that the destination has the roots.
 ///
-/// Keys are visited first come, first served: the roots in their order, then what each visited key lists, in its order
-/// (OCI image-spec 1.1, manifest.md and image-index.md). With [`Existing::Skip`] a key that the destination has is not visited,
-/// and nothing below it is looked at. With [`Existing::Descend`] it is visited too; where the source does not have it, that is no
-/// fault, and the plan goes on with the next key. A manifest is fetched once, a leaf never.
+/// Keys are visited breadth first: the roots in their order, then the keys that each visited key
+/// lists, in its order (OCI image-spec 1.1, manifest.md and image-index.md). `existing` decides
+/// about the keys that the destination has. A manifest is fetched once, a leaf never.
 ///
-/// Whatever the source's device has now, each planned key is a root, or bytes that match such a key list it. So is a key that a
-/// refusal names.
+/// Whatever bytes the source's device has now, each planned key is a root, or is listed by bytes
+/// that match another key that was met. This also holds for each key that an error names.
 ///
-/// The first visited key that is at fault decides: [`PlanFault::TooLarge`] if it is a manifest's and its size is over the
-/// limit, then [`PlanFault::NotFound`] if the source lacks it, [`PlanFault::Fetch`] if the device refuses it, and
-/// [`PlanFault::Manifest`] if its bytes do not read. [`PlanFault::Cycle`] comes once all are visited,
-/// [`PlanFault::TooMany`] if there are more than 4294967295 keys, and [`PlanFault::Memory`] at any point. A refusal
-/// changes nothing. The time grows with the keys and what they list, times a logarithm.
+/// The time grows with the visited keys and the keys that they list, times a logarithm.
+///
+/// # Errors
+///
+/// The first visited key that is at fault decides. It is checked in this order:
+///
+/// - 54 [`PlanFault::TooLarge`] if it is a manifest's and its size is over `limit`.
+/// - 53 [`PlanFault::NotFound`] if the source does not have it.
+/// - 57 [`PlanFault::Fetch`] if the source's device has other bytes or cannot be read.
+/// - 56 [`PlanFault::Manifest`] if its content is not a manifest of its media type.
+///
+/// A key that only the destination has is never at fault.
+///
+/// These do not depend on one key:
+///
+/// - 59 [`PlanFault::TooMany`] if there are more than 4294967295 keys to copy.
+/// - 55 [`PlanFault::Cycle`] if all keys were visited and the keys to copy have a cycle.
+/// - 58 [`PlanFault::Memory`] if memory is refused, at any point.
+///
+/// Nothing is changed in any of these cases.
 pub fn gather<A: Source, D: Dest>(
     alloc: Global,
     source: &A,
@@ -110,7 +124,7 @@ pub fn gather<A: Source, D: Dest>(
     limit: u64,
     existing: Existing,
 ) -> Result<Plan, PlanFault>
-    // What is planned.
+    // The plan, whatever the source.
     ensures plan { IfOk result IsPlan }
     ensures order { IfOk result (λ p. IsOrder p.order) }
     ensures fresh { IfOk result (λ p. All (λ k. has_key (D.state destination.now).nodes k ≡ false)
@@ -124,7 +138,7 @@ pub fn gather<A: Source, D: Dest>(
     ensures skipped { IfOk result (λ p. p.skipped ≡ first_places
         (filter (has_key (D.state destination.now).nodes) roots.now)) }
 
-    // What is planned, where the source's bytes are known.
+    // The plan, if the source is honest.
     ensures outside { IfOk result (λ p. (A.state source.now).is_honest
         → (k : Descriptor) → Contains p.keys k
         ↔ IsToBring existing (nodes_of (A.state source.now).entries) (D.state destination.now).nodes
@@ -142,7 +156,7 @@ pub fn gather<A: Source, D: Dest>(
     ensures follows { IfOk result (λ p. (A.state source.now).is_honest
         → FollowsListed (nodes_of (A.state source.now).entries) (D.state destination.now).nodes p) }
 
-    // Why nothing is planned: the last clause where the source's bytes are known, the others of any source.
+    // The errors: `first` speaks of an honest source, the other clauses of any source.
     ensures cause { IfErr result (IsKeyFault (A.state source.now).is_honest
         (A.state source.now).fails_at (A.state source.now).entries limit) }
     ensures spared { IfErr result (NamesNoneOnlyInDestination (A.state source.now).entries

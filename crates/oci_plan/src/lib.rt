@@ -1,15 +1,17 @@
-//! Plans of a copy: which contents it has to bring, in which order they may be pushed, and from which roots.
+//! Plans of a copy: the contents that it has to push, an order for pushing them, and the roots of
+//! an extended copy.
 //!
-//! [`gather`] visits what a source has under some roots and a destination lacks, and answers a [`Plan`]: the keys, each
-//! with a number, and an [`Order`] of the numbers in which each key comes after those that it lists. It answers a
-//! [`PlanFault`] where the source cannot give what is to be brought.
+//! [`gather`] visits the keys that a source has under some roots and a destination lacks. It
+//! returns a [`Plan`]: the keys, each with a number, and an [`Order`] of the numbers in which each
+//! key follows the keys that it lists. If there is no plan, it returns a [`PlanFault`].
 //!
-//! [`order`] takes a graph of numbers, list `i` having the successors of number `i`, and puts each number after its
-//! successors. It answers an [`Order`], or an [`OrderFault`] that says why there is none: a list holds what is no number
-//! of the graph, or the graph has a cycle, which the fault carries.
+//! [`order`] takes a graph of numbers: list `i` has the successors of number `i`. It returns an
+//! [`Order`] in which each number follows its successors. It returns an [`OrderFault`] if a list
+//! has an element that is no number of the graph, or if the graph has a cycle.
 //!
-//! [`climb`] finds the roots of an extended copy: a key, and every key from which a path within a depth leads to it.
-//! [`up_is_one_list`] does nothing when it runs: its contract is the law that they are one list.
+//! [`climb`] finds the roots of an extended copy: a key, and every key that leads to it along a
+//! path within a depth. [`up_is_one_list`] does nothing at run time. Its contract states that these
+//! roots are one list.
 //!
 //! No call recurses along the graph, so a chain of any length needs no deep stack.
 #![tactic(auto)]

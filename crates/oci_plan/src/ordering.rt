@@ -9,7 +9,8 @@ pub(crate) mod topological;
 
 use std::marker::Model;
 
-/// The numbers of a graph in an order in which each stands after its successors, with their successors.
+/// The numbers of a graph in an order in which each follows its successors, and the successors of
+/// each.
 #[derive(Debug, Drop)]
 pub struct Order {
     lists: Vec<Vec<u32>>,
@@ -28,7 +29,7 @@ impl Model for Order {
 }
 
 impl Order {
-    /// How many numbers the graph has.
+    /// Returns how many numbers the graph has.
     pub fn len(&self) -> usize
         ensures len { result ≡ length self.now.lists }
         ensures order { IsOrder self.now }
@@ -36,14 +37,14 @@ impl Order {
         self.lists.len()
     }
 
-    /// Whether the graph has no number.
+    /// Returns whether the graph has no numbers.
     pub fn is_empty(&self) -> bool
         ensures { result ≡ (length self.now.lists == 0) }
     {
         self.lists.is_empty()
     }
 
-    /// The number at a place of the order, from 0 on, or nothing past its end.
+    /// Returns the number at a place of the order, from 0 on, or nothing past its end.
     pub fn at(&self, place: usize) -> Option<u32>
         ensures at { result ≡ slice_get self.now.sequence place }
         ensures order { IsOrder self.now }
@@ -51,7 +52,8 @@ impl Order {
         self.sequence.get(place).copied()
     }
 
-    /// The successors of a number, each once, as the graph lists them; nothing for what is no number of the graph.
+    /// Returns the successors of a number, each once, as the graph lists them, or nothing if the
+    /// graph does not have the number.
     pub fn successors(&self, number: u32) -> Option<&[u32]>
         ensures successors { option_copied result ≡ slice_get self.now.lists number }
         ensures list { unwrap_or (option_copied result) [] ≡ successors_of self.now.lists number }

@@ -6,8 +6,8 @@ use crate::ordering::Order;
 use oci_manifest::Key;
 use std::marker::Model;
 
-/// What a copy has to bring: keys, each with a number, and an order of the numbers in which each key comes after those that
-/// it lists.
+/// The keys that a copy has to push, each with a number, and an order of the numbers in which each
+/// key follows the keys that it lists.
 #[derive(Debug, Drop)]
 pub struct Plan {
     keys: Vec<Key>,
@@ -26,7 +26,7 @@ impl Model for Plan {
 }
 
 impl Plan {
-    /// A plan of these keys.
+    /// Creates a plan of these keys.
     pub(crate) fn new(keys: Vec<Key>, order: Order, skipped: Vec<Key>) -> Plan
         requires { IsPlan (record { keys = keys.items; order = order; skipped = skipped.items }) }
         ensures { result ≡ record { keys = keys.items; order = order; skipped = skipped.items } }
@@ -38,7 +38,7 @@ impl Plan {
         }
     }
 
-    /// How many keys there are to bring.
+    /// Returns the number of keys to copy.
     pub fn len(&self) -> usize
         ensures len { result ≡ length self.now.keys }
         ensures plan { IsPlan self.now }
@@ -46,21 +46,21 @@ impl Plan {
         self.keys.len()
     }
 
-    /// Whether there is nothing to bring.
+    /// Returns whether there is nothing to copy.
     pub fn is_empty(&self) -> bool
         ensures { result ≡ (length self.now.keys == 0) }
     {
         self.keys.is_empty()
     }
 
-    /// The keys to bring, by number.
+    /// Returns the keys to copy, by number.
     pub fn keys(&self) -> &[Key]
         ensures { result.now ≡ self.now.keys }
     {
         &self.keys
     }
 
-    /// The key of a number, from 0 on; nothing for what is no number of the plan.
+    /// Returns the key with a number, from 0 on, or nothing if the plan does not have the number.
     pub fn key(&self, number: u32) -> Option<&Key>
         ensures { option_copied result ≡ slice_get self.now.keys number }
     {
@@ -76,14 +76,14 @@ impl Plan {
         Some(&self.keys[number as usize])
     }
 
-    /// The numbers in an order in which each comes after its successors.
+    /// Returns the order of the numbers: each follows its successors.
     pub fn order(&self) -> &Order
         ensures { result.now ≡ self.now.order }
     {
         &self.order
     }
 
-    /// The roots that the destination has, each once, in their order.
+    /// Returns the roots that the destination had, each once, in their order.
     pub fn skipped(&self) -> &[Key]
         ensures { result.now ≡ self.now.skipped }
     {

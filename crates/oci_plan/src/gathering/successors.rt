@@ -17,7 +17,7 @@ use oci_manifest::{Key, Kind, ManifestFault, successors};
 use oci_store::{FetchFault, Source};
 use std::alloc::Global;
 
-/// Whether content of a kind may have this size: a leaf may have any.
+/// Returns whether content of a kind may have this size. A leaf may have any size.
 fn is_within(kind: Kind, size: u64, limit: u64) -> bool
     ensures { MatchBool result (kind ≢ Leaf → size ≤ limit) ((kind ≢ Leaf) × (limit < size)) }
 {
@@ -27,7 +27,7 @@ fn is_within(kind: Kind, size: u64, limit: u64) -> bool
     }
 }
 
-/// Looks at the size of a manifest, and then whether the source has the key.
+/// Checks the size of a manifest, then that the source has the key.
 fn check<A: Source>(source: &A, key: &Key, limit: u64) -> Result<(), PlanFault>
     ensures there { OnOk result (has_key (A.state source.now).entries key.now ≡ true) }
     ensures within { OnOk result (IsWithin limit key.now) }
@@ -44,7 +44,7 @@ fn check<A: Source>(source: &A, key: &Key, limit: u64) -> Result<(), PlanFault>
     Ok(())
 }
 
-/// Why a key was not fetched.
+/// Converts the fault of a fetch into one of the plan.
 fn fetch_fault(key: Key, fault: FetchFault) -> PlanFault
     ensures { result ≡ fetch_refusal key fault }
 {
@@ -56,7 +56,7 @@ fn fetch_fault(key: Key, fault: FetchFault) -> PlanFault
     }
 }
 
-/// The bytes of a manifest's key that passed its checks.
+/// Fetches the bytes of a manifest whose key passed its checks.
 #[tactic(auto, using(crate::proofs::Items::fetch_refused))]
 fn fetch<A: Source>(source: &A, key: &Key, limit: u64) -> Result<Bytes, PlanFault>
     requires manifest { kind_of key.now.media_type ≢ Leaf }
@@ -75,7 +75,7 @@ fn fetch<A: Source>(source: &A, key: &Key, limit: u64) -> Result<Bytes, PlanFaul
     }
 }
 
-/// Why a manifest was not read.
+/// Converts the fault of a manifest into one of the plan.
 fn read_fault(key: Key, fault: ManifestFault) -> PlanFault
     ensures { result ≡ read_refusal key fault }
 {
@@ -91,10 +91,10 @@ fn read_fault(key: Key, fault: ManifestFault) -> PlanFault
     }
 }
 
-/// The keys that the content of a key lists.
+/// Returns the keys that the content of a key lists.
 ///
-/// Of a manifest the size is looked at first, then whether the source has it; then it is fetched and read. A leaf is never
-/// fetched.
+/// Checks the size of a manifest first, then that the source has it. Then fetches and reads it. A
+/// leaf is never fetched.
 fn fetch_successors<A: Source>(
     alloc: Global,
     source: &A,
@@ -126,7 +126,8 @@ fn fetch_successors<A: Source>(
     }
 }
 
-/// The keys that a visited key lists: none where the destination alone has it, of which nothing more is asked.
+/// Returns the keys that a visited key lists, or none if only the destination has it. `is_held` is
+/// whether the destination has the key.
 pub(crate) fn visited_successors<A: Source>(
     alloc: Global,
     source: &A,

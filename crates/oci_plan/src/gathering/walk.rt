@@ -18,13 +18,14 @@ use oci_manifest::Key;
 use oci_store::{Dest, KeyList, Source};
 use std::alloc::Global;
 
-/// The keys to bring that a walk met, in that order, and for each the numbers of its successors that are among them.
+/// The keys to copy that a walk met, in that order, and for each the numbers of its successors that
+/// are also to be copied.
 pub(crate) struct Visited {
     pub(crate) keys: Vec<Key>,
     pub(crate) lists: Vec<Vec<u32>>,
 }
 
-/// The number of a key. A new key gets the next one.
+/// Returns the number of a key. A new key gets the next one.
 fn number(keys: &mut KeyList, key: &Key) -> Result<u32, PlanFault>
     ensures keys { OnOk result (keys.new ≡ with_key keys.old key.now) }
     ensures number { IfOk result (λ number. slice_get keys.new number ≡ Some key.now) }
@@ -39,7 +40,7 @@ fn number(keys: &mut KeyList, key: &Key) -> Result<u32, PlanFault>
     Ok(place as u32)
 }
 
-/// The numbers of those of these keys that the destination does not have.
+/// Returns the numbers of the successors that the destination does not have.
 fn number_fresh<D: Dest>(
     alloc: Global,
     destination: &D,
@@ -66,7 +67,7 @@ fn number_fresh<D: Dest>(
     Ok(numbers)
 }
 
-/// Returns the keys to visit: those to bring, or all that were met.
+/// Returns the keys to visit: with `Skip` the keys to copy, with `Descend` all keys that were met.
 fn visits<'a>(existing: Existing, keys: &'a KeyList, all: &'a KeyList) -> &'a KeyList
     ensures { result.now ≡ visits_of existing keys.now all.now }
 {
@@ -76,7 +77,7 @@ fn visits<'a>(existing: Existing, keys: &'a KeyList, all: &'a KeyList) -> &'a Ke
     }
 }
 
-/// Returns the key to visit at a place.
+/// Returns the key to visit at a place, or nothing past the last one.
 fn visit_at<'a>(
     existing: Existing,
     keys: &'a KeyList,
@@ -94,7 +95,7 @@ fn visit_at<'a>(
     }
 }
 
-/// Adds keys that were met to `all`. With `Skip` only keys to bring are visited, and `all` stays
+/// Adds keys that were met to `all`. With `Skip` only keys to copy are visited, and `all` stays
 /// empty.
 fn note(existing: Existing, all: &mut KeyList, met: &[Key]) -> Result<(), NoMemory>
     ensures { OnOk result (all.new ≡ noted existing all.old met.now) }
@@ -126,7 +127,8 @@ fn keep(lists: &mut Vec<Vec<u32>>, list: Vec<u32>, is_held: bool) -> Result<(), 
     Ok(())
 }
 
-/// Visits what the source has under the roots, first come, first served: what the destination does not have, or all of it.
+/// Visits the keys under the roots, breadth first. With `Skip` it visits the keys that the
+/// destination does not have, with `Descend` all of them.
 pub(crate) fn visit<A: Source, D: Dest>(
     alloc: Global,
     source: &A,

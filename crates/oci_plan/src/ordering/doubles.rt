@@ -21,7 +21,8 @@ fn keep(kept: &mut Vec<u32>, seen: &mut [u32], stamp: u32, number: u32) -> Resul
     Ok(())
 }
 
-/// The numbers of a list, each once. `seen` has, at each number, the stamp of the last list that held it.
+/// Returns the numbers of a list, each once. `seen` has, at each number, the stamp of the last list
+/// that held it.
 fn first_places(
     alloc: Global,
     list: &[u32],
@@ -40,7 +41,7 @@ fn first_places(
     Ok(kept)
 }
 
-/// The lists of a graph, in each every number once, at its first place.
+/// Returns the lists of a graph, each with every number once, at its first place.
 pub(crate) fn drop_doubles(alloc: Global, lists: &[Vec<u32>]) -> Result<Vec<Vec<u32>>, AllocError>
     requires count { length lists.now ≤ 4294967295 }
     requires graph { IsGraph (lists_of lists.now) }

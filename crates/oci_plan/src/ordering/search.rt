@@ -8,28 +8,29 @@ ghost use Rattle.oci_plan.specs.declared.ordering.search.Progress.TheVariants.{N
 use crate::fault::OrderFault;
 use std::alloc::{AllocError, Global};
 
-/// How far the search is with a number.
+/// The state of a number in the search.
 #[derive(Clone, Copy, Debug)]
 pub(crate) enum Progress {
     /// Not met yet.
     New,
-    /// On the path, with so many of its successors done.
+    /// On the path, and how many of its successors are done.
     Open(usize),
     /// In the sequence, after its successors.
     Done,
 }
 
-/// A search along the edges of a graph, depth first, with a path of its own in place of recursion.
+/// A depth-first search along the edges of a graph. It keeps its own path instead of recursing.
 #[derive(Drop)]
 pub(crate) struct Search {
     progress: Vec<Progress>,
-    /// From the number at which the search began to the one where it is, each a successor of the one before.
+    /// The numbers from the start of the search to its current number, each a successor of the one
+    /// before.
     path: Vec<u32>,
     /// The numbers that are done, each after its successors.
     sequence: Vec<u32>,
 }
 
-/// The successor of a number at a place of its list.
+/// Returns the successor of a number at a place of its list, or nothing past its end.
 fn successor(lists: &[Vec<u32>], number: u32, place: usize) -> Option<u32>
     requires { number < length lists.now }
     ensures value { result ≡ slice_get (successors_of (lists_of lists.now) number) place }
@@ -44,7 +45,7 @@ fn successor(lists: &[Vec<u32>], number: u32, place: usize) -> Option<u32>
 }
 
 impl Search {
-    /// A search that has met no number yet.
+    /// Creates a search that has met no number yet.
     fn new(alloc: Global, lists: &[Vec<u32>]) -> Result<Search, AllocError>
         ensures sound { IfOk result (IsBetween (lists_of lists.now)) }
         ensures idle { IfOk result (λ s. s.path.items ≡ []) }
@@ -56,7 +57,7 @@ impl Search {
         })
     }
 
-    /// Puts a number that is met for the first time at the path's end.
+    /// Appends a number that is met for the first time to the path.
     fn enter(&mut self, lists: &[Vec<u32>], number: u32) -> Result<(), OrderFault>
         requires number { number < length lists.now }
         requires fresh { progress_of self.old.progress.items number ≡ New }
@@ -90,7 +91,7 @@ impl Search {
         self.progress[number as usize] = Progress::Open(finished + 1);
     }
 
-    /// Moves the number at the path's end, whose successors are all done, into the sequence.
+    /// Moves the last number of the path into the sequence. Its successors are all done.
     fn finish(&mut self, lists: &[Vec<u32>], number: u32, finished: usize) -> Result<(), OrderFault>
         requires number { number < length lists.now }
         requires last { EndsWith self.old.path.items number }
@@ -109,7 +110,7 @@ impl Search {
         Ok(())
     }
 
-    /// The path from a number on it to its end.
+    /// Returns the path from a number on it to its end.
     fn path_from(&self, number: u32) -> Result<Vec<u32>, AllocError>
         requires { Contains self.now.path.items number }
         ensures { IfOk result (λ tail. IsTailFrom self.now.path.items number tail.items) }
@@ -120,7 +121,8 @@ impl Search {
         Vec::from_slice(*self.path.allocator(), &self.path[place..])
     }
 
-    /// Goes along one more edge from the number at the path's end, or back from it where no edge is left.
+    /// Goes along one more edge from the last number of the path, or back from it if no edge is
+    /// left.
     fn step(&mut self, lists: &[Vec<u32>], number: u32) -> Result<(), OrderFault>
         requires graph { IsGraph (lists_of lists.now) }
         requires last { EndsWith self.old.path.items number }
@@ -147,7 +149,7 @@ impl Search {
         }
     }
 
-    /// Brings a number, and all that edges lead to from it, into the sequence.
+    /// Puts a number, and all numbers that edges lead to from it, into the sequence.
     fn visit(&mut self, lists: &[Vec<u32>], start: u32) -> Result<(), OrderFault>
         requires graph { IsGraph (lists_of lists.now) }
         requires number { start < length lists.now }
@@ -170,7 +172,7 @@ impl Search {
     }
 }
 
-/// The numbers of a graph, each after its successors.
+/// Returns the numbers of a graph, each after its successors.
 pub(crate) fn topological_sequence(
     alloc: Global,
     lists: &[Vec<u32>],

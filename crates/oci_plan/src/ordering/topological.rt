@@ -31,7 +31,7 @@ fn first_bad_number(lists: &[Vec<u32>]) -> Option<(u32, u32)>
     None
 }
 
-/// The order of a graph whose lists hold its numbers alone.
+/// Returns the order of a graph whose lists have only its numbers.
 fn order_of_graph(alloc: Global, lists: &[Vec<u32>]) -> Result<Order, OrderFault>
     requires count { length lists.now ≤ 4294967295 }
     requires graph { IsGraph (lists_of lists.now) }
@@ -48,22 +48,28 @@ fn order_of_graph(alloc: Global, lists: &[Vec<u32>]) -> Result<Order, OrderFault
     })
 }
 
-/// The numbers of a graph, each after its successors. List `i` has the successors of number `i`; a number that stands
-/// twice in a list is kept once, at its first place. Which of the possible orders comes is unspecified.
+/// Returns the numbers of a graph in an order in which each follows its successors. List `i` has
+/// the successors of number `i`. A number that is in a list twice is kept once, at its first place.
+/// Which of the possible orders is returned is unspecified.
 ///
-/// The numbers are looked at before anything else: [`OrderFault::BadNumber`] comes exactly where a list holds what is no
-/// number of the graph. Otherwise the answer is an order exactly where the graph has no cycle, and
-/// [`OrderFault::Cycle`] where it has one, unless memory runs out. The time grows with the numbers and the edges.
+/// The time grows with the numbers and the edges.
+///
+/// # Errors
+///
+/// - 51 [`OrderFault::BadNumber`] if a list has an element that is no number of the graph. This is
+///   checked first.
+/// - 50 [`OrderFault::Cycle`] if the graph has a cycle.
+/// - 52 [`OrderFault::Memory`] if memory is refused after that first check.
 pub fn order(lists: Vec<Vec<u32>>) -> Result<Order, OrderFault>
     requires { vec_len lists ≤ 4294967295 }
 
-    // An order of the given graph, doubles dropped.
+    // The order is of the given graph, without doubles.
     ensures lists { IfOk result (λ o. o.lists ≡ map without_doubles (lists_of lists.items)) }
     ensures order { IfOk result IsOrder }
     ensures no_cycle { OnOk result ((numbers : List ℕ) → IsCycle (lists_of lists.items) numbers
         → ⊥) }
 
-    // Each refusal has its cause in the graph, and a bad number is always reported.
+    // Each error has its cause in the graph, and a bad number is always reported.
     ensures refused { IfErr result (IsCauseOf (lists_of lists.items)) }
     ensures bad_number { (i n : ℕ) → IsFirstBad (lists_of lists.items) i n
         → result ≡ Err (OrderFault.BadNumber i n) }
