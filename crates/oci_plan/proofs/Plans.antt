@@ -1,5 +1,5 @@
 -- What a finished walk and an order of its lists make: a plan, or a cycle of keys.
-use Rattle.std.proofs.Common.{◌≡◌, ℕ, zero, suc, ◌+◌, ◌-◌, ◌<◌, Bool, true, false, not, ◌⊎◌, inl, inr, List, [], ◌∷◌, length, map, take, get_or, eqb, Option, Some, None, refl, sym, ap, subst, ◌∙◌, arith}
+use Rattle.std.proofs.Common.{◌≡◌, ℕ, zero, suc, ◌+◌, ◌-◌, ◌<◌, true, false, not, ◌⊎◌, inl, inr, List, [], ◌∷◌, length, map, take, get_or, eqb, Option, Some, None, refl, sym, ap, subst, ◌∙◌, arith}
 use Rattle.std.specs.Prelude.{Contains, filter_map}
 use Rattle.std.specs.Global.{Vec}
 use Rattle.std.specs.List.{filter, slice_get, cons_option, All, AllZip, AllByRecursion, IsDistinct}
@@ -15,22 +15,16 @@ use Rattle.oci_store.specs.Content.{Entry}
 use Rattle.oci_store.specs.Graph.{Node, nodes_of, IsEdge}
 use Rattle.oci_plan.specs.Graph.{lists_of, successors_of, without_doubles, HasEdge, IsGraph, IsCycle}
 use Rattle.oci_plan.specs.Order.{Ordered, IsOrder}
-use Rattle.oci_plan.specs.Fault.{IsCauseOf}
-use Rattle.oci_plan.specs.Met.{IsMet, IsListedUnder, NamesMet}
+use Rattle.oci_plan.specs.Met.{IsMet, IsListedUnder}
 use Rattle.oci_plan.specs.Outside.{IsToBring, IsCycleAlong}
 use Rattle.oci_plan.specs.Visiting.{successors_at, is_fresh, IsWithin, IsOnlyInDestination, IsSoundItem}
 use Rattle.oci_plan.specs.declared.gathering.Existing.{Existing}
 use Rattle.oci_plan.specs.Plan.{Number, HasEdges, FollowsListed}
-use Rattle.oci_plan.specs.Refusal.{IsListedCycle, IsKeyFault, NamesNoneOnlyInDestination, NamesVisited, IsFirstFault}
-use Rattle.oci_plan.specs.Walk.{IsListOf, IsPassed, IsGathered, HasKeyOfEach, NamesByKeys, IsNamedCycle}
-use Rattle.oci_plan.specs.declared.fault.OrderFault.{OrderFault}
-use Rattle.oci_plan.specs.declared.fault.OrderFault.TheVariants as ordering
-use Rattle.oci_plan.specs.declared.fault.PlanFault.{PlanFault}
-use Rattle.oci_plan.specs.declared.fault.PlanFault.TheVariants as fault
+use Rattle.oci_plan.specs.Refusal.{IsListedCycle, IsCycleToBring}
+use Rattle.oci_plan.specs.Walk.{IsListOf, IsPassed, IsGathered}
 use Rattle.oci_store.proofs.Membership.{Keys, Contains-from_among, among-filter, among_filter_from, among_from_place, place_from_among, All-from_among, All-among, one_place}
 use Rattle.oci_plan.proofs.Visits.{successors_at-edge}
 use Rattle.oci_plan.proofs.Names.{first_two}
-use Rattle.oci_plan.proofs.Numbers.{no_bad_number}
 use Rattle.oci_plan.proofs.Walks.{sound_item}
 
 -- ---- numbers and the keys that they name
@@ -214,12 +208,6 @@ module _ (honest : Type 0) (existing : Existing) (entries : List Entry) (held : 
       let it = cycle_key numbers cycle i lt in
       subst (λ (n : ℕ). n < length keys) (get_or_default numbers i 0 d lt) (slice_get_within keys (get_or numbers i 0) it.0 it.1)
 
-  -- an order's fault can be told of the keys
-  pub tellable : (f : OrderFault) → IsCauseOf (lists_of lists) f → HasKeyOfEach keys f
-  tellable (ordering.Cycle numbers) cause = cycle_numbers numbers.items cause.1
-  tellable (ordering.BadNumber list number) cause = no_bad_number (lists_of lists) list number is_graph cause
-  tellable ordering.Memory cause = tt
-
   -- the keys of a cycle's numbers are distinct
   named_distinct : (numbers : List ℕ) (named : Keys) → IsCycle (lists_of lists) numbers → Number keys numbers named → IsDistinct same_key named
   named_distinct numbers named cycle names = IsDistinct-from_apart same_key named apart
@@ -268,95 +256,34 @@ module _ (honest : Type 0) (existing : Existing) (entries : List Entry) (held : 
           let same_to : e.to ≡ to = cc (sym e.at_to ∙ at_to) in
           subst (λ (x : Descriptor). leads x to) same_from (subst (λ (x : Descriptor). leads e.from x) same_to (leading m n e))
 
-  -- what is told of an order's fault is a fault of keys that the source has
-  pub named_cause : (fails : Descriptor → Bool) (f : OrderFault) (e : PlanFault) → IsCauseOf (lists_of lists) f → NamesByKeys keys f e → IsKeyFault honest fails entries limit e
-  named_cause fails (ordering.Cycle numbers) e cause told = go e told
+  -- the keys of a cycle list each other
+  pub cycle_listed : (numbers : List ℕ) (named : Keys) → IsCycle (lists_of lists) numbers → Number keys numbers named → IsListedCycle entries limit named
+  cycle_listed numbers named cycle names = record {
+    cycle = named_along (IsListedUnder entries) (λ m n e. e.under) numbers named cycle names;
+    there = of_named (λ k. has_key entries k ≡ true) numbers named names (All-weaker (IsPassed honest entries limit) (λ k. has_key entries k ≡ true) (λ k passed. passed.there) keys walk.passed);
+    within = of_named (IsWithin limit) numbers named names (All-weaker (IsPassed honest entries limit) (IsWithin limit) (λ k passed. passed.within) keys walk.passed);
+  }
+
+  -- none of them is held
+  pub cycle_fresh : (numbers : List ℕ) (named : Keys) → Number keys numbers named → All (λ k. has_key held k ≡ false) named
+  cycle_fresh numbers named names = of_named (λ k. has_key held k ≡ false) numbers named names walk.fresh
+
+  -- each of them was met
+  pub cycle_met : (numbers : List ℕ) (named : Keys) → Number keys numbers named → All (IsMet existing entries held roots) named
+  cycle_met numbers named names = of_named (IsMet existing entries held roots) numbers named names walk.met
+
+  -- none of them is a key that only the destination has
+  pub cycle_spared : (numbers : List ℕ) (named : Keys) → Number keys numbers named → All (λ k. IsOnlyInDestination entries held k → ⊥) named
+  cycle_spared numbers named names =
+      All-weaker (λ k. has_key held k ≡ false) (λ k. IsOnlyInDestination entries held k → ⊥) (λ k new only. both_ways (has_key held k) new only.0) named (cycle_fresh numbers named names)
+
+  -- they are a cycle of an honest source, and all of them are keys to bring
+  pub cycle_first : (numbers : List ℕ) (named : Keys) → IsCycle (lists_of lists) numbers → Number keys numbers named → honest → IsCycleToBring existing entries held roots limit named
+  cycle_first numbers named cycle names h = (named_along (IsEdge source) (λ m n e. e.edge h) numbers named cycle names, bring, walk.sound h)
     where
-      part : (named : Keys) → Number keys numbers.items named → IsListedCycle entries limit named
-      part named names = record {
-        cycle = named_along (IsListedUnder entries) (λ m n e. e.under) numbers.items named cause.1 names;
-        there = of_named (λ k. has_key entries k ≡ true) numbers.items named names (All-weaker (IsPassed honest entries limit) (λ k. has_key entries k ≡ true) (λ k passed. passed.there) keys walk.passed);
-        within = of_named (IsWithin limit) numbers.items named names (All-weaker (IsPassed honest entries limit) (IsWithin limit) (λ k passed. passed.within) keys walk.passed);
-      }
-
-      go : (e : PlanFault) → IsNamedCycle keys numbers.items e → IsKeyFault honest fails entries limit e
-      go (fault.TooLarge k l) told' = absurd told'
-      go (fault.NotFound k) told' = absurd told'
-      go (fault.Fetch k x) told' = absurd told'
-      go (fault.Manifest k x) told' = absurd told'
-      go (fault.Cycle named) told' = part named.items told'
-      go fault.Memory told' = tt
-      go fault.TooMany told' = absurd told'
-  named_cause fails (ordering.BadNumber list number) e cause told = absurd told
-  named_cause fails ordering.Memory e cause told = subst (λ (x : PlanFault). IsKeyFault honest fails entries limit x) (sym told) tt
-
-  -- it names keys that the plan visits
-  pub named_visited : (f : OrderFault) (e : PlanFault) → NamesByKeys keys f e → NamesVisited existing held e
-  named_visited (ordering.Cycle numbers) e told = go e told
-    where
-      go : (e : PlanFault) → IsNamedCycle keys numbers.items e → NamesVisited existing held e
-      go (fault.TooLarge k l) told' = absurd told'
-      go (fault.NotFound k) told' = absurd told'
-      go (fault.Fetch k x) told' = absurd told'
-      go (fault.Manifest k x) told' = absurd told'
-      go (fault.Cycle named) told' = of_named (λ k. has_key held k ≡ false) numbers.items named.items told' walk.fresh
-      go fault.Memory told' = tt
-      go fault.TooMany told' = absurd told'
-  named_visited (ordering.BadNumber list number) e told = absurd told
-  named_visited ordering.Memory e told = subst (λ (x : PlanFault). NamesVisited existing held x) (sym told) tt
-
-  -- it names keys that were met
-  pub named_met : (f : OrderFault) (e : PlanFault) → NamesByKeys keys f e → NamesMet existing entries held roots e
-  named_met (ordering.Cycle numbers) e told = go e told
-    where
-      go : (e : PlanFault) → IsNamedCycle keys numbers.items e → NamesMet existing entries held roots e
-      go (fault.TooLarge k l) told' = absurd told'
-      go (fault.NotFound k) told' = absurd told'
-      go (fault.Fetch k x) told' = absurd told'
-      go (fault.Manifest k x) told' = absurd told'
-      go (fault.Cycle named) told' = of_named (IsMet existing entries held roots) numbers.items named.items told' walk.met
-      go fault.Memory told' = tt
-      go fault.TooMany told' = absurd told'
-  named_met (ordering.BadNumber list number) e told = absurd told
-  named_met ordering.Memory e told = subst (λ (x : PlanFault). NamesMet existing entries held roots x) (sym told) tt
-
-  -- what is told of an order's fault names no key that only the destination has: a cycle is one of planned keys
-  pub named_spared : (f : OrderFault) (e : PlanFault) → NamesByKeys keys f e → NamesNoneOnlyInDestination entries held e
-  named_spared (ordering.Cycle numbers) e told = go e told
-    where
-      planned : (named : Keys) → Number keys numbers.items named → All (λ k. IsOnlyInDestination entries held k → ⊥) named
-      planned named names = All-weaker (λ k. has_key held k ≡ false) (λ k. IsOnlyInDestination entries held k → ⊥) (λ k new only. both_ways (has_key held k) new only.0) named
-          (of_named (λ k. has_key held k ≡ false) numbers.items named names walk.fresh)
-
-      go : (e : PlanFault) → IsNamedCycle keys numbers.items e → NamesNoneOnlyInDestination entries held e
-      go (fault.TooLarge k l) told' = absurd told'
-      go (fault.NotFound k) told' = absurd told'
-      go (fault.Fetch k x) told' = absurd told'
-      go (fault.Manifest k x) told' = absurd told'
-      go (fault.Cycle named) told' = planned named.items told'
-      go fault.Memory told' = tt
-      go fault.TooMany told' = absurd told'
-  named_spared (ordering.BadNumber list number) e told = absurd told
-  named_spared ordering.Memory e told = subst (λ (x : PlanFault). NamesNoneOnlyInDestination entries held x) (sym told) tt
-
-  -- what is told of an order's fault is a cause against the plan
-  pub named_first : (f : OrderFault) (e : PlanFault) → IsCauseOf (lists_of lists) f → NamesByKeys keys f e → honest → IsFirstFault existing entries held roots limit e
-  named_first (ordering.Cycle numbers) e cause told h = go e told
-    where
-      bring : (named : Keys) → Number keys numbers.items named → All (IsToBring existing source held roots) named
-      bring named names = of_named (IsToBring existing source held roots) numbers.items named names
+      bring : All (IsToBring existing source held roots) named
+      bring = of_named (IsToBring existing source held roots) numbers named names
           (All-from_among (IsToBring existing source held roots) keys (λ k there. (walk.exactly h k).0 (Contains-from_among keys k there)))
-
-      go : (e : PlanFault) → IsNamedCycle keys numbers.items e → IsFirstFault existing entries held roots limit e
-      go (fault.TooLarge k l) told' = absurd told'
-      go (fault.NotFound k) told' = absurd told'
-      go (fault.Fetch k x) told' = absurd told'
-      go (fault.Manifest k x) told' = absurd told'
-      go (fault.Cycle named) told' = (named_along (IsEdge source) (λ m n e. e.edge h) numbers.items named.items cause.1 told', bring named.items told', walk.sound h)
-      go fault.Memory told' = tt
-      go fault.TooMany told' = absurd told'
-  named_first (ordering.BadNumber list number) e cause told h = absurd told
-  named_first ordering.Memory e cause told h = subst (λ (x : PlanFault). IsFirstFault existing entries held roots limit x) (sym told) tt
 
   -- what passed its checks is sound
   pub planned_sound : honest → All (IsSoundItem entries limit) keys

@@ -1,6 +1,6 @@
 -- The walk that finds the keys of a plan: the keys that were visited, and the numbers of their
 -- successors.
-use Rattle.std.specs.Prelude.{◌≡◌, ◌↔◌, ℕ, ◌<◌, ◌≤◌, ◌⊎◌, Bool, true, false, List, length, Some, Ok, filter, Contains}
+use Rattle.std.specs.Prelude.{◌≡◌, ◌↔◌, ℕ, ◌≤◌, ◌⊎◌, Bool, true, false, List, length, Some, Ok, filter, Contains}
 use Rattle.std.specs.List.{All, AllZip, IsDistinct}
 use Rattle.std.specs.Global.{Vec}
 use Rattle.oci_manifest.specs.Descriptor.{Descriptor, same_key}
@@ -19,8 +19,6 @@ use Rattle.oci_plan.specs.Visiting.{successors_at, is_fresh, passes, IsWithin, I
 use Rattle.oci_plan.specs.Plan.{Number}
 use Rattle.oci_plan.specs.declared.gathering.Existing.{Existing}
 use Rattle.oci_plan.specs.declared.gathering.Existing.TheVariants.{Skip, Descend}
-use Rattle.oci_plan.specs.declared.fault.OrderFault.{OrderFault}
-use Rattle.oci_plan.specs.declared.fault.OrderFault.TheVariants as ordering
 use Rattle.oci_plan.specs.declared.fault.PlanFault.{PlanFault}
 use Rattle.oci_plan.specs.declared.fault.PlanFault.TheVariants as fault
 
@@ -106,26 +104,3 @@ read_refusal k reading.NoConfig = fault.Manifest k reading.NoConfig
 read_refusal k (reading.BadList member) = fault.Manifest k (reading.BadList member)
 read_refusal k (reading.BadDescriptor member position) = fault.Manifest k (reading.BadDescriptor member position)
 read_refusal k reading.Memory = fault.Memory
-
--- a cycle of numbers is reported by the keys of these numbers, unless memory ran out
-abbrev pub IsNamedCycle : List Descriptor → List ℕ → PlanFault → Type 0
-IsNamedCycle keys numbers (fault.TooLarge named limit) = ⊥
-IsNamedCycle keys numbers (fault.NotFound named) = ⊥
-IsNamedCycle keys numbers (fault.Fetch named e) = ⊥
-IsNamedCycle keys numbers (fault.Manifest named e) = ⊥
-IsNamedCycle keys numbers (fault.Cycle named) = Number keys numbers named.items
-IsNamedCycle keys numbers fault.Memory = Unit {0}
-IsNamedCycle keys numbers fault.TooMany = ⊥
-
--- there is a key for each number that the fault of an order names: its cycle has only numbers of
--- keys, and no number is bad
-abbrev pub HasKeyOfEach : List Descriptor → OrderFault → Type 0
-HasKeyOfEach keys (ordering.Cycle numbers) = All (λ n. n < length keys) numbers.items
-HasKeyOfEach keys (ordering.BadNumber list number) = ⊥
-HasKeyOfEach keys ordering.Memory = Unit {0}
-
--- the fault of the plan names the keys of the numbers that the fault of the order names
-abbrev pub NamesByKeys : List Descriptor → OrderFault → PlanFault → Type 0
-NamesByKeys keys (ordering.Cycle numbers) e = IsNamedCycle keys numbers.items e
-NamesByKeys keys (ordering.BadNumber list number) e = ⊥
-NamesByKeys keys ordering.Memory e = e ≡ fault.Memory

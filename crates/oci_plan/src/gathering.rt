@@ -11,7 +11,6 @@ ghost use Rattle.oci_plan.specs.Outside.{IsVisited, IsToBring};
 ghost use Rattle.oci_plan.specs.Visiting.{IsWithin, IsSoundItem, IsSoundVisit};
 ghost use Rattle.oci_plan.specs.Plan.{Number, IsPlan, HasEdges, FollowsListed};
 ghost use Rattle.oci_plan.specs.Refusal.{IsKeyFault, IsFirstFault, NamesNoneOnlyInDestination, NamesVisited};
-ghost use Rattle.oci_plan.specs.Walk.{HasKeyOfEach, NamesByKeys};
 
 mod successors;
 mod walk;
@@ -47,21 +46,6 @@ fn keys_of(alloc: Global, keys: &[Key], numbers: &[u32]) -> Result<Vec<Key>, NoM
         named.push(keys[*number as usize].try_clone()?)?;
     }
     Ok(named)
-}
-
-/// Converts the fault of an order into one of the plan, which names keys instead of numbers.
-fn plan_fault(alloc: Global, keys: &[Key], fault: OrderFault) -> PlanFault
-    requires { HasKeyOfEach keys.now fault }
-    ensures { NamesByKeys keys.now fault result }
-{
-    match fault {
-        OrderFault::Cycle(numbers) => match keys_of(alloc, keys, &numbers) {
-            Ok(cycle) => PlanFault::Cycle(cycle),
-            Err(refused) => PlanFault::from(refused),
-        },
-        OrderFault::BadNumber(_, _) => unreachable!(),
-        OrderFault::Memory => PlanFault::Memory,
-    }
 }
 
 /// Adds a root to `held` if the destination has it.
@@ -172,6 +156,8 @@ pub fn gather<A: Source, D: Dest>(
     let Visited { keys, lists } = visit(alloc, source, destination, roots, limit, existing)?;
     match order(lists) {
         Ok(order) => Ok(Plan::new(keys, order, skipped)),
-        Err(fault) => Err(plan_fault(alloc, &keys, fault)),
+        Err(OrderFault::Cycle(numbers)) => Err(PlanFault::Cycle(keys_of(alloc, &keys, &numbers)?)),
+        Err(OrderFault::BadNumber(_, _)) => unreachable!(),
+        Err(OrderFault::Memory) => Err(PlanFault::Memory),
     }
 }
