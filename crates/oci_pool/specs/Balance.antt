@@ -1,21 +1,21 @@
--- The rule of a deque: what was put into it stands in it or was taken.
+-- The rule of a deque: every number that was put into it is in it or was taken.
 use Rattle.std.specs.Prelude.{◌≡◌, ℕ, ◌+◌, cond, List, [], ◌∷◌, nat_eq}
 use Rattle.oci_pool.specs.declared.deque.rule.Tally.{Tally}
 
--- what a seat has put and taken
+-- the numbers that a seat has put and taken
 abbrev pub tally : List ℕ → List ℕ → Tally
 tally put taken = record { put = put; taken = taken }
 
--- how often x stands in the list
+-- how often x is in the list
 abbrev pub times : ℕ → List ℕ → ℕ
 times x [] = 0
 times x (y ∷ ys) = cond (nat_eq y x) 1 0 + times x ys
 
--- f of each, added up
+-- the sum of f over the list
 abbrev pub total : (Tally → ℕ) → List Tally → ℕ
 total f [] = 0
 total f (v ∷ vs) = f v + total f vs
 
--- each number was put as often as it was taken and stands in the deque, over all seats together
+-- over all seats together, each number was put as often as it was taken and is in the deque
 abbrev pub IsBalanced : List ℕ → List Tally → Type 0
 IsBalanced items views = (x : ℕ) → total (λ v. times x v.put) views ≡ total (λ v. times x v.taken) views + times x items

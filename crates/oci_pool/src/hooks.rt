@@ -1,16 +1,18 @@
 use oci_manifest::Key;
 
-/// What a copy calls for each key. The calls answer nothing and change nothing of the copy; they are taken to return.
+/// The calls that a copy makes for each key. They return nothing and change nothing of the copy.
+/// They are assumed to return.
 ///
-/// Workers call them, so a copy by workers asks for `Hooks + Sync`.
+/// Workers call them, so a copy by workers requires `Hooks + Sync`.
 pub trait Hooks {
-    /// Called by a worker before the key's content is fetched.
+    /// Called by a worker before the content of the key is fetched.
     fn pre_copy(&self, key: &Key);
 
     /// Called by a worker after the key was pushed.
     fn post_copy(&self, key: &Key);
 
-    /// Called on the calling thread for each distinct root that the destination has, before any other hook.
+    /// Called on the calling thread for each distinct root that the destination has, before any
+    /// other hook.
     fn skipped(&self, key: &Key);
 }
 

@@ -4,17 +4,17 @@ use crate::fault::PoolFault;
 use crate::job::Job;
 use std::alloc::Global;
 
-/// What a run that stopped has done, and why it stopped.
+/// The results of a run that stopped, and why it stopped.
 #[derive(Drop)]
 pub struct Stopped<J: Job> {
-    /// Each result that a job answered, with its number, by rising numbers.
+    /// Each result that a job returned, with its number, by rising numbers.
     pub done: Vec<(u32, J::Out)>,
     /// Why the run stopped.
     pub fault: PoolFault<J::Fault>,
 }
 
 impl<J: Job> Stopped<J> {
-    /// A run that stopped before any job was run.
+    /// Creates the value for a run that stopped before any job was run.
     pub(crate) fn at_start(alloc: Global, fault: PoolFault<J::Fault>) -> Stopped<J>
         ensures done { result.done.items ≡ [] }
         ensures fault { result.fault ≡ fault }
@@ -25,14 +25,14 @@ impl<J: Job> Stopped<J> {
         }
     }
 
-    /// Why the run stopped; the results are let go.
+    /// Returns why the run stopped, and drops the results.
     pub fn into_fault(self) -> PoolFault<J::Fault>
         ensures { result ≡ self.fault }
     {
         self.fault
     }
 
-    /// The results, and why the run stopped.
+    /// Returns the results, and why the run stopped.
     pub fn into_parts(self) -> (Vec<(u32, J::Out)>, PoolFault<J::Fault>)
         ensures done { result.0 ≡ self.done }
         ensures fault { result.1 ≡ self.fault }

@@ -12,7 +12,7 @@ use std::sync::Wait;
 use std::thread;
 use std::thread::Threads;
 
-/// The deques that a worker takes numbers from: its own, and its holds of the others'.
+/// The deques that a worker takes numbers from: its own, and stealers for the others.
 #[derive(Drop)]
 pub(crate) struct Deques {
     pub own: OwnDeque,
@@ -20,8 +20,8 @@ pub(crate) struct Deques {
 }
 
 impl Deques {
-    /// The first number of its own deque, or else one that it steals; nothing if it found each
-    /// deque empty.
+    /// Returns the first number of its own deque, or else one that it steals, or nothing if it
+    /// found each deque empty.
     fn find<R: Wait>(&mut self, rt: &R) -> Option<u32> {
         if let Some(number) = self.own.take() {
             return Some(number);
@@ -39,17 +39,17 @@ impl Deques {
     }
 }
 
-/// One worker: its deques, and what it has done. To a contract it is why it stopped the run, if it
-/// did.
+/// One worker: its deques and its results. Contracts see it as the fault for which it stopped the
+/// run, if it did.
 ///
-/// Its type keeps that each result is one that the job of its number may return, and that its
-/// fault is one that may come.
+/// Its invariant: each result is one that the job of its number may return, and a worker may report
+/// its fault.
 #[derive(Drop)]
 pub(crate) struct Worker<J: Job, T: RunStart<J::Out, J::Fault>> {
     deques: Deques,
     /// The results of its jobs, with their numbers.
     done: Vec<(u32, J::Out)>,
-    /// Why it stopped the run, if it did.
+    /// The fault for which it stopped the run, if it did.
     fault: Option<PoolFault<J::Fault>>,
     start: PhantomData<T>,
 }
@@ -68,7 +68,7 @@ impl<J: Job, T: RunStart<J::Out, J::Fault>> Model for Worker<J, T> {
 }
 
 impl<J: Job, T: RunStart<J::Out, J::Fault>> Worker<J, T> {
-    /// A worker that has done nothing.
+    /// Creates a worker that has done nothing.
     pub fn new(alloc: Global, deques: Deques) -> Worker<J, T>
         ensures { result ≡ None }
     {
@@ -121,7 +121,7 @@ impl<J: Job, T: RunStart<J::Out, J::Fault>> Worker<J, T> {
         }
     }
 
-    /// What it has done, and why it stopped the run, if it did.
+    /// Returns its results, and the fault for which it stopped the run, if it did.
     pub fn into_parts(self) -> (Vec<(u32, J::Out)>, Option<PoolFault<J::Fault>>)
         ensures answers { All (λ p. T.answers p.0 p.1) result.0.items }
         ensures may_come { MayCome T.count T.fails result.1 }
@@ -137,8 +137,8 @@ impl<J: Job, T: RunStart<J::Out, J::Fault>> Worker<J, T> {
     }
 }
 
-/// Lets the workers work, each in a thread of its own as far as there are threads; the calling
-/// thread is one of them. All have ended when it returns.
+/// Runs each worker in a thread of its own, as far as there are threads. The calling thread is one
+/// of them. All workers have ended when it returns.
 pub(crate) fn work_all<
     J: Job,
     T: RunStart<J::Out, J::Fault> + Send + Sync,

@@ -8,7 +8,7 @@ use oci_digest::NoMemory;
 use oci_plan::Order;
 use std::alloc::Global;
 
-/// Adds a number to the predecessors of each that it lists.
+/// Adds a number to the predecessors of each number that it lists.
 fn add_predecessor(
     predecessors: &mut Vec<Vec<u32>>,
     list: &[u32],
@@ -28,7 +28,7 @@ fn add_predecessor(
     Ok(())
 }
 
-/// So many empty lists.
+/// Creates `count` empty lists.
 fn empty_lists(alloc: Global, count: usize) -> Result<Vec<Vec<u32>>, NoMemory>
     ensures len { IfOk result (λ v. vec_len v ≡ count) }
     ensures empty { IfOk result (λ v. (k : ℕ) → successors_of (lists_of v.items) k ≡ []) }
@@ -40,7 +40,7 @@ fn empty_lists(alloc: Global, count: usize) -> Result<Vec<Vec<u32>>, NoMemory>
     Ok(lists)
 }
 
-/// The successors of a number.
+/// Returns the successors of a number.
 fn list_of(order: &Order, number: u32) -> &[u32]
     ensures { result.now ≡ successors_of order.now.lists number }
 {
@@ -50,7 +50,7 @@ fn list_of(order: &Order, number: u32) -> &[u32]
     }
 }
 
-/// The numbers that list each number, rising.
+/// Returns the numbers that list each number, rising.
 pub(crate) fn predecessors(alloc: Global, order: &Order) -> Result<Vec<Vec<u32>>, NoMemory>
     requires { IsOrder order.now }
     ensures len { IfOk result (λ v. vec_len v ≡ length order.now.lists) }
@@ -69,7 +69,7 @@ pub(crate) fn predecessors(alloc: Global, order: &Order) -> Result<Vec<Vec<u32>>
     Ok(predecessors)
 }
 
-/// How many successors each number has.
+/// Returns how many successors each number has.
 pub(crate) fn counts(alloc: Global, order: &Order) -> Result<Vec<usize>, NoMemory>
     requires { IsOrder order.now }
     ensures len { IfOk result (λ v. vec_len v ≡ length order.now.lists) }

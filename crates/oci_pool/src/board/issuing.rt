@@ -5,7 +5,7 @@ ghost use Rattle.oci_plan.specs.Doubles.{has};
 ghost use Rattle.oci_pool.specs.Board.{is_marked};
 ghost use Rattle.oci_pool.specs.Kept.{unit_if, IsListed};
 
-/// The mark at a number, which past the end is none.
+/// Returns the mark at a number. A number past the end has no mark.
 pub(crate) fn is_marked(marks: &[bool], number: u32) -> bool
     ensures { result ≡ is_marked marks.now number }
 {
@@ -15,7 +15,7 @@ pub(crate) fn is_marked(marks: &[bool], number: u32) -> bool
     }
 }
 
-/// One successor fewer to wait for, at each of these numbers.
+/// Lowers by one the count of awaited successors of each of these numbers.
 pub(crate) fn lower(list: &[u32], waiting: &mut Vec<usize>)
     requires numbers { All (λ n. n < length waiting.old.items) list.now }
     requires positive { All (λ n. 0 < slice_index waiting.old.items n) list.now }
@@ -30,7 +30,7 @@ pub(crate) fn lower(list: &[u32], waiting: &mut Vec<usize>)
     }
 }
 
-/// Puts a number at the end of the issue list, where it does not stand yet.
+/// Appends a number to the issue list, which does not have it yet.
 fn issue_one(issue: &mut Vec<u32>, issued: &mut Vec<bool>, number: u32)
     requires number { number < length issued.old.items }
     requires fresh { has number issue.old.items ≡ false }
@@ -59,7 +59,7 @@ fn issue_if_ready(issue: &mut Vec<u32>, issued: &mut Vec<bool>, waiting: &Vec<us
     }
 }
 
-/// Issues those of these numbers that wait for nothing.
+/// Issues the numbers of a list that wait for nothing.
 pub(crate) fn issue_ready(
     issue: &mut Vec<u32>,
     issued: &mut Vec<bool>,

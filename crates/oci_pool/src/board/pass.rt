@@ -2,8 +2,9 @@ ghost use Rattle.std.specs.Prelude.{◌≡◌};
 
 use std::marker::Model;
 
-/// The permission to run the job of one number. [`Board::pass`](crate::Board::pass) alone makes one, once a number: no module
-/// outside `board` can name what makes it, and it cannot be copied.
+/// The permission to run the job of one number. Only [`Board::pass`](crate::Board::pass) makes one,
+/// once for each number. No module outside `board` can name its constructor, and it cannot be
+/// copied.
 #[derive(Debug, Drop)]
 pub struct Pass {
     number: u32,
@@ -18,14 +19,14 @@ impl Model for Pass {
 }
 
 impl Pass {
-    /// The pass of a number, which the board has given to nobody.
+    /// Creates the pass of a number. The board has not given it before.
     pub(super) fn of(number: u32) -> Pass
         ensures { result ≡ number }
     {
         Pass { number }
     }
 
-    /// The number whose job may be run.
+    /// Returns the number whose job may be run.
     pub fn number(&self) -> u32
         ensures { result ≡ self.now }
     {

@@ -4,13 +4,14 @@ ghost use Rattle.oci_pool.specs.Balance.{tally};
 use crossbeam_deque::protocol::{Outcome, Protocol};
 use std::collections::LinkedList;
 
-/// What one seat of a deque has put and taken. No value of it is made.
+/// The numbers that one seat of a deque has put and taken. No value of this type is made.
 pub(crate) struct Tally {
     pub put: LinkedList<u32>,
     pub taken: LinkedList<u32>,
 }
 
-/// The rule of a deque: each number that was put stands in it or was taken from it, as often as it was put.
+/// The rule of a deque: a number that was put is still in it, or was taken from it, as often as it
+/// was put.
 pub(crate) struct Balanced;
 
 impl Protocol<u32, Tally> for Balanced {

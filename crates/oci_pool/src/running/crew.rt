@@ -13,7 +13,7 @@ fn empty_deques(alloc: Global, count: usize) -> Result<Vec<OwnDeque>, AllocError
     Ok(deques)
 }
 
-/// Deals the numbers that a board issued to the deques in turn. They are at most `count`.
+/// Deals the numbers that a board issued to the deques in turn. There are at most `count` of them.
 fn deal(board: &Board, deques: &mut [OwnDeque], count: usize) -> Result<(), AllocError> {
     for place in 0..count {
         if deques.is_empty() {
@@ -30,7 +30,7 @@ fn deal(board: &Board, deques: &mut [OwnDeque], count: usize) -> Result<(), Allo
     Ok(())
 }
 
-/// A hold of each deque but one.
+/// Creates stealers for every deque except one.
 fn holds(alloc: Global, deques: &[OwnDeque], but: usize) -> Result<Vec<OtherDeque>, AllocError> {
     let mut others = Vec::with_capacity(alloc, deques.len())?;
     for (place, deque) in deques.iter().enumerate() {
@@ -41,7 +41,7 @@ fn holds(alloc: Global, deques: &[OwnDeque], but: usize) -> Result<Vec<OtherDequ
     Ok(others)
 }
 
-/// Creates a worker for each deque, with its holds of the others.
+/// Creates a worker for each deque, with stealers for the others.
 fn workers_of<J: Job, T: RunStart<J::Out, J::Fault>>(
     alloc: Global,
     mut deques: Vec<OwnDeque>,

@@ -7,8 +7,9 @@ use crate::job::{Job, RunStart};
 use crate::stopped::Stopped;
 use crate::table::Table;
 
-/// The answer of a run whose workers have ended: what they reported, or the least number without a
-/// result, or all results. It comes in `done` or `all`, which are empty and have room.
+/// Returns the outcome of a run whose workers have ended: the fault that they reported, or the
+/// least number without a result, or all results. The results are returned in `done` or `all`,
+/// which are empty and have room.
 pub(super) fn answer<J: Job, T: RunStart<J::Out, J::Fault>>(
     table: Table<J, T>,
     done: Vec<(u32, J::Out)>,

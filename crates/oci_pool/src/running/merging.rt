@@ -6,8 +6,8 @@ use crate::job::{Job, RunStart};
 use crate::table::Table;
 use crate::worker::Worker;
 
-/// Which of two faults is reported: a job's before another, and of two jobs' the one with the
-/// lesser number.
+/// Returns which of two faults is reported: the fault of a job before another one, and of two jobs
+/// the one with the lesser number.
 fn first_of<J: Job, T: RunStart<J::Out, J::Fault>>(
     a: Option<PoolFault<J::Fault>>,
     b: Option<PoolFault<J::Fault>>,
@@ -51,8 +51,8 @@ fn merge_worker<J: Job, T: RunStart<J::Out, J::Fault>>(
     first_of::<J, T>(reported, fault)
 }
 
-/// Puts the results of the workers into the table, and returns the fault to be reported: of those of
-/// all workers a job's before another, and of several jobs' the one with the least number.
+/// Puts the results of the workers into the table, and returns the fault to be reported. The fault
+/// of a job is reported before another one, and of several jobs the one with the least number.
 pub(super) fn merge_results<J: Job, T: RunStart<J::Out, J::Fault>>(
     table: &mut Table<J, T>,
     mut workers: Vec<Worker<J, T>>,
