@@ -1,4 +1,4 @@
--- The one history of a live store: the entries in the order in which they were published. It only grows.
+-- The history of a live store: its entries in order of publication. It only grows.
 use Rattle.std.specs.Prelude.{◌≡◌, ℕ, ◌==◌, true, List, [], ◌∷◌, ◌++◌, length, MatchBool}
 use Rattle.logbook.specs.Pages.{Cell, Step, View, Book, Named}
 use Rattle.oci_store.specs.Content.{Entry}
@@ -11,10 +11,10 @@ pub record IsCounted (cells : List Cell) (log : List Entry) : Type 0 where
 abbrev pub head_of : Book → Named
 head_of b = record { tracked = true; key = 0; book = b }
 
--- the entry was added to all that had been seen; or the history was longer
+-- the entry was appended to the list that had been seen, or the history was longer
 abbrev pub Appends : Step Entry → View Entry ℕ → ℕ → View Entry ℕ → Type 0
 Appends s v found w = MatchBool (found == s.old) (w.0 ≡ v.0 ++ s.ask ∷ []) (length w.0 ≡ found)
 
--- a store's name: which history it has
+-- the name of a store, which identifies its history
 abbrev pub name_of : Book → List ℕ
 name_of b = b.number ∷ b.log_name ∷ b.cells_name ∷ []

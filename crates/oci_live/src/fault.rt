@@ -3,30 +3,31 @@ ghost use Rattle.oci_live.specs.Numbers.{live_number, look_number};
 
 use thiserror::Error;
 
-/// Why a store is not opened for looks.
+/// Why a store cannot be opened for looks.
 #[derive(Clone, Copy, Debug, PartialEq, Eq, Error)]
 pub enum LiveFault {
-    /// Out of memory.
+    /// An allocation failed.
     #[error("48 Memory")]
     Memory,
 }
 
-/// Why there is no look, or a look gives no answer.
+/// Why a look cannot be created, or a call of a look failed.
 #[derive(Clone, Copy, Debug, PartialEq, Eq, Error)]
 pub enum LookFault {
     /// The key is not in the look's list.
     #[error("45 NotFound")]
     NotFound,
-    /// There is no place for one more look, or the store is gone.
+    /// No place is free for another look, or the store is gone. The contracts do not state when
+    /// this is returned.
     #[error("46 Unavailable")]
     Unavailable,
-    /// Out of memory.
+    /// An allocation failed.
     #[error("47 Memory")]
     Memory,
 }
 
 impl LiveFault {
-    /// The number of the refusal.
+    /// Returns the error number.
     pub fn number(&self) -> u8
         ensures { result ≡ live_number self.now }
     {
@@ -37,7 +38,7 @@ impl LiveFault {
 }
 
 impl LookFault {
-    /// The number of the refusal.
+    /// Returns the error number.
     pub fn number(&self) -> u8
         ensures { result ≡ look_number self.now }
     {

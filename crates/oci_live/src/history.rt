@@ -1,7 +1,8 @@
-//! The history of a live store: its entries in the order in which they were published.
+//! The history of a live store: its entries in order of publication.
 //!
-//! It is ghost state behind one word, its length. What has been seen of it is told by a `Witness`, which has no bytes and can
-//! be copied and handed on: two witnesses of one history show lists of which one begins with the other.
+//! It is ghost state behind one word, its length. A `Witness` shows a list that the history has
+//! reached. It has no bytes, and can be copied and passed on. Of the lists of two witnesses of one
+//! history, one is a prefix of the other.
 ghost use Rattle.std.specs.Prelude.{◌≡◌, ◌++◌, ◌∷◌, [], length, IfOk, OnOk};
 ghost use Rattle.oci_live.specs.History.{head_of};
 
@@ -10,10 +11,10 @@ use logbook::{Gain, Offer, Plain, Play, Rule, Seen, Start, Word};
 use oci_digest::NoMemory;
 use oci_manifest::Key;
 
-/// An entry as the proofs see it. A clause reads an array as a list, of any length.
+/// An entry in the proofs. Contracts read an array as a list of any length.
 pub(crate) type LogEntry = (Key, [u8; 0]);
 
-/// The word has the length of the history.
+/// The word is the length of the history.
 pub(crate) struct Counted;
 
 impl Rule<LogEntry, u64> for Counted {
@@ -34,7 +35,7 @@ impl Rule<LogEntry, u64> for Counted {
     ghost moves = { λ ask before after answer. Unit {0} };
 }
 
-/// Who adds an entry gains nothing by it.
+/// Appending grants the writer no extra knowledge.
 struct NoGain;
 
 impl Gain<LogEntry, u64> for NoGain {
@@ -43,14 +44,14 @@ impl Gain<LogEntry, u64> for NoGain {
     ghost after = { λ names about answer. ftrue };
 }
 
-/// An entry that is to be added.
+/// An entry to be appended.
 #[derive(Drop)]
 struct Addition<'e> {
     key: &'e Key,
     bytes: &'e Bytes,
 }
 
-/// One entry more.
+/// Appends one entry.
 struct Append;
 
 impl Play<LogEntry, u64> for Append {
@@ -67,10 +68,10 @@ impl<'e> Plain<Addition<'e>, LogEntry, u64> for Append {
     ghost state = { λ a. None };
 }
 
-/// That a history has reached a list.
+/// Evidence that a history has reached a list.
 pub(crate) type Witness = Seen<LogEntry, u64, Counted>;
 
-/// The history, in the hands of the one who adds to it.
+/// The writer's handle of a history.
 #[derive(Drop)]
 pub(crate) struct History {
     head: Word<LogEntry, u64, Counted>,
@@ -81,7 +82,7 @@ pub(crate) struct History {
 }
 
 impl History {
-    /// A new history, without entries.
+    /// Creates a history without entries.
     pub(crate) fn new() -> History
         ensures { result.front.log ≡ [] }
     {
@@ -93,10 +94,10 @@ impl History {
         }
     }
 
-    /// Adds an entry, and gives a witness of what the history is now.
+    /// Appends an entry, and returns a witness of the new history. Does not allocate.
     ///
-    /// Refused where the length has no successor, or where somebody else has added an entry, which nobody can: it takes no
-    /// memory itself.
+    /// Fails if the length is at its greatest value, or if another writer has appended an entry.
+    /// There is no other writer.
     pub(crate) fn append(&mut self, key: &Key, bytes: &Bytes) -> Result<Witness, NoMemory>
         ensures book { self.new.front.book ≡ self.old.front.book }
         ensures appended { OnOk result (self.new.front.log ≡ self.old.front.log ++ (

@@ -1,23 +1,27 @@
 //! A store that is read while it grows.
 //!
-//! A [`LiveStore`] is opened on a closed store ([`oci_store::ClosedStore`]) and is a destination of copies. Each push publishes
-//! one entry; what is published is all that the store holds, and is closed at every moment. The list of its entries in the
-//! order in which they were published is its history, which only grows.
+//! A [`LiveStore`] is opened on a closed store ([`oci_store::ClosedStore`]) and is a destination of
+//! copies. Each push publishes one entry. The store holds exactly the published entries, and is
+//! closed at every moment. Its history is the list of its entries in order of publication, which
+//! only grows.
 //!
-//! A [`Look`] reads it from another thread. Each of its answers is exact for one beginning of the history, which is no shorter
-//! than what this look has shown before. So a look never goes back, never shows an entry that was not published, and never
-//! shows a manifest without what it lists. No call of a look waits for a push; a push may wait for calls of looks that have
-//! begun.
+//! A [`Look`] reads the store from another thread. Each result is exact for one prefix of the
+//! history. This prefix is no shorter than the ones that the look has shown before. So a look never
+//! goes back, never shows an entry that was not published, and never shows a manifest without the
+//! keys that it lists. No call of a look waits for a push. A push may wait for calls of looks that
+//! have begun.
 //!
-//! Two looks may have seen different beginnings. A [`Note`] tells one of them what the store had published at a moment: whoever
-//! pushed takes a note, and a look that [learns](Look::learn) it has all of that from then on.
+//! Two looks may have seen different prefixes. A [`Note`] records the published entries at one
+//! moment. A look that [learns](Look::learn) a note shows at least that prefix from then on. So a
+//! thread that has pushed can pass a note to a thread that reads.
 //!
-//! Each refusal has a number. [`LookFault`]: 45 to 47. [`LiveFault`]: 48. A push is refused as into any store
-//! ([`oci_store::PushFault`]). Where its publication finds no memory the store halts: it keeps what it has published, is read
-//! as before, and answers each later push that nothing else stands against with `Halted` (44).
+//! Each error has a number. [`LookFault`]: 45 to 47. [`LiveFault`]: 48. A push fails as in any
+//! store ([`oci_store::PushFault`]). If its publication runs out of memory, the store halts. It
+//! keeps its published entries, and can still be read. Later pushes that pass all other checks
+//! return `Halted` (44).
 //!
-//! A push takes time in the logarithm of the number of entries, and so does `exists` and `fetch`; no content is copied, hashed
-//! or read again. Keys, and what each lists, are kept twice.
+//! A push, `exists` and `fetch` take logarithmic time in the number of entries. No content is
+//! copied, hashed or read again. Keys, and the keys that each lists, are kept twice.
 #![tactic(auto)]
 
 mod fault;

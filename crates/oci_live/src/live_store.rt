@@ -20,11 +20,12 @@ use std::alloc::Global;
 use std::marker::Model;
 use std::sync::Wait;
 
-/// A store that is read while it grows. It is closed, and what it holds is what it has published: each push is one
-/// publication, which looks on any thread see at once: tests show that, and no clause says it.
+/// A store that is read while it grows. It is closed, and holds exactly its published entries. Each
+/// push is one publication, which looks on any thread see at once. Tests show this; it is not
+/// proved.
 ///
-/// It is a destination of copies ([`oci_store::Dest`]). Where a publication runs out of memory, the store halts: it
-/// keeps what it has published, goes on being read, and takes nothing any more.
+/// It is a destination of copies ([`oci_store::Dest`]). If a publication runs out of memory, the
+/// store halts: it keeps its published entries, can still be read, and accepts no more content.
 pub struct LiveStore<R: Wait + Drop> {
     rt: R,
     publisher: Publisher,
@@ -64,9 +65,11 @@ impl<R: Wait + Drop> Drop for LiveStore<R> {
 }
 
 impl<R: Wait + Drop> LiveStore<R> {
-    /// Opens a closed store to looks. Its entries are published, its tags are dropped.
+    /// Opens a closed store for looks. Its entries are published, its tags are dropped.
     ///
-    /// Refused with `Memory`; the closed store comes back as it was.
+    /// # Errors
+    ///
+    /// - 48 `Memory`: an allocation failed. The unchanged closed store is returned with the error.
     pub fn open(
         rt: R,
         alloc: Global,
@@ -87,10 +90,14 @@ impl<R: Wait + Drop> LiveStore<R> {
         }
     }
 
-    /// A look whose list is what is published now. It may go to another thread.
+    /// Creates a look at the entries that are published now. It may move to another thread.
     ///
-    /// Refused with `Unavailable`. There are places for 64 looks, and a look that is dropped gives its place back; no clause
-    /// says that a look is given while there is a place.
+    /// # Errors
+    ///
+    /// - 46 `Unavailable`: each of the 64 places for looks is taken. A dropped look frees its
+    ///   place.
+    ///
+    /// It is not proved that a look is returned while a place is free.
     pub fn look(&mut self) -> Result<Look, LookFault>
         ensures name { IfOk result (λ look. look.name ≡ self.old.name) }
         ensures entries { IfOk result (λ look. look.entries ≡ self.old.entries) }
@@ -104,7 +111,7 @@ impl<R: Wait + Drop> LiveStore<R> {
         }
     }
 
-    /// What is published now. It takes no memory.
+    /// Returns a note of the entries that are published now. Does not allocate.
     pub fn note(&self) -> Note
         ensures name { result.name ≡ self.now.name }
         ensures entries { result.entries ≡ self.now.entries }
@@ -113,7 +120,12 @@ impl<R: Wait + Drop> LiveStore<R> {
         Note::new(shelf.witness.again(), shelf.entries.len() as u64)
     }
 
-    /// A closed store of what is published, without tags. The contents are shared and not copied.
+    /// Returns a closed store with the published entries, without tags. The contents are shared,
+    /// not copied.
+    ///
+    /// # Errors
+    ///
+    /// Returns [`NoMemory`] if an allocation fails.
     pub fn copy_out(&self) -> Result<ClosedStore, NoMemory>
         ensures { IfOk result (λ closed. closed ≡ record
             { entries = self.now.entries; tags = [] }) }
@@ -121,7 +133,7 @@ impl<R: Wait + Drop> LiveStore<R> {
         Ok(ClosedStore::from_entries(self.shelf().entries.try_clone()?))
     }
 
-    /// Publishes one entry. Where that is refused, the store halts.
+    /// Publishes one entry. If this fails, the store halts.
     fn publish(&mut self, content: CheckedContent) -> Result<(), NoMemory>
         requires running { self.old.is_halted ≡ false }
         requires closed { IsClosed (nodes_of (self.old.entries ++ content ∷ [])) }
@@ -142,7 +154,7 @@ impl<R: Wait + Drop> LiveStore<R> {
         Ok(())
     }
 
-    /// What is published.
+    /// Returns the published entries.
     fn shelf(&self) -> &Shelf
         ensures entries { result.now.entries ≡ self.now.entries }
         ensures closed { IsClosed (nodes_of self.now.entries) }

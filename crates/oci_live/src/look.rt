@@ -16,11 +16,11 @@ use bytes::Bytes;
 use oci_manifest::Key;
 use std::marker::Model;
 
-/// What one thread has seen of a live store: which store, and the longest beginning of its history that this look has shown or
-/// was told of.
+/// The view of one thread on a live store: the store's name, and the longest prefix of its history
+/// that this look has shown or learned.
 ///
-/// Each answer is exact for one list, which is a beginning of the store's history. That list is closed, begins with the look's
-/// list, and is the look's list afterwards. No call waits; what it takes from memory is said at each.
+/// Each result is exact for one prefix of the store's history. This prefix is closed, begins with
+/// the look's list, and becomes the look's list. No call waits.
 #[derive(Drop)]
 pub struct Look {
     viewer: Viewer,
@@ -48,8 +48,8 @@ impl Look {
         Look { viewer, note }
     }
 
-    /// Takes in what a note tells: of the look's list and the note's one begins with the other, and the look has the longer
-    /// afterwards. It takes no memory.
+    /// Learns the list of a note. One of the two lists is a prefix of the other, and the look keeps
+    /// the longer. Does not allocate.
     pub fn learn(&mut self, note: &Note)
         requires name { self.old.name ≡ note.now.name }
         ensures name { self.new.name ≡ self.old.name }
@@ -61,9 +61,11 @@ impl Look {
         self.note.learn(note);
     }
 
-    /// Whether the key is held. It takes no memory.
+    /// Returns whether the key is held. Does not allocate.
     ///
-    /// Refused with `Unavailable`.
+    /// # Errors
+    ///
+    /// - 46 `Unavailable`: the store is gone. The look is unchanged.
     pub fn exists(&mut self, key: &Key) -> Result<bool, LookFault>
         ensures name { self.new.name ≡ self.old.name }
         ensures later { IsPrefix self.old.entries self.new.entries }
@@ -74,9 +76,11 @@ impl Look {
         self.ask(&Held { key })
     }
 
-    /// How many entries there are. It takes no memory.
+    /// Returns the number of entries. Does not allocate.
     ///
-    /// Refused with `Unavailable`.
+    /// # Errors
+    ///
+    /// - 46 `Unavailable`: the store is gone. The look is unchanged.
     pub fn len(&mut self) -> Result<usize, LookFault>
         ensures name { self.new.name ≡ self.old.name }
         ensures later { IsPrefix self.old.entries self.new.entries }
@@ -88,9 +92,13 @@ impl Look {
         self.ask(&Count)
     }
 
-    /// The key and the content of the entry at a place, if there is one. The content is shared and not copied.
+    /// Returns the key and the content of the entry at a place, if there is one. The key is copied,
+    /// the content is shared.
     ///
-    /// Refused with `Unavailable`, or with `Memory` where there is an entry.
+    /// # Errors
+    ///
+    /// - 46 `Unavailable`: the store is gone. The look is unchanged.
+    /// - 47 `Memory`: there is an entry, and an allocation failed.
     pub fn entry(&mut self, place: usize) -> Result<Option<(Key, Bytes)>, LookFault>
         ensures name { self.new.name ≡ self.old.name }
         ensures later { IsPrefix self.old.entries self.new.entries }
@@ -104,9 +112,13 @@ impl Look {
         self.ask(&EntryAt { place })?
     }
 
-    /// The bytes of a held key. They are shared and not copied.
+    /// Returns the bytes of a held key. They are shared, not copied.
     ///
-    /// Refused with `NotFound` where the key is not held, with `Unavailable`, or with `Memory` where the key is held.
+    /// # Errors
+    ///
+    /// - 45 `NotFound`: the key is not held.
+    /// - 46 `Unavailable`: the store is gone. The look is unchanged.
+    /// - 47 `Memory`: the key is held, and an allocation failed.
     pub fn fetch(&mut self, key: &Key) -> Result<Bytes, LookFault>
         ensures name { self.new.name ≡ self.old.name }
         ensures later { IsPrefix self.old.entries self.new.entries }
@@ -121,7 +133,7 @@ impl Look {
         self.ask(&ContentAt { key })?
     }
 
-    /// What a question is answered. The list that it is answered of is the look's list afterwards.
+    /// Asks a question. The list that the answer refers to becomes the look's list.
     fn ask<Q: Question>(&mut self, question: &Q) -> Result<Q::Answer, LookFault>
         ensures name { self.new.name ≡ self.old.name }
         ensures later { IsPrefix self.old.entries self.new.entries }

@@ -7,8 +7,8 @@ ghost use Rattle.oci_live.specs.History.{name_of};
 use crate::history::Witness;
 use std::marker::Model;
 
-/// What a live store had published when the note was made: which store, and its list of entries. It holds no contents; who has
-/// it can tell a [`Look`](crate::Look) of that list.
+/// The published entries of a live store at one moment: the store's name and its list of entries. A
+/// note holds no contents. A [`Look`](crate::Look) can learn the list from it.
 #[derive(Drop)]
 pub struct Note {
     witness: Witness,
@@ -30,7 +30,7 @@ impl Model for Note {
 }
 
 impl Note {
-    /// A note of what a witness shows.
+    /// Creates a note of the list that a witness shows.
     pub(crate) fn new(witness: Witness, len: u64) -> Note
         requires len { len ≡ length witness.log }
         requires closed { IsClosed (nodes_of witness.log) }
@@ -39,15 +39,16 @@ impl Note {
         Note { witness, len }
     }
 
-    /// What was published was closed.
+    /// Brings into the proof that the list is closed.
     pub(crate) fn is_of_closed_list(&self)
         ensures { IsClosed (nodes_of self.now.entries) }
     {
-        // A look at a field tells the proof what every note keeps.
+        // Reading a field brings the note's invariant into the proof.
         let _ = &self.len;
     }
 
-    /// Goes on to what a witness shows. False, and nothing changed, where that is less.
+    /// Moves on to the list of a witness. Returns `false` and changes nothing if that list is
+    /// shorter.
     pub(crate) fn advance(&mut self, witness: Witness, len: u64) -> bool
         requires name { name_of witness.book ≡ self.old.name }
         requires len { len ≡ length witness.log }
@@ -66,7 +67,8 @@ impl Note {
         true
     }
 
-    /// Of two lists of one history one begins with the other. Afterwards this is the longer.
+    /// Takes the longer of the two lists. Of two lists of one history, one is a prefix of the
+    /// other.
     pub(crate) fn learn(&mut self, note: &Note)
         requires name { self.old.name ≡ note.now.name }
         ensures name { self.new.name ≡ self.old.name }
@@ -75,7 +77,7 @@ impl Note {
         ensures later { IsPrefix self.old.entries self.new.entries }
         ensures told { IsPrefix note.now.entries self.new.entries }
     {
-        // It has seen both lists, so both are beginnings of what it shows.
+        // This witness has seen both lists, so both are prefixes of its list.
         let mut both = self.witness.again();
         both.learn(&note.witness);
         if self.len < note.len {

@@ -12,10 +12,10 @@ use oci_store::Entries;
 use std::alloc::Global;
 use std::sync::Wait;
 
-/// So many looks have a place. Each publication visits each place.
+/// The largest number of looks at once. Each publication visits every place.
 const PLACES: usize = 64;
 
-/// Publishes some entries, which are copied twice and not looked at again.
+/// Publishes the entries of a new live store. They are cloned twice, and not checked again.
 pub(crate) fn opened<R: Wait>(
     rt: &R,
     alloc: Global,
@@ -46,7 +46,7 @@ pub(crate) fn opened<R: Wait>(
     }
 }
 
-/// A new history, of these entries.
+/// Creates a history with these entries.
 pub(crate) fn history_of(entries: &Entries) -> Result<History, NoMemory>
     ensures { IfOk result (λ history. history.front.log ≡ entries.now) }
 {

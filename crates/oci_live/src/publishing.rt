@@ -11,7 +11,7 @@ use core::mem::replace_with;
 use oci_digest::NoMemory;
 use std::sync::Wait;
 
-/// Publishes one entry, with a witness of the history that it ends.
+/// Publishes one entry, with a witness of the history that ends with it.
 pub(crate) fn publish<R: Wait>(
     publisher: &mut Publisher,
     rt: &R,
@@ -44,7 +44,7 @@ pub(crate) fn publish<R: Wait>(
     )
 }
 
-/// The publisher once it has published one entry.
+/// Publishes one entry, and returns the publisher with the result.
 fn published<R: Wait>(publisher: Publisher, rt: &R, item: Item) -> (Publisher, Result<(), NoMemory>)
     requires nothing { drop publisher.behind publisher.log.items ≡ [] }
     requires shown { IsShown (view publisher.desk.place) publisher.desk.shown.value }

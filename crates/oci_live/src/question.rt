@@ -1,4 +1,4 @@
-//! What a look may ask of the published entries.
+//! The questions that a look can ask about the published entries.
 ghost use Rattle.std.specs.Prelude.{List};
 ghost use Rattle.oci_store.specs.Content.{Entry};
 
@@ -7,18 +7,18 @@ use bytes::Bytes;
 use oci_manifest::Key;
 use oci_store::Entries;
 
-/// A question about some entries.
+/// A question about a list of entries.
 pub(crate) trait Question {
     type Answer: Drop;
 
-    /// What is a right answer.
+    /// The correct answers.
     ghost answers: { Self → List Entry → Self.Answer → Type 0 };
 
     fn ask(&self, entries: &Entries) -> Self::Answer
         ensures { answers self.now entries.now result };
 }
 
-/// How many entries there are.
+/// The number of entries.
 pub(crate) struct Count;
 
 impl Question for Count {

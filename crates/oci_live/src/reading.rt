@@ -10,7 +10,7 @@ use crate::rule::{Publisher, Sees, Told, Twice, Viewer};
 use core::mem::replace_with;
 use std::alloc::AllocError;
 
-/// A viewer that knows what the publisher knows. Refused where each place is taken.
+/// Creates a viewer with the publisher's knowledge. Fails if every place is taken.
 pub(crate) fn viewer_of(publisher: &mut Publisher) -> Result<Viewer, AllocError>
     requires { (view publisher.old.desk.place).is_told ≡ true }
     ensures known { IfOk result (λ viewer. view viewer.place ≡ view publisher.old.desk.place) }
@@ -23,8 +23,8 @@ pub(crate) fn viewer_of(publisher: &mut Publisher) -> Result<Viewer, AllocError>
     Ok(viewer)
 }
 
-/// What a question is answered of the entries that are published at this moment, with a witness of them and their number.
-/// None where nothing is published any more.
+/// Asks a question about the entries that are published now. Returns the answer, a witness of the
+/// entries, and their number. Returns `None` if nothing is published any more.
 pub(crate) fn ask<Q: Question>(
     viewer: &mut Viewer,
     question: &Q,
@@ -44,7 +44,7 @@ pub(crate) fn ask<Q: Question>(
     )
 }
 
-/// The viewer once it has asked.
+/// Asks a question, and returns the viewer with the result.
 fn asked<Q: Question>(viewer: Viewer, question: &Q) -> (Viewer, Option<(Q::Answer, Witness, usize)>)
     requires { (view viewer.place).is_told ≡ true }
     ensures viewer { ((view result.0.place).is_told ≡ true)

@@ -1,4 +1,4 @@
-//! The rule that the two copies are read and written by, and the handles under it.
+//! The rule for reading and writing the two copies, and the handles that follow it.
 use crate::history::LogEntry;
 use crate::shelf::{Item, Shelf};
 use atomic_table::{Join, Split};
@@ -6,14 +6,15 @@ use crossbeam_utils::rule::{Outcome, Protocol};
 use left_right::reader::Reader;
 use left_right::writer::Writer;
 
-/// What a seat, of the publisher or of a look, has seen. No value of it is made.
+/// The knowledge of a seat, which belongs to the publisher or to a look. No value of this type is
+/// created.
 pub(crate) struct View {
     pub(crate) is_told: bool,
     pub(crate) name: [u64; 0],
     pub(crate) list: [LogEntry; 0],
 }
 
-/// What is published is closed, and begins with all that was seen.
+/// The published entries are closed, and begin with every list that a seat has seen.
 pub(crate) struct Published;
 
 impl Protocol<Shelf, View> for Published {
@@ -24,7 +25,7 @@ impl Protocol<Shelf, View> for Published {
     ghost first = { newcomer };
 }
 
-/// What one publication, or one look, tells its seat.
+/// The effect of one publication, or one look, on the knowledge of its seat.
 pub(crate) struct Sees;
 
 impl Outcome<Shelf, View> for Sees {
@@ -33,7 +34,7 @@ impl Outcome<Shelf, View> for Sees {
     ghost then = { Shows };
 }
 
-/// The publisher's view, for it and for a new look.
+/// The publisher keeps its view, and a new look gets a copy.
 pub(crate) struct Twice;
 
 impl Split<View> for Twice {
@@ -42,7 +43,7 @@ impl Split<View> for Twice {
     ghost right = { λ v. v };
 }
 
-/// The publisher's view in place of a newcomer's.
+/// The publisher's view replaces a newcomer's.
 pub(crate) struct Told;
 
 impl Join<View> for Told {
@@ -53,8 +54,8 @@ impl Join<View> for Told {
     ghost spent = { newcomer };
 }
 
-/// The one who publishes.
+/// The handle that publishes.
 pub(crate) type Publisher = Writer<Shelf, Item, View, Published>;
 
-/// One who looks.
+/// The handle of a look.
 pub(crate) type Viewer = Reader<Shelf, View, Published>;

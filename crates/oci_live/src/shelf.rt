@@ -1,4 +1,5 @@
-//! What is published twice over: `left_right` keeps two shelves, of which looks read one.
+//! The two copies of the published entries: `left_right` keeps two shelves, and looks read one of
+//! them.
 ghost use Rattle.std.specs.Prelude.{◌≡◌, ◌++◌, ◌∷◌, [], MatchResult};
 
 use crate::history::{LogEntry, Witness};
@@ -7,21 +8,21 @@ use oci_digest::NoMemory;
 use oci_store::{CheckedContent, Entries};
 use std::alloc::AllocError;
 
-/// An entry that is added, and a witness of the history that it ends.
+/// A new entry, and a witness of the history that ends with it.
 #[derive(Drop)]
 pub(crate) struct Item {
     pub(crate) content: CheckedContent,
     pub(crate) witness: Witness,
 }
 
-/// One of the two copies of what is published, and a witness of the history that it is.
+/// One of the two copies of the published entries, and a witness of their history.
 #[derive(Drop)]
 pub(crate) struct Shelf {
     pub(crate) entries: Entries,
     pub(crate) witness: Witness,
 }
 
-/// What the two copies have in common. No value of it is made.
+/// The state that the two copies have in common. No value of this type is created.
 pub(crate) struct Shared {
     pub(crate) list: [LogEntry; 0],
     pub(crate) log: [LogEntry; 0],
@@ -45,9 +46,11 @@ impl Absorb<Item> for Shelf {
     }
 }
 
-/// Adds an entry. The key and what it lists are copied, the bytes are shared; nothing is hashed or read.
+/// Appends an entry. The key and the keys that it lists are copied, the bytes are shared. Nothing
+/// is hashed or read.
 ///
-/// A key that is there is refused: no publication has one, which no clause of `Absorb` lets a shelf know.
+/// Fails if the key is present. No publication has such a key, but the contract of `Absorb` does
+/// not state that.
 fn add(entries: &mut Entries, content: &CheckedContent) -> Result<(), NoMemory>
     ensures { MatchResult result (λ _. entries.new ≡ entries.old ++ content.now ∷ [])
         (λ _. entries.new ≡ entries.old) }

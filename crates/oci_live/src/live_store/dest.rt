@@ -34,22 +34,33 @@ impl<R: Wait + Drop> Dest for LiveStore<R> {
         self.shelf().entries.len()
     }
 
-    /// None: it is closed.
+    /// Returns `None`, since the store is closed.
     fn missing(&self) -> Result<Option<(Key, Key)>, NoMemory> {
-        // The shelf shows the proof that what it has is closed.
+        // The contract of `shelf` states that the entries are closed.
         let _closed = self.shelf();
         Ok(None)
     }
 
-    /// One publication. It may wait for calls of looks that have begun.
+    /// Publishes one entry. This may wait for calls of looks that have begun.
     ///
-    /// If the publication runs out of memory the store is halted, and a halted store publishes nothing any more.
+    /// # Errors
+    ///
+    /// The causes are checked in this order:
+    ///
+    /// - 30 `AlreadyExists`: the key is held.
+    /// - 42 `MissingSuccessor`: the content lists a key that is not held. The first one is
+    ///   reported.
+    /// - 44 `Halted`: the store had halted before the call.
+    ///
+    /// 34 `Memory` is possible at any point. If the publication runs out of memory, the store halts
+    /// and publishes nothing from then on. An error leaves the entries unchanged.
     fn push_checked(&mut self, content: CheckedContent) -> Result<usize, PushFault>
         ensures pushed { IsPush ⊥ (state_of self.old) (state_of self.new) content result }
         ensures untouched { IsErr (closed_check (state_of self.old).nodes content.0 content.1)
             → self.new ≡ self.old }
 
-        // Of a live store alone: it has no device, only a running one publishes, and a refusal leaves all as it was, or halts it.
+        // Only of a live store: it has no device, only a running store publishes, and an error
+        // leaves the store unchanged or halts it.
         ensures device { IsErrOf result PushFault.Device → ⊥ }
         ensures published { OnOk result ((self.old.is_halted ≡ false)
             × (self.new ≡ record self.old { entries = self.old.entries ++ content ∷ [] })) }
