@@ -1,10 +1,10 @@
--- A store in memory that counts pushes that failed.
+-- A store in memory that counts failed pushes.
 use Rattle.std.specs.Prelude.{ℕ, false, [], ⊤}
 use Rattle.oci_store.specs.Contents.{Contents}
 use Rattle.oci_store.specs.Graph.{nodes_of}
 use Rattle.oci_store.specs.State.{State}
 
--- what it means, with so many failures
+-- the meaning of the store with this number of failures
 abbrev pub failing : Contents → ℕ → State
 failing held failures = record {
   nodes = nodes_of held.entries;

@@ -1,11 +1,11 @@
-//! The contents: small images, indexes and their layers, with their digests computed.
+//! Sample contents: small images, indexes and their layers, with computed digests.
 //!
-//! | Content | What it is |
+//! | Content | Description |
 //! |---|---|
 //! | `empty` | the empty JSON object, under the media type of an empty config |
 //! | `foo`, `bar` | layers of three bytes |
-//! | `foo_by_sha512` | the bytes of `foo`, with their digest by SHA-512 |
-//! | `image_0` | an image with the config `empty`, as the others have, and `layers` null |
+//! | `foo_by_sha512` | the bytes of `foo`, with their SHA-512 digest |
+//! | `image_0` | an image with the config `empty`, like the others, and `layers` null |
 //! | `image_1`, `image_2`, `image_3` | images with the layers `foo` twice, `foo`, `foo` and `bar` |
 //! | `image_4` | an image whose one layer has the bytes of `image_0` |
 //! | `image_5` | an image whose one layer is `foo_by_sha512` |
@@ -13,7 +13,7 @@
 //! | `index_1`, `index_2` | indexes of `image_2` and `image_3`, of `image_0` and `image_4` |
 //! | `index_3`, `index_4` | indexes of `image_2`, of `index_3` |
 //! | `index_5`, `index_6` | indexes of `index_4` and `image_2`, of `index_5` |
-//! | `docker_image` | a Docker image whose one layer has the bytes of `bar` and is not distributed |
+//! | `docker_image` | a Docker image whose one layer, the bytes of `bar`, is not distributed |
 use bytes::Bytes;
 use oci_digest::Digest;
 use oci_manifest::Key;
@@ -33,7 +33,7 @@ pub const LAYER: &str = "application/vnd.oci.image.layer.v1.tar";
 
 pub const FOREIGN: &str = "application/vnd.docker.image.rootfs.foreign.diff.tar.gzip";
 
-/// The name of the one row whose digest is by SHA-512.
+/// The name of the only row with a SHA-512 digest.
 const FOO_BY_SHA512: &str = "foo_by_sha512";
 
 /// The beginning of the images with the config `empty`.
@@ -46,11 +46,11 @@ const DOCKER_HEAD: &str = r#"{"schemaVersion":2,"config":<empty>,"layers":"#;
 /// The beginning of the indexes.
 const INDEX_HEAD: &str = r#"{"schemaVersion":2,"manifests":["#;
 
-/// A content: its name, its media type, and its text in two parts, in which `<name>` stands for the descriptor of the row of
-/// that name.
+/// A content: its name, its media type, and its text in two parts. In the text, `<name>` is
+/// replaced by the descriptor of the row with that name.
 type Row = (&'static str, &'static str, &'static str, &'static str);
 
-/// The contents. A row names only rows before it.
+/// The contents. A row refers only to earlier rows.
 const ROWS: &[Row] = &[
     ("empty", EMPTY, "", "{}"),
     ("foo", LAYER, "", "foo"),
@@ -79,7 +79,7 @@ const ROWS: &[Row] = &[
     ),
 ];
 
-/// The contents, by name.
+/// The names of the contents.
 #[derive(Clone, Copy, Debug)]
 pub enum Sample {
     Empty,
@@ -119,7 +119,7 @@ impl Sample {
         Ok(Bytes::from_vec(content.bytes.into_bytes())?)
     }
 
-    /// The name of its row.
+    /// Returns the name of the row.
     fn name(self) -> &'static str {
         match self {
             Sample::Empty => "empty",
@@ -145,7 +145,7 @@ impl Sample {
     }
 }
 
-/// Some bytes, which are text here, and their media type.
+/// Bytes, which are text here, and their media type.
 #[derive(Drop)]
 pub struct Content {
     pub media_type: &'static str,
@@ -157,27 +157,27 @@ impl Content {
         self.key_as(alloc, self.media_type)
     }
 
-    /// The key of these bytes under another media type.
+    /// Returns the key of these bytes under another media type.
     pub fn key_as(&self, alloc: Global, media_type: &str) -> Result<Key, Fail> {
         let digest = Digest::of(self.bytes.as_bytes());
         let media_type = String::from_str(alloc, media_type)?;
         Ok(Key::new(media_type, digest, self.bytes.len() as u64)?)
     }
 
-    /// The key of these bytes with their digest by SHA-512.
+    /// Returns the key of these bytes with their SHA-512 digest.
     pub fn key_by_sha512(&self, alloc: Global) -> Result<Key, Fail> {
         let digest = Digest::of_sha512(self.bytes.as_bytes());
         let media_type = String::from_str(alloc, self.media_type)?;
         Ok(Key::new(media_type, digest, self.bytes.len() as u64)?)
     }
 
-    /// The descriptor of this content, as JSON.
+    /// Returns the descriptor of this content as JSON.
     pub fn descriptor(&self, alloc: Global) -> Result<String, Fail> {
         descriptor(alloc, &self.key(alloc)?)
     }
 }
 
-/// The descriptor of a key, as JSON.
+/// Returns the descriptor of a key as JSON.
 pub fn descriptor(alloc: Global, key: &Key) -> Result<String, Fail> {
     let (media_type, digest, size) = (key.media_type(), key.digest(), key.size());
     Ok(format!(in alloc;
@@ -185,7 +185,7 @@ pub fn descriptor(alloc: Global, key: &Key) -> Result<String, Fail> {
     )?)
 }
 
-/// The key of the content that has this name.
+/// Returns the key of the content with this name.
 fn key_named(alloc: Global, name: &str, content: &Content) -> Result<Key, Fail> {
     if name == FOO_BY_SHA512 {
         content.key_by_sha512(alloc)
@@ -194,7 +194,7 @@ fn key_named(alloc: Global, name: &str, content: &Content) -> Result<Key, Fail> 
     }
 }
 
-/// The content that has this name. The descriptors of the rows before its own are made first.
+/// Returns the content with this name, after creating the descriptors of all earlier rows.
 fn content_named(alloc: Global, name: &str) -> Result<Content, Fail> {
     let mut descriptors = Vec::new(alloc);
     for row in ROWS {
@@ -206,14 +206,14 @@ fn content_named(alloc: Global, name: &str) -> Result<Content, Fail> {
     Err(Fail::from("no content has this name"))
 }
 
-/// Adds the descriptor of a row to those of the rows before it.
+/// Appends the descriptor of a row to the descriptors of the earlier rows.
 fn push_descriptor(alloc: Global, descriptors: &mut Vec<String>, row: &Row) -> Result<(), Fail> {
     let content = content_of(alloc, row, descriptors)?;
     let key = key_named(alloc, row.0, &content)?;
     Ok(descriptors.push(descriptor(alloc, &key)?)?)
 }
 
-/// The content of a row, by the descriptors of the rows before it.
+/// Returns the content of a row, given the descriptors of the earlier rows.
 fn content_of(alloc: Global, row: &Row, descriptors: &[String]) -> Result<Content, Fail> {
     let (_, media_type, head, rest) = *row;
     let mut bytes = String::new(alloc);
@@ -222,7 +222,7 @@ fn content_of(alloc: Global, row: &Row, descriptors: &[String]) -> Result<Conten
     Ok(Content { media_type, bytes })
 }
 
-/// Adds a text, with a descriptor in the place of each name.
+/// Appends a text with each name replaced by its descriptor.
 fn push_filled(bytes: &mut String, text: &str, descriptors: &[String]) -> Result<(), Fail> {
     for part in text.split('<') {
         push_part(bytes, part, descriptors)?;
@@ -230,7 +230,7 @@ fn push_filled(bytes: &mut String, text: &str, descriptors: &[String]) -> Result
     Ok(())
 }
 
-/// Adds a name's descriptor and what follows it, or the beginning of a text.
+/// Appends a name's descriptor and the text after it, or the beginning of a text.
 fn push_part(bytes: &mut String, part: &str, descriptors: &[String]) -> Result<(), Fail> {
     match part.split_once('>') {
         Some((name, rest)) => {
@@ -241,7 +241,7 @@ fn push_part(bytes: &mut String, part: &str, descriptors: &[String]) -> Result<(
     }
 }
 
-/// Adds the descriptor of the row of this name.
+/// Appends the descriptor of the row with this name.
 fn push_named(bytes: &mut String, name: &str, descriptors: &[String]) -> Result<(), Fail> {
     for (row, descriptor) in ROWS.iter().zip(descriptors) {
         if row.0 == name {
@@ -251,7 +251,7 @@ fn push_named(bytes: &mut String, name: &str, descriptors: &[String]) -> Result<
     Err(Fail::from("no row before has this name"))
 }
 
-/// The image with the config `empty`, which is the first row, whose text goes on with `rest` after `"layers":`.
+/// Returns an image with the config `empty`. Its text continues with `rest` after `"layers":`.
 pub fn image(alloc: Global, rest: &str) -> Result<Content, Fail> {
     let config = Sample::Empty.content(alloc)?.descriptor(alloc)?;
     let mut bytes = String::new(alloc);
@@ -263,7 +263,7 @@ pub fn image(alloc: Global, rest: &str) -> Result<Content, Fail> {
     })
 }
 
-/// The index whose list of descriptors is `list`, without its brackets.
+/// Returns an index with the descriptors in `list`, which has no brackets.
 pub fn index(alloc: Global, list: &str) -> Result<Content, Fail> {
     Ok(Content {
         media_type: INDEX,

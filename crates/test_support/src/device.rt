@@ -11,7 +11,7 @@ use std::collections::BTreeMap;
 use std::marker::Model;
 use std::sync::atomic::{AtomicU64, Ordering};
 
-/// A device that counts what it is asked for, and fails one put and one get.
+/// A device that counts its puts and gets, and can fail one of each.
 #[derive(Drop)]
 pub struct Device {
     puts: AtomicU64,
@@ -21,7 +21,7 @@ pub struct Device {
 }
 
 impl Device {
-    /// A device that fails the put and the get of these numbers, which are counted from 0.
+    /// Creates a device that fails the put and the get with these numbers, counted from 0.
     pub fn failing(put: Option<u64>, get: Option<u64>) -> Device {
         Device {
             puts: AtomicU64::new(0),
@@ -31,23 +31,24 @@ impl Device {
         }
     }
 
-    /// How many puts were asked for.
+    /// Returns the number of requested puts.
     pub fn puts(&self) -> u64 {
         self.puts.load(Ordering::SeqCst)
     }
 
-    /// Counts a put: whether it passes.
+    /// Counts a put, and returns whether it succeeds.
     fn passes_put(&self) -> bool {
         self.failing_put != Some(self.puts.fetch_add(1, Ordering::SeqCst))
     }
 
-    /// Counts a get: whether it passes.
+    /// Counts a get, and returns whether it succeeds.
     fn passes_get(&self) -> bool {
         self.failing_get != Some(self.gets.fetch_add(1, Ordering::SeqCst))
     }
 }
 
-/// A store over a [`Device`], with one file per digest. It keeps what was pushed; a fetch gives what the file has now.
+/// A store on a [`Device`], with one file per digest. A fetch returns the current bytes of the
+/// file.
 #[derive(Drop)]
 pub struct DeviceStore<'d> {
     alloc: Global,
@@ -68,7 +69,7 @@ impl<'d> Model for DeviceStore<'d> {
 }
 
 impl<'d> DeviceStore<'d> {
-    /// An empty store over a device.
+    /// Creates an empty store on a device.
     pub fn new(alloc: Global, device: &'d Device) -> DeviceStore<'d> {
         DeviceStore {
             alloc,
@@ -79,14 +80,14 @@ impl<'d> DeviceStore<'d> {
         }
     }
 
-    /// Whether the key is held.
+    /// Returns whether the key is held.
     fn holds(&self, key: &Key) -> bool
         ensures { result ≡ has_key (written self.now.1 self.now.0) key.now }
     {
         self.held.content(key).is_some()
     }
 
-    /// What the file of a key's digest has now.
+    /// Returns the current bytes of the file of a key's digest.
     fn file_of(&self, key: &Key) -> Option<&Bytes>
         ensures { IfSome result (λ bytes. has_key (written self.now.1 self.now.0) key.now ≡ true
             → value_at (written self.now.1 self.now.0) key.now ≡ Some bytes.now) }
@@ -169,7 +170,7 @@ impl<'d> Dest for DeviceStore<'d> {
         let bytes = content.bytes().as_slice();
         if !self.device.passes_put() {
             self.failures = self.failures.saturating_add(1);
-            // The put breaks off half way.
+            // The put stops halfway.
             let half = &bytes[..bytes.len() / 2];
             let _ = put(self.alloc, &mut self.files, content.key(), half);
             return Err(PushFault::Device);
@@ -194,7 +195,7 @@ impl<'d> Dest for DeviceStore<'d> {
     }
 }
 
-/// Puts bytes into the file of a key's digest.
+/// Writes bytes to the file of a key's digest.
 fn put(
     alloc: Global,
     files: &mut BTreeMap<Digest, Bytes>,

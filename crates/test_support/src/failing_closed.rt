@@ -6,15 +6,15 @@ use oci_store::{
 };
 use std::marker::Model;
 
-/// Counts down to the one push that fails.
+/// Counts down to the push that fails.
 #[derive(Drop)]
 struct Countdown {
-    /// How many more pushes pass before that one. None once it failed.
+    /// The number of pushes before the failing one. `None` after it failed.
     passing: Option<u64>,
 }
 
 impl Countdown {
-    /// Counts a push: whether it is the one that fails.
+    /// Counts a push, and returns whether it fails.
     fn fails_now(&mut self) -> bool {
         let Some(passing) = self.passing else {
             return false;
@@ -24,7 +24,7 @@ impl Countdown {
     }
 }
 
-/// A closed store in memory that passes its calls on, and refuses one push for its device.
+/// A closed store in memory that forwards its calls, and fails one push with a device error.
 #[derive(Drop)]
 pub struct FailingClosedStore {
     store: ClosedStore,
@@ -42,7 +42,8 @@ impl Model for FailingClosedStore {
 }
 
 impl FailingClosedStore {
-    /// Passes so many pushes on to the store, then fails one, and passes all further ones on.
+    /// Creates a store whose first `passing` pushes are forwarded, whose next push fails, and whose
+    /// later pushes are forwarded again.
     pub fn after(store: ClosedStore, passing: u64) -> FailingClosedStore {
         FailingClosedStore {
             store,

@@ -4,7 +4,7 @@ ghost use Rattle.std.specs.Prelude.{◌<◌, All, IfOk};
 
 use std::alloc::{AllocError, Global};
 
-/// How many numbers a layer has.
+/// The number of numbers in a layer.
 const WIDTH: u32 = 100;
 
 /// The shape of a graph.
@@ -14,13 +14,14 @@ pub enum Shape {
     Chain,
     /// Each number needs the first.
     Star,
-    /// Each number needs the one at its place in the layer before its own, and the first of that layer.
+    /// Each number needs two numbers of the layer before its own: the one at the same place, and
+    /// the first.
     Layers,
     /// No number needs another.
     Leaves,
 }
 
-/// The graph of a shape that has `count` numbers.
+/// Returns a graph of this shape with `count` numbers.
 pub fn graph(alloc: Global, shape: Shape, count: u32) -> Result<Vec<Vec<u32>>, AllocError> {
     let mut lists = Vec::new(alloc);
     for number in 0..count {
@@ -29,7 +30,7 @@ pub fn graph(alloc: Global, shape: Shape, count: u32) -> Result<Vec<Vec<u32>>, A
     Ok(lists)
 }
 
-/// What a number needs.
+/// Returns the numbers that a number needs.
 fn needed(alloc: Global, shape: Shape, number: u32) -> Result<Vec<u32>, AllocError>
     ensures lower { IfOk result (λ list. All (λ n. n < number) list.items) }
 {
@@ -72,7 +73,7 @@ fn layers(alloc: Global, number: u32) -> Result<Vec<u32>, AllocError>
     Ok(list)
 }
 
-/// The graph with these lists.
+/// Returns the graph with these lists.
 pub fn graph_of(alloc: Global, lists: &[&[u32]]) -> Result<Vec<Vec<u32>>, AllocError> {
     let mut made = Vec::new(alloc);
     for list in lists {
@@ -81,7 +82,7 @@ pub fn graph_of(alloc: Global, lists: &[&[u32]]) -> Result<Vec<Vec<u32>>, AllocE
     Ok(made)
 }
 
-/// The next of a fixed sequence of numbers that look random, below a bound.
+/// Returns the next number below `bound` of a fixed sequence of numbers that look random.
 pub fn below(state: &mut u64, bound: u32) -> u32 {
     *state = state
         .wrapping_mul(6364136223846793005)
@@ -92,7 +93,8 @@ pub fn below(state: &mut u64, bound: u32) -> u32 {
         .unwrap_or(0)
 }
 
-/// Up to three random numbers below a bound, at times one of them twice; none if the bound is 0.
+/// Returns up to three random numbers below `bound`, with repetitions. The list is empty if the
+/// bound is 0.
 pub fn random_list(alloc: Global, state: &mut u64, bound: u32) -> Result<Vec<u32>, AllocError> {
     let mut list = Vec::new(alloc);
     for _ in 0..below(state, 4) {
@@ -103,7 +105,8 @@ pub fn random_list(alloc: Global, state: &mut u64, bound: u32) -> Result<Vec<u32
     Ok(list)
 }
 
-/// A random graph that has `count` numbers. If it is to be tame, each number needs only lesser ones.
+/// Returns a random graph with `count` numbers. If `tame` is true, each number needs only lesser
+/// ones.
 pub fn random_graph(
     alloc: Global,
     state: &mut u64,

@@ -1,10 +1,11 @@
-//! What the crates of tests share: small contents with their keys, stores in memory that have them, and four small stores of
-//! other kinds, proved to meet the traits of `oci_store`, and graphs of numbers.
+//! Shared parts of the test crates: small contents with their keys, stores with these contents,
+//! graphs of numbers, and four small stores of other kinds, which are proved to implement the
+//! traits of `oci_store`.
 //!
-//! A [`Sample`] is one of the contents. [`DeviceStore`] stands over a [`Device`] that has one file per digest, counts what it is
-//! asked for, and fails a put and a get: the tests of copies use it. [`FailingClosedStore`] passes all pushes but one on to a
-//! closed store. [`PublishedStore`] only publishes, and may be halted. [`OneContent`] is a source of one content, which need not
-//! read.
+//! A [`Sample`] is one of the contents. [`DeviceStore`] is on a [`Device`] with one file per
+//! digest, which counts its puts and gets and can fail one of each: the tests of copies use it.
+//! [`FailingClosedStore`] forwards all pushes but one to a closed store. [`PublishedStore`] only
+//! publishes, and can halt. [`OneContent`] is a source of one content, which may be unreadable.
 #![tactic(auto)]
 
 mod contents;

@@ -7,7 +7,7 @@ use oci_manifest::Key;
 use oci_store::{FetchFault, Source, Store};
 use std::marker::Model;
 
-/// A source over a device that has one content, which need not read as its key's kind.
+/// A source on a device with one content, which may be unreadable as its key's kind.
 #[derive(Drop)]
 pub struct OneContent {
     key: Key,
@@ -23,12 +23,13 @@ impl Model for OneContent {
 }
 
 impl OneContent {
-    /// A source of these bytes under the key. A fetch is refused with `Corrupt` if they do not match it.
+    /// Creates a source with these bytes under the key. A fetch returns `Corrupt` if they do not
+    /// match it.
     pub fn new(key: Key, bytes: Bytes) -> OneContent {
         OneContent { key, bytes }
     }
 
-    /// The bytes under a key.
+    /// Returns the bytes under a key.
     fn content(&self, key: &Key) -> Option<&Bytes>
         ensures found { option_copied result ≡ value_at (self.now ∷ []) key.now }
         ensures entry { is_some result ≡ has_key (self.now ∷ []) key.now }

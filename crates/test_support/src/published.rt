@@ -4,12 +4,12 @@ use oci_store::{CheckedContent, Dest, Entries, MemoryDraft, PushFault, Store};
 use std::alloc::Global;
 use std::marker::Model;
 
-/// A store that only publishes: its list of entries is all that others look into. Where a
-/// publication is refused, the list stays as it was and the store halts.
+/// A store that only publishes: others see exactly its list of entries. If a publication fails, the
+/// list is unchanged and the store halts.
 #[derive(Drop)]
 pub struct PublishedStore {
     published: Entries,
-    /// How many publications are not refused.
+    /// The number of publications that succeed.
     passing: u64,
     is_halted: bool,
 }
@@ -24,7 +24,7 @@ impl Model for PublishedStore {
 }
 
 impl PublishedStore {
-    /// An empty store that passes so many publications, and refuses the next.
+    /// Creates an empty store whose first `passing` publications succeed, and whose next one fails.
     pub fn new(alloc: Global, passing: u64) -> PublishedStore {
         PublishedStore {
             published: Entries::new(alloc),

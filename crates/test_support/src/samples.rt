@@ -10,7 +10,7 @@ fn push_key(alloc: Global, keys: &mut Vec<Key>, sample: Sample) -> Result<(), Fa
     Ok(())
 }
 
-/// The keys of these samples.
+/// Returns the keys of these samples.
 pub fn keys(alloc: Global, samples: &[Sample]) -> Result<Vec<Key>, Fail> {
     let mut keys = Vec::new(alloc);
     for sample in samples {
@@ -19,17 +19,17 @@ pub fn keys(alloc: Global, samples: &[Sample]) -> Result<Vec<Key>, Fail> {
     Ok(keys)
 }
 
-/// The push succeeded.
+/// Returns whether a push succeeded.
 fn pushed(answer: &Result<usize, PushFault>) -> bool {
     answer.is_ok()
 }
 
-/// Puts content into a store in memory. What is there stays.
+/// Puts content into a memory store, unless its key is held. Returns whether it was put.
 fn put(store: &mut MemoryStore, key: &Key, bytes: Bytes) -> bool {
     pushed(&store.push(key, bytes))
 }
 
-/// Puts content into a store in memory, and gives its key.
+/// Puts content into a memory store, unless its key is held, and returns its key.
 pub fn put_content(alloc: Global, store: &mut MemoryStore, content: Content) -> Result<Key, Fail> {
     let key = content.key(alloc)?;
     let Content { bytes, .. } = content;
@@ -37,20 +37,21 @@ pub fn put_content(alloc: Global, store: &mut MemoryStore, content: Content) -> 
     Ok(key)
 }
 
-/// An image whose subject is the content with this descriptor.
+/// Returns an image whose subject is the content with this descriptor.
 fn image_on(alloc: Global, subject: &str) -> Result<Content, Fail> {
     let rest = format!(in alloc; "null,\"subject\":{subject}}}")?;
     image(alloc, rest.as_str())
 }
 
-/// Puts a content into the store, and gives the image that has it as its subject.
+/// Puts a content into the store, and returns an image with this content as its subject.
 fn put_subject(alloc: Global, store: &mut MemoryStore, subject: Content) -> Result<Content, Fail> {
     let next = image_on(alloc, subject.descriptor(alloc)?.as_str())?;
     put_content(alloc, store, subject)?;
     Ok(next)
 }
 
-/// Puts a chain of images into the store, each with the one before as its subject, and gives the key of the last.
+/// Puts a chain of images into the store, each with the image before it as its subject, and returns
+/// the key of the last.
 pub fn put_chain(alloc: Global, store: &mut MemoryStore, length: u32) -> Result<Key, Fail> {
     let mut last = Sample::Image0.content(alloc)?;
     for _ in 1..length {
@@ -65,7 +66,7 @@ fn put_sample(alloc: Global, store: &mut MemoryStore, sample: Sample) -> Result<
     Ok(())
 }
 
-/// A store in memory to which these samples came, in this order.
+/// Returns a memory store with these samples, pushed in this order.
 pub fn memory(alloc: Global, samples: &[Sample]) -> Result<MemoryStore, Fail> {
     let mut store = MemoryStore::new(alloc);
     for sample in samples {
@@ -87,12 +88,12 @@ fn put_closed<D: Dest + Drop>(alloc: Global, mut store: D, samples: &[Sample]) -
     Ok(store)
 }
 
-/// A closed store to which these samples came, in this order.
+/// Returns a closed store with these samples, pushed in this order.
 pub fn closed(alloc: Global, samples: &[Sample]) -> Result<ClosedStore, Fail> {
     put_closed(alloc, ClosedStore::new(alloc), samples)
 }
 
-/// A store over a device to which these samples came, in this order.
+/// Returns a store on a device with these samples, pushed in this order.
 pub fn on_device<'d>(
     alloc: Global,
     device: &'d Device,
@@ -101,7 +102,7 @@ pub fn on_device<'d>(
     put_closed(alloc, DeviceStore::new(alloc, device), samples)
 }
 
-/// A source of an image whose bytes are those of an empty JSON list, and the image's key.
+/// Returns a source of an image whose bytes are an empty JSON list, and the key of that image.
 pub fn unreadable(alloc: Global) -> Result<(OneContent, Key), Fail> {
     let content = Content {
         media_type: IMAGE,
@@ -113,7 +114,7 @@ pub fn unreadable(alloc: Global) -> Result<(OneContent, Key), Fail> {
     Ok((OneContent::new(key.try_clone()?, bytes), key))
 }
 
-/// The store has these bytes under the key.
+/// Returns whether the store has these bytes under the key.
 pub fn gives<A: Source>(store: &A, key: &Key, bytes: &Bytes) -> bool {
     match store.fetch(key) {
         Ok(fetched) => fetched == *bytes,
@@ -121,13 +122,13 @@ pub fn gives<A: Source>(store: &A, key: &Key, bytes: &Bytes) -> bool {
     }
 }
 
-/// The store has the sample.
+/// Returns whether the store has the sample.
 pub fn gives_sample<A: Source>(alloc: Global, store: &A, sample: Sample) -> Result<bool, Fail> {
     let key = sample.key(alloc)?;
     Ok(gives(store, &key, &sample.bytes(alloc)?))
 }
 
-/// The store has these samples, and nothing else.
+/// Returns whether the store has exactly these samples.
 pub fn holds<A: Source + Dest>(alloc: Global, store: &A, samples: &[Sample]) -> Result<bool, Fail> {
     for sample in samples {
         if !gives_sample(alloc, store, *sample)? {
@@ -137,7 +138,7 @@ pub fn holds<A: Source + Dest>(alloc: Global, store: &A, samples: &[Sample]) -> 
     Ok(store.count() == samples.len())
 }
 
-/// Nothing that the store holds lists what it lacks.
+/// Returns whether the store holds every key that its contents list.
 pub fn is_closed<D: Dest>(store: &D) -> Result<bool, Fail> {
     Ok(store.missing()?.is_none())
 }
