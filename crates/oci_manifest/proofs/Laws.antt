@@ -1,5 +1,5 @@
 -- The function that computes successors and faults, against the relations that say what they are.
-use Rattle.std.proofs.Common.{◌≡◌, ℕ, ◌⊎◌, inl, inr, List, [], Some, None, Result, Ok, Err, refl, sym, ap, subst, ◌∙◌}
+use Rattle.std.proofs.Common.{◌≡◌, ◌≢◌, ℕ, ◌⊎◌, inl, inr, List, [], Some, None, Result, Ok, Err, refl, sym, ap, subst, ◌∙◌}
 use Rattle.std.specs.Prelude.{IfOk, IfErr, filter}
 use Rattle.std.specs.List.{IsDistinct}
 use Rattle.std.specs.Str.{is_utf8}
@@ -7,7 +7,7 @@ use Rattle.std.proofs.lemmas.Str.{is_utf8-from_IsUtf8, IsUtf8-from_is_utf8}
 use Rattle.serde_json.specs.Data.{Data, object, Members}
 use Rattle.serde_json.specs.Find.{as_object}
 use Rattle.oci_manifest.specs.Descriptor.{Descriptor, same_key}
-use Rattle.oci_manifest.specs.Fault.{Fails, Gives, Refuses, Fault, not_json, not_object, no_config, bad_list, bad_descriptor}
+use Rattle.oci_manifest.specs.Fault.{Fails, Gives, IsFault, Fault, not_json, not_object, no_config, bad_list, bad_descriptor}
 use Rattle.oci_manifest.specs.Manifest.{FirstFault, HasReading, Lists, Reads, Breaks, fields_of, is_distributed, distributed_once}
 use Rattle.oci_manifest.specs.Reading.{or_fault, reading, manifest_keys, successors_of, ◌>>=◌}
 use Rattle.oci_manifest.specs.declared.fault.ManifestFault.{ManifestFault}
@@ -187,15 +187,15 @@ answer-reads view kind bytes (Err e) h = tt
 pub answer-only : {X : Type 0} (view : X → List Descriptor) (kind : Kind) (bytes : List ℕ) (r : Result X ManifestFault) → Gives view r (successors_of kind bytes) → (L : List Descriptor) → Reads kind bytes L → Gives view r (Ok L)
 answer-only view kind bytes r h L reads = subst (Gives view r) (reads-complete kind bytes L reads) h
 
-fails_breaks : (kind : Kind) (bytes : List ℕ) (e : ManifestFault) → Fails e (successors_of kind bytes) → Refuses e (Breaks kind bytes)
-fails_breaks kind bytes fault.NotJson h = breaks kind bytes not_json h
-fails_breaks kind bytes fault.NotObject h = breaks kind bytes not_object h
-fails_breaks kind bytes fault.NoConfig h = breaks kind bytes no_config h
-fails_breaks kind bytes (fault.BadList m) h = breaks kind bytes (bad_list m.now) h
-fails_breaks kind bytes (fault.BadDescriptor m i) h = breaks kind bytes (bad_descriptor m.now i) h
-fails_breaks kind bytes fault.Memory h = tt
+fails_breaks : (kind : Kind) (bytes : List ℕ) (e : ManifestFault) → Fails e (successors_of kind bytes) → e ≢ fault.Memory → (f : Fault) × IsFault e f × Breaks kind bytes f
+fails_breaks kind bytes fault.NotJson h no_memory = (not_json, refl, breaks kind bytes not_json h)
+fails_breaks kind bytes fault.NotObject h no_memory = (not_object, refl, breaks kind bytes not_object h)
+fails_breaks kind bytes fault.NoConfig h no_memory = (no_config, refl, breaks kind bytes no_config h)
+fails_breaks kind bytes (fault.BadList m) h no_memory = (bad_list m.now, refl, breaks kind bytes (bad_list m.now) h)
+fails_breaks kind bytes (fault.BadDescriptor m i) h no_memory = (bad_descriptor m.now i, refl, breaks kind bytes (bad_descriptor m.now i) h)
+fails_breaks kind bytes fault.Memory h no_memory = absurd (no_memory refl)
 
-pub answer-breaks : {X : Type 0} (view : X → List Descriptor) (kind : Kind) (bytes : List ℕ) (r : Result X ManifestFault) → Gives view r (successors_of kind bytes) → IfErr r (λ e. Refuses e (Breaks kind bytes))
+pub answer-breaks : {X : Type 0} (view : X → List Descriptor) (kind : Kind) (bytes : List ℕ) (r : Result X ManifestFault) → Gives view r (successors_of kind bytes) → IfErr r (λ e. e ≢ fault.Memory → (f : Fault) × IsFault e f × Breaks kind bytes f)
 answer-breaks view kind bytes (Ok x) h = tt
 answer-breaks view kind bytes (Err e) h = fails_breaks kind bytes e h
 

@@ -1,12 +1,12 @@
 -- The functions that read the members of a manifest, against the relations that say what they hold.
-use Rattle.std.proofs.Common.{◌≡◌, ℕ, ◌+◌, inl, inr, List, [], ◌∷◌, ◌++◌, length, Option, Some, None, MatchOption, Ok, Err, refl, sym, ap, subst, ◌∙◌, arith}
+use Rattle.std.proofs.Common.{◌≡◌, ℕ, ◌+◌, ◌⊎◌, inl, inr, List, [], ◌∷◌, ◌++◌, length, Option, Some, None, MatchOption, Ok, Err, refl, sym, ap, subst, ◌∙◌, arith}
 use Rattle.std.specs.List.{AllZip}
 use Rattle.serde_json.specs.Data.{Data, array, Items, no_items, item}
 use Rattle.serde_json.specs.Find.{as_array}
 use Rattle.serde_json.specs.View.{items_of}
 use Rattle.oci_manifest.specs.Descriptor.{Descriptor}
 use Rattle.oci_manifest.specs.Fault.{Fault, no_config, bad_list, bad_descriptor}
-use Rattle.oci_manifest.specs.Manifest.{IsDescriptor, NoDescriptor, Field, optional, required, listed, member_of, Holds, HoldsAll, ListFault, FaultOf, FirstFault}
+use Rattle.oci_manifest.specs.Manifest.{IsDescriptor, NoDescriptor, Field, optional, required, listed, member_of, Holds, HoldsAll, FaultOf, FirstFault}
 use Rattle.oci_manifest.specs.Reading.{descriptor_of, or_fault, descriptors_from, single, optional_in, required_in, listed_in, keys_of, all_keys}
 use Rattle.oci_manifest.proofs.Chains.{bind_ok, bind_err, or_ok, or_err, some_or_none}
 use Rattle.oci_manifest.proofs.Descriptors.{array_some, descriptor_of-sound, descriptor_of-complete, none_descriptor, descriptor_of-none}
@@ -137,7 +137,13 @@ required-fault : (name : List ℕ) (o : Option Data) (f : Fault) → required_in
 required-fault name None f h = cc h
 required-fault name (Some d) f h = single-fault name d f h
 
-list_fault : (name : List ℕ) (d : Data) (f : Fault) → listed_in name (Some d) ≡ Err f → ListFault name f d
+-- a member that is to be a list breaks this rule
+abbrev BreaksList : List ℕ → Fault → Data → Type 0
+BreaksList name f d = (((ds : List Data) → d ≡ array (items_of ds) → ⊥) × (f ≡ bad_list name))
+    ⊎ ((front : List Data) × (bad : Data) × (rest : List Data) × (ks : List Descriptor) × (d ≡ array (items_of (front ++ bad ∷ rest)))
+    × AllZip IsDescriptor front ks × NoDescriptor bad × (f ≡ bad_descriptor name (length front)))
+
+list_fault : (name : List ℕ) (d : Data) (f : Fault) → listed_in name (Some d) ≡ Err f → BreaksList name f d
 list_fault name d f h =
     elim (bind_err (or_fault (bad_list name) (as_array d)) _ f h) [
       | inl here ↦
@@ -150,7 +156,7 @@ list_fault name d f h =
           inr (r.0, r.1, r.2, r.3, whole ∙ ap (λ (t : List Data). array (items_of t)) r.4, r.5, r.6, r.7 ∙ ap (bad_descriptor name) (omega arith))
     ]
 
-listed-fault : (name : List ℕ) (o : Option Data) (f : Fault) → listed_in name o ≡ Err f → MatchOption o ⊥ (ListFault name f)
+listed-fault : (name : List ℕ) (o : Option Data) (f : Fault) → listed_in name o ≡ Err f → MatchOption o ⊥ (BreaksList name f)
 listed-fault name None f h = cc h
 listed-fault name (Some d) f h = list_fault name d f h
 
@@ -194,13 +200,13 @@ no_list d h =
       | inr found ↦ absurd (h (list_of found.0) (array_some d found.0 found.1 ∙ ap array (sym (items_of-list_of found.0))))
     ]
 
-list-broken : (name : List ℕ) (d : Data) (f : Fault) → ListFault name f d → listed_in name (Some d) ≡ Err f
+list-broken : (name : List ℕ) (d : Data) (f : Fault) → BreaksList name f d → listed_in name (Some d) ≡ Err f
 list-broken name d f (inl h) =
     let wrong = no_list d h.0 in
     rw wrong (ap Err (sym h.1))
 list-broken name d f (inr h) = rw h.4 (descriptors_from-broken name 0 h.0 h.1 h.2 h.3 h.5 h.6 ∙ ap Err (ap (bad_descriptor name) (omega arith) ∙ sym h.7))
 
-listed-broken : (name : List ℕ) (o : Option Data) (f : Fault) → MatchOption o ⊥ (ListFault name f) → listed_in name o ≡ Err f
+listed-broken : (name : List ℕ) (o : Option Data) (f : Fault) → MatchOption o ⊥ (BreaksList name f) → listed_in name o ≡ Err f
 listed-broken name None f h = absurd h
 listed-broken name (Some d) f h = list-broken name d f h
 

@@ -14,15 +14,6 @@ pub data Fault : Type 0 where
   bad_list : List ℕ → Fault
   bad_descriptor : List ℕ → ℕ → Fault
 
--- a property of the rule that the code's error names; nothing is claimed for a memory error
-abbrev pub Refuses : ManifestFault → (Fault → Type 0) → Type 0
-Refuses code.NotJson P = P not_json
-Refuses code.NotObject P = P not_object
-Refuses code.NoConfig P = P no_config
-Refuses (code.BadList member) P = P (bad_list member.now)
-Refuses (code.BadDescriptor member position) P = P (bad_descriptor member.now position)
-Refuses code.Memory P = Unit {0}
-
 -- the code's error names the broken rule, or is a memory error
 abbrev pub Fails : {Y : Type 0} → ManifestFault → Result Y Fault → Type 0
 Fails code.NotJson r = r ≡ Err not_json

@@ -104,17 +104,14 @@ Reads kind bytes successors = (value : Data) × HasReading bytes value × Lists 
 
 -- ---- errors
 
--- a JSON value is not a list, or its first element that is not a descriptor is at the position
-abbrev pub ListFault : List ℕ → Fault → Data → Type 0
-ListFault name f d = (((ds : List Data) → d ≡ array (items_of ds) → ⊥) × (f ≡ bad_list name))
-    ⊎ ((front : List Data) × (bad : Data) × (rest : List Data) × (ks : List Descriptor) × (d ≡ array (items_of (front ++ bad ∷ rest)))
-    × AllZip IsDescriptor front ks × NoDescriptor bad × (f ≡ bad_descriptor name (length front)))
-
--- a member breaks this rule
+-- A member breaks this rule: it is not a descriptor; or it is required and absent; or it must be a
+-- list and is not one; or its first element that is not a descriptor is at the position.
 abbrev pub FaultOf : Data → Field → Fault → Type 0
 FaultOf manifest (optional name) f = MatchOption (member_of manifest name) ⊥ (λ d. NoDescriptor d × (f ≡ bad_descriptor name 0))
 FaultOf manifest (required name) f = MatchOption (member_of manifest name) (f ≡ no_config) (λ d. NoDescriptor d × (f ≡ bad_descriptor name 0))
-FaultOf manifest (listed name) f = MatchOption (member_of manifest name) ⊥ (ListFault name f)
+FaultOf manifest (listed name) f = MatchOption (member_of manifest name) ⊥ (λ d. (((ds : List Data) → d ≡ array (items_of ds) → ⊥) × (f ≡ bad_list name))
+    ⊎ ((front : List Data) × (bad : Data) × (rest : List Data) × (ks : List Descriptor) × (d ≡ array (items_of (front ++ bad ∷ rest)))
+    × AllZip IsDescriptor front ks × NoDescriptor bad × (f ≡ bad_descriptor name (length front))))
 
 -- the first of these members that breaks a rule breaks this one; the members before it have keys
 abbrev pub FirstFault : Data → List Field → Fault → Type 0

@@ -1,8 +1,8 @@
-ghost use Rattle.std.specs.Prelude.{◌≡◌, List, Ok, Err, IsOk, IfOk, IfErr, option_map};
+ghost use Rattle.std.specs.Prelude.{◌≡◌, ◌≢◌, List, Ok, Err, IsOk, IfOk, IfErr, option_map};
 ghost use Rattle.std.specs.List.{IsDistinct};
 ghost use Rattle.serde_json.specs.View.{view};
 ghost use Rattle.oci_manifest.specs.Descriptor.{Descriptor, same_key};
-ghost use Rattle.oci_manifest.specs.Fault.{Fault, Gives, Refuses, not_json};
+ghost use Rattle.oci_manifest.specs.Fault.{Fault, Gives, IsFault, not_json};
 ghost use Rattle.oci_manifest.specs.Manifest.{Reads, Breaks};
 ghost use Rattle.oci_manifest.specs.Reading.{reading, or_fault, index_keys, manifest_keys, successors_of};
 ghost use Rattle.oci_manifest.specs.declared.kind.Kind.TheVariants.{Leaf};
@@ -133,7 +133,8 @@ pub fn successors(alloc: Global, kind: Kind, bytes: &[u8]) -> Result<Vec<Key>, M
     ensures reads { (L : List Descriptor) → Reads kind bytes.now L
         → Gives (λ keys. keys.items) result (Ok L) }
     // An error names the first broken rule.
-    ensures refused { IfErr result (λ e. Refuses e (Breaks kind bytes.now)) }
+    ensures refused { IfErr result (λ e. e ≢ ManifestFault.Memory
+        → (f : Fault) × IsFault e f × Breaks kind bytes.now f) }
     // If a rule is broken, the first one is reported, unless memory runs out.
     ensures breaks { (f : Fault) → Breaks kind bytes.now f
         → Gives (λ keys. keys.items) result (Err f) }
