@@ -10,10 +10,11 @@ use test_support::Sample::{
 };
 use test_support::{Sample, memory, put_chain};
 
-/// The sample from whose key a climb begins, its depth, and the samples of the keys that it gives, in this order.
+/// The sample at which a climb starts, its depth, and the samples of the keys that it returns, in
+/// order.
 type Climb = (Sample, u32, &'static [Sample]);
 
-/// What a climb from the sample's key gives.
+/// Returns the keys of a climb from the sample's key.
 fn climbed(
     alloc: Global,
     source: &MemoryStore,
@@ -24,7 +25,7 @@ fn climbed(
     Ok(climb(alloc, source, &key, depth)?)
 }
 
-/// Whether a climb gives its keys.
+/// Returns whether a climb returns the expected keys.
 fn is_climb(
     alloc: Global,
     source: &MemoryStore,
@@ -54,7 +55,7 @@ fn assert_each<R: AllocGlobal + Abort>(
     Ok(())
 }
 
-/// The climbs of a store of these samples.
+/// Asserts climbs in a store of these samples.
 fn assert_climbs<R: AllocGlobal + Abort>(
     rt: &R,
     samples: &[Sample],
@@ -65,7 +66,8 @@ fn assert_climbs<R: AllocGlobal + Abort>(
 
 const ALL: [Sample; 5] = [Index5, Index4, Index6, Index3, Image2];
 
-/// `index_6` lies two edges above `image_2`, although the `index_5` between them is met again after three.
+/// `index_6` is two edges above `image_2`, although a longer path also reaches `index_5` between
+/// them.
 #[test]
 fn met_again_after_more_edges(rt: HostRuntime) -> Result<(), Fail> {
     static SAMPLES: [Sample; 7] = [Empty, Foo, Image2, Index3, Index4, Index5, Index6];
@@ -89,7 +91,7 @@ fn referrers_climbed(rt: HostRuntime) -> Result<(), Fail> {
     assert_climbs(&rt, &SAMPLES, &CLIMBS)
 }
 
-/// The key itself is in the answer, held or not.
+/// The result contains the key itself, held or not.
 #[test]
 fn climb_of_a_key_that_is_not_held(rt: HostRuntime) -> Result<(), Fail> {
     static SAMPLES: [Sample; 1] = [Image0];
@@ -101,14 +103,14 @@ fn climb_of_a_key_that_is_not_held(rt: HostRuntime) -> Result<(), Fail> {
     assert_climbs(&rt, &SAMPLES, &CLIMBS)
 }
 
-/// A store of a chain of images.
+/// Returns a store of a chain of images.
 fn chain(alloc: Global, length: u32) -> Result<MemoryStore, Fail> {
     let mut store = memory(alloc, &[Empty])?;
     put_chain(alloc, &mut store, length)?;
     Ok(store)
 }
 
-/// How many keys a climb finds from the first image of a chain.
+/// Returns the number of keys in a climb from the first image of a chain.
 fn found(alloc: Global, length: u32) -> Result<usize, Fail> {
     let store = chain(alloc, length)?;
     Ok(climbed(alloc, &store, Image0, 0)?.len())

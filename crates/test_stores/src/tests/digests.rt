@@ -14,12 +14,13 @@ const EMPTY_SHA512: &str =
 const ABC_SHA512: &str =
     "sha512:ddaf35a193617abacc417349ae20413112e6fa4e89a97ea20a9eeee64b55d39a2192992a274fc1a836ba3c23a3feebbd454d4423643ce80e2a9ac94fa54ca49f";
 
-/// `count` bytes that are all `byte`. It promises nothing, so that no proof writes them out.
+/// Returns `count` bytes equal to `byte`. It has no contract, so that no proof expands the bytes.
 fn repeated(alloc: Global, byte: u8, count: usize) -> Result<Vec<u8>, AllocError> {
     vec![in alloc; byte; count]
 }
 
-/// Whether a digest has this text, as what the text is read as, and verifies this content and no other.
+/// Returns whether a digest prints as this text, is read back from it, and verifies only this
+/// content.
 fn goes_with(alloc: Global, digest: Digest, content: &[u8], text: &str) -> Result<bool, NoMemory> {
     let printed = digest.text(alloc)?;
     Ok(
@@ -43,7 +44,7 @@ fn digest(algorithm: Algorithm, content: &[u8]) -> Digest {
     }
 }
 
-/// The digests of contents have these texts.
+/// Asserts that the digests of these contents have these texts.
 fn assert_digests<R: AllocGlobal + Abort>(
     rt: &R,
     algorithm: Algorithm,
@@ -58,7 +59,7 @@ fn assert_digests<R: AllocGlobal + Abort>(
     Ok(())
 }
 
-/// The digest of a million times `a`.
+/// Asserts the digest of one million `a`.
 fn assert_million<R: AllocGlobal + Abort>(
     rt: &R,
     algorithm: Algorithm,
@@ -68,7 +69,7 @@ fn assert_million<R: AllocGlobal + Abort>(
     assert_digests(rt, algorithm, &[(million.as_slice(), text)])
 }
 
-/// The last is the example of FIPS 180-4 of two blocks.
+/// The last one is the two-block example of FIPS 180-4.
 const SHA256_VECTORS: [(&[u8], &str); 3] = [
     (b"", EMPTY),
     (b"abc", ABC),
@@ -81,7 +82,7 @@ const SHA256_VECTORS: [(&[u8], &str); 3] = [
 #[test]
 fn digest_vectors(rt: HostRuntime) -> Result<(), Fail> {
     assert_digests(&rt, Algorithm::Sha256, &SHA256_VECTORS)?;
-    // The example of FIPS 180-4 of many blocks.
+    // The many-block example of FIPS 180-4.
     assert_million(
         &rt,
         Algorithm::Sha256,
@@ -89,7 +90,7 @@ fn digest_vectors(rt: HostRuntime) -> Result<(), Fail> {
     )
 }
 
-/// The last is the example of FIPS 180-4 of two blocks.
+/// The last one is the two-block example of FIPS 180-4.
 const SHA512_VECTORS: [(&[u8], &str); 3] = [
     (b"", EMPTY_SHA512),
     (b"abc", ABC_SHA512),
@@ -102,7 +103,7 @@ const SHA512_VECTORS: [(&[u8], &str); 3] = [
 #[test]
 fn of_sha512(rt: HostRuntime) -> Result<(), Fail> {
     assert_digests(&rt, Algorithm::Sha512, &SHA512_VECTORS)?;
-    // The example of FIPS 180-4 of many blocks.
+    // The many-block example of FIPS 180-4.
     assert_million(
         &rt,
         Algorithm::Sha512,
@@ -110,16 +111,17 @@ fn of_sha512(rt: HostRuntime) -> Result<(), Fail> {
     )
 }
 
-/// Each of the texts is refused with this fault.
+/// Asserts that parsing each text returns this error.
 fn assert_refused(rt: &impl Abort, fault: DigestFault, texts: &[&str]) {
     for text in texts {
         assert!(rt; Digest::parse(text) == Err(fault), "{text:?}");
     }
 }
 
-/// Encoded parts that are none of SHA-512.
+/// Encoded parts that are not valid for SHA-512.
 const SHA512_BAD_ENCODING: &[&str] = &[
-    // 64 and 127 digits, the digest of `abc` with a digit more, and 128 digits of which one is none.
+    // 64 digits, 127 digits, the digest of `abc` with one more digit, and 128 characters with one
+    // that is not a digit.
     "sha512:aaaaaaaaaaaaaaaaaaaaaaaaaaaaaaaaaaaaaaaaaaaaaaaaaaaaaaaaaaaaaaaa",
     "sha512:aaaaaaaaaaaaaaaaaaaaaaaaaaaaaaaaaaaaaaaaaaaaaaaaaaaaaaaaaaaaaaaaaaaaaaaaaaaaaaaaaaaaaaaaaaaaaaaaaaaaaaaaaaaaaaaaaaaaaaaaaaaaaaa",
     "sha512:ddaf35a193617abacc417349ae20413112e6fa4e89a97ea20a9eeee64b55d39a2192992a274fc1a836ba3c23a3feebbd454d4423643ce80e2a9ac94fa54ca49f0",
@@ -128,7 +130,7 @@ const SHA512_BAD_ENCODING: &[&str] = &[
     "sha512:=",
 ];
 
-/// With 128 digits the algorithm is still another.
+/// The algorithm is unknown even with 128 digits.
 const SHA512_UNKNOWN_ALGORITHM: &[&str] = &[
     "sha384:aa",
     "sha384:aaaaaaaaaaaaaaaaaaaaaaaaaaaaaaaaaaaaaaaaaaaaaaaaaaaaaaaaaaaaaaaaaaaaaaaaaaaaaaaaaaaaaaaaaaaaaaaaaaaaaaaaaaaaaaaaaaaaaaaaaaaaaaaa",
@@ -147,7 +149,7 @@ fn sha512_refusals(rt: HostRuntime) {
     assert_refused(&rt, DigestFault::BadForm, &["SHA512:aa"]);
 }
 
-/// Encoded parts that are none of SHA-256.
+/// Encoded parts that are not valid for SHA-256.
 const BAD_ENCODING: &[&str] = &[
     "sha256:AAAAAAAAAAAAAAAAAAAAAAAAAAAAAAAAAAAAAAAAAAAAAAAAAAAAAAAAAAAAAAAA",
     "sha256:aaaaaaaaaaaaaaaaaaaaaaaaaaaaaaaaaaaaaaaaaaaaaaaaaaaaaaaaaaaaaaa",
@@ -158,7 +160,7 @@ const BAD_ENCODING: &[&str] = &[
     "sha256:=",
 ];
 
-/// Texts of other algorithms. The second and the third are examples of descriptor.md.
+/// Texts with other algorithms. The second and the third are examples of descriptor.md.
 const UNKNOWN_ALGORITHM: &[&str] = &[
     "md5:d41d",
     "multihash+base58:QmRZxt2b1FVZPNqd8hsiykDL3TdBDeTSPX9Kv46HmX4Gx8",
@@ -170,7 +172,7 @@ const UNKNOWN_ALGORITHM: &[&str] = &[
     "sha25:aaaaaaaaaaaaaaaaaaaaaaaaaaaaaaaaaaaaaaaaaaaaaaaaaaaaaaaaaaaaaaaa",
 ];
 
-/// Texts that are no digest's.
+/// Texts that do not match the grammar of digests.
 const BAD_FORM: &[&str] = &[
     "sha256",
     "sha256:",
@@ -179,12 +181,12 @@ const BAD_FORM: &[&str] = &[
     "",
     ":",
     ":aa",
-    // No component before, between or after separators.
+    // Separators with no component before, between or after them.
     "+sha256:aa",
     "sha256+:aa",
     "sha256+-b64:aa",
     "sha256..b64:aa",
-    // Characters that stand in no algorithm, or in no encoded part.
+    // Characters that are not allowed in an algorithm, or in an encoded part.
     "sha/256:aa",
     "sha=256:aa",
     "sh\u{e1}256:aa",
@@ -192,7 +194,7 @@ const BAD_FORM: &[&str] = &[
     "sha256:aa+bb",
     "sha256:aa.bb",
     "sha256:aa/bb",
-    // The digest of no bytes, with a character more.
+    // The digest of no bytes, with one more character.
     " sha256:e3b0c44298fc1c149afbf4c8996fb92427ae41e4649b934ca495991b7852b855",
     "sha256: e3b0c44298fc1c149afbf4c8996fb92427ae41e4649b934ca495991b7852b855",
     "sha256:e3b0c44298fc1c149afbf4c8996fb92427ae41e4649b934ca495991b7852b855\n",
@@ -207,7 +209,7 @@ fn digest_refusals(rt: HostRuntime) {
     assert_refused(&rt, DigestFault::BadForm, BAD_FORM);
 }
 
-/// Texts of digests, in their order.
+/// Texts of digests in ascending order.
 const RISING: &[&str] = &[
     "sha256:0000000000000000000000000000000000000000000000000000000000000000",
     "sha256:00000000000000000000000000000000000000000000000000000000000000f0",
@@ -219,12 +221,12 @@ const RISING: &[&str] = &[
     ABC_SHA512,
 ];
 
-/// Whether two digests compare as their places do.
+/// Returns whether two digests compare as their places do.
 fn compare_alike(left: &Digest, right: &Digest, at: usize, place: usize) -> bool {
     left.cmp(right) == at.cmp(&place) && (*left == *right) == (at == place)
 }
 
-/// Two digests compare as their places do.
+/// Asserts that two digests compare as their places do.
 fn assert_compares(rt: &impl Abort, (at, first): (usize, &str), (place, second): (usize, &str)) {
     let (Ok(left), Ok(right)) = (Digest::parse(first), Digest::parse(second)) else {
         panic!(rt; "{first} and {second} are digests");
@@ -235,7 +237,7 @@ fn assert_compares(rt: &impl Abort, (at, first): (usize, &str), (place, second):
     );
 }
 
-/// The digest at a place of the texts, compared with each.
+/// Compares the digest at a place with each digest.
 fn assert_place(rt: &impl Abort, at: usize, first: &str) {
     for place in 0..RISING.len() {
         assert_compares(rt, (at, first), (place, RISING[place]));
@@ -249,7 +251,7 @@ fn order_is_that_of_the_texts(rt: HostRuntime) {
     }
 }
 
-/// A value prints as this text.
+/// Asserts that a value prints as this text.
 fn assert_prints<R: AllocGlobal + Abort, T: Display>(
     rt: &R,
     value: &T,
@@ -259,7 +261,7 @@ fn assert_prints<R: AllocGlobal + Abort, T: Display>(
     Ok(())
 }
 
-/// The same of what is for debugging.
+/// Like `assert_prints`, for the `Debug` form of a digest.
 fn assert_debugs<R: AllocGlobal + Abort>(rt: &R, digest: &Digest, text: &str) -> Result<(), Fail> {
     let debug = format!(in rt.alloc(); "{digest:?}")?;
     assert_eq!(rt; debug.as_str(), text);
@@ -279,7 +281,7 @@ fn printed_texts(rt: HostRuntime) -> Result<(), Fail> {
     )
 }
 
-/// The digest is by this algorithm, and has these digits.
+/// Asserts the algorithm and the hexadecimal digits of a digest.
 fn assert_parts<R: AllocGlobal + Abort>(
     rt: &R,
     digest: &Digest,
@@ -297,7 +299,7 @@ fn parts_of_a_digest(rt: HostRuntime) -> Result<(), Fail> {
     assert_parts(&rt, &Digest::of_sha512(b"abc"), "sha512", &ABC_SHA512[7..])
 }
 
-/// A fault has this number, and prints as this text.
+/// Asserts the number and the printed text of an error.
 fn assert_fault<R: AllocGlobal + Abort>(
     rt: &R,
     fault: DigestFault,

@@ -1,4 +1,4 @@
-//! How each refusal prints: its number, its name, and what it carries.
+//! The printed form of each error: its number, its name, and its fields.
 
 use crate::tests::faults::Fault::{
     OfFetch, OfKey, OfManifest, OfOpen, OfPlan, OfPush, OfReference,
@@ -15,7 +15,7 @@ use std::test::Fail;
 use test_support::Sample::{Bar, Foo};
 use test_support::{Sample, keys};
 
-/// A number, and then these parts.
+/// Returns the text of a number, followed by these parts.
 fn numbered(alloc: Global, number: u8, rest: &[Part]) -> Result<String, Fail> {
     let rest = text(alloc, rest)?;
     Ok(format!(in alloc; "{number} {rest}")?)
@@ -25,7 +25,7 @@ fn printed<F: Display>(alloc: Global, fault: &F) -> Result<String, Fail> {
     Ok(format!(in alloc; "{fault}")?)
 }
 
-/// The line is a number, and then these parts.
+/// Asserts that a line is a number, followed by these parts.
 fn assert_line<R: AllocGlobal + Abort>(
     rt: &R,
     line: &str,
@@ -37,7 +37,7 @@ fn assert_line<R: AllocGlobal + Abort>(
     Ok(())
 }
 
-/// A fault prints as its number and the rest.
+/// Asserts that an error prints as its number and these parts.
 fn assert_printed<R: AllocGlobal + Abort, F: Display>(
     rt: &R,
     fault: &F,
@@ -47,7 +47,7 @@ fn assert_printed<R: AllocGlobal + Abort, F: Display>(
     assert_line(rt, printed(rt.alloc(), fault)?.as_str(), number, rest)
 }
 
-/// A fault. Each has samples in the place of their keys.
+/// An error, with samples in place of their keys.
 #[derive(Clone, Copy)]
 enum Fault {
     OfKey(KeyFault),
@@ -162,7 +162,7 @@ fn assert_fault<R: AllocGlobal + Abort>(rt: &R, fault: Fault, rest: &[Part]) -> 
     }
 }
 
-/// Faults, and what each prints after its number.
+/// Asserts the text that each of these errors prints after its number.
 fn assert_faults<R: AllocGlobal + Abort>(rt: &R, rows: &[(Fault, &[Part])]) -> Result<(), Fail> {
     for (fault, rest) in rows {
         assert_fault(rt, *fault, rest)?;

@@ -10,10 +10,10 @@ use test_support::Sample::{
 };
 use test_support::{Sample, closed, holds, keys, memory};
 
-/// A sample, and the samples whose keys list its key, in this order.
+/// A sample, and the samples whose keys list its key, in order.
 type Listed = (Sample, &'static [Sample]);
 
-/// The keys that list a sample's key.
+/// Returns the keys that list a sample's key.
 fn predecessors<G: GraphSource>(
     alloc: Global,
     store: &G,
@@ -23,7 +23,7 @@ fn predecessors<G: GraphSource>(
     Ok(store.predecessors(&key)?)
 }
 
-/// Whether these are the keys of the samples, in their order.
+/// Returns whether these are the keys of the samples, in order.
 pub(crate) fn are_keys(alloc: Global, got: &[Key], want: &[Sample]) -> Result<bool, Fail> {
     Ok(got == keys(alloc, want)?.as_slice())
 }
@@ -50,7 +50,7 @@ fn assert_each<R: AllocGlobal + Abort>(
     Ok(())
 }
 
-/// The predecessors of keys in an open store of these samples.
+/// Asserts the predecessors of keys in an open store of these samples.
 fn assert_listed<R: AllocGlobal + Abort>(
     rt: &R,
     samples: &[Sample],
@@ -66,7 +66,8 @@ fn referrers(rt: HostRuntime) -> Result<(), Fail> {
     assert_listed(&rt, &SAMPLES, &ROWS)
 }
 
-/// The samples whose keys list the key of `foo`, by their digests, which begin with 3f, 7e and d8.
+/// The samples whose keys list the key of `foo`, in the order of their digests, which begin with
+/// 3f, 7e and d8.
 const HOLDERS_OF_FOO: Listed = (Foo, &[Image3, Image2, Image1]);
 
 /// Three images list one layer, in an open and in a closed store.
@@ -77,13 +78,13 @@ fn predecessors_of_a_shared_layer(rt: HostRuntime) -> Result<(), Fail> {
     assert_predecessors(&rt, &closed(rt.alloc(), &samples)?, HOLDERS_OF_FOO)
 }
 
-/// The listed key need not be held.
+/// A listed key need not be held.
 #[test]
 fn predecessors_of_a_key_that_is_not_held(rt: HostRuntime) -> Result<(), Fail> {
     assert_listed(&rt, &[Image0], &[(Empty, &[Image0])])
 }
 
-/// Whether the store lists these samples under the sample's key.
+/// Returns whether the store lists these samples under the sample's key.
 fn lists<G: GraphSource>(alloc: Global, store: &G, (sample, want): Listed) -> Result<bool, Fail> {
     match store.successors(&sample.key(alloc)?)? {
         Some(keys) => are_keys(alloc, &keys, want),
@@ -91,7 +92,7 @@ fn lists<G: GraphSource>(alloc: Global, store: &G, (sample, want): Listed) -> Re
     }
 }
 
-/// An image lists its config and its layer, a layer lists nothing, and nothing is known of `bar`.
+/// An image lists its config and its layer, a layer lists nothing, and `bar` is not held.
 fn assert_lists<R: AllocGlobal + Abort, G: GraphSource>(rt: &R, store: &G) -> Result<(), Fail> {
     assert!(rt; lists(rt.alloc(), store, (Image2, &[Empty, Foo]))?);
     assert!(rt; lists(rt.alloc(), store, (Foo, &[]))?);
@@ -100,7 +101,7 @@ fn assert_lists<R: AllocGlobal + Abort, G: GraphSource>(rt: &R, store: &G) -> Re
     Ok(())
 }
 
-/// What held keys list, in an open and in a closed store.
+/// The successors of held keys, in an open and in a closed store.
 #[test]
 fn successors_of_held_keys(rt: HostRuntime) -> Result<(), Fail> {
     let samples = [Empty, Foo, Image2];
@@ -108,7 +109,7 @@ fn successors_of_held_keys(rt: HostRuntime) -> Result<(), Fail> {
     assert_lists(&rt, &closed(rt.alloc(), &samples)?)
 }
 
-/// A key and one that it lists, as text; nothing where there are none.
+/// Returns a key and one that it lists as text; empty if there are none.
 fn pair(alloc: Global, keys: &Option<(Key, Key)>) -> Result<String, Fail> {
     match keys {
         Some((holder, missing)) => Ok(format!(in alloc; "{holder} {missing}")?),
@@ -116,13 +117,13 @@ fn pair(alloc: Global, keys: &Option<(Key, Key)>) -> Result<String, Fail> {
     }
 }
 
-/// What `missing` answers of a store of samples, as text.
+/// Returns the result of `missing` for a store of these samples, as text.
 fn missing(alloc: Global, samples: &[Sample]) -> Result<String, Fail> {
     let store = memory(alloc, samples)?;
     pair(alloc, &store.missing()?)
 }
 
-/// The store that `close` took, and its fault.
+/// Closes a store, and returns the store and the error.
 fn close(store: MemoryStore) -> (MemoryStore, Option<OpenFault>) {
     match ClosedStore::close(store) {
         Ok(closed) => (closed.into_memory(), None),
@@ -130,7 +131,7 @@ fn close(store: MemoryStore) -> (MemoryStore, Option<OpenFault>) {
     }
 }
 
-/// A fault as text; nothing where there is none.
+/// Returns an error as text; empty if there is none.
 fn line(alloc: Global, fault: &Option<OpenFault>) -> Result<String, Fail> {
     match fault {
         Some(fault) => Ok(fault.to_string(alloc)?),
@@ -138,7 +139,7 @@ fn line(alloc: Global, fault: &Option<OpenFault>) -> Result<String, Fail> {
     }
 }
 
-/// Whether a store holds the samples, and a fault as text.
+/// Returns whether a store holds the samples, and an error as text.
 fn held_and_told(
     alloc: Global,
     store: &MemoryStore,
@@ -149,13 +150,15 @@ fn held_and_told(
     Ok((held, line(alloc, fault)?))
 }
 
-/// What `close` answers of a store of samples, as text, and whether the store holds them afterwards.
+/// Closes a store of samples. Returns whether the store holds them afterwards, and the error as
+/// text.
 fn told(alloc: Global, samples: &[Sample]) -> Result<(bool, String), Fail> {
     let (store, fault) = close(memory(alloc, samples)?);
     held_and_told(alloc, &store, &fault, samples)
 }
 
-/// What `missing` and `close` answer of a store of samples, which holds them afterwards.
+/// Asserts the results of `missing` and `close` for a store of samples, which holds them
+/// afterwards.
 fn assert_close<R: AllocGlobal + Abort>(
     rt: &R,
     samples: &[Sample],

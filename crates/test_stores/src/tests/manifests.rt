@@ -20,10 +20,11 @@ use test_support::Sample::{
 };
 use test_support::{EMPTY, FOREIGN, IMAGE, INDEX, LAYER, Sample};
 
-/// A sample, its media type, its size and the digits of its digest, which python3's hashlib computed from the texts of the contents.
+/// A sample, its media type, its size and the digits of its digest. Python's hashlib computed the
+/// digests from the texts of the contents.
 type Described = (Sample, &'static str, u64, &'static str);
 
-/// The text of the key that is described.
+/// Returns the text of the described key.
 fn described(alloc: Global, (_, media_type, size, digits): Described) -> Result<String, Fail> {
     Ok(format!(in alloc; "sha256:{digits} {size} {media_type}")?)
 }
@@ -131,7 +132,7 @@ fn referrers_and_indexes(rt: HostRuntime) -> Result<(), Fail> {
     assert_keys(&rt, &ROWS)
 }
 
-/// Whether a key of this size is refused for it.
+/// Returns whether creating a key of this size fails with `BadSize`.
 fn is_bad_size(alloc: Global, size: u64) -> Result<bool, Fail> {
     let text = String::from_str(alloc, "text/plain")?;
     match Key::new(text, Digest::of(b""), size) {
@@ -140,7 +141,7 @@ fn is_bad_size(alloc: Global, size: u64) -> Result<bool, Fail> {
     }
 }
 
-/// The greatest key has its parts.
+/// Asserts the parts of the key with the greatest size.
 fn assert_greatest<R: AllocGlobal + Abort>(rt: &R) -> Result<(), Fail> {
     let key = Key::new(String::new(rt.alloc()), Digest::of(b""), MAX_SIZE)?;
     assert!(rt; key.media_type().is_empty() && *key.digest() == Digest::of(b""));
@@ -148,7 +149,7 @@ fn assert_greatest<R: AllocGlobal + Abort>(rt: &R) -> Result<(), Fail> {
     Ok(())
 }
 
-/// A copy of the greatest key, as text.
+/// Returns a copy of the key with the greatest size, as text.
 fn greatest(alloc: Global) -> Result<String, Fail> {
     let key = Key::new(String::new(alloc), Digest::of(b""), MAX_SIZE)?;
     let copy = key.try_clone()?;
@@ -166,7 +167,7 @@ fn keys(rt: HostRuntime) -> Result<(), Fail> {
     Ok(())
 }
 
-/// A media type, the content that is digested, and the size.
+/// A media type, the digested content, and the size.
 type Parts = (&'static str, &'static [u8], u64);
 
 fn key(alloc: Global, (media_type, content, size): Parts) -> Result<Key, Fail> {
@@ -174,7 +175,7 @@ fn key(alloc: Global, (media_type, content, size): Parts) -> Result<Key, Fail> {
     Ok(Key::new(media_type, Digest::of(content), size)?)
 }
 
-/// `Z` before `a`; a media type before the longer ones that it begins; then digests; then sizes.
+/// `Z` before `a`; a media type before longer ones that begin with it; then digests; then sizes.
 const RISING: [Parts; 5] = [
     ("Z", b"bar", 9),
     ("a", b"bar", 9),
@@ -232,7 +233,7 @@ fn kinds(rt: HostRuntime) {
     }
 }
 
-/// A layer of this media type is not listed, as a subject or in a list.
+/// Asserts that a layer of this media type is not listed, neither as a subject nor in a list.
 fn assert_not_listed<R: AllocGlobal + Abort>(rt: &R, media_type: &'static str) -> Result<(), Fail> {
     let layer = DescriptorAs(Bar, media_type);
     let parts = [
@@ -301,7 +302,7 @@ fn all_kinds(rt: HostRuntime) -> Result<(), Fail> {
     assert_reads(&rt, &ALL_KINDS)
 }
 
-/// The index of a descriptor whose size is this text is read so.
+/// Asserts the result for an index of a descriptor with this text as its size.
 fn assert_size<R: AllocGlobal + Abort>(
     rt: &R,
     size: &'static str,
@@ -335,7 +336,8 @@ fn descriptor_forms(rt: HostRuntime) -> Result<(), Fail> {
     assert_reads(&rt, &FORMS)
 }
 
-/// A list whose second descriptor ends with these two members is refused. The position is that of the second element.
+/// Asserts the error for a list whose second descriptor ends with these two members. Its position
+/// is that of the second element.
 fn assert_second<R: AllocGlobal + Abort>(
     rt: &R,
     digest: &'static str,
@@ -383,7 +385,7 @@ fn nested_brackets(rt: HostRuntime) -> Result<(), Fail> {
     assert_reads(&rt, &ROWS)
 }
 
-/// Whether bytes are refused since they are no JSON.
+/// Returns whether reading the bytes fails with `NotJson`.
 fn is_not_json(alloc: Global, kind: Kind, bytes: &[u8]) -> bool {
     match successors(alloc, kind, bytes) {
         Ok(_) => false,
@@ -428,7 +430,7 @@ fn trailing_bytes(rt: HostRuntime) -> Result<(), Fail> {
     assert_reads(&rt, &ROWS)
 }
 
-/// Bytes are refused as an index since they are no JSON.
+/// Asserts that reading the bytes as an index fails with `NotJson`.
 fn assert_no_json<R: AllocGlobal + Abort>(rt: &R, bytes: &[u8]) -> Result<(), Fail> {
     let got = answer(rt.alloc(), Kind::Index, bytes)?;
     assert!(rt; got.as_str() == "10 NotJson", "row {bytes:?}: {got}");

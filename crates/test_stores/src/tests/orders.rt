@@ -8,7 +8,7 @@ fn push_place(alloc: Global, text: &mut String, number: u32) -> Result<(), Alloc
     text.push_str(format!(in alloc; " {number}")?.as_str())
 }
 
-/// The numbers of an order.
+/// Returns the numbers of an order as text.
 fn told(alloc: Global, order: &Order) -> Result<String, AllocError> {
     let mut text = String::from_str(alloc, "order")?;
     for place in 0..order.len() {
@@ -17,7 +17,7 @@ fn told(alloc: Global, order: &Order) -> Result<String, AllocError> {
     Ok(text)
 }
 
-/// The order of a graph, or its fault's line.
+/// Returns the order of a graph, or the printed error.
 fn line(rt: &impl Abort, alloc: Global, lists: &[&[u32]]) -> Result<String, AllocError> {
     let lists = graph_of(alloc, lists)?;
     assert!(rt; lists.len() < 4294967295);
@@ -27,7 +27,7 @@ fn line(rt: &impl Abort, alloc: Global, lists: &[&[u32]]) -> Result<String, Allo
     }
 }
 
-/// The line of a graph is one of two.
+/// Asserts that the line of a graph is one of two.
 fn assert_line<R: AllocGlobal + Abort>(
     rt: &R,
     lists: &[&[u32]],
@@ -42,7 +42,7 @@ fn assert_line<R: AllocGlobal + Abort>(
     Ok(())
 }
 
-/// Graphs, and two lines each, of which the order of the graph has one.
+/// Graphs with two lines each. The order or the error of the graph prints as one of them.
 const GRAPHS: [(&[&[u32]], &str, &str); 5] = [
     (&[&[0]], "50 Cycle 0", "50 Cycle 0"),
     (&[&[1], &[0]], "50 Cycle 0 1", "50 Cycle 1 0"),
@@ -63,7 +63,7 @@ fn order_and_board(rt: HostRuntime) -> Result<(), Fail> {
     Ok(())
 }
 
-/// An order that there is.
+/// Returns the order of a graph that has one.
 fn found(rt: &impl Abort, lists: Vec<Vec<u32>>) -> Order {
     assert!(rt; lists.len() < 4294967295);
     match order(lists) {
@@ -72,7 +72,7 @@ fn found(rt: &impl Abort, lists: Vec<Vec<u32>>) -> Order {
     }
 }
 
-/// How many successors a number has.
+/// Returns the number of successors of a number.
 fn width(order: &Order, number: u32) -> Option<usize> {
     match order.successors(number) {
         Some(list) => Some(list.len()),
@@ -112,7 +112,7 @@ fn fault_lines(rt: HostRuntime) -> Result<(), Fail> {
     assert_fault(&rt, &OrderFault::Memory, 52, "52 Memory")
 }
 
-/// The graph of a chain, each number of which lists the next.
+/// Returns the graph of a chain, in which each number lists the next.
 fn chain(alloc: Global, length: u32) -> Result<Vec<Vec<u32>>, AllocError> {
     let mut lists = Vec::new(alloc);
     for next in 1..length {
@@ -131,7 +131,7 @@ fn long_chain(rt: HostRuntime) -> Result<(), Fail> {
     Ok(())
 }
 
-/// The numbers from 1 to below the count, each twice.
+/// Returns the numbers from 1 up to `count`, exclusive, each twice.
 fn doubled(alloc: Global, count: u32) -> Result<Vec<u32>, AllocError> {
     let mut all = Vec::new(alloc);
     for leaf in 1..count {
@@ -141,7 +141,7 @@ fn doubled(alloc: Global, count: u32) -> Result<Vec<u32>, AllocError> {
     Ok(all)
 }
 
-/// The graph whose number 0 lists each other number twice.
+/// Returns a graph in which number 0 lists every other number twice.
 fn star(alloc: Global, count: u32) -> Result<Vec<Vec<u32>>, AllocError> {
     let mut lists = Vec::new(alloc);
     lists.push(doubled(alloc, count)?)?;
@@ -160,7 +160,7 @@ fn wide_star(rt: HostRuntime) -> Result<(), Fail> {
     Ok(())
 }
 
-/// Whether each of these numbers is marked.
+/// Returns whether all these numbers are marked.
 fn all_marked(marks: &[bool], numbers: &[u32]) -> bool {
     for number in numbers {
         if !marks.get(*number as usize).copied().unwrap_or(false) {
@@ -170,7 +170,7 @@ fn all_marked(marks: &[bool], numbers: &[u32]) -> bool {
     true
 }
 
-/// Takes away each number whose successors are gone.
+/// Removes each number whose successors have been removed.
 fn take_away(lists: &[Vec<u32>], gone: &mut [bool]) {
     for (number, list) in lists.iter().enumerate() {
         let free = all_marked(gone, list);
@@ -180,7 +180,7 @@ fn take_away(lists: &[Vec<u32>], gone: &mut [bool]) {
     }
 }
 
-/// Whether all numbers can be taken away, each once its successors are gone.
+/// Returns whether all numbers can be removed, each after its successors.
 fn has_order(alloc: Global, lists: &[Vec<u32>]) -> Result<bool, AllocError> {
     let mut gone = vec![in alloc; false; lists.len()]?;
     for _ in 0..lists.len() {
@@ -189,7 +189,8 @@ fn has_order(alloc: Global, lists: &[Vec<u32>]) -> Result<bool, AllocError> {
     Ok(!gone.contains(&false))
 }
 
-/// Marks the number at a place of the order. It has to be unmarked, and its successors marked.
+/// Marks the number at a place of the order. Returns `false` if it was marked before, or if one of
+/// its successors is not marked.
 fn mark_next(order: &Order, place: usize, marks: &mut [bool]) -> bool {
     let Some(number) = order.at(place) else {
         return false;
@@ -206,7 +207,7 @@ fn mark_next(order: &Order, place: usize, marks: &mut [bool]) -> bool {
     true
 }
 
-/// Whether each number of the order comes once and after its successors.
+/// Returns whether each number occurs once in the order, after its successors.
 fn is_right(alloc: Global, order: &Order, count: usize) -> Result<bool, AllocError> {
     let mut marks = vec![in alloc; false; count]?;
     for place in 0..order.len() {
@@ -217,7 +218,7 @@ fn is_right(alloc: Global, order: &Order, count: usize) -> Result<bool, AllocErr
     Ok(!marks.contains(&false))
 }
 
-/// Whether each number lists the one after it, and the last one the first.
+/// Returns whether each number lists the next one, and the last one the first.
 fn is_cycle(lists: &[Vec<u32>], numbers: &[u32]) -> bool {
     let mut next = numbers.first().copied();
     for number in numbers.iter().rev() {
@@ -235,7 +236,7 @@ fn is_cycle(lists: &[Vec<u32>], numbers: &[u32]) -> bool {
     next.is_some()
 }
 
-/// The graph is to have an order, and this is one.
+/// Asserts that the graph should have an order, and that this is one.
 fn assert_right<R: AllocGlobal + Abort>(
     rt: &R,
     order: &Order,
@@ -249,13 +250,14 @@ fn assert_right<R: AllocGlobal + Abort>(
     Ok(())
 }
 
-/// The graph is to have no order, and this is a cycle of it.
+/// Asserts that the graph should have no order, and that this is one of its cycles.
 fn assert_cycle(rt: &impl Abort, lists: &[Vec<u32>], numbers: &[u32], wanted: bool, round: u32) {
     assert!(rt; !wanted, "round {round}");
     assert!(rt; is_cycle(lists, numbers), "round {round}");
 }
 
-/// The answer for a graph is right: an order where it has one, and else a cycle of it.
+/// Asserts that the result for a graph is correct: an order if it has one, or else one of its
+/// cycles.
 fn assert_answer<R: AllocGlobal + Abort>(
     rt: &R,
     lists: &[Vec<u32>],
@@ -271,7 +273,7 @@ fn assert_answer<R: AllocGlobal + Abort>(
     Ok(())
 }
 
-/// Orders the random graph of a round, and gives 1 where it has an order, and 0 where it has a cycle.
+/// Orders the random graph of a round. Returns 1 if it has an order, and 0 if it has a cycle.
 fn ordered<R: AllocGlobal + Abort>(rt: &R, state: &mut u64, round: u32) -> Result<u32, Fail> {
     let count = below(state, 31).max(1);
     let lists = random_graph(rt.alloc(), state, count, round % 2 == 0)?;

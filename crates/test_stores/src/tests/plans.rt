@@ -53,7 +53,7 @@ fn push_line(alloc: Global, text: &mut String, before: &str, key: &Key) -> Resul
     Ok(())
 }
 
-/// The planned keys in their order, a line each.
+/// Appends the planned keys in order, one line for each.
 fn push_planned(alloc: Global, text: &mut String, plan: &Plan) -> Result<(), Fail> {
     for number in 0..u32::MAX {
         let Some(key) = plan.key(number) else {
@@ -64,7 +64,7 @@ fn push_planned(alloc: Global, text: &mut String, plan: &Plan) -> Result<(), Fai
     Ok(())
 }
 
-/// The skipped keys, a line each.
+/// Appends the skipped keys, one line for each.
 fn push_skipped(alloc: Global, text: &mut String, plan: &Plan) -> Result<(), Fail> {
     for key in plan.skipped() {
         push_line(alloc, text, "skipped ", key)?;
@@ -79,7 +79,8 @@ fn listed(alloc: Global, plan: &Plan) -> Result<String, Fail> {
     Ok(text)
 }
 
-/// What `gather` answers, as text: the planned keys in their order, then the skipped ones; or the fault.
+/// Returns the result of `gather` as text: the planned keys in order, then the skipped ones, or the
+/// error.
 fn line(alloc: Global, answer: &Result<Plan, PlanFault>) -> Result<String, Fail> {
     match answer {
         Ok(plan) => listed(alloc, plan),
@@ -87,7 +88,8 @@ fn line(alloc: Global, answer: &Result<Plan, PlanFault>) -> Result<String, Fail>
     }
 }
 
-/// A plan, and how many fetches it takes, where they are counted.
+/// The input of `gather`, the expected result, and the expected number of fetches, if it is
+/// checked.
 #[derive(Clone, Copy, Debug)]
 struct Row<'a> {
     source: &'a [Sample],
@@ -99,7 +101,7 @@ struct Row<'a> {
     fetches: Option<u32>,
 }
 
-/// What is planned from a source into a destination, as text.
+/// Plans from a source into a destination, and returns the result as text.
 fn gathered<A: Source, D: Dest>(
     alloc: Global,
     source: &A,
@@ -113,7 +115,7 @@ fn gathered<A: Source, D: Dest>(
     )
 }
 
-/// What is planned, as text, and how many fetches that takes.
+/// Returns the result as text, and the number of fetches.
 fn planned_and_counted(
     alloc: Global,
     store: &MemoryStore,
@@ -129,7 +131,7 @@ fn planned_and_counted(
     Ok((told, source.fetches.get()))
 }
 
-/// The same of the row's roots.
+/// Like `planned_and_counted`, with the row's roots.
 fn planned_between(
     alloc: Global,
     store: &MemoryStore,
@@ -139,12 +141,12 @@ fn planned_between(
     planned_and_counted(alloc, store, destination, &keys(alloc, row.roots)?, row)
 }
 
-/// The same into a store of the row's samples.
+/// Like `planned_between`, with the row's destination.
 fn planned_from(alloc: Global, source: &MemoryStore, row: &Row<'_>) -> Result<(String, u32), Fail> {
     planned_between(alloc, source, &memory(alloc, row.destination)?, row)
 }
 
-/// The same from such a store too.
+/// Like `planned_from`, with the row's source.
 fn planned(alloc: Global, row: &Row<'_>) -> Result<(String, u32), Fail> {
     planned_from(alloc, &memory(alloc, row.source)?, row)
 }
@@ -157,10 +159,10 @@ fn assert_row<R: AllocGlobal + Abort>(rt: &R, row: &Row<'_>) -> Result<(), Fail>
     assert_text(rt, rt.alloc(), row, told.as_str(), row.want)
 }
 
-/// The greatest size of a manifest, where it is not what a test is about.
+/// The greatest size of a manifest, in tests that are not about it.
 const LIMIT: u64 = 4_194_304;
 
-/// Each manifest is fetched once, and a layer never.
+/// Each manifest is fetched once, and no layer is fetched.
 #[test]
 fn what_the_destination_lacks(rt: HostRuntime) -> Result<(), Fail> {
     static ROW: Row<'static> = Row {
@@ -175,7 +177,7 @@ fn what_the_destination_lacks(rt: HostRuntime) -> Result<(), Fail> {
     assert_row(&rt, &ROW)
 }
 
-/// Keys are visited first come, first served, and the first one at fault is told.
+/// Keys are visited in order of arrival, and the first one at fault is reported.
 #[test]
 fn what_the_source_lacks(rt: HostRuntime) -> Result<(), Fail> {
     static ROWS: [Row<'static>; 2] = [
@@ -218,7 +220,8 @@ fn held_roots(rt: HostRuntime) -> Result<(), Fail> {
     assert_row(&rt, &ROW)
 }
 
-/// A held manifest that the source has is fetched once as any other, and a layer never, whoever lists it.
+/// A held manifest that the source has is fetched once like any other. No layer is fetched, whether
+/// a held or a new manifest lists it.
 #[test]
 fn fetches_below_held_keys(rt: HostRuntime) -> Result<(), Fail> {
     static ROW: Row<'static> = Row {
@@ -241,7 +244,7 @@ fn fetches_below_held_keys(rt: HostRuntime) -> Result<(), Fail> {
     assert_row(&rt, &ROW)
 }
 
-/// What the source has and a held image lists is planned.
+/// A key is planned if the source has it and a held image lists it.
 #[test]
 fn below_a_held_image(rt: HostRuntime) -> Result<(), Fail> {
     static ROW: Row<'static> = Row {
@@ -256,7 +259,7 @@ fn below_a_held_image(rt: HostRuntime) -> Result<(), Fail> {
     assert_row(&rt, &ROW)
 }
 
-/// Nothing is planned for what is open beside the roots.
+/// Nothing is planned for an open image that the roots do not reach.
 #[test]
 fn beside_an_open_image(rt: HostRuntime) -> Result<(), Fail> {
     static ROW: Row<'static> = Row {
@@ -271,7 +274,7 @@ fn beside_an_open_image(rt: HostRuntime) -> Result<(), Fail> {
     assert_row(&rt, &ROW)
 }
 
-/// What only the destination has is not fetched, and lists nothing.
+/// An image that only the destination has is not fetched, and lists nothing.
 #[test]
 fn of_an_image_that_the_source_lacks(rt: HostRuntime) -> Result<(), Fail> {
     static ROW: Row<'static> = Row {
@@ -286,7 +289,7 @@ fn of_an_image_that_the_source_lacks(rt: HostRuntime) -> Result<(), Fail> {
     assert_row(&rt, &ROW)
 }
 
-/// A layer that only the destination has is no fault.
+/// A layer that only the destination has is no error.
 #[test]
 fn of_a_layer_that_the_source_lacks(rt: HostRuntime) -> Result<(), Fail> {
     static ROW: Row<'static> = Row {
@@ -301,7 +304,7 @@ fn of_a_layer_that_the_source_lacks(rt: HostRuntime) -> Result<(), Fail> {
     assert_row(&rt, &ROW)
 }
 
-/// A layer that neither store has is one.
+/// A layer that neither store has is an error.
 #[test]
 fn of_a_layer_that_both_lack(rt: HostRuntime) -> Result<(), Fail> {
     static ROW: Row<'static> = Row {
@@ -316,7 +319,8 @@ fn of_a_layer_that_both_lack(rt: HostRuntime) -> Result<(), Fail> {
     assert_row(&rt, &ROW)
 }
 
-/// A manifest over the limit, of 240 bytes where the image has 241, is a fault where the source has it, held or not.
+/// A manifest over the limit is an error if the source has it, held or not. The limit is 240 bytes,
+/// the image has 241.
 #[test]
 fn a_held_image_over_the_limit(rt: HostRuntime) -> Result<(), Fail> {
     static ROW: Row<'static> = Row {
@@ -331,7 +335,7 @@ fn a_held_image_over_the_limit(rt: HostRuntime) -> Result<(), Fail> {
     assert_row(&rt, &ROW)
 }
 
-/// One over the limit that only the destination has is not asked for, and is no fault.
+/// A manifest over the limit that only the destination has is not fetched, and is no error.
 #[test]
 fn an_image_over_the_limit_that_the_source_lacks(rt: HostRuntime) -> Result<(), Fail> {
     static ROW: Row<'static> = Row {
@@ -346,7 +350,7 @@ fn an_image_over_the_limit_that_the_source_lacks(rt: HostRuntime) -> Result<(), 
     assert_row(&rt, &ROW)
 }
 
-/// What is planned of a root into an empty store, as text.
+/// Plans one root into an empty store, and returns the result as text.
 fn told_of<A: Source>(alloc: Global, source: &A, root: &Key) -> Result<String, Fail> {
     let destination = MemoryStore::new(alloc);
     let roots = slice::from_ref(root);
@@ -356,7 +360,7 @@ fn told_of<A: Source>(alloc: Global, source: &A, root: &Key) -> Result<String, F
     )
 }
 
-/// A plan of a root into an empty store is refused so.
+/// Asserts that planning one root into an empty store fails with this error.
 fn assert_refused<A: Source, R: AllocGlobal + Abort>(
     rt: &R,
     source: &A,
@@ -367,7 +371,7 @@ fn assert_refused<A: Source, R: AllocGlobal + Abort>(
     assert_text(rt, rt.alloc(), root, told.as_str(), want)
 }
 
-/// An image that is no JSON object is a fault, with the reason.
+/// An image that is not a JSON object is an error, with the reason.
 #[test]
 fn of_an_image_that_does_not_read(rt: HostRuntime) -> Result<(), Fail> {
     let want = [
@@ -380,7 +384,7 @@ fn of_an_image_that_does_not_read(rt: HostRuntime) -> Result<(), Fail> {
     assert_refused(&rt, &source, &root, &want)
 }
 
-/// The device gives the index, and fails at the first image that it lists.
+/// The device returns the index, and fails for the first image that it lists.
 #[test]
 fn of_an_image_that_the_device_refuses(rt: HostRuntime) -> Result<(), Fail> {
     let device = Device::failing(None, Some(1));

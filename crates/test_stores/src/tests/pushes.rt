@@ -10,7 +10,7 @@ use std::test::Fail;
 use test_support::Sample::{Empty, Foo, FooBySha512, Image0};
 use test_support::{EMPTY, IMAGE, Sample, closed, holds, memory};
 
-/// What a push answers, as text: the place, or the fault.
+/// Returns the result of a push as text: the place, or the error.
 fn told(alloc: Global, pushed: &Result<usize, PushFault>) -> Result<String, Fail> {
     match pushed {
         Ok(place) => Ok(format!(in alloc; "place {place}")?),
@@ -18,7 +18,7 @@ fn told(alloc: Global, pushed: &Result<usize, PushFault>) -> Result<String, Fail
     }
 }
 
-/// The push of a key answers with these parts.
+/// Asserts the result of pushing a key.
 fn assert_told<R: AllocGlobal + Abort>(
     rt: &R,
     key: &Key,
@@ -52,7 +52,8 @@ fn push_all<R: AllocGlobal + Abort>(
     Ok(())
 }
 
-/// What the pushes of these samples into a store answer, one after another, and what it holds then.
+/// Asserts the results of pushing these samples into a store in order, and the samples that it then
+/// holds.
 fn assert_pushes_into<R: AllocGlobal + Abort>(
     rt: &R,
     store: &mut MemoryStore,
@@ -63,7 +64,7 @@ fn assert_pushes_into<R: AllocGlobal + Abort>(
     assert_holds(rt, store, held)
 }
 
-/// The same with an empty store.
+/// Like `assert_pushes_into`, with an empty store.
 fn assert_pushes<R: AllocGlobal + Abort>(
     rt: &R,
     pushes: &[(Sample, &'static str)],
@@ -79,7 +80,7 @@ fn push_twice(rt: HostRuntime) -> Result<(), Fail> {
     assert_pushes(&rt, &PUSHES, &HELD)
 }
 
-/// One content under its digests by two algorithms is two keys.
+/// One content has two keys under its digests by two algorithms.
 #[test]
 fn foo_by_two_algorithms(rt: HostRuntime) -> Result<(), Fail> {
     static PUSHES: [(Sample, &str); 2] = [(Foo, "place 0"), (FooBySha512, "place 1")];
@@ -101,7 +102,7 @@ fn assert_holds<R: AllocGlobal + Abort>(
     Ok(())
 }
 
-/// Pushes bytes into an empty store under some key, and compares what is told; the store stays empty.
+/// Asserts the error of pushing bytes under a key into an empty store. The store stays empty.
 fn assert_refused_by<R: AllocGlobal + Abort>(
     rt: &R,
     store: &mut MemoryStore,
@@ -114,7 +115,7 @@ fn assert_refused_by<R: AllocGlobal + Abort>(
     assert_holds(rt, store, &[])
 }
 
-/// The same with a store that is made for it.
+/// Like `assert_refused_by`, with a new store.
 fn assert_refused<R: AllocGlobal + Abort>(
     rt: &R,
     key: &Key,
@@ -124,14 +125,15 @@ fn assert_refused<R: AllocGlobal + Abort>(
     assert_refused_by(rt, &mut MemoryStore::new(rt.alloc()), key, bytes, want)
 }
 
-/// A digest by SHA-512 is verified by that algorithm.
+/// A SHA-512 digest is verified by SHA-512.
 #[test]
 fn other_bytes_by_sha512(rt: HostRuntime) -> Result<(), Fail> {
     let key = FooBySha512.key(rt.alloc())?;
     assert_refused(&rt, &key, b"bar", "32 DigestMismatch")
 }
 
-/// The media type of a key, the content that is digested, and the size; then the bytes that are pushed, and the refusal.
+/// The media type of a key, the digested content and the size; then the pushed bytes, and the
+/// error.
 type Refused = (
     &'static str,
     &'static [u8],
@@ -161,13 +163,13 @@ fn push_refusals(rt: HostRuntime) -> Result<(), Fail> {
     Ok(())
 }
 
-/// The key of an image with another size.
+/// Returns the key of an image with another size.
 fn resized(alloc: Global, size: u64) -> Result<Key, Fail> {
     let image = Image0.key(alloc)?;
     key(alloc, IMAGE, *image.digest(), size)
 }
 
-/// Pushes the bytes of an image under some key, and compares what is told.
+/// Asserts the result of pushing the bytes of an image under a key.
 fn assert_push_closed<R: AllocGlobal + Abort>(
     rt: &R,
     store: &mut ClosedStore,
@@ -178,7 +180,7 @@ fn assert_push_closed<R: AllocGlobal + Abort>(
     assert_told(rt, key, &store.push_closed(key, bytes), want)
 }
 
-/// The same with an empty closed store. It stays empty.
+/// Like `assert_push_closed`, with an empty closed store, which stays empty.
 fn assert_not_closed_by<R: AllocGlobal + Abort>(
     rt: &R,
     store: &mut ClosedStore,
@@ -189,12 +191,12 @@ fn assert_not_closed_by<R: AllocGlobal + Abort>(
     assert_holds(rt, store.memory(), &[])
 }
 
-/// The same with a closed store that is made for it.
+/// Like `assert_not_closed_by`, with a new closed store.
 fn assert_not_closed<R: AllocGlobal + Abort>(rt: &R, key: &Key, want: &[Part]) -> Result<(), Fail> {
     assert_not_closed_by(rt, &mut ClosedStore::new(rt.alloc()), key, want)
 }
 
-/// A manifest does not come before what it lists.
+/// A manifest cannot be pushed before its successors.
 #[test]
 fn successors_first(rt: HostRuntime) -> Result<(), Fail> {
     let want = [Words("42 MissingSuccessor "), KeyOf(Empty)];
@@ -203,7 +205,7 @@ fn successors_first(rt: HostRuntime) -> Result<(), Fail> {
     assert_not_closed(&rt, &resized(rt.alloc(), 240)?, &want)
 }
 
-/// The size of the key at a place of a store of samples.
+/// Returns the size of the key at a place of a store of samples.
 fn size_at(alloc: Global, samples: &[Sample], place: usize) -> Result<Option<u64>, Fail> {
     let store = memory(alloc, samples)?;
     match store.entry(place) {
@@ -216,7 +218,7 @@ fn is_empty(alloc: Global, samples: &[Sample]) -> Result<bool, Fail> {
     Ok(memory(alloc, samples)?.is_empty())
 }
 
-/// An entry by its place, and the empty store.
+/// Entries by place, and the empty store.
 #[test]
 fn entries(rt: HostRuntime) -> Result<(), Fail> {
     let samples = [Empty, Image0];
@@ -227,24 +229,24 @@ fn entries(rt: HostRuntime) -> Result<(), Fail> {
     Ok(())
 }
 
-/// A store of another's entries, which are copied.
+/// Returns a store with a copy of another store's entries.
 fn copied(store: &MemoryStore) -> Result<MemoryStore, Fail> {
     Ok(MemoryStore::from_entries(store.entries().try_clone()?))
 }
 
-/// Whether a store of another's entries, which are copied, has what that has.
+/// Returns whether a store with copied entries holds the same samples.
 fn is_copied(alloc: Global, samples: &[Sample]) -> Result<bool, Fail> {
     let copied = copied(&memory(alloc, samples)?)?;
     holds(alloc, &copied, samples)
 }
 
-/// The same where the entries are moved.
+/// Returns whether a store with moved entries holds the same samples.
 fn is_moved(alloc: Global, samples: &[Sample]) -> Result<bool, Fail> {
     let moved = MemoryStore::from_entries(memory(alloc, samples)?.into_entries());
     holds(alloc, &moved, samples)
 }
 
-/// The same of a closed store.
+/// Like `is_moved`, for a closed store.
 fn is_moved_closed(alloc: Global, samples: &[Sample]) -> Result<bool, Fail> {
     let moved = ClosedStore::from_entries(closed(alloc, samples)?.into_entries());
     holds(alloc, moved.memory(), samples)

@@ -8,7 +8,7 @@ use std::test::Fail;
 use test_support::Sample::{Empty, Foo, Image0, Image0AsLayer};
 use test_support::{Sample, closed, memory};
 
-/// What `tag` answers of a sample's key, as text: nothing, or the fault.
+/// Tags a sample's key, and returns the error as text; empty on success.
 fn tag<T: Tagger>(
     alloc: Global,
     store: &mut T,
@@ -22,7 +22,7 @@ fn tag<T: Tagger>(
     }
 }
 
-/// What `resolve` answers, as text: the key, or the fault.
+/// Resolves a reference, and returns the key or the error as text.
 fn resolve<T: Tagger>(alloc: Global, store: &T, reference: &str) -> Result<String, Fail> {
     match &store.resolve(reference) {
         Ok(key) => Ok(key.to_string(alloc)?),
@@ -30,7 +30,7 @@ fn resolve<T: Tagger>(alloc: Global, store: &T, reference: &str) -> Result<Strin
     }
 }
 
-/// A reference resolves to a key, or is refused.
+/// Asserts the key that a reference resolves to, or the error.
 fn assert_resolves<R: AllocGlobal + Abort, T: Tagger>(
     rt: &R,
     store: &T,
@@ -42,7 +42,7 @@ fn assert_resolves<R: AllocGlobal + Abort, T: Tagger>(
     assert_text(rt, rt.alloc(), &reference, got.as_str(), want)
 }
 
-/// The tag of a sample's key by a name is taken, or refused.
+/// Asserts the result of tagging a sample's key.
 fn assert_tag<R: AllocGlobal + Abort, T: Tagger>(
     rt: &R,
     store: &mut T,
@@ -55,7 +55,7 @@ fn assert_tag<R: AllocGlobal + Abort, T: Tagger>(
     assert_text(rt, rt.alloc(), &row, got.as_str(), want)
 }
 
-/// The tag of a sample's key by a name of these parts is taken, or refused.
+/// Like `assert_tag`, with a name that is made of parts.
 fn assert_tagged<R: AllocGlobal + Abort, T: Tagger>(
     rt: &R,
     store: &mut T,
@@ -71,7 +71,7 @@ fn push_name(alloc: Global, text: &mut String, name: &str, key: &Key) -> Result<
     Ok(())
 }
 
-/// The names of the store and their keys, a line each.
+/// Returns the names of the store and their keys, one line for each.
 fn listed(alloc: Global, store: &MemoryStore) -> Result<String, Fail> {
     let mut text = String::new(alloc);
     for (name, key) in &store.tags()? {
@@ -80,7 +80,7 @@ fn listed(alloc: Global, store: &MemoryStore) -> Result<String, Fail> {
     Ok(text)
 }
 
-/// The names of the store and their keys are these.
+/// Asserts the names of the store and their keys.
 fn assert_names<R: AllocGlobal + Abort>(
     rt: &R,
     store: &MemoryStore,
@@ -93,17 +93,17 @@ fn assert_names<R: AllocGlobal + Abort>(
 /// A step of a test.
 #[derive(Clone, Copy)]
 enum Step {
-    /// Tags a sample's key, which is held, with a name that then resolves to it.
+    /// Tags the key of a held sample with a name, which then resolves to it.
     Tags(Sample, &'static [Part]),
-    /// The tag of a sample's key is refused.
+    /// Tagging a sample's key fails.
     Refuses(Sample, &'static str, &'static str),
-    /// A reference resolves to a key, or is refused.
+    /// A reference resolves to a key, or fails.
     Resolves(Part, Part),
-    /// The store has these names, in byte order, each with a key.
+    /// The store has these names in byte order, each with a key.
     Names(&'static [Part]),
 }
 
-/// The tag of a sample's key is taken, and the name then resolves to it.
+/// Asserts that tagging a sample's key succeeds, and that the name then resolves to it.
 fn assert_named<R: AllocGlobal + Abort>(
     rt: &R,
     store: &mut MemoryStore,
@@ -136,7 +136,7 @@ fn take_all<R: AllocGlobal + Abort>(
     Ok(())
 }
 
-/// Takes these steps with a store of these samples.
+/// Runs these steps on a store of these samples.
 fn assert_steps<R: AllocGlobal + Abort>(
     rt: &R,
     samples: &[Sample],
@@ -156,7 +156,7 @@ fn references(rt: HostRuntime) -> Result<(), Fail> {
     assert_steps(&rt, &SAMPLES, &STEPS)
 }
 
-/// A digest resolves to a key in a closed store of these samples.
+/// Asserts that a digest resolves to a key in a closed store of these samples.
 fn assert_closed<R: AllocGlobal + Abort>(
     rt: &R,
     samples: &[Sample],
@@ -167,7 +167,7 @@ fn assert_closed<R: AllocGlobal + Abort>(
     assert_resolves(rt, &store, &[reference], &[want])
 }
 
-/// A digest of two keys resolves to the least, by the bytes of the media type.
+/// A digest with two keys resolves to the lesser one, by the bytes of the media type.
 #[test]
 fn least_key_of_a_digest(rt: HostRuntime) -> Result<(), Fail> {
     let samples = [Empty, Image0, Image0AsLayer];
@@ -176,7 +176,7 @@ fn least_key_of_a_digest(rt: HostRuntime) -> Result<(), Fail> {
     assert_closed(&rt, &samples, reference, want)
 }
 
-/// A name that is there is moved, and a name comes before a digest.
+/// An existing name is moved, and a name has precedence over a digest.
 #[test]
 fn tags(rt: HostRuntime) -> Result<(), Fail> {
     static SAMPLES: [Sample; 2] = [Empty, Image0];

@@ -1,4 +1,4 @@
-//! Texts that are made of words and of what samples print as.
+//! Expected texts, made of words and of the printed forms of samples.
 
 use std::alloc::Global;
 use std::fmt::Debug;
@@ -9,21 +9,21 @@ use test_support::{Sample, descriptor};
 /// A part of a text.
 #[derive(Clone, Copy, Debug)]
 pub(crate) enum Part {
-    /// These words.
+    /// Literal words.
     Words(&'static str),
-    /// The key of the sample.
+    /// The key of a sample.
     KeyOf(Sample),
-    /// The same, and the end of the line.
+    /// The key of a sample, and the end of the line.
     LineOf(Sample),
-    /// The digest of the sample.
+    /// The digest of a sample.
     DigestOf(Sample),
-    /// The bytes of the sample.
+    /// The bytes of a sample.
     BytesOf(Sample),
-    /// The descriptor of the sample, as JSON.
+    /// The descriptor of a sample as JSON.
     DescriptorOf(Sample),
-    /// The same under another media type.
+    /// The descriptor of a sample under another media type, as JSON.
     DescriptorAs(Sample, &'static str),
-    /// So many opening brackets, and then as many closing ones.
+    /// This number of opening brackets, followed by the same number of closing ones.
     Brackets(usize),
 }
 
@@ -61,7 +61,7 @@ fn brackets(alloc: Global, depth: usize) -> Result<String, Fail> {
     Ok(text)
 }
 
-/// What a part is as a text.
+/// Returns a part as text.
 fn written(alloc: Global, part: Part) -> Result<String, Fail> {
     match part {
         Part::Words(words) => Ok(String::from_str(alloc, words)?),
@@ -80,7 +80,7 @@ fn push_part(alloc: Global, text: &mut String, part: Part) -> Result<(), Fail> {
     Ok(())
 }
 
-/// The text of these parts.
+/// Returns the text of these parts.
 pub(crate) fn text(alloc: Global, parts: &[Part]) -> Result<String, Fail> {
     let mut text = String::new(alloc);
     for part in parts {
@@ -89,7 +89,7 @@ pub(crate) fn text(alloc: Global, parts: &[Part]) -> Result<String, Fail> {
     Ok(text)
 }
 
-/// What is got is the text of these parts. If it is not, the failure prints the row too.
+/// Asserts that `got` is the text of these parts. A failure also prints the row.
 pub(crate) fn assert_text<T: Debug>(
     rt: &impl Abort,
     alloc: Global,

@@ -1,4 +1,4 @@
-//! Each trait of stores, called through its bound, on stores of three kinds.
+//! Each trait of stores, called through its bound on three kinds of stores.
 
 use bytes::Bytes;
 use oci_digest::Digest;
@@ -9,7 +9,7 @@ use std::process::Abort;
 use std::test::Fail;
 use test_support::{Device, DeviceStore, PublishedStore};
 
-/// A content: its media type, and its bytes.
+/// A content: its media type and its bytes.
 type Content = (&'static str, &'static [u8]);
 
 const FOO: Content = ("text/plain", b"foo");
@@ -18,28 +18,28 @@ const BAR: Content = ("text/plain", b"bar");
 
 const SAME_BYTES: Content = ("text/html", b"foo");
 
-/// The number of the refusal of a push, or 0; then whether the key is held, how many keys are held, whether none of them lacks
-/// a successor, and how many puts have failed.
+/// The number of a push's error, or 0; whether the key is then held; the number of held keys;
+/// whether the store is closed; and the number of failed puts.
 type Pushed = (u8, bool, usize, bool, u64);
 
-/// Whether the key is there, whether its fetch may fail, the number of the fetch's refusal, or 0, and the length of what was
-/// fetched.
+/// Whether the key is held, whether its fetch may fail, the number of the fetch's error, or 0, and
+/// the length of the fetched bytes.
 type Fetched = (bool, bool, u8, usize);
 
-/// A call, and its answers.
+/// A call and its expected results.
 #[derive(Clone, Copy)]
 enum Call {
     Push(Content, Pushed),
     Fetch(Content, Fetched),
 }
 
-/// The key of a content.
+/// Returns the key of a content.
 fn key_of(alloc: Global, (media_type, bytes): Content) -> Result<Key, Fail> {
     let media_type = String::from_str(alloc, media_type)?;
     Ok(Key::new(media_type, Digest::of(bytes), bytes.len() as u64)?)
 }
 
-/// The number of the refusal of a push, or 0.
+/// Pushes bytes, and returns the number of the error, or 0.
 fn push<D: Dest>(store: &mut D, key: &Key, bytes: &'static [u8]) -> u8 {
     match &store.push_closed(key, Bytes::from_static(bytes)) {
         Ok(_) => 0,
@@ -117,7 +117,7 @@ fn assert_calls<R: AllocGlobal + Abort, D: Source + Dest>(
     Ok(())
 }
 
-/// How many keys list the key.
+/// Returns the number of keys that list the key.
 fn predecessors<G: GraphSource>(store: &G, key: &Key) -> Option<usize> {
     match &store.predecessors(key) {
         Ok(keys) => Some(keys.len()),
@@ -125,7 +125,7 @@ fn predecessors<G: GraphSource>(store: &G, key: &Key) -> Option<usize> {
     }
 }
 
-/// The number of the refusal of a tag, or 0.
+/// Tags a key, and returns the number of the error, or 0.
 fn tag<T: Tagger>(store: &mut T, key: &Key, name: &str) -> u8 {
     match &store.tag(key, name) {
         Ok(()) => 0,
@@ -133,7 +133,7 @@ fn tag<T: Tagger>(store: &mut T, key: &Key, name: &str) -> u8 {
     }
 }
 
-/// The number of the refusal of a name's resolving, or 0.
+/// Resolves a name, and returns the number of the error, or 0.
 fn resolve<T: Tagger>(store: &T, name: &str) -> u8 {
     match &store.resolve(name) {
         Ok(_) => 0,
@@ -141,12 +141,12 @@ fn resolve<T: Tagger>(store: &T, name: &str) -> u8 {
     }
 }
 
-/// The numbers of the refusals of a tag and of its resolving, or 0.
+/// Tags a key and resolves the name. Returns the numbers of both errors, or 0.
 fn tagged<T: Tagger>(store: &mut T, key: &Key, name: &str) -> (u8, u8) {
     (tag(store, key, name), resolve(store, name))
 }
 
-/// What `foo` gives in a store that is empty.
+/// Asserts the results of calls with `foo` on an empty store.
 fn assert_foo<R: AllocGlobal + Abort, S: GraphSource + Dest + Tagger>(
     rt: &R,
     store: &mut S,
@@ -156,7 +156,7 @@ fn assert_foo<R: AllocGlobal + Abort, S: GraphSource + Dest + Tagger>(
     assert_names(rt, store)
 }
 
-/// Nothing lists `foo`, which is held and is tagged.
+/// Asserts that no key lists `foo`, which is held, and that it can be tagged.
 fn assert_names<R: AllocGlobal + Abort, S: GraphSource + Tagger>(
     rt: &R,
     store: &mut S,
@@ -188,7 +188,7 @@ fn assert_pushes<R: AllocGlobal + Abort>(
 fn published_store(rt: HostRuntime) -> Result<(), Fail> {
     static PUSHES: [(Content, Pushed); 4] = [
         (FOO, (0, true, 1, true, 0)),
-        // A publication that is refused, and then each further one.
+        // A publication that fails, and then the next one.
         (BAR, (34, false, 1, true, 0)),
         (BAR, (44, false, 1, true, 0)),
         (FOO, (30, true, 1, true, 0)),
@@ -196,12 +196,12 @@ fn published_store(rt: HostRuntime) -> Result<(), Fail> {
     assert_pushes(&rt, &mut PublishedStore::new(rt.alloc(), 1), &PUSHES)
 }
 
-/// What a store over a device answers whose second put and whose fourth get fail.
+/// Calls of a store on a device whose second put and fourth get fail.
 const DEVICE_CALLS: [Call; 8] = [
     Call::Push(FOO, (0, true, 1, true, 0)),
     Call::Fetch(FOO, (true, true, 0, 3)),
     Call::Fetch(SAME_BYTES, (false, true, 20, 0)),
-    // A put that fails leaves the keys as they were, and half of the bytes in the digest's file.
+    // A failed put leaves the keys as they were, and half of the bytes in the digest's file.
     Call::Push(SAME_BYTES, (43, false, 1, true, 1)),
     Call::Fetch(FOO, (true, true, 21, 0)),
     Call::Push(SAME_BYTES, (0, true, 2, true, 1)),

@@ -1,4 +1,4 @@
-//! Texts of manifests, with what is answered of each, and how they are compared.
+//! Texts of manifests with their expected results, and functions that compare them.
 
 use crate::tests::texts::Part::{self, DescriptorOf, Words};
 use crate::tests::texts::{assert_text, text};
@@ -14,7 +14,7 @@ fn push_key(alloc: Global, text: &mut String, key: &Key) -> Result<(), Fail> {
     Ok(())
 }
 
-/// Keys as text, a `;` after each.
+/// Returns keys as text, with a `;` after each.
 fn line(alloc: Global, keys: &[Key]) -> Result<String, Fail> {
     let mut text = String::new(alloc);
     for key in keys {
@@ -23,7 +23,7 @@ fn line(alloc: Global, keys: &[Key]) -> Result<String, Fail> {
     Ok(text)
 }
 
-/// What `successors` answers, as text: the keys, or the fault.
+/// Returns the result of `successors` as text: the keys, or the error.
 pub(crate) fn answer(alloc: Global, kind: Kind, bytes: &[u8]) -> Result<String, Fail> {
     match successors(alloc, kind, bytes) {
         Ok(keys) => line(alloc, &keys),
@@ -31,7 +31,7 @@ pub(crate) fn answer(alloc: Global, kind: Kind, bytes: &[u8]) -> Result<String, 
     }
 }
 
-/// A text is read as a manifest of this kind, and what is answered.
+/// Asserts the result of reading a text as a manifest of this kind.
 fn assert_answer<R: AllocGlobal + Abort>(
     rt: &R,
     kind: Kind,
@@ -43,7 +43,7 @@ fn assert_answer<R: AllocGlobal + Abort>(
     assert_text(rt, rt.alloc(), &row, got.as_str(), want)
 }
 
-/// The text of these parts is read as a manifest of this kind, and what is answered.
+/// Like `assert_answer`, for a text made of parts.
 pub(crate) fn assert_read<R: AllocGlobal + Abort>(
     rt: &R,
     kind: Kind,
@@ -53,7 +53,7 @@ pub(crate) fn assert_read<R: AllocGlobal + Abort>(
     assert_answer(rt, kind, text(rt.alloc(), parts)?.as_str(), want)
 }
 
-/// The kind of a manifest, the parts of its text, and what is answered.
+/// The kind of a manifest, the parts of its text, and the expected result.
 pub(crate) type Read = (Kind, &'static [Part], &'static [Part]);
 
 pub(crate) fn assert_reads<R: AllocGlobal + Abort>(rt: &R, rows: &[Read]) -> Result<(), Fail> {
@@ -76,7 +76,7 @@ pub(crate) const OF_IMAGE_0: &str =
 pub(crate) const OF_IMAGE_2: &str =
     "7e1df211bc4556d2a9db939a81721c52e5e53c59e3dfb45a57205a794dd412b7";
 
-/// What is answered of the key of `empty`: its line is these words.
+/// The printed key of `empty` in a result.
 pub(crate) const EMPTY_LINE: Part = Words(
     "sha256:44136fa355b3678a1146ad16f7e8649e94fb4fc21fe77e8310c060f61caaff8a 2 application/vnd.oci.empty.v1+json;",
 );
@@ -86,7 +86,7 @@ pub(crate) const DIGEST: &str =
 
 pub(crate) const BAD_MANIFEST_0: Part = Words("14 BadDescriptor manifests 0");
 
-/// What each kind of manifest lists.
+/// Manifests of each kind, and the keys that they list.
 pub(crate) const ALL_KINDS: [Read; 9] = [
     (
         Kind::Image,
@@ -160,7 +160,7 @@ pub(crate) const ALL_KINDS: [Read; 9] = [
     (Kind::Leaf, &[Words("{")], &[]),
 ];
 
-/// Lists and descriptors that are none.
+/// Values that are not lists or not descriptors.
 pub(crate) const FORMS: [Read; 5] = [
     (
         Kind::Index,
@@ -190,7 +190,7 @@ pub(crate) const GOOD: &str =
 
 pub(crate) const BAD: &str = "\"digest\":\"sha256:../../x\"";
 
-/// The empty text is a media type, and other members are not looked at.
+/// The empty text is a media type, and other members are ignored.
 pub(crate) const EMPTY_MEDIA_TYPE: Read = (
     Kind::Artifact,
     &[

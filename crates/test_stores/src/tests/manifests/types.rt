@@ -1,14 +1,15 @@
-//! The types that manifests state of themselves.
+//! The types that manifests declare.
 
 use oci_manifest::{Kind, artifact_type};
 use std::process::Abort;
 use std::test::Fail;
 
-/// A kind, the text of a manifest, and the type that it states.
+/// A kind, the text of a manifest, and the type that it declares.
 type Stated = (Kind, &'static str, Option<&'static str>);
 
-/// Two artifacts after the examples of OCI image-spec 1.1, manifest.md, "Guidelines for Artifact Usage", without their layers; a
-/// chart of Helm, an image of Docker, an index, and an artifact manifest.
+/// Two artifacts after the examples of OCI image-spec 1.1, manifest.md, "Guidelines for Artifact
+/// Usage", without their layers; then a Helm chart, a Docker image, an index, and an artifact
+/// manifest.
 const STATED: [Stated; 6] = [
     (
         Kind::Image,
@@ -42,8 +43,8 @@ const STATED: [Stated; 6] = [
     ),
 ];
 
-/// An `artifactType` that is empty or no text is none. Only images have a config, a leaf is not looked at, and what is no JSON or no
-/// object states nothing.
+/// An `artifactType` that is empty or not a text does not count. Only images have a config. Leaves,
+/// and bytes that are not a JSON object, declare no type.
 const NOT_STATED: [Stated; 9] = [
     (
         Kind::Image,
