@@ -1,11 +1,12 @@
-//! Tests of live stores: copies into them, and looks at them meanwhile.
+//! Tests of live stores: copies into them, and looks at them during copies.
 //!
-//! [`copy_and_tell`] is proved: after a copy, a look that was told of it has all that was copied. The rest are tests, of what no
-//! contract says: that calls succeed where memory is there, that a look answers in the middle of a copy and from another thread,
-//! and that a push is seen at once.
+//! [`copy_and_tell`] is proved: after a copy, a look that was told of it has everything that was
+//! copied. The tests cover the rest: that calls succeed if memory is available, that a look can be
+//! used in the middle of a copy and from another thread, and that a push is visible at once.
 //!
-//! `tests` has `looks` (what looks answer, before, during and after copies), `copies` (what arrives by every kind of copy) and
-//! `pushes` (refusals, and what a live store keeps); `stores` has what they share.
+//! In `tests`, `looks` tests looks before, during and after copies. `copies` tests the results of
+//! each kind of copy. `pushes` tests errors, and the contents of a live store. `stores` has their
+//! shared parts.
 #![tactic(auto)]
 
 mod telling;

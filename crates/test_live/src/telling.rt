@@ -14,10 +14,11 @@ use std::alloc::Global;
 use std::sync::Wait;
 use std::thread::Threads;
 
-/// Copies into a live store by workers, and tells a look of what is published then.
+/// Copies into a live store by workers, and tells a look of the entries published by then.
 ///
-/// After a copy that succeeds, where source and store agree, the look's list has all that the store held and all that the
-/// source reaches from the roots; and so has each list that it shows from then on, since that begins with this one.
+/// If the copy succeeds, and source and store agree, the look's list has everything that the store
+/// held and everything that the source reaches from the roots. So has every list that it shows from
+/// then on, since these begin with this one.
 pub fn copy_and_tell<T: Threads + Wait + Sync, R: Wait + Drop + Send, H: Hooks + Sync>(
     rt: &T,
     alloc: Global,

@@ -13,18 +13,18 @@ use std::thread::Threads;
 use test_support::Sample::{Bar, Empty, Foo, Image2, Image3, Index1, Index3, Index4, Referrer};
 use test_support::{Device, Sample, memory, on_device};
 
-/// The images, and what they reach.
+/// The images, and the contents that they reach.
 const IMAGES: [Sample; 6] = [Empty, Foo, Bar, Image2, Image3, Index1];
 
-/// An image, what refers to it, and what refers to that.
+/// An image, its referrers, and their referrers.
 const REFERRERS: [Sample; 6] = [Empty, Foo, Image2, Referrer, Index3, Index4];
 
 /// One kind of copy.
 #[derive(Clone, Copy, Debug)]
 enum Call {
-    /// On the calling thread.
+    /// A copy on the calling thread.
     One,
-    /// By so many workers.
+    /// A copy by this number of workers.
     Graph(u32),
 }
 
@@ -37,7 +37,7 @@ const CALLS: [Call; 5] = [
     Call::One,
 ];
 
-/// Makes one of the copies.
+/// Runs one of the copies.
 fn copied<A: Source + Sync, R: Threads + Wait + Sync + Send + Copy + Drop>(
     rt: &R,
     alloc: Global,
@@ -53,7 +53,7 @@ fn copied<A: Source + Sync, R: Threads + Wait + Sync + Send + Copy + Drop>(
     }
 }
 
-/// Whether a copy brought these samples into a live store that was empty, and nothing else.
+/// Returns whether a copy into an empty live store copied exactly these samples.
 fn brought<R: Wait + Drop>(
     alloc: Global,
     live: &LiveStore<R>,
@@ -64,7 +64,8 @@ fn brought<R: Wait + Drop>(
     Ok(numbers(copied) == Some([count, count, 0]) && has(alloc, live, samples)?)
 }
 
-/// Whether one of the copies brings the images from a store into an empty live store, and nothing else.
+/// Returns whether one kind of copy copies exactly the images from a store into an empty live
+/// store.
 fn arrive<A: Source + Sync, R: Threads + Wait + Sync + Send + Copy + Drop>(
     rt: &R,
     alloc: Global,
@@ -88,7 +89,8 @@ fn assert_arrive<A: Source + Sync, R: Threads + Wait + Abort + Sync + Send + Cop
     Ok(())
 }
 
-/// Whether a copy by so many workers is refused for them, and leaves a live store with a layer as it was.
+/// Returns whether a copy fails because of its number of workers, and leaves a live store with a
+/// layer unchanged.
 fn is_refused<R: Threads + Wait + Sync + Send + Copy + Drop>(
     rt: &R,
     alloc: Global,
@@ -109,7 +111,8 @@ fn two_images(rt: HostRuntime) -> Result<(), Fail> {
     Ok(())
 }
 
-/// From a source that may fail the layers and configs come part by part, in drafts of the live store.
+/// From a source that may fail, layers and configs are copied in parts, in drafts of the live
+/// store.
 #[test]
 fn two_images_in_drafts(rt: HostRuntime) -> Result<(), Fail> {
     let device = Device::failing(None, None);
@@ -117,7 +120,7 @@ fn two_images_in_drafts(rt: HostRuntime) -> Result<(), Fail> {
     assert_arrive(&rt, rt.alloc(), &source)
 }
 
-/// Whether an image comes with what refers to it directly, and nothing else.
+/// Returns whether an image is copied with exactly its direct referrers.
 fn referrers_arrive<R: Threads + Wait + Sync + Send + Copy + Drop>(
     rt: &R,
     alloc: Global,

@@ -17,15 +17,15 @@ use std::thread::{Threads, join};
 use test_support::Sample::{Empty, Foo, Image0};
 use test_support::{Sample, memory};
 
-/// How often a look or a hook looks for what has to come.
+/// The largest number of times that a look or a hook checks for an event.
 const LOOKS: u64 = 1_000_000_000;
 
-/// Whether a look has the three contents that are there after the copy.
+/// Returns whether a look has the three contents that are in the store after the copy.
 fn has_all(alloc: Global, look: &mut Look) -> Result<bool, Fail> {
     Ok(counts(look, 3) && shows(alloc, look, Empty)? && shows_at(alloc, look, 0, Foo)?)
 }
 
-/// Whether a look that learned a note has what was copied.
+/// Learns a note, and returns whether the look then has all contents.
 fn has_learned(alloc: Global, look: &mut Look, note: &Note) -> Result<bool, Fail>
     requires { look.old.name ≡ note.now.name }
 {
@@ -33,7 +33,7 @@ fn has_learned(alloc: Global, look: &mut Look, note: &Note) -> Result<bool, Fail
     has_all(alloc, look)
 }
 
-/// Whether it has on another thread, on which it learns the note.
+/// Like `has_learned`, on another thread.
 fn has_learned_there<R: Threads + Sync>(
     rt: &R,
     alloc: Global,
@@ -46,10 +46,11 @@ fn has_learned_there<R: Threads + Sync>(
     learned
 }
 
-/// What a live store has after the copy.
+/// The contents of a live store after the copy.
 const AFTER: [Sample; 3] = [Foo, Empty, Image0];
 
-/// Copies an image into a live store by three workers. Whether all of it came, and a look that learns so on another thread has it.
+/// Copies an image into a live store by three workers. Returns whether everything was copied, and a
+/// look that learns a note on another thread has all of it.
 fn is_learned<R: Threads + Wait + Sync + Send + Copy + Drop>(
     rt: &R,
     alloc: Global,
@@ -67,7 +68,7 @@ fn is_learned<R: Threads + Wait + Sync + Send + Copy + Drop>(
     Ok(came && learned && has(alloc, &live, &AFTER)?)
 }
 
-/// The same copy, where the look is told of it on the calling thread.
+/// Like `is_learned`, but the copy updates the look on the calling thread.
 fn is_told<R: Threads + Wait + Sync + Send + Copy + Drop>(
     rt: &R,
     alloc: Global,
@@ -85,16 +86,17 @@ fn is_told<R: Threads + Wait + Sync + Send + Copy + Drop>(
     Ok(came && told && has(alloc, &live, &AFTER)?)
 }
 
-/// How a look gets to know what a copy brought.
+/// How a look learns of a copy.
 #[derive(Clone, Copy, Debug)]
 enum Telling {
     /// It learns a note on another thread.
     ByNote,
-    /// The copy tells it on the calling thread.
+    /// The copy updates it on the calling thread.
     ByCopy,
 }
 
-/// A look at a live store with one content has that alone; after the copy it has all.
+/// Asserts that a look at a live store with one content has only that content, and has all contents
+/// after a copy.
 fn assert_looks<R: Threads + Wait + Abort + Sync + Send + Copy + Drop>(
     rt: &R,
     alloc: Global,
@@ -112,7 +114,7 @@ fn assert_looks<R: Threads + Wait + Abort + Sync + Send + Copy + Drop>(
     Ok(())
 }
 
-/// The same of a store with the image, which the copy brings.
+/// Like `assert_looks`, with a source that has the image to be copied.
 fn assert_looks_at_image<R: Threads + Wait + Abort + Sync + Send + Copy + Drop>(
     rt: R,
     alloc: Global,
@@ -132,12 +134,12 @@ fn look_that_a_copy_tells(rt: HostRuntime) -> Result<(), Fail> {
     assert_looks_at_image(rt, rt.alloc(), Telling::ByCopy)
 }
 
-/// Hooks that look for a flag before one key is fetched.
+/// Hooks that wait for a flag before one key is fetched.
 #[derive(Drop)]
 struct LooksForFlag<'f> {
     key: Key,
     flag: &'f AtomicBool,
-    /// Whether it was set.
+    /// Whether the flag was set.
     saw: AtomicBool,
 }
 
@@ -153,12 +155,13 @@ impl<'f> Hooks for LooksForFlag<'f> {
     fn skipped(&self, _key: &Key) {}
 }
 
-/// Looks at a flag until it is set, so often at most. Whether it was.
+/// Reads a flag until it is set, at most `LOOKS` times. Returns whether it was set.
 fn is_set(flag: &AtomicBool) -> bool {
     (0..LOOKS).any(|_| flag.load(Ordering::SeqCst))
 }
 
-/// Looks at a store until it has so many entries, so often at most. Whether it had.
+/// Looks at a store until it has `count` entries, at most `LOOKS` times. Returns whether it had
+/// them.
 fn sees(look: &mut Look, count: usize) -> bool {
     for _ in 0..LOOKS {
         if counts(look, count) {
@@ -168,19 +171,20 @@ fn sees(look: &mut Look, count: usize) -> bool {
     false
 }
 
-/// Whether a look finds the config and not the image once there are two entries. Then it sets the flag.
+/// Returns whether a look, once there are two entries, has the config but not the image. Then sets
+/// the flag.
 fn is_between(look: &mut Look, config: &Key, image: &Key, flag: &AtomicBool) -> bool {
     let is_there = sees(look, 2) && answers(look, config, true) && answers(look, image, false);
     flag.store(true, Ordering::SeqCst);
     is_there
 }
 
-/// Whether a look answers so of a key.
+/// Returns whether a look reports that a key is held, or not.
 fn answers(look: &mut Look, key: &Key, held: bool) -> bool {
     look.exists(key) == Ok(held)
 }
 
-/// A copy by two workers, the result alone.
+/// Copies by two workers, and returns only the result.
 fn copied<R: Threads + Wait + Sync + Send + Drop + Copy, H: Hooks + Sync>(
     rt: &R,
     alloc: Global,
@@ -194,8 +198,8 @@ fn copied<R: Threads + Wait + Sync + Send + Drop + Copy, H: Hooks + Sync>(
     numbers(copied)
 }
 
-/// Copies an image by two workers while a look is asked on another thread. Whether the look answered between the two pushes,
-/// and what the copy answers.
+/// Copies an image by two workers while another thread uses a look. Returns whether the look was
+/// used between the two pushes, and the result of the copy.
 fn copied_meanwhile<R: Threads + Wait + Sync + Send + Copy + Drop>(
     rt: &R,
     alloc: Global,
@@ -211,7 +215,7 @@ fn copied_meanwhile<R: Threads + Wait + Sync + Send + Copy + Drop>(
     ))
 }
 
-/// The same copy of the image that the hooks wait before.
+/// Like `copied_meanwhile`, with hooks that wait before the image.
 fn image_copied_meanwhile<R: Threads + Wait + Sync + Send + Copy + Drop>(
     rt: &R,
     alloc: Global,
@@ -221,7 +225,8 @@ fn image_copied_meanwhile<R: Threads + Wait + Sync + Send + Copy + Drop>(
     copied_meanwhile(rt, alloc, &source, &Empty.key(alloc)?, hooks)
 }
 
-/// The hook keeps the image back until the look has answered: so it answers between the two pushes of the copy.
+/// The hook holds the image back until the look has been used. So this happens between the two
+/// pushes of the copy.
 #[test]
 fn look_in_the_middle_of_a_copy(rt: HostRuntime) -> Result<(), Fail> {
     let flag = AtomicBool::new(false);

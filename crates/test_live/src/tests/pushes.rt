@@ -9,7 +9,7 @@ use std::test::Fail;
 use test_support::Sample;
 use test_support::Sample::{Empty, Foo, Image0};
 
-/// Whether a look has no sample before it is pushed, and has it right afterwards.
+/// Returns whether a look lacks a sample before it is pushed, and has it right afterwards.
 fn is_seen<R: Wait + Drop>(
     alloc: Global,
     live: &mut LiveStore<R>,
@@ -51,7 +51,7 @@ fn each_push_is_seen_at_once(rt: HostRuntime) -> Result<(), Fail> {
     assert_seen(&rt, rt.alloc(), &mut live, &mut look, &[Empty, Foo, Image0])
 }
 
-/// So many looks at a store.
+/// Returns `count` looks at a store.
 fn looks<R: Wait + Drop>(
     alloc: Global,
     live: &mut LiveStore<R>,
@@ -64,7 +64,7 @@ fn looks<R: Wait + Drop>(
     Ok(looks)
 }
 
-/// Whether 64 looks have their places, one more has none, and a look that is dropped gives its place back.
+/// Returns whether 64 looks have places, one more has none, and a dropped look frees its place.
 fn has_places<R: Wait + Drop>(alloc: Global, live: &mut LiveStore<R>) -> Result<bool, Fail> {
     let mut looks = looks(alloc, live, 64)?;
     let is_full = live.look().is_err();
@@ -79,7 +79,7 @@ fn places_of_looks(rt: HostRuntime) -> Result<(), Fail> {
     Ok(())
 }
 
-/// A look that outlives its store answers nothing any more.
+/// A look that outlives its store returns only errors.
 #[test]
 fn look_at_a_dropped_store(rt: HostRuntime) -> Result<(), Fail> {
     let (live, mut look) = looked_at(rt.alloc(), rt, &[Foo])?;

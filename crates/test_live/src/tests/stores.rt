@@ -1,4 +1,4 @@
-//! Live stores of samples, and what they and looks at them have.
+//! Live stores of samples, and checks of their contents and of looks at them.
 ghost use Rattle.std.specs.Prelude.{◌≡◌, IfOk};
 
 use oci_copy::{CopyFault, Options, Report};
@@ -8,7 +8,7 @@ use std::sync::Wait;
 use std::test::Fail;
 use test_support::{Sample, closed, gives_sample};
 
-/// A live store that was opened on these samples, in this order.
+/// Returns a live store that was opened on these samples, in this order.
 pub(crate) fn live<R: Wait + Drop>(
     alloc: Global,
     rt: R,
@@ -20,7 +20,7 @@ pub(crate) fn live<R: Wait + Drop>(
     }
 }
 
-/// The same with a look at it.
+/// Like `live`, with a look at the store.
 pub(crate) fn looked_at<R: Wait + Drop>(
     alloc: Global,
     rt: R,
@@ -33,7 +33,7 @@ pub(crate) fn looked_at<R: Wait + Drop>(
     Ok((live, look))
 }
 
-/// Options with so many workers.
+/// Returns the options for this number of workers.
 pub(crate) fn by(workers: u32) -> Options {
     Options {
         workers,
@@ -41,13 +41,13 @@ pub(crate) fn by(workers: u32) -> Options {
     }
 }
 
-/// How many contents a copy planned, pushed and skipped; None where it was refused.
+/// Returns how many contents a copy planned, pushed and skipped, or `None` if it failed.
 pub(crate) fn numbers(copied: Result<Report, CopyFault>) -> Option<[u64; 3]> {
     let report = copied.ok()?;
     Some([report.planned, report.pushed, report.skipped])
 }
 
-/// Whether a live store has these samples, and nothing else: what is copied out of it.
+/// Returns whether a live store has exactly these samples, by a copy of its contents.
 pub(crate) fn has<R: Wait + Drop>(
     alloc: Global,
     live: &LiveStore<R>,
@@ -62,12 +62,12 @@ pub(crate) fn has<R: Wait + Drop>(
     Ok(out.memory().len() == samples.len())
 }
 
-/// Whether a look gives a sample's bytes.
+/// Returns whether a look returns a sample's bytes.
 pub(crate) fn shows(alloc: Global, look: &mut Look, sample: Sample) -> Result<bool, Fail> {
     Ok(look.fetch(&sample.key(alloc)?)? == sample.bytes(alloc)?)
 }
 
-/// Whether a look gives a sample as the entry at a place.
+/// Returns whether a look returns a sample as the entry at a place.
 pub(crate) fn shows_at(
     alloc: Global,
     look: &mut Look,
@@ -80,7 +80,7 @@ pub(crate) fn shows_at(
     Ok(key == sample.key(alloc)? && bytes == sample.bytes(alloc)?)
 }
 
-/// Whether a look answers that there are so many entries.
+/// Returns whether a look reports this number of entries.
 pub(crate) fn counts(look: &mut Look, count: usize) -> bool
     ensures { look.new.name ≡ look.old.name }
 {
