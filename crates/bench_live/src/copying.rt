@@ -8,7 +8,8 @@ use std::alloc::{AllocError, Global};
 use std::sync::Wait;
 use std::thread::Threads;
 
-/// Copies all contents into a live store by three workers, and does so again. None where the source finds no memory.
+/// Copies all contents into a live store by three workers, twice. Returns `None` if the source runs
+/// out of memory.
 pub(crate) fn copy_twice<T: Threads + Wait + Sync, R: Wait + Drop + Send>(
     rt: &T,
     alloc: Global,
@@ -22,7 +23,7 @@ pub(crate) fn copy_twice<T: Threads + Wait + Sync, R: Wait + Drop + Send>(
     Some((live, tally))
 }
 
-/// A store of these contents, and their keys.
+/// Returns a store of these contents, and their keys.
 fn source(alloc: Global, contents: Vec<Content>) -> Result<(MemoryStore, Vec<Key>), AllocError> {
     let mut store = MemoryStore::new(alloc);
     let mut keys = Vec::new(alloc);

@@ -5,7 +5,8 @@ use std::sync::Wait;
 use std::sync::atomic::{AtomicBool, Ordering};
 use std::thread::{Threads, join};
 
-/// Pushes all contents while two looks ask for a key. None where there was no memory for a look.
+/// Pushes all contents while two looks ask for a key. Returns `None` if there is no memory for a
+/// look.
 pub(crate) fn push_all_looked_at<T: Threads + Sync, R: Wait + Drop + Send>(
     rt: &T,
     live: &mut LiveStore<R>,
@@ -43,7 +44,8 @@ fn push_until_done<R: Wait + Drop>(
     tally
 }
 
-/// Asks a look for a key, so often at most, until somebody says that all is done. How often it had an answer.
+/// Asks a look for a key until `done` is set, at most `times` times. Returns how often it
+/// succeeded.
 pub(crate) fn ask(look: &mut Look, key: &Key, times: u64, done: &AtomicBool) -> u64 {
     let mut answers: u64 = 0;
     for _ in 0..times {

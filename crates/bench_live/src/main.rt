@@ -1,12 +1,17 @@
 //! Pushes small contents into a store: `bench/live` times it.
 //!
-//! The first word is the store, the second how many contents are pushed: `closed`, `live`, `looked` for a live store that two
-//! looks ask for a content all the while, or `asked` for one that a look asks so a million times afterwards. With `copied` all
-//! contents are copied into a live store by workers, twice, and the two copies stand in the place of the pushes.
+//! The first word is the store, the second the number of contents. The stores are:
 //!
-//! What is printed: how many pushes succeeded, the numbers of the first and the last refusal (0 for none), how many entries the
-//! store holds, or a copy of it, and how often looks had an answer. If anything else runs out of memory, nothing is printed:
-//! status 3.
+//! - `closed`: a closed store.
+//! - `live`: a live store.
+//! - `looked`: a live store that two looks ask for a content during the pushes.
+//! - `asked`: a live store that one look asks for a content a million times after the pushes.
+//! - `copied`: a live store into which workers copy all contents, twice. The two copies count in
+//!   place of the pushes.
+//!
+//! The output is the number of successful pushes, the numbers of the first and the last error (0
+//! for none), the number of entries in the store or in a copy of it, and the number of successful
+//! looks. If anything else runs out of memory, nothing is printed, and the status is 3.
 #![tactic(auto)]
 
 mod copying;
@@ -35,7 +40,8 @@ fn main(rt: HostRuntime) -> io::Result<ExitCode> {
     Ok(ExitCode::from(0))
 }
 
-/// Does what the words ask for. None where they cannot be read, or where there was no memory for what is pushed into.
+/// Runs the request. Returns `None` if the words cannot be read, or if there is no memory for the
+/// store.
 fn run<R: Threads + Wait + Send + Sync + Copy + Drop>(
     rt: R,
     alloc: Global,
@@ -46,7 +52,7 @@ fn run<R: Threads + Wait + Send + Sync + Copy + Drop>(
     pushed(rt, alloc, words.first()?.as_str(), contents)
 }
 
-/// Pushes the contents into the store of this name.
+/// Pushes the contents into the store with this name.
 fn pushed<R: Threads + Wait + Send + Sync + Copy + Drop>(
     rt: R,
     alloc: Global,
@@ -82,7 +88,7 @@ fn live<R: Wait + Drop>(rt: R, alloc: Global, contents: Vec<Content>) -> Option<
     copied_out(&live, tally)
 }
 
-/// What came of the pushes, with how many entries a copy of the store has.
+/// Returns the tally with the number of entries in a copy of the store.
 fn copied_out<R: Wait + Drop>(live: &LiveStore<R>, tally: Tally) -> Option<Tally> {
     match live.copy_out() {
         Ok(out) => Some(tally.held(out.memory().len())),
@@ -90,7 +96,7 @@ fn copied_out<R: Wait + Drop>(live: &LiveStore<R>, tally: Tally) -> Option<Tally
     }
 }
 
-/// The key that looks ask for.
+/// Returns the key that looks ask for.
 fn asked_for(contents: &[Content]) -> Option<Key> {
     contents.last()?.key.try_clone().ok()
 }

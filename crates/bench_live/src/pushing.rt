@@ -12,7 +12,7 @@ pub(crate) struct Content {
     pub bytes: Bytes,
 }
 
-/// So many small contents, each other than the others.
+/// Returns `count` distinct small contents.
 pub(crate) fn contents(alloc: Global, count: u64) -> Result<Vec<Content>, AllocError> {
     let mut contents = Vec::new(alloc);
     for number in 0..count {
@@ -21,7 +21,7 @@ pub(crate) fn contents(alloc: Global, count: u64) -> Result<Vec<Content>, AllocE
     Ok(contents)
 }
 
-/// A content of eight bytes.
+/// Returns a content of eight bytes.
 fn numbered(alloc: Global, number: u64) -> Result<Content, AllocError> {
     let bytes = Bytes::copy_from_slice(alloc, &number.to_le_bytes())?;
     let media_type = String::from_str(alloc, "text/plain")?;
@@ -31,7 +31,7 @@ fn numbered(alloc: Global, number: u64) -> Result<Content, AllocError> {
     Ok(Content { key, bytes })
 }
 
-/// What came of some pushes or copies.
+/// The results of some pushes or copies.
 #[derive(Drop, Default)]
 pub(crate) struct Tally {
     came: u64,
@@ -42,12 +42,12 @@ pub(crate) struct Tally {
 }
 
 impl Tally {
-    /// Counts one that came.
+    /// Counts a success.
     pub fn came(&mut self) {
         self.came = self.came.wrapping_add(1);
     }
 
-    /// Notes the number of one that was refused.
+    /// Records the number of an error.
     pub fn refused(&mut self, number: u8) {
         self.last_refusal = number;
         if self.first_refusal == 0 {
@@ -55,12 +55,12 @@ impl Tally {
         }
     }
 
-    /// The same, with how many entries there are.
+    /// Returns the tally with this number of entries.
     pub fn held(self, held: usize) -> Tally {
         Tally { held, ..self }
     }
 
-    /// The same, with how often looks had an answer.
+    /// Returns the tally with this number of successful looks.
     pub fn answered(self, answers: u64) -> Tally {
         Tally { answers, ..self }
     }
