@@ -1,16 +1,16 @@
 use oci_pool::{Job, Pass};
 use std::sync::atomic::{AtomicU64, Ordering};
 
-/// Each job counts to a fixed number.
+/// Jobs that each count to a fixed number.
 #[derive(Drop)]
 pub(crate) struct Counts {
     steps: u64,
-    /// Read at each step, so that no step is left out.
+    /// Read at each step, so that no step is optimized away.
     pace: AtomicU64,
 }
 
 impl Counts {
-    /// Jobs that count to this number.
+    /// Creates jobs that count to this number.
     pub fn new(steps: u64) -> Counts {
         Counts {
             steps,

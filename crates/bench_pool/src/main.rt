@@ -1,7 +1,8 @@
-//! Runs jobs that count to a fixed number over a graph of one shape, with so many workers: `bench/pool` times it.
+//! Runs jobs on a graph of one shape with a number of workers: `bench/pool` times it.
 //!
-//! The words are the shape (`chain`, `star` or `layers`), how many numbers the graph has, how many workers run, and to how
-//! much each job counts. What is printed is how many jobs were run.
+//! The words are the shape (`chain`, `star` or `layers`), the number of jobs, the number of
+//! workers, and the number to which each job counts. The output is the number of jobs that were
+//! run.
 #![tactic(auto)]
 
 mod counting;
@@ -13,7 +14,7 @@ use std::process::ExitCode;
 use std::{env, io};
 use test_support::{Shape, graph};
 
-/// What the words ask for.
+/// The request in the words.
 #[derive(Drop)]
 struct Task {
     order: Order,
@@ -36,12 +37,12 @@ fn main(rt: HostRuntime) -> io::Result<ExitCode> {
     }
 }
 
-/// The number that a word tells.
+/// Returns the word at a place as a number.
 fn number(words: &[String], place: usize) -> Option<u32> {
     words.get(place)?.as_str().parse().ok()
 }
 
-/// The shape of this name.
+/// Returns the shape with this name.
 fn shape(word: &str) -> Option<Shape> {
     match word {
         "chain" => Some(Shape::Chain),
@@ -51,7 +52,7 @@ fn shape(word: &str) -> Option<Shape> {
     }
 }
 
-/// What the words ask for, if they can be read.
+/// Returns the request in the words, if they can be read.
 fn read_task(rt: &HostRuntime, words: &[String]) -> Option<Task> {
     let count = number(words, 1)?;
     let shape = shape(words.first()?.as_str())?;
