@@ -13,7 +13,7 @@ use test_support::Sample::{
 };
 use test_support::{Sample, gives_sample};
 
-/// What the destination holds before; no manifest lists it.
+/// The content of the destination before the copy; no manifest lists it.
 const OLD: Sample = FooBySha512;
 
 #[derive(Clone, Copy)]
@@ -24,7 +24,7 @@ pub(crate) enum Call {
 }
 
 impl Call {
-    /// What the source has, and the root of the copy.
+    /// Returns the contents of the source, and the root of the copy.
     fn samples(self) -> ([Sample; 6], Sample) {
         match self {
             Call::One | Call::Workers => ([Empty, Foo, Bar, Image2, Image3, Index1], Index1),
@@ -51,7 +51,7 @@ impl Call {
     }
 }
 
-/// Makes a copy into a closed store that has an old entry, and makes it again.
+/// Copies into a closed store with an old entry, twice.
 pub(crate) fn copied_twice<R: Threads + Wait + Sync>(
     rt: &R,
     alloc: Global,
@@ -65,7 +65,7 @@ pub(crate) fn copied_twice<R: Threads + Wait + Sync>(
     Ok(())
 }
 
-/// Makes the copy, and tells what the destination then is.
+/// Runs the copy, and reports the state of the destination afterwards.
 fn copied<R: Threads + Wait + Sync>(
     rt: &R,
     alloc: Global,
@@ -79,7 +79,7 @@ fn copied<R: Threads + Wait + Sync>(
     Ok(store)
 }
 
-/// Makes the copy, and tells what it answered.
+/// Runs the copy, and reports its result.
 fn made<R: Threads + Wait + Sync>(
     rt: &R,
     alloc: Global,

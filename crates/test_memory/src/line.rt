@@ -1,10 +1,11 @@
-//! The line that a run prints: what its steps answered, word by word.
+//! The line that a run prints: the results of its steps, word by word.
 use oci_copy::{CopyFault, Report};
 use oci_store::Dest;
 use std::alloc::{AllocError, Global};
 use std::fmt::{Display, Write};
 
-/// The words of a line, with a blank before each. Where there was no memory for one of them, there is no line.
+/// The words of a line, with a blank before each. If there was no memory for a word, there is no
+/// line.
 #[derive(Drop)]
 pub(crate) struct Line {
     text: String,
@@ -19,7 +20,7 @@ impl Line {
         }
     }
 
-    /// All the words.
+    /// Returns all words.
     pub(crate) fn into_text(self) -> Result<String, AllocError> {
         if self.is_whole {
             Ok(self.text)
@@ -42,13 +43,13 @@ impl Line {
         self.say(if answer { "yes" } else { "no" });
     }
 
-    /// Whether the destination has its old entry.
+    /// Adds whether the destination has its old entry.
     pub(crate) fn old(&mut self, has: bool) {
         self.say("old");
         self.yes(has);
     }
 
-    /// What a step answered, or how it was refused.
+    /// Adds the result or the error of a step.
     pub(crate) fn answer<T: Display, E: Display>(&mut self, answer: &Result<T, E>) {
         match answer {
             Ok(done) => self.tell(done),
@@ -56,14 +57,14 @@ impl Line {
         }
     }
 
-    /// What a copy answered, and what the destination then is.
+    /// Adds the result of a copy, and the state of the destination afterwards.
     pub(crate) fn copy<D: Dest>(&mut self, answer: &Result<Report, CopyFault>, store: &D) {
         self.say("copy");
         self.answer(answer);
         self.state(store);
     }
 
-    /// Whether a store is closed, and how many entries it has.
+    /// Adds whether a store is closed, and its number of entries.
     pub(crate) fn state<D: Dest>(&mut self, store: &D) {
         self.say("closed");
         self.say(match store.missing() {

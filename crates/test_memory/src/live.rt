@@ -16,7 +16,7 @@ use std::thread::{Threads, join};
 use test_support::Sample;
 use test_support::Sample::{Empty, Foo, Image0};
 
-/// Copies an image into a live store that has an old entry while a look is taken, and copies it again.
+/// Copies an image into a live store with an old entry while a look is open, and copies it again.
 pub(crate) fn looked_at<R: Threads + Wait + Send + Sync + Copy + Drop>(
     rt: R,
     alloc: Global,
@@ -27,7 +27,7 @@ pub(crate) fn looked_at<R: Threads + Wait + Send + Sync + Copy + Drop>(
     looked_on(&rt, alloc, &graph, live, line)
 }
 
-/// A live store with the old entry. One that is refused is opened again.
+/// Returns a live store with the old entry. After an error it is opened again.
 fn opened<R: Wait + Drop + Copy>(
     rt: R,
     alloc: Global,
@@ -42,7 +42,7 @@ fn opened<R: Wait + Drop + Copy>(
     }
 }
 
-/// A live store over this one, which is given back where that is refused.
+/// Opens a live store on this store, and returns this store after an error.
 fn opened_over<R: Wait + Drop>(
     rt: R,
     alloc: Global,
@@ -62,7 +62,7 @@ fn opened_over<R: Wait + Drop>(
     }
 }
 
-/// Takes a look, and copies the image twice.
+/// Creates a look, and copies the image twice.
 fn looked_on<R: Threads + Wait + Send + Sync + Copy + Drop>(
     rt: &R,
     alloc: Global,
@@ -77,7 +77,7 @@ fn looked_on<R: Threads + Wait + Send + Sync + Copy + Drop>(
     left(rt, alloc, &live, &mut look, line)
 }
 
-/// Makes the copy twice.
+/// Runs the copy twice.
 fn copied_twice<R: Threads + Wait + Send + Sync + Copy + Drop>(
     rt: &R,
     alloc: Global,
@@ -92,7 +92,7 @@ fn copied_twice<R: Threads + Wait + Send + Sync + Copy + Drop>(
     copied(rt, alloc, graph, live, look, line)
 }
 
-/// Copies the image into the live store, and tells the look of what is published then.
+/// Copies the image into the live store, and tells the look of the entries published by then.
 fn copied<R: Threads + Wait + Send + Sync + Copy + Drop>(
     rt: &R,
     alloc: Global,
@@ -110,7 +110,7 @@ fn copied<R: Threads + Wait + Send + Sync + Copy + Drop>(
     Ok(live)
 }
 
-/// Copies the image into the live store, and tells what that answered.
+/// Copies the image into the live store, and reports the result.
 fn made<R: Threads + Wait + Send + Sync + Copy + Drop>(
     rt: &R,
     alloc: Global,
@@ -129,7 +129,7 @@ fn made<R: Threads + Wait + Send + Sync + Copy + Drop>(
     live
 }
 
-/// Tells how many entries a look has.
+/// Reports the number of entries of a look.
 fn count(look: &mut Look, line: &mut Line)
     ensures { look.new.name ≡ look.old.name }
 {
@@ -137,7 +137,8 @@ fn count(look: &mut Look, line: &mut Line)
     line.answer(&look.len());
 }
 
-/// Tells what is left after the copies: what the look has, asked on a thread of its own, and the store that is copied out.
+/// Reports the state after the copies: the entries of the look, which is used on its own thread,
+/// and the copied contents of the store.
 fn left<R: Threads + Wait + Sync + Drop>(
     rt: &R,
     alloc: Global,
@@ -150,7 +151,7 @@ fn left<R: Threads + Wait + Sync + Drop>(
     copied_out(live, line)
 }
 
-/// Tells whether a look has the config, and the old entry at its first place.
+/// Reports whether a look has the config, and the old entry at its first place.
 fn seen(alloc: Global, look: &mut Look, line: &mut Line) -> Result<(), Fail> {
     config(look, &sample_of(alloc, Empty)?, line);
     first(look, &sample_of(alloc, Foo)?, line);
@@ -179,7 +180,7 @@ fn first(look: &mut Look, wanted: &(Key, Bytes), line: &mut Line) {
     }
 }
 
-/// Tells what the store that is copied out is. One that is refused is copied out again.
+/// Reports a copy of the store's contents. After an error they are copied again.
 fn copied_out<R: Wait + Drop>(live: &LiveStore<R>, line: &mut Line) -> Result<(), Fail> {
     for _ in 0..2 {
         line.say("out");

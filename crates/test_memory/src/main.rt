@@ -1,17 +1,18 @@
-//! Calls of the library that a check refuses memory: each request of a run in turn, by another run each time.
+//! Calls of the library during which a check makes allocations fail: each allocation of a run in
+//! turn, in another run each time.
 //!
-//! The word is one of these; without a word all of them are run, one after the other.
+//! The word is one of these. Without a word all of them are run, one after the other.
 //!
-//! | Word | What is run |
+//! | Word | Run |
 //! |---|---|
 //! | `one` | a copy of two images on the calling thread, twice |
-//! | `workers` | the same by three workers |
-//! | `referrers` | a copy of an image with what refers to it, one step up, twice |
-//! | `round-trip` | a layout is made, filled, saved and opened again; a step that is refused is taken again |
-//! | `live` | a copy into a live store while a look is taken, twice |
+//! | `workers` | a copy of two images by three workers, twice |
+//! | `referrers` | a copy of an image with its direct referrers, twice |
+//! | `round-trip` | a layout is created, filled, saved and reopened; a failed step is repeated |
+//! | `live` | a copy into a live store while a look is open, twice |
 //!
-//! A line tells what each step answered, and what the destination then holds. If there is no memory for anything but these steps,
-//! the line is not printed: status 1.
+//! A line reports the result of each step, and the contents of the destination afterwards. If there
+//! is no memory for anything but these steps, the line is not printed, and the status is 1.
 #![tactic(auto)]
 
 mod copies;
@@ -43,7 +44,7 @@ fn main(rt: HostRuntime) -> Result<(), Fail> {
     Ok(())
 }
 
-/// Whether the word, if there is one, asks for this.
+/// Returns whether the word, if there is one, requests this run.
 fn is_wanted(wanted: &Option<String>, name: &str) -> bool {
     match wanted {
         Some(word) => word.as_str() == name,
@@ -51,7 +52,7 @@ fn is_wanted(wanted: &Option<String>, name: &str) -> bool {
     }
 }
 
-/// What the steps answered.
+/// Returns the line of a run.
 fn line_of<R: Threads + Wait + Send + Sync + Copy + Drop>(
     rt: R,
     alloc: Global,
@@ -62,7 +63,7 @@ fn line_of<R: Threads + Wait + Send + Sync + Copy + Drop>(
     Ok(line.into_text()?)
 }
 
-/// Takes the steps.
+/// Runs the steps.
 fn run<R: Threads + Wait + Send + Sync + Copy + Drop>(
     rt: R,
     alloc: Global,

@@ -12,20 +12,21 @@ use std::thread::Threads;
 use test_support::Sample;
 use test_support::Sample::{Empty, Image0};
 
-/// How a layout is made of a directory.
+/// How a layout is created from a directory.
 #[derive(Clone, Copy)]
 enum Way {
     Create,
     Open,
 }
 
-/// A new layout. One that is refused is made again; where its first file stands by then, it is opened.
+/// The ways to a new layout, tried in order. The last one works if a failed creation left the first
+/// file.
 const NEW: &[Way] = &[Way::Create, Way::Create, Way::Open];
 
-/// A saved layout. One that is refused is opened once more.
+/// The ways to a saved layout, tried in order.
 const SAVED: &[Way] = &[Way::Open, Way::Open];
 
-/// Makes a layout, copies an image into it, saves it and opens it again.
+/// Creates a layout, copies an image into it, saves it and opens it again.
 pub(crate) fn taken_round<R: Threads + Wait + Sync>(
     rt: &R,
     alloc: Global,
@@ -36,7 +37,7 @@ pub(crate) fn taken_round<R: Threads + Wait + Sync>(
     opened(alloc, dir, line)
 }
 
-/// The directory of a new layout with the image, saved.
+/// Returns the directory of a new layout with the image, saved.
 fn kept<R: Threads + Wait + Sync>(
     rt: &R,
     alloc: Global,
@@ -49,7 +50,7 @@ fn kept<R: Threads + Wait + Sync>(
     }
 }
 
-/// The source of a graph, in which its root has a tag.
+/// Returns the source of a graph, with a tag for its root.
 fn tagged(graph: Graph) -> Result<MemoryStore, Fail> {
     let Graph { mut source, root } = graph;
     match source.tag(&root, "m") {
@@ -58,7 +59,7 @@ fn tagged(graph: Graph) -> Result<MemoryStore, Fail> {
     }
 }
 
-/// The layout that is made by the first of these ways that is not refused.
+/// Returns the layout from the first of these ways that succeeds.
 fn laid(alloc: Global, dir: MemDir, ways: &[Way], line: &mut Line) -> Option<Layout<MemDir>> {
     let mut dir = dir;
     for way in ways {
@@ -70,7 +71,7 @@ fn laid(alloc: Global, dir: MemDir, ways: &[Way], line: &mut Line) -> Option<Lay
     None
 }
 
-/// A layout that is made in this way, or its directory where that is refused.
+/// Returns the layout that is created in this way, or its directory after an error.
 fn made(alloc: Global, dir: MemDir, way: Way, line: &mut Line) -> Result<Layout<MemDir>, MemDir> {
     let (word, answer) = match way {
         Way::Create => ("create", Layout::create(alloc, dir)),
@@ -89,7 +90,7 @@ fn made(alloc: Global, dir: MemDir, way: Way, line: &mut Line) -> Result<Layout<
     }
 }
 
-/// Copies the image into the layout; once more where that is refused.
+/// Copies the image into the layout, and once more after an error.
 fn filled<R: Threads + Wait + Sync>(
     rt: &R,
     alloc: Global,
@@ -118,7 +119,7 @@ fn fill<R: Threads + Wait + Sync>(
     (layout, is_filled)
 }
 
-/// Tells what a copy answered: whether it was made.
+/// Reports the result of a copy, and returns whether it succeeded.
 fn tell_copy(answer: &Result<(Key, Report), CopyFault>, line: &mut Line) -> bool {
     line.say("copy");
     match answer {
@@ -128,7 +129,7 @@ fn tell_copy(answer: &Result<(Key, Report), CopyFault>, line: &mut Line) -> bool
     answer.is_ok()
 }
 
-/// Saves the layout; once more where that is refused.
+/// Saves the layout, and once more after an error.
 fn saved(layout: Layout<MemDir>, line: &mut Line) -> Result<MemDir, Fail> {
     let mut layout = layout;
     for _ in 0..2 {
@@ -144,7 +145,8 @@ fn saved(layout: Layout<MemDir>, line: &mut Line) -> Result<MemDir, Fail> {
     Err(Fail::from("the layout cannot be saved"))
 }
 
-/// Opens the layout, tells what its references are, and what making another one in its directory answers.
+/// Opens the layout. Reports its references, and the result of creating another layout in its
+/// directory.
 fn opened(alloc: Global, dir: MemDir, line: &mut Line) -> Result<(), Fail> {
     let Some(layout) = laid(alloc, dir, SAVED, line) else {
         return Err(Fail::from("the saved layout cannot be opened"));
@@ -154,7 +156,7 @@ fn opened(alloc: Global, dir: MemDir, line: &mut Line) -> Result<(), Fail> {
     Ok(())
 }
 
-/// Tells how many keys the layout holds, and what its references are.
+/// Reports the number of keys in the layout, and its references.
 fn names(alloc: Global, layout: &Layout<MemDir>, line: &mut Line) -> Result<(), Fail> {
     line.say("held");
     line.tell(&layout.count());
@@ -169,7 +171,7 @@ fn names(alloc: Global, layout: &Layout<MemDir>, line: &mut Line) -> Result<(), 
     Ok(())
 }
 
-/// Tells whether a sample's digest is its reference.
+/// Reports whether a sample's digest resolves to the sample.
 fn named_by_digest(
     alloc: Global,
     layout: &Layout<MemDir>,
@@ -180,7 +182,7 @@ fn named_by_digest(
     named(alloc, layout, reference.as_str(), sample, line)
 }
 
-/// Tells whether a reference is that of this sample, or how it is refused.
+/// Reports whether a reference resolves to this sample, or the error.
 fn named(
     alloc: Global,
     layout: &Layout<MemDir>,

@@ -1,4 +1,4 @@
-//! The stores that the runs begin with.
+//! The stores at the start of a run.
 use oci_copy::Options;
 use oci_manifest::Key;
 use oci_store::{ClosedStore, MemoryStore};
@@ -6,7 +6,7 @@ use std::alloc::Global;
 use std::test::Fail;
 use test_support::{Sample, closed, memory};
 
-/// A graph that is copied: its root, and a store that has all of it.
+/// A graph to copy: its root, and a store with all its contents.
 #[derive(Drop)]
 pub(crate) struct Graph {
     pub(crate) source: MemoryStore,
@@ -14,7 +14,7 @@ pub(crate) struct Graph {
 }
 
 impl Graph {
-    /// A graph of all of these samples.
+    /// Creates a graph of all these samples.
     pub(crate) fn of(alloc: Global, samples: &[Sample], root: Sample) -> Result<Graph, Fail> {
         let source = source_of(alloc, samples)?;
         Ok(Graph {
@@ -24,7 +24,7 @@ impl Graph {
     }
 }
 
-/// A store with all of these samples.
+/// Returns a store with all these samples.
 fn source_of(alloc: Global, samples: &[Sample]) -> Result<MemoryStore, Fail> {
     let store = memory(alloc, samples)?;
     if store.len() == samples.len() {
@@ -34,7 +34,7 @@ fn source_of(alloc: Global, samples: &[Sample]) -> Result<MemoryStore, Fail> {
     }
 }
 
-/// A destination that has this sample.
+/// Returns a destination with this sample.
 pub(crate) fn destination_with(alloc: Global, old: Sample) -> Result<ClosedStore, Fail> {
     let store = closed(alloc, &[old])?;
     if store.memory().len() == 1 {
@@ -44,7 +44,7 @@ pub(crate) fn destination_with(alloc: Global, old: Sample) -> Result<ClosedStore
     }
 }
 
-/// A copy by three workers.
+/// Returns the options for a copy by three workers.
 pub(crate) fn by_three() -> Options {
     Options {
         workers: 3,
