@@ -1,22 +1,25 @@
 use crate::fault::DirFault;
-use crate::fs_dir::files::{failed, is_absence, part_of_file};
-use crate::fs_dir::lock::{Lockable, is_at};
+use crate::fs_dir::files::{failed, part_of_file};
+use crate::fs_dir::lock::Lockable;
+use std::fs::OpenFile;
 use std::io::{ErrorKind, Write};
+use std::os::unix::fs::MetadataExt;
 use std::random::RandomSource;
 use std::rt::Files;
 use std::{fs, io};
 
-/// How many bytes are copied at a time.
+/// The number of bytes that are copied at a time.
 const PART: u64 = 1_048_576;
 
-/// How many names are tried before a write fails. Two are equal once in 2^64 times, so a second try shows that the random source
-/// repeats itself.
+/// The number of names that are tried before a write fails. Two random names are equal once in 2^64
+/// times, so a name that is taken shows that the random source repeats itself.
 const TRIES: u32 = 16;
 
-/// A file beside the place that it is to have. Its name is the place's, 16 random hexadecimal digits and `.new`, which no file had
-/// before. It is open and locked from before its first byte until after it is renamed. So nobody else writes into it, and no other
-/// process takes it for what a killed one left. If somebody removes it all the same, its renaming fails. It is removed if it is
-/// dropped before it is renamed.
+/// A new file beside the place to which it will be renamed. Its name is the place's name, then 16
+/// random hexadecimal digits and `.new`, and no file had that name before. It is open and locked
+/// from before its first byte until after it is renamed. So no other process of this library writes
+/// into it, or takes it for a file that a killed process left. If it is removed all the same, its
+/// renaming fails. It is removed if it is dropped before it is renamed.
 pub(crate) struct Beside<'r, R: Files + AllocGlobal> {
     rt: &'r R,
     path: String,
@@ -32,7 +35,7 @@ impl<'r, R: Files + AllocGlobal> Drop for Beside<'r, R> {
 }
 
 impl<'r, R: Files + AllocGlobal> Beside<'r, R> {
-    /// Adds bytes at the end.
+    /// Appends bytes.
     pub(crate) fn append(&mut self, bytes: &[u8]) -> Result<(), DirFault> {
         self.file.write_all(bytes).map_err(|error| failed(&error))
     }
@@ -53,14 +56,14 @@ impl<'r, R: Files + AllocGlobal + RandomSource> Beside<'r, R>
 where
     R::File: Lockable,
 {
-    /// A file of these bytes. Its folder is made if it is missing.
+    /// Creates a file with these bytes. Creates its folder if it is missing.
     pub(crate) fn with(rt: &'r R, place: &str, bytes: &[u8]) -> Result<Beside<'r, R>, DirFault> {
         let mut beside = Beside::empty(rt, place)?;
         beside.append(bytes)?;
         Ok(beside)
     }
 
-    /// A file of the first `length` bytes of the one at the place.
+    /// Creates a file with the first `length` bytes of the one at the place.
     pub(crate) fn copied(rt: &'r R, place: &str, length: u64) -> Result<Beside<'r, R>, DirFault> {
         let mut beside = Beside::empty(rt, place)?;
         for number in 0..length.div_ceil(PART) {
@@ -75,7 +78,8 @@ where
         Ok(beside)
     }
 
-    /// A file without bytes. A name that is taken is left alone, and another one is tried.
+    /// Creates an empty file. If a name is taken, leaves that file unchanged and tries another
+    /// name.
     fn empty(rt: &'r R, place: &str) -> Result<Beside<'r, R>, DirFault> {
         for _ in 0..TRIES {
             let path = new_path(rt, place)?;
@@ -93,25 +97,24 @@ where
         Err(DirFault::Failed)
     }
 
-    /// Locks the file. Returns false if another process takes it for a leftover and removes it first.
+    /// Locks the file. Returns false if another process takes it for a leftover first.
     fn lock(&self) -> Result<bool, DirFault> {
-        match lock_at(self.rt, &self.file, &self.path) {
-            Ok(is_locked) => Ok(is_locked),
-            Err(error) if is_absence(&error) => Ok(false),
-            Err(error) => Err(failed(&error)),
-        }
+        lock_at(self.rt, &self.file, &self.path).map_err(|error| failed(&error))
     }
 }
 
-/// Locks an open file, and returns whether that was had and the file is still at its path.
+/// Locks the open file of a path. Returns false if it is locked already or was removed.
+///
+/// A file that was removed has no links. Some file systems count none at all, so the path is looked
+/// up before a file is taken for removed.
 fn lock_at<R: Files>(rt: &R, file: &R::File, path: &str) -> io::Result<bool>
 where
     R::File: Lockable,
 {
-    Ok(file.try_take()? && is_at(rt, file, path)?)
+    Ok(file.try_take()? && (file.metadata()?.nlink() > 0 || fs::exists(rt, path)?))
 }
 
-/// The path of a file beside a place, by a random number.
+/// Returns the path of a file beside a place, with a new random number.
 fn new_path<R: AllocGlobal + RandomSource>(rt: &R, place: &str) -> Result<String, DirFault> {
     let mut bytes = [0; 8];
     match rt.fill_bytes(&mut bytes) {
@@ -122,7 +125,7 @@ fn new_path<R: AllocGlobal + RandomSource>(rt: &R, place: &str) -> Result<String
     Ok(format!(in rt.alloc(); "{place}.{number:016x}.new")?)
 }
 
-/// Makes a file that is not there, and its folder where that is missing.
+/// Creates a file that does not exist yet. Creates its folder if it is missing.
 fn made<R: Files + AllocGlobal>(rt: &R, path: &str) -> io::Result<R::File> {
     match fs::File::create_new(rt, path) {
         Err(error) if error.kind() == ErrorKind::NotFound => {
@@ -133,7 +136,7 @@ fn made<R: Files + AllocGlobal>(rt: &R, path: &str) -> io::Result<R::File> {
     }
 }
 
-/// Makes the folder that a file is to lie in.
+/// Creates the folder of a file.
 fn make_folder_of<R: Files + AllocGlobal>(rt: &R, path: &str) -> io::Result<()> {
     match path.rsplit_once('/') {
         Some((folder, _)) => fs::create_dir_all(rt, folder),

@@ -10,10 +10,10 @@ use std::{fs, io};
 
 /// An open file or folder that one process at a time can lock, until it is closed.
 pub trait Lockable {
-    /// Locks it. If it is locked already, does nothing and returns false.
+    /// Locks it. Returns false, without waiting, if it is locked already.
     fn try_take(&self) -> io::Result<bool>;
 
-    /// Locks it, and waits while it is locked already.
+    /// Locks it. Waits while it is locked already.
     fn take(&self) -> io::Result<()>;
 }
 
@@ -31,19 +31,28 @@ impl Lockable for fs::File {
     }
 }
 
-/// A folder that is locked, until this value is dropped or the process ends.
+/// A lock on a folder, held until this value is dropped or the process ends.
 ///
-/// Whoever writes into the layout of a real folder holds its lock from before [`Layout::open`](crate::Layout::open) or
-/// [`Layout::create`](crate::Layout::create) until after [`Layout::save`](crate::Layout::save). Of two writers at once the later
-/// `save` would otherwise write an index without the other's tags and entries. A blob has the bytes of its digest with and
-/// without the lock. Who only reads needs none.
+/// A caller that writes into the layout of a folder holds the lock from before
+/// [`Layout::open`](crate::Layout::open), [`Layout::create`](crate::Layout::create) or
+/// [`Layout::open_or_create`](crate::Layout::open_or_create) until after
+/// [`Layout::save`](crate::Layout::save). If two callers write at once without it, the later `save`
+/// writes an index without the other's tags and entries. A blob has the bytes of its digest with
+/// and without the lock. A caller that only reads needs no lock.
 ///
-/// The lock is on the open folder itself (`flock`) and leaves no file behind. It keeps out whoever asks for it: other processes
-/// of this machine, and other holders in this process. Machines that share a folder over a network need not see each other's.
+/// The lock is on the open folder itself (`flock`), and leaves no file behind. It excludes other
+/// holders of the lock, in other processes on this machine and in this process, and nothing else.
+/// Machines that share a folder over a network need not see each other's locks.
 ///
-/// To take the lock changes no file. An empty path is the current folder, as `.` is. Each call is refused with `Memory` if the
-/// system is out of memory, and otherwise with `Failed`: if there is no such folder or it cannot be made, opened or locked, and if
-/// what is at the path at the end is not the folder that was locked.
+/// Taking the lock changes no file. An empty path is the current folder, as `.` is.
+///
+/// # Errors
+///
+/// Each call returns
+///
+/// - 90 `Failed` if there is no such folder, or it cannot be created, opened or locked, or the path
+///   no longer leads to the folder that was locked;
+/// - 91 `Memory` if the system is out of memory.
 #[derive(Drop)]
 pub struct FolderLock<R: Files + AllocGlobal> {
     locked: R::File,
@@ -54,23 +63,41 @@ impl<R: Files + AllocGlobal> FolderLock<R>
 where
     R::File: Lockable,
 {
-    /// Locks a folder, and waits while somebody else has its lock.
+    /// Locks a folder. Waits while its lock is held elsewhere.
+    ///
+    /// # Errors
+    ///
+    /// 90 `Failed` and 91 `Memory`, as [`FolderLock`] says.
     pub fn lock(rt: &R, folder: &str) -> Result<FolderLock<R>, DirFault> {
         answer(waited(rt, path_of_folder(folder)))
     }
 
-    /// Locks a folder. None if somebody else has its lock.
+    /// Locks a folder. Returns `None`, without waiting, if its lock is held elsewhere.
+    ///
+    /// # Errors
+    ///
+    /// 90 `Failed` and 91 `Memory`, as [`FolderLock`] says.
     pub fn try_lock(rt: &R, folder: &str) -> Result<Option<FolderLock<R>>, DirFault> {
         answer(tried(rt, path_of_folder(folder)))
     }
 
-    /// Makes a folder, and those above it, if it is missing, and locks it as [`lock`](FolderLock::lock) does.
+    /// Creates a folder, and the folders above it, if it is missing. Locks it as
+    /// [`lock`](FolderLock::lock) does.
+    ///
+    /// # Errors
+    ///
+    /// 90 `Failed` and 91 `Memory`, as [`FolderLock`] says. A folder that was created stays.
     pub fn make_and_lock(rt: &R, folder: &str) -> Result<FolderLock<R>, DirFault> {
         make(rt, folder)?;
         FolderLock::lock(rt, folder)
     }
 
-    /// Makes a folder, and those above it, if it is missing, and locks it as [`try_lock`](FolderLock::try_lock) does.
+    /// Creates a folder, and the folders above it, if it is missing. Locks it as
+    /// [`try_lock`](FolderLock::try_lock) does.
+    ///
+    /// # Errors
+    ///
+    /// 90 `Failed` and 91 `Memory`, as [`FolderLock`] says. A folder that was created stays.
     pub fn make_and_try_lock(rt: &R, folder: &str) -> Result<Option<FolderLock<R>>, DirFault> {
         make(rt, folder)?;
         FolderLock::try_lock(rt, folder)
@@ -81,22 +108,30 @@ impl<R: Files + AllocGlobal> FolderLock<R>
 where
     R::File: Lockable,
 {
-    /// Removes from the locked folder the files that a process left which was ended while it wrote into a layout there.
+    /// Removes files that a process left in the locked folder if it was killed while it wrote a
+    /// layout.
     ///
-    /// These are the regular files with the names that [`FsDir`](crate::FsDir) gives to what it writes, in the folders in which it
-    /// gives them: `index.json.R.new` and `oci-layout.R.new` in the folder itself, and `DIGITS.R.new` in `blobs/sha256` and
-    /// `blobs/sha512`, with the 16 digits of a random number for `R` and the 64 or 128 of the folder's algorithm for `DIGITS`, in
-    /// lower case. Nothing is removed through a link in the place of `blobs`, `blobs/sha256` or `blobs/sha512`, since what lies
-    /// there has no lock here.
+    /// They are the regular files with the names of the new files of [`FsDir`](crate::FsDir), in
+    /// the folders where it writes them: `index.json.R.new` and `oci-layout.R.new` in the folder
+    /// itself, and `DIGITS.R.new` in `blobs/sha256` and `blobs/sha512`. `R` is a random number of
+    /// 16 hexadecimal digits, and `DIGITS` has the 64 or 128 digits of the algorithm, all in lower
+    /// case. Nothing is removed through a link in the place of `blobs`, `blobs/sha256` or
+    /// `blobs/sha512`, since this lock does not cover the folder behind it.
     ///
-    /// A file that is still being written stays, also if its process does not have this lock: the file itself is locked. What cannot
-    /// be removed stays too, and makes the answer `Failed` once the others are removed.
+    /// A file that is still being written stays, even if its process does not have this lock: the
+    /// file itself is locked. A file that cannot be removed stays too.
+    ///
+    /// # Errors
+    ///
+    /// - 90 `Failed` if a folder cannot be read or a file cannot be removed. The files of the other
+    ///   folders and the other files are removed all the same.
+    /// - 91 `Memory` if the system is out of memory. Some of the files may be removed.
     pub fn remove_leftovers(&self, rt: &R) -> Result<(), DirFault> {
         remove_leftovers(rt, &self.folder)
     }
 }
 
-/// What an answer of the system comes to.
+/// Turns an error of the system into a fault.
 fn answer<T>(answer: io::Result<T>) -> Result<T, DirFault> {
     match answer {
         Ok(value) => Ok(value),
@@ -104,7 +139,7 @@ fn answer<T>(answer: io::Result<T>) -> Result<T, DirFault> {
     }
 }
 
-/// Makes a folder that is missing.
+/// Creates a folder, and the folders above it, if it is missing.
 fn make<R: Files>(rt: &R, folder: &str) -> Result<(), DirFault> {
     answer(fs::create_dir_all(rt, path_of_folder(folder)))
 }
@@ -130,7 +165,7 @@ where
     }
 }
 
-/// Opens a folder. Nothing else is opened: a FIFO would wait for its writer.
+/// Opens a folder. Does not open anything else: a FIFO would wait for its writer.
 fn opened<R: Files>(rt: &R, place: &str) -> io::Result<R::File> {
     if fs::metadata(rt, place)?.is_dir() {
         fs::File::open(rt, place)
@@ -139,8 +174,8 @@ fn opened<R: Files>(rt: &R, place: &str) -> io::Result<R::File> {
     }
 }
 
-/// The lock of a folder that was locked, if that is still what is at the place: another process may have removed it and made it
-/// anew before it was locked here.
+/// Returns the lock of an open folder that was locked, if the folder is still at the place. Another
+/// process may have removed it and created a new one before it was locked here.
 fn held<R: Files + AllocGlobal>(rt: &R, locked: R::File, place: &str) -> io::Result<FolderLock<R>> {
     if !is_at(rt, &locked, place)? {
         return Err(io::Error::from(ErrorKind::NotFound));
@@ -149,8 +184,8 @@ fn held<R: Files + AllocGlobal>(rt: &R, locked: R::File, place: &str) -> io::Res
     Ok(FolderLock { locked, folder })
 }
 
-/// Whether an open file or folder is what is at a path.
-pub(crate) fn is_at<R: Files>(rt: &R, file: &R::File, path: &str) -> io::Result<bool> {
+/// Returns whether an open folder is the one at a path.
+fn is_at<R: Files>(rt: &R, file: &R::File, path: &str) -> io::Result<bool> {
     let (open, there) = (file.metadata()?, fs::metadata(rt, path)?);
     Ok(open.dev() == there.dev() && open.ino() == there.ino())
 }
