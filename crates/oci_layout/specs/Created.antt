@@ -1,4 +1,4 @@
--- What a directory is after it was to be made a layout that holds nothing.
+-- A directory after the creation of an empty layout in it, or after that failed.
 use Rattle.std.specs.Prelude.{◌≡◌, ◌↔◌, ◌≤◌, ◌<◌, [], false, is_some}
 use Rattle.oci_layout.specs.Blobs.{IsSound}
 use Rattle.oci_layout.specs.Device.{Device, File, TouchesTwo}
@@ -8,29 +8,28 @@ use Rattle.oci_layout.specs.Refusal.{IsCreateFault}
 use Rattle.oci_layout.specs.declared.fault.LayoutFault.{LayoutFault}
 use Rattle.oci_layout.specs.declared.fault.LayoutFault.TheVariants as fault
 
--- the files are those of a layout that holds nothing, to the byte
+-- the files are the ones of an empty layout, to the byte
 pub record IsFresh (file : File) : Type 0 where
   pub files : HasFiles file [] [] []
   pub texts : HasFreshTexts file
 
--- a directory was made a layout
+-- an empty layout was created in a directory
 pub record IsCreated (old new : Device) : Type 0 where
   -- it had no file `oci-layout`
   pub absent : old.is_honest → is_some (old.file layout_file) ≡ false
-  -- it has the files of a layout that holds nothing, and such a layout is sound
-  pub files : old.is_honest → HasFiles new.file [] [] []
-  pub texts : old.is_honest → HasFreshTexts new.file
+  -- it has the files of an empty layout, and is sound as one
+  pub fresh : old.is_honest → IsFresh new.file
   pub sound : old.is_honest → IsSound new.is_honest new.file []
   -- no other file changed, and no put failed
   pub other : old.is_honest → TouchesTwo old.file new.file layout_file index_file
   pub calm : new.failures ≡ old.failures
 
--- a directory was not made a layout, for this reason
+-- no layout was created in a directory, for this reason
 pub record IsNotCreated (old new : Device) (e : LayoutFault) : Type 0 where
   pub cause : IsCreateFault old new e
-  -- no file but the two of a layout changed, and it is as honest as before
+  -- no file but the two of an empty layout changed, and the directory is as honest as before
   pub other : old.is_honest → TouchesTwo old.file new.file layout_file index_file
   pub honest : old.is_honest ↔ new.is_honest
-  -- it is refused for the device if a put failed, which is counted
+  -- if a put failed, which is counted, the fault is that of the device
   pub raised : old.failures < new.failures → e ≡ fault.Device
   pub failures : old.failures ≤ new.failures

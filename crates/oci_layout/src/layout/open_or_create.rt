@@ -1,0 +1,41 @@
+ghost use Rattle.std.specs.Prelude.{◌≡◌, ◌⊎◌, [], IfOk, IfErr};
+ghost use Rattle.oci_layout.specs.Blobs.{HasMatchingFiles, IsSound};
+ghost use Rattle.oci_layout.specs.Created.{IsCreated, IsNotCreated};
+ghost use Rattle.oci_layout.specs.Opened.{IsOpened};
+ghost use Rattle.oci_layout.specs.Refusal.{IsOpenFault};
+
+use crate::dir::Dir;
+use crate::fault::LayoutFault;
+use crate::layout::Layout;
+use std::alloc::Global;
+
+impl<D: Dir> Layout<D> {
+    /// Opens the layout in a directory, as [`open`](Layout::open) does. If there is no file
+    /// `oci-layout`, creates an empty layout there, as [`create`](Layout::create) does.
+    ///
+    /// # Errors
+    ///
+    /// Those of `open` but for 70 `NoLayoutFile`, with the directory unchanged, and those of
+    /// `create`, with what it left of the directory.
+    pub fn open_or_create(alloc: Global, dir: D) -> Result<Layout<D>, (D, LayoutFault)>
+        ensures layout { IfOk result (λ layout. ((layout.0 ≡ dir)
+            × ((D.device dir).is_honest → IsOpened (D.device dir).file layout.1 layout.2))
+            ⊎ (IsCreated (D.device dir) (D.device layout.0)
+            × (layout.1 ≡ []) × (layout.2 ≡ []))) }
+        ensures sound { IfOk result (λ layout. (D.device dir).is_honest
+            → HasMatchingFiles (D.device layout.0).file layout.1
+            → IsSound (D.device layout.0).is_honest (D.device layout.0).file layout.1) }
+        ensures refused { IfErr result (λ refused. ((refused.0 ≡ dir)
+            × IsOpenFault (D.device dir) refused.1)
+            ⊎ (IsOpenFault (D.device dir) LayoutFault.NoLayoutFile
+            × IsNotCreated (D.device dir) (D.device refused.0) refused.1)) }
+        ensures kept { IfErr result (λ refused. refused.1 ≡ LayoutFault.AlreadyLayout
+            → refused.0 ≡ dir) }
+    {
+        match Layout::open(alloc, dir) {
+            Ok(layout) => Ok(layout),
+            Err((dir, LayoutFault::NoLayoutFile)) => Layout::create(alloc, dir),
+            Err(refused) => Err(refused),
+        }
+    }
+}
