@@ -15,7 +15,8 @@ use Rattle.oci_store.proofs.Leaves.{leaf_check-fresh}
 use Rattle.oci_store.proofs.References.{AreNames-pushed}
 use Rattle.oci_layout.specs.Blobs.{blob_path, meaning}
 use Rattle.oci_layout.specs.Device.{Device, IsPut, Same}
-use Rattle.oci_layout.specs.Faults.{push_fault, Settles}
+use Rattle.oci_layout.specs.Faults.{push_fault}
+use Rattle.oci_layout.specs.Push.{Settles}
 use Rattle.oci_layout.specs.Files.{IsLayout}
 use Rattle.oci_layout.specs.declared.fault.DirFault.{DirFault}
 use Rattle.oci_layout.specs.declared.fault.DirFault.TheVariants as dir

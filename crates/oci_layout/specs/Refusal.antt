@@ -1,4 +1,4 @@
--- Why a directory is not made a layout, and why it is not opened.
+-- Why a layout is not opened, created or saved.
 use Rattle.std.specs.Prelude.{◌≡◌, ◌≢◌, ◌⊎◌, ℕ, true, List, [], ◌∷◌, ◌++◌, Option, Some, None, is_some, Result, Err}
 use Rattle.std.specs.List.{All}
 use Rattle.oci_manifest.specs.Descriptor.{Descriptor}
@@ -51,17 +51,19 @@ pub record IsNextVisited (file : File) (starts : List Descriptor) (k : Descripto
   pub visiting : IsVisiting (listed_in file) any starts (earlier ++ k ∷ [])
   pub good : All (IsGood file) earlier
 
--- the same from the keys of the index
+-- the key is the next one that a walk from the keys of the index visits, and the manifests before
+-- it are good
 pub record IsNextOfIndex (file : File) (k : Descriptor) : Type 0 where
   pub keys : List Descriptor
   pub names : List (Option (List ℕ))
   pub index : IsIndexFile (file index_file) keys names
   pub next : IsNextVisited file keys k
 
--- ---- what a refusal says
+-- ---- the faults of public calls
 
--- why a directory is not opened; what a fault says of files holds of an honest one. A fault of the index or of a manifest comes only
--- where the layout file is right, and one of a manifest only where the index is
+-- why a directory is not opened; a fault says something of the files only if the directory is
+-- honest. With a fault of the index or of a manifest the layout file is right, and with one of a
+-- manifest the index is too
 abbrev pub IsOpenFault : Device → LayoutFault → Type 0
 IsOpenFault dir fault.NoLayoutFile = dir.is_honest → dir.file layout_file ≡ None
 IsOpenFault dir fault.BadLayoutFile = dir.is_honest → HasNoVersion dir.file
@@ -73,60 +75,34 @@ IsOpenFault dir fault.Memory = Unit {0}
 IsOpenFault dir (fault.BadManifest k e) = dir.is_honest → HasLayoutFile dir.file × IsNextOfIndex dir.file k × IsUnread dir.file k e
 IsOpenFault dir fault.AlreadyLayout = ⊥
 
--- why a directory is not made a layout
+-- why no layout is created in a directory
 abbrev pub IsCreateFault : Device → Device → LayoutFault → Type 0
 IsCreateFault old new fault.Device = ((old.fails_reads ≡ true) × (new.failures ≡ old.failures)) ⊎ IsRaised old.failures new.failures
 IsCreateFault old new fault.Memory = Unit {0}
 IsCreateFault old new fault.AlreadyLayout = old.is_honest → is_some (old.file layout_file) ≡ true
 IsCreateFault old new other = ⊥
 
--- why a file was not put; before and after are the directory's counts of failures
+-- why a file was not put; `before` and `after` are the directory's counts of failed puts
 abbrev pub IsPutFault : ℕ → ℕ → LayoutFault → Type 0
 IsPutFault before after fault.Device = IsRaised before after
 IsPutFault before after fault.Memory = Unit {0}
 IsPutFault before after other = ⊥
 
--- ---- what the parts of the code refuse
+-- ---- the faults of parts of the code
 
--- bytes state no version, or another than 1.0.0, or memory ran out
-abbrev pub IsVersionFault : Option (List ℕ) → LayoutFault → Type 0
-IsVersionFault found fault.BadLayoutFile = found ≡ None
-IsVersionFault found fault.BadVersion = (version : List ℕ) × (found ≡ Some version) × (version ≢ layout_version)
-IsVersionFault found fault.Memory = Unit {0}
-IsVersionFault found other = ⊥
-
--- an index breaks the rule that the fault names, or memory ran out
-abbrev pub IsIndexFault : Result (List Descriptor) Fault → LayoutFault → Type 0
-IsIndexFault found (fault.BadIndex e) = (cause : Fault) × (found ≡ Err cause) × IsFault e cause
-IsIndexFault found fault.Memory = Unit {0}
-IsIndexFault found other = ⊥
-
--- the index is there and breaks the rule that the fault names, or a read failed, or memory ran out
-abbrev pub IsIndexFileFault : Device → LayoutFault → Type 0
-IsIndexFileFault dir (fault.BadIndex e) = dir.is_honest → HasBadIndex dir.file e
-IsIndexFileFault dir fault.Device = dir.fails_reads ≡ true
-IsIndexFileFault dir fault.Memory = Unit {0}
-IsIndexFileFault dir other = ⊥
-
--- the bytes of a manifest do not match its key, or break the rule that the fault names, or memory ran out
+-- the bytes of a manifest do not match its key, or break the rule that the fault names, or memory
+-- ran out
 abbrev pub IsBytesFault : Descriptor → List ℕ → LayoutFault → Type 0
 IsBytesFault k bytes (fault.Corrupt named) = (named ≡ k) × (Matches k bytes → ⊥)
 IsBytesFault k bytes fault.Memory = Unit {0}
 IsBytesFault k bytes (fault.BadManifest named e) = (named ≡ k) × Matches k bytes × (cause : Fault) × (succ_of k bytes ≡ Err cause) × IsFault e cause
 IsBytesFault k bytes other = ⊥
 
--- the file of a key is no good manifest, or a read failed, or memory ran out
-abbrev pub IsFileFault : Device → Descriptor → LayoutFault → Type 0
-IsFileFault dir k fault.Device = dir.fails_reads ≡ true
-IsFileFault dir k (fault.Corrupt named) = (named ≡ k) × (dir.is_honest → IsCorrupt dir.file k)
-IsFileFault dir k fault.Memory = Unit {0}
-IsFileFault dir k (fault.BadManifest named e) = (named ≡ k) × (dir.is_honest → IsUnread dir.file k e)
-IsFileFault dir k other = ⊥
-
--- the next key that is visited has no good manifest, or a read failed, or memory ran out
-abbrev pub IsWalkFault : Device → List Descriptor → LayoutFault → Type 0
-IsWalkFault dir starts fault.Device = dir.fails_reads ≡ true
-IsWalkFault dir starts (fault.Corrupt k) = dir.is_honest → IsNextVisited dir.file starts k × IsCorrupt dir.file k
-IsWalkFault dir starts fault.Memory = Unit {0}
-IsWalkFault dir starts (fault.BadManifest k e) = dir.is_honest → IsNextVisited dir.file starts k × IsUnread dir.file k e
-IsWalkFault dir starts other = ⊥
+-- the file of a key is not a good manifest, or a read failed, or memory ran out; `is_next` says
+-- which key it is
+abbrev pub IsManifestFault : Device → (Descriptor → Type 0) → LayoutFault → Type 0
+IsManifestFault dir is_next fault.Device = dir.fails_reads ≡ true
+IsManifestFault dir is_next (fault.Corrupt k) = dir.is_honest → is_next k × IsCorrupt dir.file k
+IsManifestFault dir is_next fault.Memory = Unit {0}
+IsManifestFault dir is_next (fault.BadManifest k e) = dir.is_honest → is_next k × IsUnread dir.file k e
+IsManifestFault dir is_next other = ⊥

@@ -1,9 +1,9 @@
-ghost use Rattle.std.specs.Prelude.{◌≡◌, map, List, Result, IfOk, IfErr};
-ghost use Rattle.oci_manifest.specs.Descriptor.{Descriptor};
-ghost use Rattle.oci_manifest.specs.Fault.{Fault, Fails};
-ghost use Rattle.oci_layout.specs.Index.{index_file};
+ghost use Rattle.std.specs.Prelude.{◌≡◌, map, IfOk, IfErr};
+ghost use Rattle.oci_manifest.specs.Fault.{Fails};
+ghost use Rattle.oci_layout.specs.Faults.{of_index};
+ghost use Rattle.oci_layout.specs.Index.{index_file, HasLayoutFile};
 ghost use Rattle.oci_layout.specs.Opened.{IsIndex, IsIndexFile, name_of, names_in, names_of, text_of};
-ghost use Rattle.oci_layout.specs.Refusal.{IsIndexFault, IsIndexFileFault, index_in};
+ghost use Rattle.oci_layout.specs.Refusal.{IsOpenFault, index_in};
 ghost use Rattle.serde_json.specs.View.{view, items_view};
 
 use crate::dir::Dir;
@@ -13,7 +13,7 @@ use oci_manifest::{Key, ManifestFault, index_keys, read_json};
 use serde_json::Value;
 use std::alloc::Global;
 
-/// The keys of `index.json`, and the name of each, where it has one.
+/// Reads the keys of `index.json`, and the name of each key that has one.
 #[tactic(auto, unfolding(crate::specs::Index::index_file))]
 pub(crate) fn read_index<D: Dir>(
     alloc: Global,
@@ -21,35 +21,33 @@ pub(crate) fn read_index<D: Dir>(
 ) -> Result<(Vec<Key>, Vec<Option<String>>), LayoutFault>
     ensures read { IfOk result (λ p. (D.device dir.now).is_honest
         → IsIndexFile ((D.device dir.now).file index_file) p.0.items (map text_of p.1.items)) }
-    ensures cause { IfErr result (IsIndexFileFault (D.device dir.now)) }
+    ensures cause { IfErr result (λ fault.
+        ((D.device dir.now).is_honest → HasLayoutFile (D.device dir.now).file)
+        → IsOpenFault (D.device dir.now) fault) }
 {
     let Some(bytes) = dir.read("index.json")? else {
         return Ok((Vec::new(alloc), Vec::new(alloc)));
     };
-    entries(alloc, bytes.as_slice())
+    match entries(alloc, bytes.as_slice()) {
+        Ok(entries) => Ok(entries),
+        Err(fault) => Err(bad_index(fault)),
+    }
 }
 
-/// The keys of an index, and the name of each, where it has one.
-fn entries(alloc: Global, bytes: &[u8]) -> Result<(Vec<Key>, Vec<Option<String>>), LayoutFault>
+/// Returns the keys of an index, and the name of each key that has one.
+fn entries(alloc: Global, bytes: &[u8]) -> Result<(Vec<Key>, Vec<Option<String>>), ManifestFault>
     ensures read { IfOk result (λ p. IsIndex bytes.now p.0.items (map text_of p.1.items)) }
-    ensures cause { IfErr result (IsIndexFault (index_in bytes.now)) }
+    ensures cause { IfErr result (λ fault. Fails fault (index_in bytes.now)) }
 {
-    let value = match read_json(alloc, bytes) {
-        Ok(value) => value,
-        Err(fault) => return Err(bad_index(fault)),
-    };
-    let keys = match index_keys(alloc, &value) {
-        Ok(keys) => keys,
-        Err(fault) => return Err(bad_index(fault)),
-    };
+    let value = read_json(alloc, bytes)?;
+    let keys = index_keys(alloc, &value)?;
     let names = names(alloc, &value)?;
     Ok((keys, names))
 }
 
-/// The refusal of an index that does not read.
+/// Returns the fault of `open` for an index that cannot be read.
 fn bad_index(fault: ManifestFault) -> LayoutFault
-    ensures { (found : Result (List Descriptor) Fault) → Fails fault found
-        → IsIndexFault found result }
+    ensures { result ≡ of_index fault }
 {
     match fault {
         ManifestFault::Memory => LayoutFault::Memory,
@@ -57,7 +55,7 @@ fn bad_index(fault: ManifestFault) -> LayoutFault
     }
 }
 
-/// The names of the entries of an index.
+/// Returns the names of an index's entries.
 #[tactic(auto, unfolding(crate::specs::Opened::names_of))]
 fn names(alloc: Global, index: &Value) -> Result<Vec<Option<String>>, NoMemory>
     ensures { IfOk result (λ names. map text_of names.items ≡ names_of (view index.now)) }
@@ -68,7 +66,7 @@ fn names(alloc: Global, index: &Value) -> Result<Vec<Option<String>>, NoMemory>
     }
 }
 
-/// The names of these entries.
+/// Returns the names of these entries.
 fn names_in(alloc: Global, entries: &[Value]) -> Result<Vec<Option<String>>, NoMemory>
     ensures { IfOk result (λ names. map text_of names.items ≡ names_in (items_view entries.now)) }
 {
@@ -79,7 +77,7 @@ fn names_in(alloc: Global, entries: &[Value]) -> Result<Vec<Option<String>>, NoM
     Ok(names)
 }
 
-/// The name that an entry gives its key.
+/// Returns the name in an entry, if it has one.
 #[tactic(auto, unfolding(crate::specs::Opened::name_of))]
 fn name(alloc: Global, entry: &Value) -> Result<Option<String>, NoMemory>
     ensures { IfOk result (λ name. text_of name ≡ name_of (view entry.now)) }

@@ -1,15 +1,17 @@
-ghost use Rattle.std.specs.Prelude.{◌≡◌, Some, OnOk, IfErr};
-ghost use Rattle.oci_layout.specs.Index.{HasLayoutFile, layout_version, version_in};
-ghost use Rattle.oci_layout.specs.Refusal.{IsOpenFault, IsVersionFault};
+ghost use Rattle.std.specs.Prelude.{◌≡◌, IfOk, OnOk, IfErr};
+ghost use Rattle.oci_layout.specs.Index.{HasLayoutFile, version_in};
+ghost use Rattle.oci_layout.specs.Opened.{text_of};
+ghost use Rattle.oci_layout.specs.Refusal.{IsOpenFault};
 
 use crate::dir::Dir;
 use crate::fault::LayoutFault;
+use oci_digest::NoMemory;
 use oci_manifest::{ManifestFault, read_json};
 use serde_json::Value;
 use std::alloc::Global;
 
-/// Refuses a directory whose `oci-layout` does not state the version 1.0.0.
-#[tactic(auto, unfolding(crate::specs::Index::layout_file))]
+/// Fails if the `oci-layout` of a directory does not state the version 1.0.0.
+#[tactic(auto, unfolding(crate::specs::Index::layout_file, crate::specs::Index::layout_version))]
 pub(crate) fn check_version<D: Dir>(alloc: Global, dir: &D) -> Result<(), LayoutFault>
     ensures stated { OnOk result ((D.device dir.now).is_honest
         → HasLayoutFile (D.device dir.now).file) }
@@ -18,23 +20,28 @@ pub(crate) fn check_version<D: Dir>(alloc: Global, dir: &D) -> Result<(), Layout
     let Some(bytes) = dir.read("oci-layout")? else {
         return Err(LayoutFault::NoLayoutFile);
     };
-    states_version(alloc, bytes.as_slice())
+    let Some(version) = version_in(alloc, bytes.as_slice())? else {
+        return Err(LayoutFault::BadLayoutFile);
+    };
+    match version.as_str() {
+        "1.0.0" => Ok(()),
+        _ => Err(LayoutFault::BadVersion),
+    }
 }
 
-/// Refuses bytes that do not state the version 1.0.0.
-#[tactic(auto, unfolding(crate::specs::Index::version_in, crate::specs::Index::layout_version))]
-fn states_version(alloc: Global, bytes: &[u8]) -> Result<(), LayoutFault>
-    ensures stated { OnOk result (version_in bytes.now ≡ Some layout_version) }
-    ensures cause { IfErr result (IsVersionFault (version_in bytes.now)) }
+/// Returns the version that bytes state, or `None` if they are not a JSON object with a text
+/// `imageLayoutVersion`.
+#[tactic(auto, unfolding(crate::specs::Index::version_in))]
+fn version_in(alloc: Global, bytes: &[u8]) -> Result<Option<String>, NoMemory>
+    ensures { IfOk result (λ version. text_of version ≡ version_in bytes.now) }
 {
     let value = match read_json(alloc, bytes) {
         Ok(value) => value,
-        Err(ManifestFault::Memory) => return Err(LayoutFault::Memory),
-        Err(_) => return Err(LayoutFault::BadLayoutFile),
+        Err(ManifestFault::Memory) => return Err(NoMemory),
+        Err(_) => return Ok(None),
     };
     match value.get("imageLayoutVersion").and_then(Value::as_str) {
-        None => Err(LayoutFault::BadLayoutFile),
-        Some("1.0.0") => Ok(()),
-        Some(_) => Err(LayoutFault::BadVersion),
+        Some(version) => Ok(Some(String::from_str(alloc, version)?)),
+        None => Ok(None),
     }
 }

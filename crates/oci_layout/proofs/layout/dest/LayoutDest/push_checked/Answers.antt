@@ -4,7 +4,7 @@ use Rattle.oci_store.specs.Push.{closed_check}
 use Rattle.oci_store.proofs.Contents.{IsNew-from_checked}
 use Rattle.oci_layout.specs.Blobs.{blob_path}
 use Rattle.oci_layout.specs.Device.{IsPut, Only}
-use Rattle.oci_layout.specs.Faults.{Settles}
+use Rattle.oci_layout.specs.Push.{Settles}
 use Rattle.oci_layout.proofs.Pushed.{IsLayout-settled, IsPush-settled}
 use Rattle.oci_layout.proofs.layout.dest.LayoutDest.push_checked.Goals as goal
 

@@ -6,7 +6,7 @@ use Rattle.oci_store.proofs.Contents.{IsNew-from_checked}
 use Rattle.oci_store.proofs.Leaves.{IsChecked-leaf, closed_check-leaf, leaf_check-held, leaf_check-fresh, IsLostPush-refused}
 use Rattle.oci_layout.specs.Blobs.{blob_path}
 use Rattle.oci_layout.specs.Device.{IsPut}
-use Rattle.oci_layout.specs.Faults.{Settles}
+use Rattle.oci_layout.specs.Push.{Settles}
 use Rattle.oci_layout.proofs.Pushed.{IsLayout-settled, IsPush-settled, IsLostPush-settled}
 use Rattle.oci_layout.proofs.layout.dest.LayoutDest.push_draft.Goals as goal
 

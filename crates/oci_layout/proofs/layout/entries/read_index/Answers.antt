@@ -1,0 +1,14 @@
+use Rattle.std.proofs.Common.{◌≡◌, Some, sym, ap, subst, ◌∙◌}
+use Rattle.oci_layout.specs.Index.{index_file}
+use Rattle.oci_layout.specs.Refusal.{IsOpenFault}
+use Rattle.oci_layout.proofs.Refusals.{index_fault}
+use Rattle.oci_layout.proofs.layout.entries.read_index.Goals as goal
+
+pub returns-clause-cause : goal.returns-clause-cause
+unfolding index_file
+returns-clause-cause g c = λ stated.
+    let dir = g.D.Dir.device c.args.dir.now in
+    let bytes = c.as_slice.result.now in
+    let read : dir.is_honest → dir.file index_file ≡ Some bytes =
+    λ honest. sym (c.in_ok-bytes.ensures.read honest) ∙ c.in-Some.is ∙ ap Some (sym c.as_slice.ensures) in
+    subst (IsOpenFault dir) (sym c.bad_index.ensures) (index_fault dir bytes c.in-Err.fault stated read c.in-Err.ensures.cause)
