@@ -7,7 +7,7 @@ use Rattle.oci_layout.specs.declared.fault.DirFault.{DirFault}
 use Rattle.oci_layout.specs.declared.fault.DirFault.TheVariants as dir
 use Rattle.oci_layout.specs.declared.mem_dir.MemDir.{MemDir}
 
--- what stands under each path
+-- the bytes of the file at each path, if there is one
 abbrev pub files_of : BTreeMap (String Global) (List ℕ) → File
 files_of files path = get_by_text files path
 
@@ -19,8 +19,8 @@ half bytes = take (length bytes / 2) bytes
 abbrev pub device_of : MemDir → Device
 device_of d = record { file = files_of d.files; is_honest = ⊤; fails_reads = false; failures = d.failures }
 
--- a put passes where there is no fuse, or it still passes one, and then it passes one less; else it fails, and leaves the first half
--- of the bytes
+-- a put succeeds if there is no fuse, or the fuse still allows one, and then it allows one less;
+-- else the put fails and leaves the first half of the bytes
 abbrev pub Burns : MemDir → MemDir → List ℕ → List ℕ → Result Unit DirFault → Type 0
 Burns old new path bytes (Ok u) = (old.fuse ≡ Some 0 → ⊥) × (new.fuse ≡ option_map (λ puts. puts - 1) old.fuse)
 Burns old new path bytes (Err dir.Failed) = (old.fuse ≡ Some 0) × (new.fuse ≡ old.fuse) × Puts (files_of old.files) (files_of new.files) path (half bytes)

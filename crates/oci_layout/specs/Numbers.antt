@@ -1,16 +1,16 @@
--- The numbers of the refusals.
+-- The numbers of the faults.
 use Rattle.std.specs.Prelude.{ℕ}
 use Rattle.oci_layout.specs.declared.fault.DirFault.{DirFault}
 use Rattle.oci_layout.specs.declared.fault.DirFault.TheVariants as dir
 use Rattle.oci_layout.specs.declared.fault.LayoutFault.{LayoutFault}
 use Rattle.oci_layout.specs.declared.fault.LayoutFault.TheVariants as layout
 
--- the number of a refused read or put
+-- the number of a directory's fault
 abbrev pub dir_number : DirFault → ℕ
 dir_number dir.Failed = 90
 dir_number dir.Memory = 91
 
--- the number of a refused layout
+-- the number of a layout's fault
 abbrev pub layout_number : LayoutFault → ℕ
 layout_number layout.NoLayoutFile = 70
 layout_number layout.BadLayoutFile = 71

@@ -11,22 +11,24 @@ use std::io::ErrorKind;
 use std::random::RandomSource;
 use std::rt::Files;
 
-/// How far a draft of a file of a folder is.
+/// The state of a draft of a file of a folder.
 #[derive(Drop)]
 enum Stage<'r, R: Files + AllocGlobal> {
-    /// The file at the place begins with what was appended, which has so many bytes. Nothing is written as yet.
+    /// The bytes appended so far are this many, and the file at the place begins with them. Nothing
+    /// is written yet.
     Found(u64),
-    /// What was appended is in a file beside the place.
+    /// The appended bytes are in a file beside the place.
     Written(Beside<'r, R>),
-    /// The system failed.
+    /// An append failed, or the folder cannot have the file.
     Failed,
 }
 
 /// A draft of a file of a folder.
 ///
-/// As long as what is appended is what the file at the place has already, nothing is written. From the first difference on it
-/// is in a file beside the place, which no other draft has, and which is removed if the draft is dropped. If the file at the
-/// place turns out to be longer than the draft, its beginning is copied when the draft is kept.
+/// Nothing is written as long as the file at the place begins with the appended bytes. From the
+/// first difference on they are in a file beside the place. No other draft has that file, and it is
+/// removed if the draft is dropped. If the file at the place is longer than the draft, its
+/// beginning is copied when the draft is kept.
 #[derive(Drop)]
 pub struct FsDraft<'r, R: Files + AllocGlobal> {
     rt: &'r R,
@@ -35,7 +37,7 @@ pub struct FsDraft<'r, R: Files + AllocGlobal> {
 }
 
 impl<'r, R: Files + AllocGlobal> FsDraft<'r, R> {
-    /// A draft of the file at a place. The folder is not touched.
+    /// Creates an empty draft of the file at a place. The folder is not touched.
     pub(crate) fn at(rt: &'r R, place: String) -> FsDraft<'r, R> {
         FsDraft {
             rt,
@@ -44,7 +46,7 @@ impl<'r, R: Files + AllocGlobal> FsDraft<'r, R> {
         }
     }
 
-    /// A draft for a place that the folder cannot have.
+    /// Creates a draft of a file that the folder cannot have. It is never kept.
     pub(crate) fn nowhere(rt: &'r R) -> FsDraft<'r, R> {
         FsDraft {
             rt,
@@ -71,7 +73,8 @@ where
     }
 }
 
-/// No code can show what a file has, so a draft in a folder may be said to have any bytes.
+/// No code can show the bytes of a file, so the contracts take a draft in a folder to have any
+/// bytes.
 impl<'r, R: Files + AllocGlobal + RandomSource> Drafting for FsDraft<'r, R>
 where
     R::File: Lockable,
@@ -99,7 +102,8 @@ where
     }
 }
 
-/// Where a draft is with one more part, after so many bytes that the file at the place has.
+/// Appends a part to a draft of `length` bytes, with which the file at the place begins. Returns
+/// the draft's new state.
 fn added<'r, R: Files + AllocGlobal + RandomSource>(
     rt: &'r R,
     place: &str,
@@ -120,7 +124,8 @@ where
     Ok(Stage::Written(beside))
 }
 
-/// Whether the file at a place has these bytes from there on. One that cannot be read does not.
+/// Returns whether the file at a place has these bytes at position `from`. If it cannot be read, it
+/// does not.
 fn has_part<R: Files + AllocGlobal>(
     rt: &R,
     place: &str,
@@ -134,8 +139,9 @@ fn has_part<R: Files + AllocGlobal>(
     }
 }
 
-/// Puts what was drafted at a place. As a rule that is one renaming, or nothing where the file there has these bytes. Where it
-/// goes on after them, they are copied here, since no draft knows how many are to come. A draft of which a write failed is not put.
+/// Puts the drafted bytes at a place. That is usually one renaming, or nothing if the file there
+/// has just these bytes. If it goes on after them, they are copied now: a draft does not know its
+/// length before. A draft is not put if an append failed.
 pub(crate) fn finish<R: Files + AllocGlobal + RandomSource>(
     draft: FsDraft<'_, R>,
     place: &str,
@@ -161,7 +167,7 @@ where
     }
 }
 
-/// Whether the file at a place has so many bytes.
+/// Returns whether the file at a place has exactly `length` bytes.
 fn is_whole<R: Files>(rt: &R, place: &str, length: u64) -> bool {
     match length_of(rt, place) {
         Ok(found) => found == length,

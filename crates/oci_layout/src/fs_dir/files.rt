@@ -3,8 +3,8 @@ use std::io::{ErrorKind, Read, Seek, SeekFrom};
 use std::rt::Files;
 use std::{fs, io};
 
-/// How long a regular file is, or the one that a link leads to. What is no regular file is an error, and is not opened: a FIFO
-/// would wait for its writer, and a device may have no end.
+/// Returns the length of a regular file, or of the one that a link leads to. Anything else is an
+/// error and is not opened: a FIFO would wait for its writer, and a device may have no end.
 pub(crate) fn length_of<R: Files>(rt: &R, place: &str) -> io::Result<u64> {
     let metadata = fs::metadata(rt, place)?;
     if metadata.is_file() {
@@ -14,7 +14,7 @@ pub(crate) fn length_of<R: Files>(rt: &R, place: &str) -> io::Result<u64> {
     }
 }
 
-/// Refuses a link, as what is no regular file is refused.
+/// Refuses a link, with the error for anything that is not a regular file.
 pub(crate) fn refuse_link<R: Files>(rt: &R, place: &str) -> io::Result<()> {
     if fs::symlink_metadata(rt, place)?.is_symlink() {
         return Err(io::Error::from(ErrorKind::InvalidInput));
@@ -22,7 +22,8 @@ pub(crate) fn refuse_link<R: Files>(rt: &R, place: &str) -> io::Result<()> {
     Ok(())
 }
 
-/// The bytes of a regular file. Room for them is asked for first, so that of one that is too long nothing is read.
+/// Reads a regular file. Allocates the memory first, so that nothing is read of a file that is too
+/// long for it.
 pub(crate) fn whole_file<R: Files + AllocGlobal>(rt: &R, place: &str) -> io::Result<Vec<u8>> {
     let length = length_of(rt, place)?;
     let mut bytes = room(rt, length)?;
@@ -30,8 +31,8 @@ pub(crate) fn whole_file<R: Files + AllocGlobal>(rt: &R, place: &str) -> io::Res
     Ok(bytes)
 }
 
-/// At most so many bytes of a regular file, from a place on: fewer only at its end. One read gives them as a rule, since the
-/// room that is asked for is as large as what there is.
+/// Reads at most `most` bytes of a regular file, from position `from` on, and fewer only at its
+/// end. One read usually suffices, since the memory is allocated for all bytes that are there.
 pub(crate) fn part_of_file<R: Files + AllocGlobal>(
     rt: &R,
     place: &str,
@@ -48,7 +49,7 @@ pub(crate) fn part_of_file<R: Files + AllocGlobal>(
     Ok(bytes)
 }
 
-/// A list with room for so many bytes.
+/// Returns an empty list with room for `bytes` bytes.
 fn room<R: AllocGlobal>(rt: &R, bytes: u64) -> io::Result<Vec<u8>> {
     let bytes = usize::try_from(bytes).unwrap_or(usize::MAX);
     match Vec::with_capacity(rt.alloc(), bytes) {
@@ -57,12 +58,12 @@ fn room<R: AllocGlobal>(rt: &R, bytes: u64) -> io::Result<Vec<u8>> {
     }
 }
 
-/// Whether an error of the system says that there is no such file.
+/// Returns whether an error of the system says that there is no such file.
 pub(crate) fn is_absence(error: &io::Error) -> bool {
     matches!(error.kind(), ErrorKind::NotFound | ErrorKind::NotADirectory)
 }
 
-/// What an error of the system comes to.
+/// Returns the fault for an error of the system.
 pub(crate) fn failed(error: &io::Error) -> DirFault {
     match error.kind() {
         ErrorKind::OutOfMemory => DirFault::Memory,

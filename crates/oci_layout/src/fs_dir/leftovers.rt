@@ -5,7 +5,7 @@ use std::io::ErrorKind;
 use std::rt::Files;
 use std::{fs, io};
 
-/// A folder of a layout into which files are written.
+/// A folder of a layout in which files are written.
 #[derive(Clone, Copy)]
 enum Room {
     Top,
@@ -14,7 +14,7 @@ enum Room {
 }
 
 impl Room {
-    /// Its path from the folder of the layout.
+    /// Returns its path from the folder of the layout.
     fn path(self) -> &'static str {
         match self {
             Room::Top => ".",
@@ -23,7 +23,7 @@ impl Room {
         }
     }
 
-    /// Whether a file of a layout that lies there may have this name.
+    /// Returns whether a file of the layout in this folder may have this name.
     fn is_name(self, name: &str) -> bool {
         match self {
             Room::Top => matches!(name, "oci-layout" | "index.json"),
@@ -32,7 +32,7 @@ impl Room {
         }
     }
 
-    /// Whether a file that was written beside such a file has this name.
+    /// Returns whether this is the name of a file that was written beside such a file.
     fn is_leftover(self, name: &str) -> bool {
         let Some(numbered) = name.strip_suffix(".new") else {
             return false;
@@ -44,7 +44,8 @@ impl Room {
     }
 }
 
-/// Whether a text is a number of `digits` hexadecimal digits, none of them in upper case.
+/// Returns whether a text has `digits` hexadecimal digits and nothing else, none of them in upper
+/// case.
 fn is_hexadecimal(text: &str, digits: usize) -> bool {
     text.len() == digits
         && text
@@ -52,7 +53,8 @@ fn is_hexadecimal(text: &str, digits: usize) -> bool {
             .all(|byte| matches!(byte, b'0'..=b'9' | b'a'..=b'f'))
 }
 
-/// Removes from the folder of a layout the files that were written beside others and never renamed. What cannot be removed stays.
+/// Removes from the folder of a layout the files that were written beside others and never renamed.
+/// A file that cannot be removed stays.
 pub(crate) fn remove_leftovers<R: Files + AllocGlobal>(rt: &R, folder: &str) -> Result<(), DirFault>
 where
     R::File: Lockable,
@@ -79,7 +81,7 @@ where
     }
 }
 
-/// The paths of these files. Those of blobs are not looked for through a link.
+/// Returns the paths of these files in one folder. Does not look for blobs through a link.
 fn leftovers<R: Files + AllocGlobal>(rt: &R, folder: &str, room: Room) -> io::Result<Vec<String>> {
     let mut paths = Vec::new(rt.alloc());
     if is_linked(rt, folder, room)? {
@@ -91,7 +93,7 @@ fn leftovers<R: Files + AllocGlobal>(rt: &R, folder: &str, room: Room) -> io::Re
                 paths.push(String::from_str(rt.alloc(), entry.path().as_str())?)?;
             }
             Ok(_) => {}
-            // A name that is no text is none that was written beside a file.
+            // Files that are written beside others have names in UTF-8.
             Err(error) if error.kind() == ErrorKind::InvalidFilename => {}
             Err(error) => return Err(error),
         }
@@ -99,7 +101,7 @@ fn leftovers<R: Files + AllocGlobal>(rt: &R, folder: &str, room: Room) -> io::Re
     Ok(paths)
 }
 
-/// Whether a link is in the place of this folder, or of `blobs`.
+/// Returns whether this folder, or `blobs` above it, is a link.
 fn is_linked<R: Files + AllocGlobal>(rt: &R, folder: &str, room: Room) -> io::Result<bool> {
     match room {
         Room::Top => Ok(false),
@@ -115,7 +117,7 @@ fn path_below<R: AllocGlobal>(rt: &R, folder: &str, path: &str) -> io::Result<St
     Ok(format!(in rt.alloc(); "{folder}/{path}")?)
 }
 
-/// Removes files, as far as that can be done.
+/// Removes files. After one that cannot be removed, goes on with the others.
 fn remove<R: Files>(rt: &R, paths: &[String]) -> Result<(), DirFault>
 where
     R::File: Lockable,
@@ -130,7 +132,8 @@ where
     answer
 }
 
-/// Removes a regular file, unless somebody has locked it: a process is still writing it. Anything else stays too.
+/// Removes a regular file, unless it is locked: then a process is still writing it. Anything else
+/// stays too.
 fn remove_file<R: Files>(rt: &R, path: &str) -> io::Result<()>
 where
     R::File: Lockable,

@@ -7,7 +7,7 @@ use oci_manifest::Key;
 use oci_store::{Graph, Tags};
 use std::alloc::Global;
 
-/// The tags that entries give, where their keys are held.
+/// Returns the tags of an index's entries whose keys are held.
 pub(crate) fn tags_of(
     alloc: Global,
     graph: &Graph,
@@ -28,7 +28,7 @@ pub(crate) fn tags_of(
     Ok(tags)
 }
 
-/// Sets the tag that an entry gives, where its key is held.
+/// Sets the tag of an entry, if it has a name and its key is held.
 fn tag_one(graph: &Graph, key: &Key, name: &Option<String>, tags: &mut Tags) -> Result<(), NoMemory>
     requires names { AreNames graph.now tags.old }
     ensures set { OnOk result (tags.new ≡ tag_with graph.now key.now (text_of name.now) tags.old) }
