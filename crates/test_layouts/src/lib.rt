@@ -1,22 +1,28 @@
 //! Tests of image layouts, run through their public calls.
 //!
-//! [`save_and_open`] is proved: what is opened after a save is what was saved. The rest are tests of what no contract says: that a
-//! call succeeds when memory is there, that the files have the bytes that the standard and other tools give them, and what a real
-//! folder then holds.
+//! [`save_and_open`] is proved: a layout that is opened after a save is the one that was saved. The
+//! rest are tests of facts that no contract states: a call succeeds if there is enough memory, the
+//! files have the bytes that the standard and other tools prescribe, and a folder then has the
+//! right files.
 //!
-//! `tests` has `round_trips` (a layout is made, filled, saved and opened again, in memory and in a folder), `referrers` (the index of
-//! an image that came with what lists it), `algorithms` (digests by SHA-512), `fuses` (puts that fail), `openings` (what is refused,
-//! and indexes as other tools write them), `pushes` (old files, and files that changed), `unreadable` (files that cannot be read),
-//! `changing` (a source whose files change while it is read), `failing` (a read or a put that fails once, and the copy again),
-//! `parts` (contents read in parts), `drafts` (files that are written part by part), `numbered` (the random numbers in their names),
-//! `leftovers` (what is removed of them), `locks` (the lock of a folder) and `large` (contents over one part, by workers).
+//! `tests` has `round_trips` (a layout is created, filled, saved and opened again, in memory and in
+//! a folder), `referrers` (the index of an image that was copied with its referrers), `algorithms`
+//! (SHA-512 digests), `fuses` (puts that fail), `openings` (layouts that are not opened, and
+//! indexes that other tools wrote), `pushes` (old files, and files that changed), `unreadable`
+//! (files that cannot be read), `changing` (a source whose files change during the copy), `failing`
+//! (a read or a put that fails once, and a second copy), `parts` (contents that are read in parts),
+//! `drafts` (files that are written in parts), `numbered` (the random numbers in their names),
+//! `leftovers` (their removal), `locks` (the lock of a folder) and `large` (contents larger than
+//! one part, copied by workers).
 //!
-//! Most of them are lists of steps, each with what it tells. `steps` takes them, with `layouts` (steps with a layout), `files` (steps
-//! with files), `drafting` (steps with drafts) and `copies` (copies into a layout). `texts` says which marks may stand in a text in
-//! place of a sample's key, digest, path, bytes or descriptor.
+//! Most tests are lists of steps, each with its expected result as text. `steps` takes them, with
+//! `layouts` (steps with a layout), `files` (steps with files), `drafting` (steps with drafts) and
+//! `copies` (copies into a layout). `texts` lists the marks that a text may have in place of a
+//! sample's key, digest, path, bytes or descriptor.
 //!
-//! `host` says what a test in a folder needs of its runtime. `faulty` has the directory that `unreadable`, `changing`, `failing` and
-//! `parts` use: it fails reads or puts, or one of its files changes.
+//! `host` has the bounds on the runtime of a test in a folder. `faulty` has the directory that
+//! `unreadable`, `changing`, `failing` and `parts` use: its reads or puts fail, or one of its files
+//! changes.
 #![tactic(auto)]
 
 mod saving;

@@ -9,7 +9,8 @@ use std::alloc::Global;
 
 /// Saves a layout, and opens its directory again.
 ///
-/// Of a closed sound layout the opened one has the same bytes under each key, and the same tags.
+/// If the layout is closed and sound, the opened one has the same bytes under each key, and the
+/// same tags.
 pub fn save_and_open<D: Dir + Drop>(
     alloc: Global,
     mut layout: Layout<D>,
@@ -22,7 +23,7 @@ pub fn save_and_open<D: Dir + Drop>(
         → IsSound (D.device layout.0).is_honest (D.device layout.0).file layout.1
         → again.2 ≡ layout.2) }
 {
-    // The contract of `tags` states what every layout keeps, and so the premises of the law.
+    // The contract of `tags` states the invariant of a layout, and so the premises of the law.
     let _tags = layout.tags()?;
     layout.save()?;
     opens_as_saved();

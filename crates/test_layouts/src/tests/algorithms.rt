@@ -1,4 +1,4 @@
-//! Digests by SHA-512.
+//! SHA-512 digests.
 
 use crate::tests::copies::Copying::Memory;
 use crate::tests::files::FileStep::Text;
@@ -8,8 +8,8 @@ use crate::tests::steps::{Ground, Row, assert_run};
 use std::test::Fail;
 use test_support::Sample::{Empty, Foo, FooBySha512, Image5};
 
-/// A layer with a SHA-512 digest is pushed into a new layout, which is saved and opened again. The digests are those that
-/// `sha512sum` and `sha256sum` print.
+/// A layer with a SHA-512 digest is pushed into a new layout, which is saved and opened again. The
+/// digests were printed by `sha512sum` and `sha256sum`.
 const SHA512_BLOB: &[Row] = &[
     Row(Create, "made"),
     Row(With(Push(FooBySha512)), "place 0"),
@@ -50,14 +50,15 @@ fn sha512_blob(rt: HostRuntime) -> Result<(), Fail> {
     assert_run(&rt, Ground::Memory, SHA512_BLOB)
 }
 
-/// In a folder, the folder of the algorithm is made.
+/// In a folder, the algorithm's own folder is created.
 #[test]
 fn sha512_blob_in_a_folder(rt: HostRuntime) -> Result<(), Fail> {
     assert_run(&rt, Ground::Folder("sha512_blob"), SHA512_BLOB)
 }
 
-/// An image whose layer has a SHA-512 digest is copied into a new layout, and so is that layer with its SHA-256 digest. Each of the
-/// two keys has a file. Both are held, with the image and its config.
+/// An image whose layer has a SHA-512 digest is copied into a new layout, and so is the same layer
+/// with its SHA-256 digest. Each of the two keys has a file. Both are held, with the image and its
+/// config.
 const TWO_ALGORITHMS: &[Row] = &[
     Row(Create, "made"),
     Row(
@@ -95,7 +96,8 @@ const TWO_ALGORITHMS: &[Row] = &[
     ),
 ];
 
-/// One content with a digest by each algorithm is two keys with a file each, also after the layout is opened again.
+/// One content with a digest by each algorithm has two keys and two files, also after the layout is
+/// opened again.
 #[test]
 fn foo_by_two_algorithms(rt: HostRuntime) -> Result<(), Fail> {
     assert_run(&rt, Ground::Memory, TWO_ALGORITHMS)

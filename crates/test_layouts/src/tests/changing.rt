@@ -1,4 +1,4 @@
-//! A source whose files change while it is read.
+//! A source whose files change during the copy.
 
 use crate::tests::copies::copied_samples;
 use crate::tests::faulty::{Change, FaultyDir};
@@ -29,8 +29,8 @@ fn changing(alloc: Global, right: u64) -> Result<FaultyDir, Fail> {
     Ok(FaultyDir::changing(dir, change))
 }
 
-/// Copies the image of a layout by this many workers, or on the calling thread. Returns what is told, and whether the destination
-/// is closed.
+/// Copies the image of a layout by this many workers, or on the calling thread. Returns the result
+/// as text, and whether the destination is closed.
 fn told_of_copy<R: AllocGlobal + Threads + Wait + Sync>(
     rt: &R,
     source: &Layout<FaultyDir>,
@@ -66,7 +66,7 @@ impl Display for Run {
     }
 }
 
-/// The run tells this, and the destination is closed.
+/// Asserts the result of the run, and that the destination is closed.
 fn assert_changing<R: AllocGlobal + Threads + Wait + Sync + Abort>(
     rt: &R,
     run: Run,
@@ -77,8 +77,8 @@ fn assert_changing<R: AllocGlobal + Threads + Wait + Sync + Abort>(
     assert_told(rt, &run, told.as_str(), want)
 }
 
-/// What is told for each number of right reads, up to the first run without a fault. `open` reads three files. The copy reads the
-/// manifest for its plan, and then the config and the manifest.
+/// The result for each number of right reads, up to the first run without a fault. `open` reads
+/// three files. The copy reads the manifest for its plan, and then the config and the manifest.
 static TOLD: [&str; 7] = [
     "75 Corrupt <key Image0>",
     "75 Corrupt <key Image0>",

@@ -1,4 +1,4 @@
-//! Copies on the calling thread and by workers, and what they tell.
+//! Copies on the calling thread and by workers, and their results as text.
 
 use crate::tests::layouts::filled;
 use oci_copy::{CopyFault, Options, Report, copy, copy_graph, copy_one, extended_copy_graph};
@@ -15,13 +15,14 @@ use test_support::{Sample, keys, memory};
 /// A copy into a layout.
 #[derive(Clone, Copy, Debug)]
 pub(crate) enum Copying<'a> {
-    /// The last samples, from a store in memory that has the first ones.
+    /// Copies the last samples, from a store in memory that has the first ones.
     Memory(&'a [Sample], &'a [Sample]),
-    /// The sample, from a layout that has no other.
+    /// Copies the sample, from a layout that has no other.
     Layout(Sample),
-    /// The last sample by reference, from a store in memory that has the first ones and calls it `m`. The layout calls it `v1`.
+    /// Copies the last sample by reference, from a store in memory that has the first ones and the
+    /// tag `m` for the last. Its tag in the layout is `v1`.
     Named(&'a [Sample], Sample),
-    /// The last sample and what lists it, from a store in memory that has the first ones.
+    /// Copies the last sample and its referrers, from a store in memory that has the first ones.
     Extended(&'a [Sample], Sample),
 }
 
@@ -29,7 +30,7 @@ fn printed<T: Display>(alloc: Global, value: &T) -> Result<String, Fail> {
     Ok(format!(in alloc; "{value}")?)
 }
 
-/// What a copy answers, as text.
+/// Returns the result of a copy as text.
 fn line(alloc: Global, answer: Result<Report, CopyFault>) -> Result<String, Fail> {
     match answer {
         Ok(report) => printed(alloc, &report),
@@ -73,7 +74,7 @@ where
     )
 }
 
-/// The destination, and what is told.
+/// The destination, and the result as text.
 fn told_of<D: Dest + Drop>(
     alloc: Global,
     answered: (D, Result<Report, CopyFault>),
@@ -83,7 +84,8 @@ fn told_of<D: Dest + Drop>(
     Ok((destination, told))
 }
 
-/// Copies some keys by this many workers, or on the calling thread. Returns the destination and what is told.
+/// Copies some keys by this many workers, or on the calling thread. Returns the destination and the
+/// result as text.
 pub(crate) fn copied_keys<
     A: Source + Sync,
     D: Dest + Drop + Send,
@@ -105,7 +107,7 @@ where
     }
 }
 
-/// Copies some samples, as [`copied_keys`] copies keys.
+/// Like [`copied_keys`], for some samples.
 pub(crate) fn copied_samples<
     A: Source + Sync,
     D: Dest + Drop + Send,
@@ -177,7 +179,7 @@ fn named_report(alloc: Global, key: &Key, report: &Report) -> Result<String, Fai
     Ok(format!(in alloc; "{key} {report}")?)
 }
 
-/// What a copy by reference answers, as text.
+/// Returns the result of a copy by reference as text.
 fn named_line(alloc: Global, answer: Result<(Key, Report), CopyFault>) -> Result<String, Fail> {
     match answer {
         Ok((key, report)) => named_report(alloc, &key, &report),
@@ -185,14 +187,14 @@ fn named_line(alloc: Global, answer: Result<(Key, Report), CopyFault>) -> Result
     }
 }
 
-/// A store in memory of these samples, which calls one of them `m`.
+/// Returns a store in memory of these samples, with the tag `m` for one of them.
 fn named(alloc: Global, samples: &[Sample], sample: Sample) -> Result<MemoryStore, Fail> {
     let mut store = memory(alloc, samples)?;
     store.tag(&sample.key(alloc)?, "m")?;
     Ok(store)
 }
 
-/// Copies by reference, and tells the key and the report.
+/// Copies by reference. Returns the key and the report as text.
 fn copied_named<D: Dest + Tagger + Drop + Send, R: AllocGlobal + Threads + Wait + Sync>(
     rt: &R,
     source: &MemoryStore,
@@ -220,7 +222,7 @@ where
     copied_named(rt, &source, destination)
 }
 
-/// Copies a key and what lists it.
+/// Copies a key and its referrers.
 fn answered_extended<D: Dest + Drop + Send, R: AllocGlobal + Threads + Wait + Sync>(
     rt: &R,
     source: &MemoryStore,
@@ -243,7 +245,7 @@ where
     )
 }
 
-/// Copies a sample and what lists it from a store in memory of these samples.
+/// Copies a sample and its referrers from a store in memory of these samples.
 fn copied_extended<D: Dest + Drop + Send, R: AllocGlobal + Threads + Wait + Sync>(
     rt: &R,
     destination: D,
@@ -261,7 +263,7 @@ where
     )
 }
 
-/// Copies into a layout, and returns it and what is told.
+/// Copies into a layout. Returns the layout and the result as text.
 pub(crate) fn copied<D: Dest + Tagger + Drop + Send, R: AllocGlobal + Threads + Wait + Sync>(
     rt: &R,
     destination: D,

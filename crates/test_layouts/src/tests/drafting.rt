@@ -8,31 +8,35 @@ use std::alloc::Global;
 use std::fs;
 use std::test::Fail;
 
-/// What is appended to a draft, in turn.
+/// The parts that are appended to a draft, in order.
 pub(crate) type Parts<'a> = &'a [&'a str];
 
 /// A step with one draft of a file, or with two of them.
 #[derive(Clone, Copy, Debug)]
 pub(crate) enum DraftStep<'a> {
-    /// Drafts these parts and keeps the draft: the text that the file then has.
+    /// Drafts these parts and keeps the draft. Result: the file's new text.
     Keep(Parts<'a>),
-    /// Drafts these parts twice, a part of each in turn, and keeps both drafts: the text that the file has after each.
+    /// Drafts these parts twice, one part of each draft in turn, and keeps both drafts. Result: the
+    /// file's text after each.
     KeepBoth(Parts<'a>),
-    /// Drafts these parts twice, a part of each in turn, drops the first draft and keeps the second: the text that the file then
-    /// has.
+    /// Drafts these parts twice, one part of each draft in turn, drops the first draft and keeps
+    /// the second. Result: the file's new text.
     KeepSecond(Parts<'a>),
-    /// Drafts some parts, removes the drafts in a folder, drafts other parts, and keeps the draft: `kept`, or the fault.
+    /// Drafts some parts, removes the drafts in a folder, appends other parts, and keeps the draft.
+    /// Result: `kept`, or the fault.
     KeepLost(Parts<'a>, &'a str, Parts<'a>),
-    /// Drafts these parts, locks a folder and removes what was left in it, and keeps the draft: `removed` or the fault, and the
-    /// text that the file then has.
+    /// Drafts these parts, locks a folder and removes its leftovers, and keeps the draft. Result:
+    /// `removed` or the fault, and the file's new text.
     KeepBesideRemoval(Parts<'a>, &'a str),
-    /// Drafts these parts: the names of the drafts in a folder, with `x` for each lower-case hexadecimal digit of their numbers.
+    /// Drafts these parts. Result: the names of the drafts in a folder, with `x` for each
+    /// lower-case hexadecimal digit of their numbers.
     DraftNames(Parts<'a>, &'a str),
-    /// Drafts these parts and drops the draft: how many files a folder had before the drop.
+    /// Drafts these parts and drops the draft. Result: the number of files in a folder before the
+    /// drop.
     DropDraft(Parts<'a>, &'a str),
 }
 
-/// Takes a step with drafts of a file, and returns what it tells.
+/// Takes a step with drafts of a file. Returns its result.
 pub(crate) fn with_draft<D: Dir, R: Host>(
     rt: &R,
     dir: &mut D,
@@ -61,20 +65,20 @@ fn append_all<F: Drafting>(draft: &mut F, parts: &[&str]) -> Result<(), Fail> {
     Ok(())
 }
 
-/// A draft of these parts.
+/// Creates a draft of these parts.
 fn drafted<D: Dir>(dir: &D, path: &str, parts: &[&str]) -> Result<D::Draft, Fail> {
     let mut draft = dir.draft(path)?;
     append_all(&mut draft, parts)?;
     Ok(draft)
 }
 
-/// Keeps a draft, and returns the text that the file then has.
+/// Keeps a draft. Returns the file's new text.
 fn kept<D: Dir>(alloc: Global, dir: &mut D, path: &str, draft: D::Draft) -> Result<String, Fail> {
     dir.keep(path, draft)?;
     text(alloc, dir, path)
 }
 
-/// Two words with a blank between them.
+/// Returns two words with a blank between them.
 fn joined(alloc: Global, first: &str, second: &str) -> Result<String, Fail> {
     Ok(format!(in alloc; "{first} {second}")?)
 }
@@ -84,7 +88,7 @@ fn keep<D: Dir>(alloc: Global, dir: &mut D, path: &str, parts: &[&str]) -> Resul
     kept(alloc, dir, path, draft)
 }
 
-/// Appends these parts to two drafts, in turn.
+/// Appends each of these parts to both drafts, in turn.
 fn append_both<F: Drafting>(first: &mut F, second: &mut F, parts: &[&str]) -> Result<(), Fail> {
     for part in parts {
         first.append(part.as_bytes())?;
@@ -100,7 +104,7 @@ fn both_drafted<D: Dir>(dir: &D, path: &str, parts: &[&str]) -> Result<(D::Draft
     Ok((first, second))
 }
 
-/// Keeps two drafts, and returns the text that the file has after each.
+/// Keeps two drafts. Returns the file's text after each.
 fn both_kept<D: Dir>(
     alloc: Global,
     dir: &mut D,
@@ -134,7 +138,7 @@ fn keep_second<D: Dir>(
     kept(alloc, dir, path, second)
 }
 
-/// Adds the name if it is that of a draft.
+/// Adds the name if it is a draft's name.
 fn push_draft(alloc: Global, names: &mut Vec<String>, name: &str) -> Result<(), Fail> {
     if name.ends_with(".new") {
         names.push(String::from_str(alloc, name)?)?;
@@ -142,7 +146,7 @@ fn push_draft(alloc: Global, names: &mut Vec<String>, name: &str) -> Result<(), 
     Ok(())
 }
 
-/// The names of the drafts in a folder: those that end in `.new`.
+/// Returns the names of the drafts in a folder: the names that end in `.new`.
 fn drafts_in<R: Host>(rt: &R, folder: &str) -> Result<Vec<String>, Fail> {
     let mut names = Vec::new(rt.alloc());
     for entry in fs::read_dir(rt, folder)? {
@@ -164,7 +168,7 @@ fn remove_drafts<R: Host>(rt: &R, folder: &str) -> Result<(), Fail> {
     Ok(())
 }
 
-/// A draft of some parts, the file of which is removed before the other parts are appended.
+/// Creates a draft of some parts. Its file is removed before the other parts are appended.
 fn lost<D: Dir, R: Host>(
     rt: &R,
     dir: &D,
@@ -204,7 +208,7 @@ fn keep_beside_removal<D: Dir, R: Host>(
     joined(rt.alloc(), removed.as_str(), text.as_str())
 }
 
-/// The name of a file and the number of its draft, if this is the name of a draft.
+/// Returns the name of a file and the number of its draft, if this is a draft's name.
 fn parts_of_name(name: &str) -> Option<(&str, &str)> {
     match name.strip_suffix(".new") {
         Some(numbered) => numbered.rsplit_once('.'),
@@ -212,7 +216,7 @@ fn parts_of_name(name: &str) -> Option<(&str, &str)> {
     }
 }
 
-/// A character, or `x` for a lower-case hexadecimal digit.
+/// Returns a character, or `x` for a lower-case hexadecimal digit.
 fn masked_digit(character: char) -> char {
     match character {
         '0'..='9' | 'a'..='f' => 'x',
@@ -232,7 +236,7 @@ fn joined_name(alloc: Global, file: &str, number: &str) -> Result<String, Fail> 
     Ok(format!(in alloc; " {file}.{number}.new")?)
 }
 
-/// A blank and the name of a draft, with `x` for each digit of its number.
+/// Returns a blank and the name of a draft, with `x` for each digit of its number.
 fn masked_name(alloc: Global, name: &str) -> Result<String, Fail> {
     match parts_of_name(name) {
         Some((file, number)) => joined_name(alloc, file, masked(alloc, number)?.as_str()),
@@ -240,7 +244,7 @@ fn masked_name(alloc: Global, name: &str) -> Result<String, Fail> {
     }
 }
 
-/// The masked names of the drafts in a folder.
+/// Returns the names of the drafts in a folder, with `x` for each digit.
 fn masked_names<R: Host>(rt: &R, folder: &str) -> Result<String, Fail> {
     let names = drafts_in(rt, folder)?;
     let mut told = String::new(rt.alloc());

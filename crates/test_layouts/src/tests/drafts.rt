@@ -1,4 +1,5 @@
-//! Drafts of files: drafts that are dropped, drafts of files that are there already, and two drafts of one file at once.
+//! Drafts of files: drafts that are dropped, drafts of existing files, and two drafts of one file
+//! at once.
 
 use crate::tests::copies::Copying::Layout;
 use crate::tests::drafting::DraftStep::{
@@ -34,7 +35,7 @@ const DROPPED: &[Row] = &[
     Row(In("", Failures), "0"),
 ];
 
-/// A draft that is dropped leaves no file, also if its first bytes are those of a file that is there.
+/// A draft that is dropped leaves no file, also if an existing file begins with its bytes.
 #[test]
 fn dropped_drafts(rt: HostRuntime) -> Result<(), Fail> {
     assert_run(&rt, Ground::Folder("drafts"), DROPPED)
@@ -52,8 +53,8 @@ const OLD: &[Row] = &[
     Row(At("old", Count), "3"),
 ];
 
-/// A file that has the drafted bytes already is not written again, so a link to it stays a link. A file that goes on after them,
-/// or differs in a later byte, is replaced.
+/// A file that already has the drafted bytes is not written again, so a link to it stays a link. A
+/// file that goes on after them, or differs in a later byte, is replaced.
 #[test]
 fn drafts_of_old_files(rt: HostRuntime) -> Result<(), Fail> {
     assert_run(&rt, Ground::Folder("old"), OLD)
@@ -67,7 +68,7 @@ const ANOTHER_END: Folder = Folder {
     files: 1,
 };
 
-/// The old file differs in its last byte, after two parts that are right.
+/// The old file differs in its last byte, after two right parts.
 #[test]
 fn old_file_with_another_end(rt: HostRuntime) -> Result<(), Fail> {
     assert_layer_copied_into(&rt, 2 * PART + 1, ANOTHER_END)
@@ -80,13 +81,14 @@ const LONGER: Folder = Folder {
     files: 1,
 };
 
-/// The old file has all the bytes, and one more.
+/// The old file has all the bytes and one more.
 #[test]
 fn old_file_that_is_longer(rt: HostRuntime) -> Result<(), Fail> {
     assert_layer_copied_into(&rt, 2 * PART + 1, LONGER)
 }
 
-/// There is no file at first, then one that has the bytes, and then one that differs after the first part.
+/// At first there is no file, then one with the bytes, and then one that differs after the first
+/// part.
 const TWICE: &[Row] = &[
     Row(
         In("foobar", Draft(KeepBoth(&["foo", "bar"]))),
@@ -110,7 +112,8 @@ const TWICE: &[Row] = &[
     Row(In("", Failures), "0"),
 ];
 
-/// Two drafts of one file that are open at once can both be kept, and only that file is there afterwards.
+/// Two drafts of one file that are open at once can both be kept, and only that file is there
+/// afterwards.
 #[test]
 fn two_drafts_of_one_file(rt: HostRuntime) -> Result<(), Fail> {
     assert_run(&rt, Ground::Folder("drafted_twice"), TWICE)
@@ -130,7 +133,8 @@ const NAMES: &[Row] = &[
     Row(At("draft_names", Count), "1"),
 ];
 
-/// A draft is in a file beside its place. The name of that file has 16 lower-case hexadecimal digits.
+/// A draft is in a file beside its place. The name of that file has 16 lower-case hexadecimal
+/// digits.
 #[test]
 fn names_of_drafts(rt: HostRuntime) -> Result<(), Fail> {
     assert_run(&rt, Ground::Folder("draft_names"), NAMES)
@@ -163,7 +167,8 @@ const LOST: &[Row] = &[
     Row(In("", Failures), "4"),
 ];
 
-/// A draft whose file is removed, between two parts or after the last one, is not kept, and what was there stays.
+/// A draft whose file is removed, between two parts or after the last one, is not kept. The old
+/// file stays.
 #[test]
 fn drafts_that_somebody_removed(rt: HostRuntime) -> Result<(), Fail> {
     assert_run(&rt, Ground::Folder("lost"), LOST)
@@ -176,7 +181,8 @@ const FUSE: &[Row] = &[
     Row(With(Held), "held 1"),
 ];
 
-/// A draft that is kept counts as a put. The directory passes the two files of a new layout and one layer, and fails the next put.
+/// A draft that is kept counts as a put. The puts of the two files of a new layout and of one layer
+/// succeed, and the next one fails.
 #[test]
 fn fuse_of_drafts(rt: HostRuntime) -> Result<(), Fail> {
     assert_run(&rt, Ground::Fuse(3), FUSE)

@@ -1,4 +1,4 @@
-//! Copies between two layouts. The directory of one of them fails one read or one put.
+//! Copies between two layouts. One read or one put of one of the directories fails.
 
 use crate::tests::copies::copied_samples;
 use crate::tests::faulty::{Failing, FaultyDir};
@@ -17,52 +17,53 @@ use std::thread::Threads;
 use test_support::Sample::{Bar, Empty, Foo, Image2, Image3, Index1};
 use test_support::{Sample, holds, is_closed};
 
-/// The two images, and what they reach.
+/// The two images, and the contents that they reach.
 static ALL: [Sample; 6] = [Empty, Foo, Bar, Image2, Image3, Index1];
 
-/// How many files `create` puts.
+/// The number of files that `create` puts.
 const CREATED: u64 = 2;
 
-/// How many files `open` reads: the layout file, the index, and three manifests.
+/// The number of files that `open` reads: the layout file, the index, and three manifests.
 const OPENED: u64 = 5;
 
-/// What is told of a copy that brings all.
+/// The result of a copy of everything.
 const BROUGHT: &str = "planned 6 pushed 6 skipped 0";
 
-/// What a copy tells and leaves.
+/// The result of a copy, and the state that it leaves.
 #[derive(Drop)]
 struct Outcome {
-    /// What it tells, with `<lacking>` in place of the key of one of the samples that the destination then lacks.
+    /// The result as text, with `<lacking>` in place of the key of any sample that the destination
+    /// then lacks.
     told: String,
-    /// How many contents the destination holds.
+    /// The number of contents that the destination holds.
     count: usize,
-    /// How many of its puts failed.
+    /// The number of its puts that failed.
     failures: u64,
-    /// What it holds is closed.
+    /// Whether its contents are closed.
     is_closed: bool,
-    /// It holds all, and nothing else.
+    /// Whether it holds all samples, and nothing else.
     is_whole: bool,
 }
 
-/// A copy, and the same copy again into what came back.
+/// A copy, and the same copy again into the destination that it returned.
 #[derive(Drop)]
 struct Twice {
     first: Outcome,
     second: Outcome,
 }
 
-/// The directory of a layout of the two images, with this failure.
+/// Returns the directory of a layout of the two images, with this failure.
 fn images(alloc: Global, failing: Failing) -> Result<FaultyDir, Fail> {
     let dir = saved(alloc, &ALL, Index1)?;
     Ok(FaultyDir::failing(dir, failing))
 }
 
-/// A new layout in a directory with this failure.
+/// Creates a layout in a directory with this failure.
 fn destination(alloc: Global, failing: Failing) -> Result<Layout<FaultyDir>, Fail> {
     created(alloc, FaultyDir::failing(MemDir::new(alloc), failing))
 }
 
-/// The text with `<lacking>` in place of the key of a sample that the layout lacks.
+/// Returns the text with `<lacking>` in place of a sample's key, if the layout lacks the sample.
 fn without(
     alloc: Global,
     layout: &Layout<FaultyDir>,
@@ -77,7 +78,7 @@ fn without(
     Ok(told.replace(alloc, key.as_str(), "<lacking>")?)
 }
 
-/// The text with `<lacking>` in place of the key of each sample that the layout lacks.
+/// Returns the text with `<lacking>` in place of the key of each sample that the layout lacks.
 fn without_lacking(
     alloc: Global,
     layout: &Layout<FaultyDir>,
@@ -90,7 +91,7 @@ fn without_lacking(
     Ok(told)
 }
 
-/// What a copy that told this left.
+/// Returns this result of a copy with the state that the copy left.
 fn left_by(alloc: Global, layout: &Layout<FaultyDir>, told: String) -> Result<Outcome, Fail> {
     let is_closed = is_closed(layout)?;
     let is_whole = holds(alloc, layout, &ALL)?;
@@ -103,7 +104,8 @@ fn left_by(alloc: Global, layout: &Layout<FaultyDir>, told: String) -> Result<Ou
     })
 }
 
-/// Copies the index of a layout into another layout. Returns that layout, and what the copy tells and leaves.
+/// Copies the index of a layout into another layout. Returns that layout, and the result and the
+/// state that the copy leaves.
 fn copied<R: AllocGlobal + Threads + Wait + Sync>(
     rt: &R,
     source: &Layout<FaultyDir>,
@@ -126,7 +128,8 @@ fn copied_again<R: AllocGlobal + Threads + Wait + Sync>(
     Ok(Twice { first, second })
 }
 
-/// Copies the images twice, from a directory with the first failure into a directory with the second.
+/// Copies the images twice, from a directory with the first failure into a directory with the
+/// second.
 fn copied_twice<R: AllocGlobal + Threads + Wait + Sync>(
     rt: &R,
     reading: Failing,
@@ -137,7 +140,8 @@ fn copied_twice<R: AllocGlobal + Threads + Wait + Sync>(
     copied_again(rt, &source, destination(rt.alloc(), putting)?, workers)
 }
 
-/// Copies the images twice. After the puts of `create`, `passing` more pass, and the next one fails.
+/// Copies the images twice. After the puts of `create`, `passing` more puts succeed, and the next
+/// one fails.
 fn copied_with_put<R: AllocGlobal + Threads + Wait + Sync>(
     rt: &R,
     passing: u64,
@@ -147,7 +151,8 @@ fn copied_with_put<R: AllocGlobal + Threads + Wait + Sync>(
     copied_twice(rt, Failing::Nothing, failing, workers)
 }
 
-/// Copies the images twice. After the reads of `open`, `passing` more pass, and the next one fails.
+/// Copies the images twice. After the reads of `open`, `passing` more reads succeed, and the next
+/// one fails.
 fn copied_with_read<R: AllocGlobal + Threads + Wait + Sync>(
     rt: &R,
     passing: u64,
@@ -157,7 +162,7 @@ fn copied_with_read<R: AllocGlobal + Threads + Wait + Sync>(
     copied_twice(rt, failing, Failing::Nothing, workers)
 }
 
-/// A copy of which the read or the put after `passing` others fails.
+/// A copy whose read or put after `passing` others fails.
 #[derive(Clone, Copy)]
 struct Run {
     passing: u64,
@@ -170,7 +175,7 @@ impl Display for Run {
     }
 }
 
-/// The run told this, and the destination is closed.
+/// Asserts the result of the run, and that the destination is closed.
 fn assert_refused<R: AllocGlobal + Abort>(
     rt: &R,
     outcome: &Outcome,
@@ -182,7 +187,7 @@ fn assert_refused<R: AllocGlobal + Abort>(
     Ok(())
 }
 
-/// The second copy brings what was not there, and then the layout holds all.
+/// Asserts that the second copy copies the missing contents, and that the layout then holds all.
 fn assert_brings_rest<R: AllocGlobal + Abort>(rt: &R, twice: &Twice, run: Run) -> Result<(), Fail> {
     let rest = 6usize.saturating_sub(twice.first.count);
     let skipped = if rest == 0 { 1 } else { 0 };
@@ -192,14 +197,15 @@ fn assert_brings_rest<R: AllocGlobal + Abort>(rt: &R, twice: &Twice, run: Run) -
     Ok(())
 }
 
-/// The first copy is refused for one put, and the second brings the rest.
+/// Asserts that the first copy fails because of one put, and that the second copies the rest.
 fn assert_put_failed<R: AllocGlobal + Abort>(rt: &R, twice: &Twice, run: Run) -> Result<(), Fail> {
     assert_refused(rt, &twice.first, "82 Push <lacking> 43 Device", run)?;
     assert_eq!(rt; twice.first.failures, 1, "{run}");
     assert_brings_rest(rt, twice, run)
 }
 
-/// The put of a run fails, and the same copy is made again. Returns how many contents the first one left.
+/// Runs a copy whose put fails, and the same copy again. Returns the number of contents that the
+/// first one left.
 fn left_by_failed<R: AllocGlobal + Threads + Wait + Sync + Abort>(
     rt: &R,
     run: Run,
@@ -209,7 +215,8 @@ fn left_by_failed<R: AllocGlobal + Threads + Wait + Sync + Abort>(
     Ok(twice.first.count as u64)
 }
 
-/// The put of a run fails. On one thread the destination has what was pushed before.
+/// Runs a copy whose put fails. On one thread the destination has the contents that were pushed
+/// before.
 fn assert_put<R: AllocGlobal + Threads + Wait + Sync + Abort>(
     rt: &R,
     run: Run,
@@ -224,9 +231,10 @@ fn assert_put<R: AllocGlobal + Threads + Wait + Sync + Abort>(
     Ok(())
 }
 
-/// Each put of a copy fails in turn, and the copy is refused. A second copy into the destination that came back brings the rest, over
-/// the bytes that the failed put left. On one thread the destination has what was pushed before the failure. Workers may have
-/// finished what they had begun.
+/// Each put of a copy fails in turn, and so does the copy. A second copy into the returned
+/// destination copies the rest, over the bytes that the failed put left. On one thread the
+/// destination has the contents that were pushed before the failure. Workers may also have finished
+/// pushes that they had begun.
 #[test]
 fn failing_put(rt: HostRuntime) -> Result<(), Fail> {
     for passing in 0..6u64 {
@@ -237,7 +245,7 @@ fn failing_put(rt: HostRuntime) -> Result<(), Fail> {
     Ok(())
 }
 
-/// A copy into a directory that passes this many puts brings all, and no put fails.
+/// A copy into a directory that allows this many puts copies all contents, and no put fails.
 fn assert_puts<R: AllocGlobal + Threads + Wait + Sync + Abort>(
     rt: &R,
     passing: u64,
@@ -258,7 +266,7 @@ fn puts_of_a_copy(rt: HostRuntime) -> Result<(), Fail> {
     Ok(())
 }
 
-/// A read failed, for the plan or for a push, and what was pushed is closed.
+/// Asserts that a read failed, for the plan or for a push, and that the pushed contents are closed.
 fn assert_not_read<R: AllocGlobal + Abort>(
     rt: &R,
     outcome: &Outcome,
@@ -271,7 +279,7 @@ fn assert_not_read<R: AllocGlobal + Abort>(
     assert_refused(rt, outcome, "81 Plan 57 Fetch <lacking> 22 Device", run)
 }
 
-/// The read of a run fails, and the same copy is made again. Returns whether the first one was refused.
+/// Runs a copy whose read fails, and the same copy again. Returns whether the first one failed.
 fn is_refused<R: AllocGlobal + Threads + Wait + Sync + Abort>(
     rt: &R,
     run: Run,
@@ -285,8 +293,8 @@ fn is_refused<R: AllocGlobal + Threads + Wait + Sync + Abort>(
     Ok(is_refused)
 }
 
-/// Each read of a copy fails in turn. The copy reads three manifests for its plan and then six contents, so after nine reads there is
-/// no failure.
+/// Each read of a copy fails in turn. The copy reads three manifests for its plan and then six
+/// contents, so after nine reads there is no failure.
 #[test]
 fn failing_read(rt: HostRuntime) -> Result<(), Fail> {
     for passing in 0..10u64 {
@@ -299,7 +307,7 @@ fn failing_read(rt: HostRuntime) -> Result<(), Fail> {
     Ok(())
 }
 
-/// If the read of this number fails, the layout is not opened.
+/// Asserts that the layout is not opened if this read fails.
 fn assert_not_opened<R: Host + Threads + Wait + Abort>(rt: &R, read: u64) -> Result<(), Fail> {
     let dir = images(rt.alloc(), Failing::Read(read))?;
     assert_steps(

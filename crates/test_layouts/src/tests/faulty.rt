@@ -1,4 +1,4 @@
-//! A directory in memory that does something wrong.
+//! A directory in memory with failures or changes.
 
 ghost use Rattle.std.specs.Prelude.{◌≡◌, None};
 
@@ -8,16 +8,16 @@ use oci_layout::{Dir, DirFault, MemDir};
 use oci_store::MemoryDraft;
 use std::sync::atomic::{AtomicU64, Ordering};
 
-/// What fails. Reads and puts are counted from 0.
+/// The reads or puts that fail. They are counted from 0.
 #[derive(Clone, Copy)]
 pub(crate) enum Failing {
     /// Nothing.
     Nothing,
-    /// The read of this number.
+    /// The read with this number.
     Read(u64),
-    /// Each read after this many. To look whether there is a file counts as a read.
+    /// Each read after this many. A call of `exists` counts as a read.
     LaterReads(u64),
-    /// The put of this number, which leaves other bytes.
+    /// The put with this number, which leaves other bytes.
     Put(u64),
 }
 
@@ -26,25 +26,26 @@ pub(crate) enum Failing {
 pub(crate) struct Change {
     pub(crate) path: String,
     pub(crate) other: Bytes,
-    /// How many reads return the right bytes.
+    /// The number of reads that return the right bytes.
     pub(crate) right: u64,
 }
 
-/// A directory that fails reads or puts, or whose file changes while it is read. It is honest if no file changes.
+/// A directory whose reads or puts fail, or whose file changes between reads. It is honest if no
+/// file changes.
 #[derive(Drop)]
 pub(crate) struct FaultyDir {
     dir: MemDir,
     failing: Failing,
     change: Option<Change>,
-    /// How many reads were asked for.
+    /// The number of reads so far.
     reads: AtomicU64,
-    /// How many puts were asked for.
+    /// The number of puts so far.
     puts: u64,
     failures: u64,
 }
 
 impl FaultyDir {
-    /// A directory with this failure.
+    /// Creates a directory with this failure.
     pub(crate) fn failing(dir: MemDir, failing: Failing) -> FaultyDir {
         FaultyDir {
             dir,
@@ -56,7 +57,7 @@ impl FaultyDir {
         }
     }
 
-    /// A directory of which a file changes.
+    /// Creates a directory with a file that changes.
     pub(crate) fn changing(dir: MemDir, change: Change) -> FaultyDir {
         FaultyDir {
             dir,
@@ -68,12 +69,12 @@ impl FaultyDir {
         }
     }
 
-    /// How many reads were asked for.
+    /// Returns the number of reads so far.
     pub(crate) fn reads(&self) -> u64 {
         self.reads.load(Ordering::SeqCst)
     }
 
-    /// Counts a read, and returns its number.
+    /// Counts a read. Returns its number.
     fn next_read(&self) -> u64 {
         self.reads.fetch_add(1, Ordering::SeqCst)
     }
@@ -93,7 +94,7 @@ impl FaultyDir {
         }
     }
 
-    /// The other bytes that the read of this number finds.
+    /// Returns the changed bytes that the read with this number finds, if it does.
     fn other(&self, path: &str, number: u64) -> Option<&Bytes>
         ensures { self.now.change ≡ None → result ≡ None }
     {

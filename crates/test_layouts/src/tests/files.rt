@@ -1,4 +1,4 @@
-//! Steps with the files of a directory, and with those of the current folder.
+//! Steps with the files of a directory and of the current folder.
 
 use crate::tests::drafting::{DraftStep, with_draft};
 use crate::tests::host::Host;
@@ -12,42 +12,42 @@ use test_support::Sample;
 /// A step with a file of a directory.
 #[derive(Clone, Copy, Debug)]
 pub(crate) enum FileStep<'a> {
-    /// Puts a text, in which marks may stand: `put`, or the fault.
+    /// Puts a text, which may have marks. Result: `put`, or the fault.
     Put(&'a str),
-    /// Puts the blobs of these samples: `put`.
+    /// Puts the blobs of these samples. Result: `put`.
     Blobs(&'a [Sample]),
-    /// The text; `none` if there is no such file.
+    /// Result: the text, or `none` if there is no such file.
     Text,
-    /// How many bytes the text has.
+    /// Result: the number of bytes of the text.
     Length,
-    /// A read: `some`, `none` or the fault.
+    /// Reads the file. Result: `some`, `none` or the fault.
     Read,
-    /// Whether there is such a file: `true` or `false`.
+    /// Result: whether there is such a file, `true` or `false`.
     Exists,
-    /// How many puts of the directory failed.
+    /// Result: the number of the directory's puts that failed.
     Failures,
-    /// A step with drafts of the file.
+    /// Takes a step with drafts of the file.
     Draft(DraftStep<'a>),
 }
 
 /// A step with a file or folder of the current folder.
 #[derive(Clone, Copy, Debug)]
 pub(crate) enum FolderStep<'a> {
-    /// How many files it has.
+    /// Result: the number of its files.
     Count,
-    /// Makes a link with this target: `linked`.
+    /// Creates a link with this target. Result: `linked`.
     Link(&'a str),
-    /// Whether it is a link: `true` or `false`.
+    /// Result: whether it is a link, `true` or `false`.
     IsLink,
-    /// Removes the file: `removed`.
+    /// Removes the file. Result: `removed`.
     Remove,
-    /// A read of the file in a directory that is the folder with an empty path.
+    /// Reads the file in the folder with the empty path.
     ReadInCurrent,
-    /// Locks the folder, and removes what was left in it: `removed`, or the fault.
+    /// Locks the folder and removes its leftovers. Result: `removed`, or the fault.
     RemoveLeftovers,
 }
 
-/// Takes a step with a file of a directory, in the path of which marks may stand, and returns what it tells.
+/// Takes a step with a file of a directory. Its path may have marks. Returns the result.
 pub(crate) fn in_dir<D: Dir, R: Host>(
     rt: &R,
     dir: &mut D,
@@ -76,7 +76,7 @@ fn in_file<D: Dir, R: Host>(
     }
 }
 
-/// The word for what was done, or the fault.
+/// Returns the word for a success, or the fault.
 pub(crate) fn told_of(
     alloc: Global,
     answer: Result<(), DirFault>,
@@ -106,7 +106,7 @@ fn put_blobs<D: Dir>(alloc: Global, dir: &mut D, samples: &[Sample]) -> Result<S
     Ok(String::from_str(alloc, "put")?)
 }
 
-/// The text of a file; `none` if there is none.
+/// Returns the text of a file, or `none` if there is no such file.
 pub(crate) fn text<D: Dir>(alloc: Global, dir: &D, path: &str) -> Result<String, Fail> {
     match dir.read(path)? {
         Some(bytes) => utf8(alloc, bytes.as_slice()),
@@ -119,7 +119,7 @@ fn length<D: Dir>(alloc: Global, dir: &D, path: &str) -> Result<String, Fail> {
     Ok(format!(in alloc; "{length}")?)
 }
 
-/// What a read answers.
+/// Returns the result of a read as text.
 fn read<D: Dir>(alloc: Global, dir: &D, path: &str) -> Result<String, Fail> {
     match dir.read(path) {
         Ok(Some(_)) => Ok(String::from_str(alloc, "some")?),
@@ -137,7 +137,7 @@ fn failures<D: Dir>(alloc: Global, dir: &D) -> Result<String, Fail> {
     Ok(format!(in alloc; "{}", dir.failures())?)
 }
 
-/// Takes a step with a file or folder, in the path of which marks may stand, and returns what it tells.
+/// Takes a step with a file or folder. Its path may have marks. Returns the result.
 pub(crate) fn in_folder<R: Host>(rt: &R, path: &str, step: FolderStep<'_>) -> Result<String, Fail> {
     let path = expanded(rt.alloc(), path)?;
     at_path(rt, path.as_str(), step)
@@ -154,7 +154,7 @@ fn at_path<R: Host>(rt: &R, path: &str, step: FolderStep<'_>) -> Result<String, 
     }
 }
 
-/// How many files a folder has.
+/// Returns the number of files in a folder.
 pub(crate) fn files_in<R: Host>(rt: &R, folder: &str) -> Result<usize, Fail> {
     let mut count = 0usize;
     for entry in fs::read_dir(rt, folder)? {
@@ -189,7 +189,7 @@ fn read_in_current<R: Host>(rt: &R, path: &str) -> Result<String, Fail> {
     read(rt.alloc(), &dir, path)
 }
 
-/// Locks a folder, and removes what was left in it.
+/// Locks a folder and removes its leftovers.
 fn lock_and_clear<R: Host>(rt: &R, folder: &str) -> Result<(), DirFault> {
     let lock = FolderLock::lock(rt, folder)?;
     lock.remove_leftovers(rt)

@@ -1,4 +1,4 @@
-//! Directories that pass some puts and fail the next one, of which half is then there.
+//! Directories that allow some puts. The next put fails and leaves half of its bytes.
 
 use crate::tests::files::FileStep::Length;
 use crate::tests::layouts::LayoutStep::{Held, Push, Save, Tag};
@@ -7,7 +7,7 @@ use crate::tests::steps::{Ground, Row, assert_run};
 use std::test::Fail;
 use test_support::Sample::{Empty, Image0};
 
-/// No put passes: half of `oci-layout` is there.
+/// No put succeeds: half of `oci-layout` is there.
 const AT_LAYOUT_FILE: &[Row] = &[
     Row(Create, "74 Device"),
     Row(In("oci-layout", Length), "15"),
@@ -26,7 +26,7 @@ fn fuse_at_create(rt: HostRuntime) -> Result<(), Fail> {
     assert_run(&rt, Ground::Fuse(1), AT_FIRST_INDEX)
 }
 
-/// No layout is made in a directory that has half of `oci-layout`.
+/// No layout is created in a directory that has half of `oci-layout`.
 #[test]
 fn create_after_a_fuse(rt: HostRuntime) -> Result<(), Fail> {
     let rows = [Row(Create, "74 Device"), Row(Create, "78 AlreadyLayout")];
@@ -54,7 +54,7 @@ fn fuse_at_push(rt: HostRuntime) -> Result<(), Fail> {
     assert_run(&rt, Ground::Fuse(3), AT_IMAGE)
 }
 
-/// If a save fails, the layout in memory still holds what it held.
+/// If a save fails, the layout in memory is unchanged.
 const AT_INDEX: &[Row] = &[
     Row(Create, "made"),
     Row(With(Push(Empty)), "place 0"),
@@ -66,7 +66,7 @@ const AT_INDEX: &[Row] = &[
     Row(Open, "73 BadIndex 10 NotJson"),
 ];
 
-/// All puts pass.
+/// All puts succeed.
 const AT_NO_PUT: &[Row] = &[
     Row(Create, "made"),
     Row(With(Push(Empty)), "place 0"),

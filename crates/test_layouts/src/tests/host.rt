@@ -1,10 +1,11 @@
-//! What the tests need of a runtime.
+//! The bounds on the runtime of the tests.
 
 use oci_layout::Lockable;
 use std::random::RandomSource;
 use std::rt::Files;
 
-/// What a test in a folder needs of its runtime, apart from threads: files, random numbers and memory.
+/// The bounds on the runtime of a test in a folder, apart from threads: files, random numbers and
+/// memory.
 pub(crate) trait Host: Files<File: Lockable + Send, Dir: Send>
     + AllocGlobal
     + RandomSource

@@ -1,10 +1,10 @@
-//! Contents over one part, copied by workers into memory and into folders.
+//! Contents larger than one part, copied by workers into memory and into folders.
 
 use crate::tests::parts::{Folder, Layer, PART, assert_copied_by};
 use std::test::Fail;
 use test_support::LAYER;
 
-/// A layer of a part and one byte.
+/// A layer of one part and one byte.
 const FIRST: Layer = Layer {
     size: PART + 1,
     seed: 0,
@@ -27,7 +27,8 @@ const FIRST_AS_TEXT: Layer = Layer {
     digest: None,
 };
 
-/// The first layer with its SHA-512 digest, which is that of Python's `hashlib` for bytes of which number `n` is `n % 251`.
+/// The first layer with its SHA-512 digest, which Python's `hashlib` printed. Byte `n` of it is `n
+/// % 251`.
 const FIRST_BY_SHA512: Layer = Layer {
     size: PART + 1,
     seed: 0,
@@ -37,7 +38,7 @@ const FIRST_BY_SHA512: Layer = Layer {
     ),
 };
 
-/// Two layers over a part, by one worker and by three.
+/// Two layers larger than one part are copied by one worker and by three.
 #[test]
 fn large_layers(rt: HostRuntime) -> Result<(), Fail> {
     for workers in [1, 3] {
@@ -53,7 +54,7 @@ const LARGE_LAYERS: Folder = Folder {
     files: 2,
 };
 
-/// Two layers over a part, by one worker and by three, into a folder.
+/// Two layers larger than one part are copied by one worker and by three into a folder.
 #[test]
 fn large_layers_in_a_folder(rt: HostRuntime) -> Result<(), Fail> {
     for workers in [1, 3] {
@@ -69,7 +70,8 @@ const TWO_KEYS: Folder = Folder {
     files: 1,
 };
 
-/// Two workers draft one file at once, as two keys have one digest: both keys are held, and the folder has the one file.
+/// Two workers draft one file at once, since two keys have one digest. Both keys are held, and the
+/// folder has the one file.
 #[test]
 fn large_layer_of_two_keys(rt: HostRuntime) -> Result<(), Fail> {
     assert_copied_by(&rt, &[FIRST, FIRST_AS_TEXT], Some(TWO_KEYS), 3)
@@ -82,7 +84,8 @@ const LARGE_SHA512: Folder = Folder {
     files: 1,
 };
 
-/// A layer over a part with its digest by SHA-512 lies in the folder of that algorithm.
+/// The file of a layer larger than one part with a SHA-512 digest is in the folder of that
+/// algorithm.
 #[test]
 fn large_layer_by_sha512(rt: HostRuntime) -> Result<(), Fail> {
     assert_copied_by(&rt, &[FIRST_BY_SHA512], Some(LARGE_SHA512), 1)

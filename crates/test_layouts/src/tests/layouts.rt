@@ -12,31 +12,31 @@ use test_support::{Sample, is_closed};
 /// A step with a layout.
 #[derive(Clone, Copy, Debug)]
 pub(crate) enum LayoutStep<'a> {
-    /// What is held.
+    /// Result: the contents of the layout.
     Held,
-    /// Whether nothing that is held lists what is not: `true` or `false`.
+    /// Result: whether each successor of a held key is held, `true` or `false`.
     IsClosed,
-    /// Saves it: `saved`, or the fault.
+    /// Saves it. Result: `saved`, or the fault.
     Save,
-    /// A push of a sample: its place, or the fault.
+    /// Pushes a sample. Result: its place, or the fault.
     Push(Sample),
-    /// A push of a sample's bytes under another media type.
+    /// Pushes a sample's bytes under another media type.
     PushAs(Sample, &'a str),
-    /// A push of a sample's bytes under another one's key.
+    /// Pushes a sample's bytes under another sample's key.
     PushUnder(Sample, Sample),
-    /// Names a sample's key: `tagged`.
+    /// Names a sample's key. Result: `tagged`.
     Tag(Sample, &'a str),
-    /// A fetch of a sample's key: the bytes, which are text, or the fault.
+    /// Fetches a sample's key. Result: the bytes, which are text, or the fault.
     Fetch(Sample),
-    /// What a reference, in which marks may stand, resolves to: the key, or the fault.
+    /// Resolves a reference, which may have marks. Result: the key, or the fault.
     Resolve(&'a str),
-    /// The keys that list a sample's key, each and a `;`.
+    /// Result: the keys that list a sample's key, each followed by `;`.
     Holders(Sample),
-    /// The keys that a sample's key lists, each and a `;`, or `not held`.
+    /// Result: the keys that a sample's key lists, each followed by `;`, or `not held`.
     Lists(Sample),
 }
 
-/// Takes a step with a layout, and returns what it tells.
+/// Takes a step with a layout. Returns its result.
 pub(crate) fn with_layout<D: Dir>(
     alloc: Global,
     layout: &mut Layout<D>,
@@ -64,12 +64,12 @@ fn made<D: Dir + Drop>(answer: Result<Layout<D>, (D, LayoutFault)>) -> Result<La
     }
 }
 
-/// A layout that was just made.
+/// Creates a layout.
 pub(crate) fn created<D: Dir + Drop>(alloc: Global, dir: D) -> Result<Layout<D>, Fail> {
     made(Layout::create(alloc, dir))
 }
 
-/// The layout that a directory is.
+/// Opens the layout in a directory.
 pub(crate) fn opened<D: Dir + Drop>(alloc: Global, dir: D) -> Result<Layout<D>, Fail> {
     made(Layout::open(alloc, dir))
 }
@@ -81,7 +81,7 @@ fn push_samples<D: Dest>(alloc: Global, layout: &mut D, samples: &[Sample]) -> R
     Ok(())
 }
 
-/// A layout in memory that was just made, with these samples.
+/// Creates a layout in memory with these samples.
 pub(crate) fn filled(alloc: Global, samples: &[Sample]) -> Result<Layout<MemDir>, Fail> {
     let mut layout = created(alloc, MemDir::new(alloc))?;
     push_samples(alloc, &mut layout, samples)?;
@@ -99,7 +99,8 @@ pub(crate) fn save_named<D: Dir>(
     Ok(())
 }
 
-/// The directory in memory of a layout of these samples, which is saved with a name for one of them.
+/// Returns the directory in memory of a layout of these samples, which is saved with a name for one
+/// of them.
 pub(crate) fn saved(alloc: Global, samples: &[Sample], named: Sample) -> Result<MemDir, Fail> {
     let key = named.key(alloc)?;
     let mut layout = filled(alloc, samples)?;
@@ -107,7 +108,7 @@ pub(crate) fn saved(alloc: Global, samples: &[Sample], named: Sample) -> Result<
     Ok(layout.into_dir())
 }
 
-/// How many keys a layout holds, and the names.
+/// Returns the number of keys that a layout holds, and its names.
 pub(crate) fn summary<D: Dir>(alloc: Global, layout: &Layout<D>) -> Result<String, Fail> {
     let mut told = format!(in alloc; "held {}", layout.count())?;
     let tags = layout.tags()?;
@@ -130,7 +131,7 @@ fn save<D: Dir>(alloc: Global, layout: &mut Layout<D>) -> Result<String, Fail> {
     }
 }
 
-/// What a push answers, as text: the place, or the fault.
+/// Returns the result of a push as text: the place, or the fault.
 pub(crate) fn push<D: Dest>(
     alloc: Global,
     layout: &mut D,
@@ -190,7 +191,7 @@ fn resolve<T: Tagger>(alloc: Global, layout: &T, reference: &str) -> Result<Stri
     }
 }
 
-/// The keys, each and a `;`.
+/// Returns the keys, each followed by `;`.
 fn listed(alloc: Global, keys: &[Key]) -> Result<String, Fail> {
     let mut told = String::new(alloc);
     for key in keys {

@@ -1,4 +1,5 @@
-//! The leftovers of a folder: the files that a process leaves if it is ended while it writes. They are removed, and nothing else.
+//! The leftovers of a folder: the files that a process leaves if it is killed while it writes. They
+//! are removed, and nothing else.
 
 use crate::tests::drafting::DraftStep::KeepBesideRemoval;
 use crate::tests::files::FileStep::{Draft, Exists, Put};
@@ -11,7 +12,8 @@ use std::sync::Wait;
 use std::test::Fail;
 use std::thread::Threads;
 
-/// Files, and whether they are removed. The digits of blobs are those that `sha256sum` and `sha512sum` print for a zero byte.
+/// Files, and whether they are removed. The digits of blobs are the ones that `sha256sum` and
+/// `sha512sum` print for a zero byte.
 static FILES: [(&str, bool); 30] = [
     ("index.json.0123456789abcdef.new", true),
     ("oci-layout.0123456789abcdef.new", true),
@@ -95,7 +97,7 @@ fn assert_removed<R: Host + Threads + Wait + Abort>(
     assert_run(rt, Ground::Folder("leftovers"), &rows)
 }
 
-/// A file that was written beside a file of a layout is removed, and no other.
+/// A file that was written beside a file of a layout is removed, and no other file.
 #[test]
 fn leftovers_of_a_folder(rt: HostRuntime) -> Result<(), Fail> {
     for (file, is_removed) in &FILES {
@@ -110,7 +112,7 @@ const IN_SHA256: &str =
 const IN_SHA512: &str =
     "blobs/sha512/b8244d028981d693af7b456af8efa4cad63d282e19ff14942c246e50d9351d22704a802a71c3580b6370de4ceb293c324a8423342557d4e5c38438f0e36910ee.0123456789abcdef.new";
 
-/// Files in the folder that the links lead to.
+/// The files in the folder behind the links.
 const IN_OTHER: &str =
     "other/sha256/6e340b9cffb37a989ca544e6bb780a2c78901d3fb33738768511a30617afa01d.0123456789abcdef.new";
 
@@ -145,7 +147,8 @@ const SHA512_LINKED: &[Row] = &[
     Row(In(IN_SHA256, Exists), "false"),
 ];
 
-/// Nothing is removed through a link in the place of a folder of blobs. Leftovers elsewhere are removed.
+/// Nothing is removed through a link in the place of a folder of blobs. Leftovers elsewhere are
+/// removed.
 #[test]
 fn leftovers_behind_links(rt: HostRuntime) -> Result<(), Fail> {
     for rows in [BLOBS_LINKED, SHA256_LINKED, SHA512_LINKED] {
@@ -168,7 +171,7 @@ const OTHER_KINDS: &[Row] = &[
     Row(In(IN_SHA256, Exists), "false"),
 ];
 
-/// A folder or a link that has such a name stays: only a regular file can be a leftover.
+/// A folder or a link with such a name stays: only a regular file can be a leftover.
 #[test]
 fn leftovers_of_other_kinds(rt: HostRuntime) -> Result<(), Fail> {
     assert_run(&rt, Ground::Folder("kinds"), OTHER_KINDS)

@@ -7,12 +7,12 @@ use std::process::Abort;
 use std::test::Fail;
 use std::{env, fs, rt};
 
-/// Whether a try gets the lock of a folder.
+/// Returns whether a try takes the lock of a folder.
 fn is_free<R: Host>(rt: &R, folder: &str) -> Result<bool, Fail> {
     Ok(FolderLock::try_lock(rt, folder)?.is_some())
 }
 
-/// Whether a try that makes a missing folder gets the lock.
+/// Returns whether a try that creates a missing folder takes its lock.
 fn is_free_or_made<R: Host>(rt: &R, folder: &str) -> Result<bool, Fail> {
     Ok(FolderLock::make_and_try_lock(rt, folder)?.is_some())
 }
@@ -28,7 +28,7 @@ fn assert_taken_at<R: Host + Abort>(rt: &R, folder: &str) -> Result<(), Fail> {
     Ok(())
 }
 
-/// The folder at each of these paths is locked already: no try gets its lock.
+/// Asserts that the folder at each of these paths is locked: no try takes its lock.
 fn assert_taken<R: Host + Abort>(rt: &R, folders: &[&str]) -> Result<(), Fail> {
     for folder in folders {
         assert_taken_at(rt, folder)?;
@@ -41,7 +41,7 @@ fn assert_empty<R: Host + Abort>(rt: &R, folder: &str) -> Result<(), Fail> {
     Ok(())
 }
 
-/// The lock of a folder that is free.
+/// Takes the lock of a folder, which must be free.
 fn made_and_tried<R: Host>(rt: &R, folder: &str) -> Result<FolderLock<R>, Fail> {
     match FolderLock::make_and_try_lock(rt, folder)? {
         Some(lock) => Ok(lock),
@@ -49,7 +49,8 @@ fn made_and_tried<R: Host>(rt: &R, folder: &str) -> Result<FolderLock<R>, Fail> 
     }
 }
 
-/// While `locked/folder` is locked, nobody gets a second lock of it by any path, and the folder above it is free.
+/// While `locked/folder` is locked, no second lock of it can be taken by any path, and the folder
+/// above it is free.
 fn assert_one<R: Host + Abort>(rt: &R) -> Result<(), Fail> {
     rt::Files::symlink(rt, "folder", "locked/link")?;
     assert_taken(
@@ -85,7 +86,7 @@ fn assert_one_by_a_try<R: Host + Abort>(rt: &R) -> Result<(), Fail> {
     found
 }
 
-/// A folder has one lock at a time, by whichever path, until the lock is dropped. A lock changes no file.
+/// A folder has one lock at a time, by any path, until the lock is dropped. A lock changes no file.
 #[test]
 fn one_lock_at_a_time(rt: HostRuntime) -> Result<(), Fail> {
     let _ = fs::remove_dir_all(&rt, "locked");
@@ -103,13 +104,13 @@ fn is_failed<T: Drop>(answer: Result<T, DirFault>) -> bool {
     }
 }
 
-/// What is at a path cannot be locked, by a try or by a lock that waits.
+/// Asserts that the path cannot be locked, with or without waiting.
 fn assert_refused<R: Host + Abort>(rt: &R, folder: &str) {
     assert!(rt; is_failed(FolderLock::try_lock(rt, folder)), "{folder}");
     assert!(rt; is_failed(FolderLock::lock(rt, folder)), "{folder}");
 }
 
-/// A missing folder is not made.
+/// Asserts that a missing folder is not created.
 fn assert_missing_refused<R: Host + Abort>(rt: &R) -> Result<(), Fail> {
     fs::create_dir(rt, "unlocked")?;
     assert_refused(rt, "unlocked/missing");
@@ -124,7 +125,7 @@ fn assert_file_refused<R: Host + Abort>(rt: &R) -> Result<(), Fail> {
     Ok(())
 }
 
-/// A lock makes no folder unless that is asked for, and a file cannot be locked.
+/// A lock creates a folder only in the calls that say so, and a file cannot be locked.
 #[test]
 fn locks_that_are_refused(rt: HostRuntime) -> Result<(), Fail> {
     let _ = fs::remove_dir_all(&rt, "unlocked");
@@ -133,7 +134,8 @@ fn locks_that_are_refused(rt: HostRuntime) -> Result<(), Fail> {
     Ok(fs::remove_dir_all(&rt, "unlocked")?)
 }
 
-/// While the current folder is locked by the empty path, nobody gets a second lock of it by any path.
+/// While the current folder is locked by the empty path, no second lock of it can be taken by any
+/// path.
 fn assert_current<R: Host + Abort>(rt: &R) -> Result<(), Fail> {
     let lock = made_and_tried(rt, "")?;
     let found = assert_taken(rt, &["", ".", "../current"]);
@@ -141,7 +143,7 @@ fn assert_current<R: Host + Abort>(rt: &R) -> Result<(), Fail> {
     found
 }
 
-/// The empty path is the current folder, which is a folder of the test's own meanwhile.
+/// The empty path is the current folder. The test changes into a folder of its own first.
 #[test]
 fn lock_of_the_current_folder(rt: HostRuntime) -> Result<(), Fail> {
     let _ = fs::remove_dir_all(&rt, "current");

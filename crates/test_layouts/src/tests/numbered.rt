@@ -1,4 +1,4 @@
-//! Drafts whose random numbers are refused, or are in the names of other files already.
+//! Drafts whose random numbers are refused or are already in the names of other files.
 
 use crate::tests::drafting::DraftStep::{Keep, KeepLost};
 use crate::tests::files::FileStep::{Draft, Exists, Failures, Put, Text};
@@ -19,8 +19,8 @@ use std::test::Fail;
 use std::thread::Threads;
 use std::{fs, io};
 
-/// A runtime with chosen random bytes. All bytes of the first call are 0, and those of each later call are greater by `step`. A call
-/// whose bytes would be `end` or more is refused.
+/// A runtime with chosen random bytes. The first call returns only zeros, and each later call
+/// returns bytes that are greater by `step`. A call whose bytes would be `end` or more fails.
 #[derive(Drop)]
 struct Numbered<'r, R: Files> {
     rt: &'r R,
@@ -94,7 +94,8 @@ impl<'r, R: Files> Files for Numbered<'r, R> {
     }
 }
 
-/// Makes a folder with three entries: two files whose names are those of the first two drafts of `foo`, and an empty folder.
+/// Creates a folder with three entries: two files with the names of the first two drafts of `foo`,
+/// and an empty folder.
 fn prepare<R: Host>(rt: &R) -> Result<(), Fail> {
     fs::create_dir_all(rt, "numbered/empty")?;
     fs::write(rt, "numbered/foo.0000000000000000.new", b"0")?;
@@ -102,7 +103,7 @@ fn prepare<R: Host>(rt: &R) -> Result<(), Fail> {
     Ok(())
 }
 
-/// Takes these steps in the folder with these random numbers, and checks what each of them tells.
+/// Takes these steps in the folder with these random numbers. Asserts the result of each.
 fn assert_steps_with<R: Host + Threads + Wait + Abort>(
     rt: &R,
     numbers: &Numbered<'_, R>,
@@ -113,13 +114,14 @@ fn assert_steps_with<R: Host + Threads + Wait + Abort>(
     assert_steps(rt, dir, Ground::Folder(name), rows)
 }
 
-/// The folder has this many entries. Removes it.
+/// Asserts that the folder has this many entries, and removes it.
 fn assert_entries<R: Host + Abort>(rt: &R, name: &str, entries: usize) -> Result<(), Fail> {
     assert_eq!(rt; files_in(rt, "numbered")?, entries, "{name}");
     Ok(fs::remove_dir_all(rt, "numbered")?)
 }
 
-/// Takes these steps in the folder with these random numbers. The folder then has this many entries. A failure prints the name.
+/// Takes these steps in the folder with these random numbers. Asserts that the folder then has this
+/// many entries. A failure prints the name.
 fn assert_rows<R: Host + Threads + Wait + Abort>(
     rt: &R,
     numbers: &Numbered<'_, R>,
@@ -142,7 +144,7 @@ const TAKEN: &[Row] = &[
     Row(In("", Failures), "0"),
 ];
 
-/// If files have the first two names, a draft takes the third name and leaves those files.
+/// If files have the first two names, a draft takes the third name and leaves the files unchanged.
 #[test]
 fn names_that_are_taken(rt: HostRuntime) -> Result<(), Fail> {
     let counted = Numbered {
@@ -167,7 +169,7 @@ const NONE: &[Row] = &[
     Row(In("", Failures), "2"),
 ];
 
-/// If random numbers are refused, or each is in the name of a file already, nothing is written.
+/// If random numbers are refused, or each is already in the name of a file, nothing is written.
 #[test]
 fn names_that_are_refused(rt: HostRuntime) -> Result<(), Fail> {
     for (name, step, end) in [("no numbers", 1u64, 0u8), ("one number", 0, 1)] {
@@ -182,7 +184,8 @@ fn names_that_are_refused(rt: HostRuntime) -> Result<(), Fail> {
     Ok(())
 }
 
-/// Copies a layer into a new layout in a folder. The two files of the layout take the only random numbers.
+/// Copies a layer into a new layout in a folder. The two files of the layout take the only random
+/// numbers.
 fn assert_nameless<R: Host + Threads + Wait + Abort>(
     rt: &R,
     workers: Option<u32>,

@@ -1,13 +1,13 @@
-//! What is refused when a layout is opened, and indexes as other tools write them.
+//! Layouts that are not opened, and indexes that other tools wrote.
 
 use crate::tests::files::FileStep::{Blobs, Put, Text};
 use crate::tests::layouts::LayoutStep::{Resolve, Save};
-use crate::tests::steps::Step::{In, Open, With};
+use crate::tests::steps::Step::{In, Open, OpenOrCreate, With};
 use crate::tests::steps::{Ground, Row, assert_run};
 use std::test::Fail;
 use test_support::Sample::{Bar, Empty, Foo, Image0, Image2, Image3, Image4, Index1};
 
-/// The layout file is put.
+/// Puts the layout file.
 const LAYOUT_FILE: Row<'static> = Row(
     In("oci-layout", Put("{\"imageLayoutVersion\":\"1.0.0\"}")),
     "put",
@@ -44,7 +44,7 @@ const BOTH_FILES: &[Row] = &[
     Row(Open, "71 BadLayoutFile"),
 ];
 
-/// The layout file is looked at before the index.
+/// The layout file is checked before the index.
 #[test]
 fn layout_file_first(rt: HostRuntime) -> Result<(), Fail> {
     assert_run(&rt, Ground::Memory, BOTH_FILES)
@@ -67,7 +67,8 @@ fn index_files(rt: HostRuntime) -> Result<(), Fail> {
     assert_run(&rt, Ground::Memory, INDEX_FILES)
 }
 
-/// The one entry is an image whose bytes are the empty JSON object, first with a wrong size and then with the right one.
+/// The one entry is an image whose bytes are the empty JSON object, first with a wrong size and
+/// then with the right one.
 const AT_FAULT: &[Row] = &[
     LAYOUT_FILE,
     Row(In("blobs", Blobs(&[Empty])), "put"),
@@ -104,7 +105,7 @@ fn manifests_at_fault(rt: HostRuntime) -> Result<(), Fail> {
     assert_run(&rt, Ground::Memory, AT_FAULT)
 }
 
-/// The index is laid out as people do, and has members of its own.
+/// The index is indented, and has members of its own.
 const STANDARD: &[Row] = &[
     LAYOUT_FILE,
     Row(
@@ -128,19 +129,21 @@ const STANDARD: &[Row] = &[
     Row(With(Resolve("stable-release")), "<key Index1>"),
 ];
 
-/// The entries of the standard's example (image-layout.md, "Index Example"): an index, an image for a platform, and a leaf
-/// with annotations that are no name. Every content that is reached from them is there, and one that nobody names.
+/// The entries of the standard's example (image-layout.md, "Index Example"): an index, an image for
+/// a platform, and a leaf whose annotations have no name. Every content that is reached from them
+/// is there, and one that is not reached.
 #[test]
 fn index_of_the_standard(rt: HostRuntime) -> Result<(), Fail> {
     assert_run(&rt, Ground::Memory, STANDARD)
 }
 
-/// An index of entries of which two have one name, so that the last counts, and two name one key; of the others the name is a number,
-/// or empty, or that of a key without a file. They have what buildah, skopeo, docker and oras write beside the name.
+/// An index with two entries of one name, so that the last counts, and two names of one key. Of the
+/// other names one is a number, one is empty, and one is for a key without a file. The entries have
+/// the members that buildah, skopeo, docker and oras write besides the name.
 const NAMED: &str =
     "{\n  \"schemaVersion\": 2,\n  \"mediaType\": \"application/vnd.oci.image.index.v1+json\",\n  \"annotations\": {\n    \"com.example.index.revision\": \"r124356\"\n  },\n  \"manifests\": [\n    {<members Image2>,\"annotations\":{\"org.opencontainers.image.ref.name\":\"latest\"}},\n    {<members Image0>,\"annotations\":{\"io.containerd.image.name\":\"docker.io/library/a:b\",\"org.opencontainers.image.created\":\"2024-01-01T00:00:00Z\",\"org.opencontainers.image.ref.name\":\"latest\"}},\n    {<members Image0>,\"artifactType\":\"application/example\",\"data\":\"e30=\",\"urls\":[\"https://example.org\"],\"annotations\":{\"org.opencontainers.image.ref.name\":\"b\"}},\n    {<members Image0>,\"annotations\":{\"org.opencontainers.image.ref.name\":7}},\n    {<members Image0>,\"annotations\":{\"org.opencontainers.image.ref.name\":\"\"}},\n    {<members Image0>,\"annotations\":[]},\n    {<members Image3>,\"annotations\":{\"org.opencontainers.image.ref.name\":\"gone\"}}\n  ]\n}\n";
 
-/// The blobs that it names are put, but for the one that is missing, and then the index.
+/// Puts the blobs that the index names, but for the missing one, and then the index.
 const NAMED_BLOBS: Row<'static> = Row(In("blobs", Blobs(&[Empty, Foo, Image0, Image2])), "put");
 
 const NAMED_INDEX: Row<'static> = Row(In("index.json", Put(NAMED)), "put");
@@ -152,6 +155,24 @@ const NAMES: &[Row] = &[
     Row(Open, "held 4 b latest"),
     Row(With(Resolve("latest")), "<key Image0>"),
 ];
+
+/// A directory without a layout becomes an empty one, which is then opened, also with an index of
+/// another tool. A layout that cannot be opened is unchanged.
+const OPENED_OR_CREATED: &[Row] = &[
+    Row(OpenOrCreate, "held 0"),
+    Row(Open, "held 0"),
+    NAMED_BLOBS,
+    NAMED_INDEX,
+    Row(OpenOrCreate, "held 4 b latest"),
+    Row(In("oci-layout", Put("{}")), "put"),
+    Row(OpenOrCreate, "71 BadLayoutFile"),
+    Row(In("oci-layout", Text), "{}"),
+];
+
+#[test]
+fn opened_or_created(rt: HostRuntime) -> Result<(), Fail> {
+    assert_run(&rt, Ground::Memory, OPENED_OR_CREATED)
+}
 
 #[test]
 fn names_of_an_index(rt: HostRuntime) -> Result<(), Fail> {
@@ -170,7 +191,7 @@ const SAVED_AGAIN: &[Row] = &[
     ),
 ];
 
-/// What is saved has an entry for each name, and one for each image that has none.
+/// The saved index has an entry for each name, and one for each image without a name.
 #[test]
 fn saved_after_another_tool(rt: HostRuntime) -> Result<(), Fail> {
     assert_run(&rt, Ground::Memory, SAVED_AGAIN)

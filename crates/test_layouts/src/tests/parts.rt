@@ -1,4 +1,5 @@
-//! Copies of blobs that are read in parts: blobs of no bytes, of less than a part, of exactly one part, and of more.
+//! Copies of blobs that are read in parts: blobs of no bytes, of less than a part, of exactly one
+//! part, and of more.
 
 use crate::tests::copies::copied_keys;
 use crate::tests::faulty::{Change, Failing, FaultyDir};
@@ -18,24 +19,24 @@ use std::test::Fail;
 use std::thread::Threads;
 use test_support::{LAYER, closed};
 
-/// How many bytes are read at a time.
+/// The number of bytes that are read at a time.
 pub(crate) const PART: usize = 1_048_576;
 
-/// No bytes, one, exactly a part, a part and one byte, and five parts.
+/// Sizes: no bytes, one byte, exactly one part, one part and one byte, and five parts.
 static SIZES: [usize; 5] = [0, 1, PART, PART + 1, 5 * PART];
 
-/// A layer. Byte `n` of it is `n % 251`, changed by the seed. So no two parts of a layer are alike, and two layers with different
-/// seeds differ in each byte.
+/// A layer. Byte `n` of it is `n % 251`, changed by the seed. So no two parts of a layer are equal,
+/// and two layers with different seeds differ in each byte.
 #[derive(Clone, Copy)]
 pub(crate) struct Layer {
     pub(crate) size: usize,
     pub(crate) seed: u8,
     pub(crate) media_type: &'static str,
-    /// The digest; if there is none, it is the SHA-256 digest.
+    /// The digest, or `None` for the SHA-256 digest.
     pub(crate) digest: Option<&'static str>,
 }
 
-/// A layer of the first seed.
+/// Returns a layer of the first seed.
 fn first_layer(size: usize) -> Layer {
     Layer {
         size,
@@ -109,7 +110,7 @@ impl Layers {
     }
 }
 
-/// A layout in memory of these layers.
+/// Returns a layout in memory of these layers.
 fn layers_of(alloc: Global, layers: &[Layer]) -> Result<Layers, Fail> {
     let mut made = Layers {
         layout: created(alloc, MemDir::new(alloc))?,
@@ -121,12 +122,12 @@ fn layers_of(alloc: Global, layers: &[Layer]) -> Result<Layers, Fail> {
     Ok(made)
 }
 
-/// A layout in memory that was opened and has one layer.
+/// Returns a layout in memory that was opened and has one layer.
 fn layer_of(alloc: Global, size: usize) -> Result<Layers, Fail> {
     layers_of(alloc, &[first_layer(size)])?.reopened(alloc)
 }
 
-/// The directory has the bytes of this key.
+/// Asserts that the directory has the bytes of this key.
 fn assert_there<D: Dir, R: AllocGlobal + Abort>(rt: &R, dir: &D, key: &Key) -> Result<(), Fail> {
     let Some(bytes) = dir.read(&blob(rt.alloc(), key)?)? else {
         return Err(Fail::from("the blob is not there"));
@@ -136,7 +137,7 @@ fn assert_there<D: Dir, R: AllocGlobal + Abort>(rt: &R, dir: &D, key: &Key) -> R
     Ok(())
 }
 
-/// The directory has the bytes of each of these keys.
+/// Asserts that the directory has the bytes of each of these keys.
 fn assert_all_there<D: Dir, R: AllocGlobal + Abort>(
     rt: &R,
     dir: &D,
@@ -148,13 +149,14 @@ fn assert_all_there<D: Dir, R: AllocGlobal + Abort>(
     Ok(())
 }
 
-/// What a copy told, and what the layout holds.
+/// The result of a copy, and the contents of the layout.
 fn told_and_held<D: Dir>(alloc: Global, layout: &Layout<D>, told: &str) -> Result<String, Fail> {
     let held = summary(alloc, layout)?;
     Ok(format!(in alloc; "{told}, {held}")?)
 }
 
-/// Copies the layers of a layout into a new layout in a directory. Returns the directory, and what is told and held.
+/// Copies the layers of a layout into a new layout in a directory. Returns the directory, the
+/// result and the contents.
 fn copied<D: Dir + Drop + Send, R: AllocGlobal + Threads + Wait + Sync>(
     rt: &R,
     source: &Layers,
@@ -170,7 +172,7 @@ where
     Ok((layout.into_dir(), told))
 }
 
-/// The layers of these keys are copied and held.
+/// Asserts that the layers of these keys are copied and held.
 fn assert_held<R: AllocGlobal + Abort>(
     rt: &R,
     told: &str,
@@ -183,7 +185,8 @@ fn assert_held<R: AllocGlobal + Abort>(
     Ok(())
 }
 
-/// Copies the layers of a layout into a new layout in a directory: all are held, and have their bytes in the directory.
+/// Copies the layers of a layout into a new layout in a directory. Asserts that all are held and
+/// have their bytes in the directory.
 fn assert_copied<D: Dir + Drop + Send, R: AllocGlobal + Threads + Wait + Sync + Abort>(
     rt: &R,
     source: &Layers,
@@ -198,8 +201,8 @@ where
     assert_all_there(rt, &dir, &source.keys)
 }
 
-/// A folder into which layers are copied. An old file of `old` right bytes and a wrong one may stand in place of the first layer.
-/// After the copy the folder `below` has this many files.
+/// A destination folder of layers. In place of the first layer it may have an old file of `old`
+/// right bytes and a wrong one. After the copy the folder `below` has this many files.
 #[derive(Clone, Copy)]
 pub(crate) struct Folder {
     pub(crate) folder: &'static str,
@@ -208,21 +211,21 @@ pub(crate) struct Folder {
     pub(crate) files: usize,
 }
 
-/// The first bytes of a layer, and one that it does not have.
+/// Returns the first bytes of a layer, and a wrong one.
 fn old_bytes(alloc: Global, size: usize) -> Result<Vec<u8>, Fail> {
     let mut old = bytes_of(alloc, size, 0)?;
     old.push(255)?;
     Ok(old)
 }
 
-/// Puts an old file where a layer belongs.
+/// Puts an old file in place of a layer.
 fn put_old<D: Dir>(alloc: Global, dir: &mut D, key: &Key, size: usize) -> Result<(), Fail> {
     let path = blob(alloc, key)?;
     dir.put(&path, &old_bytes(alloc, size)?)?;
     Ok(())
 }
 
-/// Puts the old file, if there is to be one.
+/// Puts the old file, if the destination has one.
 fn prepare<D: Dir>(
     alloc: Global,
     dir: &mut D,
@@ -254,7 +257,7 @@ fn assert_copied_into_folder<R: Host + Threads + Wait + Abort>(
     assert_copied(rt, source, folder_of(rt, source, folder)?, workers)
 }
 
-/// The folder has the files that it should have. Removes it.
+/// Asserts that the folder has the right files, and removes it.
 fn assert_files<R: Host + Abort>(rt: &R, folder: Folder) -> Result<(), Fail> {
     let below = folder.below;
     assert_eq!(rt; files_in(rt, below)?, folder.files, "{below}");
@@ -304,7 +307,8 @@ fn assert_layer_copied<R: AllocGlobal + Threads + Wait + Sync + Abort>(
     assert_copied(rt, &source, MemDir::with_fuse(rt.alloc(), puts), None)
 }
 
-/// Copies a layer of each size into a directory that passes three puts: the two files of a new layout, and the blob.
+/// Copies a layer of each size into a directory that allows three puts: the two files of a new
+/// layout, and the blob.
 #[test]
 fn layers_of_parts(rt: HostRuntime) -> Result<(), Fail> {
     for size in &SIZES {
@@ -313,7 +317,7 @@ fn layers_of_parts(rt: HostRuntime) -> Result<(), Fail> {
     Ok(())
 }
 
-/// The copy told this fault of a key.
+/// Asserts that the copy failed with this fault for a key.
 fn assert_fault<R: AllocGlobal + Abort>(
     rt: &R,
     told: &str,
@@ -326,12 +330,12 @@ fn assert_fault<R: AllocGlobal + Abort>(
     Ok(())
 }
 
-/// What the layout in a directory holds.
+/// Returns the contents of the layout in a directory.
 fn held_in(alloc: Global, dir: MemDir) -> Result<String, Fail> {
     summary(alloc, &opened(alloc, dir)?)
 }
 
-/// The layout in this directory, into which a key was copied, holds nothing.
+/// Asserts that the layout in this directory holds nothing after a key was copied into it.
 fn assert_empty<R: AllocGlobal + Abort>(rt: &R, dir: MemDir, key: &Key) -> Result<(), Fail> {
     let held = held_in(rt.alloc(), dir)?;
     assert_eq!(rt; held.as_str(), "held 0", "{key}");
@@ -356,7 +360,8 @@ fn assert_not_put<R: AllocGlobal + Threads + Wait + Sync + Abort>(
     assert_refused(rt, &layer_of(rt.alloc(), size)?)
 }
 
-/// If the directory fails the put of a layer, that is told as a push that the device failed, and nothing is held.
+/// If the put of a layer fails, the copy reports a push that failed for the device, and nothing is
+/// held.
 #[test]
 fn fuse_at_a_layer_of_parts(rt: HostRuntime) -> Result<(), Fail> {
     for size in &SIZES {
@@ -365,7 +370,7 @@ fn fuse_at_a_layer_of_parts(rt: HostRuntime) -> Result<(), Fail> {
     Ok(())
 }
 
-/// The layout in a directory that counts its reads, opened again. That takes two reads.
+/// Opens the layout again in a directory that counts its reads. That takes two reads.
 fn counting(alloc: Global, layout: Layout<MemDir>) -> Result<Layout<FaultyDir>, Fail> {
     opened(
         alloc,
@@ -373,7 +378,7 @@ fn counting(alloc: Global, layout: Layout<MemDir>) -> Result<Layout<FaultyDir>, 
     )
 }
 
-/// Copies some keys into a new layout in a directory. Returns what is told, and what is held.
+/// Copies some keys into a new layout in a directory. Returns the result and the contents.
 fn told_of_new<D: Dir + Drop + Send, R: AllocGlobal + Threads + Wait + Sync>(
     rt: &R,
     source: &Layout<FaultyDir>,
@@ -389,7 +394,8 @@ where
     told_and_held(rt.alloc(), &layout, told.as_str())
 }
 
-/// Copies some keys into a new layout in a directory. The push of the first is refused with `Device`, and nothing is held.
+/// Copies some keys into a new layout in a directory. Asserts that the push of the first one fails
+/// with `Device` and nothing is held.
 fn assert_push_lost<D: Dir + Drop + Send, R: AllocGlobal + Threads + Wait + Sync + Abort>(
     rt: &R,
     source: &Layout<FaultyDir>,
@@ -405,7 +411,8 @@ where
     assert_fault(rt, told.as_str(), "82 Push", key, held)
 }
 
-/// Copies a layer of five parts into a directory that cannot write a draft. The push is refused, and only one part was read.
+/// Copies a layer of five parts into a directory that cannot write a draft. The push fails, and
+/// only one part was read.
 pub(crate) fn assert_lost<D: Dir + Drop + Send, R: AllocGlobal + Threads + Wait + Sync + Abort>(
     rt: &R,
     dir: D,
@@ -421,14 +428,14 @@ where
     Ok(())
 }
 
-/// The blob of a layer of a part and one byte has other bytes after `right` reads.
+/// The blob of a layer of one part and one byte has other bytes after `right` reads.
 fn change(alloc: Global, key: &Key, right: u64) -> Result<Change, Fail> {
     let path = blob(alloc, key)?;
     let other = Bytes::from_vec(bytes_of(alloc, PART + 1, 1)?)?;
     Ok(Change { path, other, right })
 }
 
-/// What a copy of these keys into memory tells.
+/// Returns the result of a copy of these keys into memory.
 fn told_of_copy<R: AllocGlobal + Threads + Wait + Sync>(
     rt: &R,
     source: &Layout<FaultyDir>,
@@ -438,7 +445,8 @@ fn told_of_copy<R: AllocGlobal + Threads + Wait + Sync>(
     Ok(told)
 }
 
-/// What a copy of these keys tells if the file of the first one changes after `right` reads of the directory.
+/// Returns the result of a copy of these keys, if the file of the first one changes after `right`
+/// reads of the directory.
 fn told_of_changing<R: AllocGlobal + Threads + Wait + Sync>(
     rt: &R,
     dir: MemDir,
@@ -465,8 +473,8 @@ fn assert_changing<R: AllocGlobal + Threads + Wait + Sync + Abort>(
     )
 }
 
-/// A blob of the source changes between its first part and its second one: `open` reads the layout file and the index, and the copy
-/// then reads the first part.
+/// A blob of the source changes between its first part and its second one: `open` reads the layout
+/// file and the index, and the copy then reads the first part.
 #[test]
 fn changing_parts(rt: HostRuntime) -> Result<(), Fail> {
     assert_changing(&rt, 3)

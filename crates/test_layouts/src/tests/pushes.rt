@@ -1,4 +1,4 @@
-//! Pushes that are refused, old files, and files that changed.
+//! Pushes that fail, old files, and files that changed.
 
 use crate::tests::files::FileStep::{Put, Text};
 use crate::tests::layouts::LayoutStep::{
@@ -23,7 +23,7 @@ fn refused_pushes(rt: HostRuntime) -> Result<(), Fail> {
     assert_run(&rt, Ground::Memory, REFUSED)
 }
 
-/// An image whose bytes are held under another media type too.
+/// An image whose bytes are also held under another media type.
 const ONE_FILE: &[Row] = &[
     Row(Create, "made"),
     Row(With(Push(Empty)), "place 0"),
@@ -40,7 +40,7 @@ fn keys_of_one_file(rt: HostRuntime) -> Result<(), Fail> {
     assert_run(&rt, Ground::Memory, ONE_FILE)
 }
 
-/// A file of other bytes stands where a blob belongs.
+/// In place of a blob is a file of other bytes.
 const OLD_FILE: &[Row] = &[
     Row(In("<blob Foo>", Put("bar")), "put"),
     Row(Create, "made"),
@@ -62,7 +62,7 @@ const TWO_KEYS: &[Row] = &[
     Row(With(Push(Empty)), "43 Device"),
 ];
 
-/// A file that has the bytes is not put again: the directory would fail another put.
+/// A file that has the bytes is not put again: another put would fail.
 #[test]
 fn file_of_two_keys(rt: HostRuntime) -> Result<(), Fail> {
     assert_run(&rt, Ground::Fuse(3), TWO_KEYS)

@@ -1,4 +1,4 @@
-//! The index of an image that came with what lists it.
+//! The index of an image that was copied with its referrers.
 
 use crate::tests::copies::Copying::Extended;
 use crate::tests::files::FileStep::Text;
@@ -23,7 +23,7 @@ const ROWS: &[Row] = &[
     ),
 ];
 
-/// Manifests without a name stand in the saved index too, in key order, after the names.
+/// The saved index also has the manifests without a name, in key order, after the names.
 #[test]
 fn referrers_in_an_index(rt: HostRuntime) -> Result<(), Fail> {
     assert_run(&rt, Ground::Memory, ROWS)

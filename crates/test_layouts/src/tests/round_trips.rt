@@ -1,4 +1,4 @@
-//! Layouts that are made, filled, saved and opened again, in memory and in a folder.
+//! Layouts that are created, filled, saved and opened again, in memory and in a folder.
 
 use crate::tests::copies::Copying::Named;
 use crate::tests::files::FileStep::{Failures, Put, Read, Text};
@@ -9,8 +9,9 @@ use crate::tests::steps::{Ground, Row, assert_run};
 use std::test::Fail;
 use test_support::Sample::{Empty, Image0};
 
-/// A layout is made, an image is copied into it, and it is saved: the directory has the four files, byte for byte. It is opened
-/// again: it holds the image and its config, and each reference resolves to its key. No other layout is made there.
+/// A layout is created, an image is copied into it, and it is saved. The directory then has the
+/// four files, byte for byte. When it is opened again, it holds the image and its config, and each
+/// reference resolves to its key. No other layout is created there.
 const ROUND_TRIP: &[Row] = &[
     Row(Create, "made"),
     Row(
@@ -43,7 +44,8 @@ fn layout_round_trip(rt: HostRuntime) -> Result<(), Fail> {
     assert_run(&rt, Ground::Memory, ROUND_TRIP)
 }
 
-/// The file of a held key is removed: the fetch finds that, and when the folder is opened again, the key is not held.
+/// The file of a held key is removed. A fetch of it fails, and when the folder is opened again, the
+/// key is not held.
 const GONE: &[Row] = &[
     Row(Create, "made"),
     Row(
@@ -59,7 +61,7 @@ const GONE: &[Row] = &[
     Row(With(Fetch(Empty)), "20 NotFound"),
 ];
 
-/// In a folder, which is made with the layout, the round trip is the same.
+/// The round trip is the same in a folder, which is created with the layout.
 #[test]
 fn layout_round_trip_in_a_folder(rt: HostRuntime) -> Result<(), Fail> {
     assert_run(&rt, Ground::Folder("round_trip"), ROUND_TRIP)?;
@@ -85,7 +87,8 @@ const PATHS: &[Row] = &[
     Row(In("", Failures), "5"),
 ];
 
-/// No path leaves the folder, and there is nothing at a path through a file. The empty path is the current folder.
+/// No path leaves the folder, and there is nothing at a path through a file. The empty path is the
+/// current folder.
 #[test]
 fn paths_of_a_folder(rt: HostRuntime) -> Result<(), Fail> {
     assert_run(&rt, Ground::Folder("paths"), PATHS)

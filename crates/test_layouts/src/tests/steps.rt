@@ -1,4 +1,4 @@
-//! Steps that are taken with a directory and the layout that it is, and what each of them tells.
+//! Steps with a directory and the layout in it, and their results as text.
 
 use crate::save_and_open;
 use crate::tests::copies::{Copying, copied};
@@ -19,36 +19,39 @@ use std::thread::Threads;
 /// A step.
 #[derive(Clone, Copy, Debug)]
 pub(crate) enum Step<'a> {
-    /// Makes a layout in the directory: `made`, or the fault.
+    /// Creates a layout in the directory. Result: `made`, or the fault.
     Create,
-    /// Opens the layout that the directory is: what it holds, or the fault.
+    /// Opens the layout in the directory. Result: its contents, or the fault.
     Open,
-    /// Saves the layout, and opens it again: what it holds, or the fault.
+    /// Opens the layout in the directory, or creates one. Result: its contents, or the fault.
+    OpenOrCreate,
+    /// Saves the layout and opens it again. Result: its contents, or the fault.
     SaveAndOpen,
-    /// A copy into the layout.
+    /// Copies into the layout.
     Copy(Copying<'a>),
-    /// A step with the layout.
+    /// Takes a step with the layout.
     With(LayoutStep<'a>),
-    /// A step with a file of the directory, which ends the layout.
+    /// Takes a step with a file of the directory. The layout is dropped first.
     In(&'a str, FileStep<'a>),
-    /// A step with a file or folder of the current folder.
+    /// Takes a step with a file or folder of the current folder.
     At(&'a str, FolderStep<'a>),
 }
 
-/// A step, and what it tells. In what it tells marks may stand.
+/// A step and its expected result, which may have marks.
 #[derive(Clone, Copy)]
 pub(crate) struct Row<'a>(pub(crate) Step<'a>, pub(crate) &'a str);
 
-/// Where the steps are taken.
+/// The directory of the steps.
 #[derive(Clone, Copy)]
 pub(crate) enum Ground<'a> {
     /// A directory in memory.
     Memory,
-    /// A directory in memory that passes this many puts, and fails the next.
+    /// A directory in memory that allows this many puts and fails the next.
     Fuse(u64),
     /// A folder, which is removed before and afterwards.
     Folder(&'a str),
-    /// A directory in memory after these steps. It then passes this many reads, and fails each later one.
+    /// A directory in memory after these steps. It then allows this many reads and fails each later
+    /// one.
     Unreadable(&'a [Row<'a>], u64),
 }
 
@@ -77,7 +80,7 @@ impl<'a> Display for StepRow<'a> {
     }
 }
 
-/// A directory, or the layout that it is.
+/// A directory, or the layout in it.
 #[derive(Drop)]
 struct Place<D: Dir> {
     files: Option<D>,
@@ -85,7 +88,7 @@ struct Place<D: Dir> {
 }
 
 impl<D: Dir + Drop> Place<D> {
-    /// Takes the directory out, which ends the layout.
+    /// Takes the directory out, and drops the layout.
     fn take_dir(&mut self) -> Result<D, Fail> {
         if let Some(layout) = self.held.take() {
             return Ok(layout.into_dir());
@@ -104,7 +107,7 @@ impl<D: Dir + Drop> Place<D> {
     }
 }
 
-/// Keeps the layout, or the directory that came back with a fault. Returns the fault.
+/// Keeps the layout, or the directory that was returned with a fault. Returns the fault.
 fn settle<D: Dir + Drop>(
     place: &mut Place<D>,
     answer: Result<Layout<D>, (D, LayoutFault)>,
@@ -137,6 +140,14 @@ fn open<D: Dir + Drop>(alloc: Global, place: &mut Place<D>) -> Result<String, Fa
     }
 }
 
+fn open_or_create<D: Dir + Drop>(alloc: Global, place: &mut Place<D>) -> Result<String, Fail> {
+    let answer = Layout::open_or_create(alloc, place.take_dir()?);
+    match settle(place, answer) {
+        None => held(alloc, place),
+        Some(fault) => Ok(format!(in alloc; "{fault}")?),
+    }
+}
+
 fn opened_again<D: Dir + Drop>(alloc: Global, place: &mut Place<D>) -> Result<String, Fail> {
     match save_and_open(alloc, place.take_layout()?) {
         Ok(layout) => {
@@ -147,7 +158,7 @@ fn opened_again<D: Dir + Drop>(alloc: Global, place: &mut Place<D>) -> Result<St
     }
 }
 
-/// What the layout holds.
+/// Returns the contents of the layout.
 fn held<D: Dir>(alloc: Global, place: &Place<D>) -> Result<String, Fail> {
     match &place.held {
         Some(layout) => summary(alloc, layout),
@@ -191,7 +202,7 @@ fn in_place<D: Dir + Drop, R: Host>(
     told
 }
 
-/// Takes a step, and returns what it tells.
+/// Takes a step. Returns its result.
 fn taken<D: Dir + Drop + Send, R: Host + Threads + Wait + Abort>(
     rt: &R,
     place: &mut Place<D>,
@@ -203,6 +214,7 @@ where
     match step {
         Step::Create => create(rt.alloc(), place),
         Step::Open => open(rt.alloc(), place),
+        Step::OpenOrCreate => open_or_create(rt.alloc(), place),
         Step::SaveAndOpen => opened_again(rt.alloc(), place),
         Step::Copy(copying) => copied_into(rt, place, copying),
         Step::With(step) => with_place(rt.alloc(), place, step),
@@ -244,7 +256,7 @@ where
     Ok(())
 }
 
-/// Takes these steps with a directory, checks what each of them tells, and returns the directory.
+/// Takes these steps with a directory. Asserts the result of each. Returns the directory.
 fn dir_after<D: Dir + Drop + Send, R: Host + Threads + Wait + Abort>(
     rt: &R,
     dir: D,
@@ -262,7 +274,7 @@ where
     place.take_dir()
 }
 
-/// Takes these steps with a directory, and checks what each of them tells. A failure prints the ground.
+/// Takes these steps with a directory. Asserts the result of each. A failure prints the ground.
 pub(crate) fn assert_steps<D: Dir + Drop + Send, R: Host + Threads + Wait + Abort>(
     rt: &R,
     dir: D,
@@ -297,7 +309,7 @@ fn assert_steps_unreadable<R: Host + Threads + Wait + Abort>(
     assert_steps(rt, dir, Ground::Unreadable(before, passing), rows)
 }
 
-/// Takes these steps on this ground, and checks what each of them tells.
+/// Takes these steps on this ground. Asserts the result of each.
 pub(crate) fn assert_run<R: Host + Threads + Wait + Abort>(
     rt: &R,
     ground: Ground<'_>,

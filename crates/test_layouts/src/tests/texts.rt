@@ -1,4 +1,4 @@
-//! Texts in which a mark stands for something of a sample.
+//! Texts with marks, each in place of a text of a sample.
 
 use oci_manifest::Key;
 use std::alloc::Global;
@@ -10,7 +10,7 @@ use test_support::Sample::{
     Bar, Empty, Foo, FooBySha512, Image0, Image2, Image3, Index1, Index3, Referrer,
 };
 
-/// What a mark stands for.
+/// The kind of text that replaces a mark.
 #[derive(Clone, Copy)]
 enum Form {
     /// The key.
@@ -27,7 +27,7 @@ enum Form {
     Saved,
 }
 
-/// The marks, and what they stand for.
+/// The marks, and the texts that they are replaced by.
 static MARKS: [(&str, Form, Sample); 22] = [
     ("<key Empty>", Form::Whole, Empty),
     ("<key Foo>", Form::Whole, Foo),
@@ -53,19 +53,19 @@ static MARKS: [(&str, Form, Sample); 22] = [
     ("<saved Referrer>", Form::Saved, Referrer),
 ];
 
-/// The path of the blob of a key.
+/// Returns the path of the blob of a key.
 pub(crate) fn blob(alloc: Global, key: &Key) -> Result<String, Fail> {
     let (algorithm, digits) = (key.digest().algorithm(), key.digest().encoded(alloc)?);
     Ok(format!(in alloc; "blobs/{algorithm}/{digits}")?)
 }
 
-/// Bytes that are text.
+/// Returns bytes as text.
 pub(crate) fn utf8(alloc: Global, bytes: &[u8]) -> Result<String, Fail> {
     let text = str::from_utf8(bytes)?;
     Ok(String::from_str(alloc, text)?)
 }
 
-/// The text of a sample.
+/// Returns the text of a sample.
 fn text_of(alloc: Global, sample: Sample) -> Result<String, Fail> {
     let content = sample.content(alloc)?;
     Ok(content.bytes)
@@ -85,7 +85,7 @@ fn shown_key(alloc: Global, form: Form, key: &Key) -> Result<String, Fail> {
     }
 }
 
-/// What a mark stands for.
+/// Returns the text that replaces a mark.
 fn shown(alloc: Global, form: Form, sample: Sample) -> Result<String, Fail> {
     match form {
         Form::Text => text_of(alloc, sample),
@@ -94,7 +94,7 @@ fn shown(alloc: Global, form: Form, sample: Sample) -> Result<String, Fail> {
     }
 }
 
-/// The text with what one mark stands for in each of its places.
+/// Returns the text with one mark replaced in each of its places.
 fn marked(
     alloc: Global,
     text: String,
@@ -109,7 +109,7 @@ fn marked(
     Ok(text.replace(alloc, mark, shown.as_str())?)
 }
 
-/// The text with what each mark stands for in its place.
+/// Returns the text with all marks replaced.
 pub(crate) fn expanded(alloc: Global, text: &str) -> Result<String, Fail> {
     let mut text = String::from_str(alloc, text)?;
     for (mark, form, sample) in &MARKS {
@@ -118,7 +118,8 @@ pub(crate) fn expanded(alloc: Global, text: &str) -> Result<String, Fail> {
     Ok(text)
 }
 
-/// A row tells the wanted text, in which marks may stand. If it does not, the failure prints the row.
+/// Asserts that a row's result is the expected text, which may have marks. A failure prints the
+/// row.
 pub(crate) fn assert_told<R: AllocGlobal + Abort, T: Display>(
     rt: &R,
     row: &T,

@@ -9,14 +9,14 @@ use std::process::Abort;
 use std::test::Fail;
 use test_support::Sample::{Empty, Foo, Image0};
 
-/// A layout is made, and then none of its files can be read.
+/// A layout is created, and then none of its files can be read.
 const BLOB: &[Row] = &[
     Row(Create, "made"),
     Row(With(Push(Foo)), "place 0"),
     Row(With(Fetch(Foo)), "22 Device"),
 ];
 
-/// A push does not need to look for an old file, and a fetch is refused.
+/// A push does not need to read an old file, and a fetch fails.
 #[test]
 fn unreadable_blob(rt: HostRuntime) -> Result<(), Fail> {
     assert_run(&rt, Ground::Unreadable(&[], 1), BLOB)
@@ -25,12 +25,13 @@ fn unreadable_blob(rt: HostRuntime) -> Result<(), Fail> {
 /// The layout file cannot be read.
 const LAYOUT_FILE: &[Row] = &[Row(Create, "74 Device"), Row(Open, "74 Device")];
 
-/// The index of a layout that was just made cannot be read.
+/// The index of a new layout cannot be read.
 const NEW_LAYOUT: &[Row] = &[Row(Create, "made")];
 
 const REFUSED: &[Row] = &[Row(Open, "74 Device")];
 
-/// No layout is made or opened if the layout file cannot be read, and none is opened if the index cannot.
+/// No layout is created or opened if the layout file cannot be read, and none is opened if the
+/// index cannot be read.
 #[test]
 fn unreadable_directory(rt: HostRuntime) -> Result<(), Fail> {
     assert_run(&rt, Ground::Unreadable(&[], 0), LAYOUT_FILE)?;
@@ -52,7 +53,7 @@ fn unreadable_manifest(rt: HostRuntime) -> Result<(), Fail> {
     assert_run(&rt, Ground::Unreadable(IMAGE, 2), REFUSED)
 }
 
-/// What a fault prints.
+/// Returns the text that a fault prints.
 fn assert_printed<T: Display, R: AllocGlobal + Abort>(
     rt: &R,
     fault: &T,
