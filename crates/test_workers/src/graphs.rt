@@ -6,7 +6,7 @@ use test_support::graph_of;
 /// The diamond: 1 and 2 need 0, and 3 needs both.
 pub(crate) const DIAMOND: &[&[u32]] = &[&[], &[0], &[0], &[1, 2]];
 
-/// The order of a graph that has one.
+/// Returns the order of a graph that has one.
 pub(crate) fn order_of(rt: &impl Abort, lists: Vec<Vec<u32>>) -> Order {
     assert!(rt; lists.len() < 4294967295);
     match order(lists) {
@@ -15,7 +15,7 @@ pub(crate) fn order_of(rt: &impl Abort, lists: Vec<Vec<u32>>) -> Order {
     }
 }
 
-/// The order of these lists.
+/// Returns the order of these lists.
 pub(crate) fn ordered(
     rt: &impl Abort,
     alloc: Global,

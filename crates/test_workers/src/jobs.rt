@@ -4,7 +4,7 @@ use oci_pool::{Job, Pass};
 use std::alloc::{AllocError, Global};
 use std::sync::atomic::{AtomicU64, Ordering};
 
-/// Answers ten times its number, and counts its runs.
+/// A job that returns ten times its number, and counts its runs.
 #[derive(Drop)]
 pub(crate) struct TenTimes {
     pub runs: AtomicU64,
@@ -35,23 +35,24 @@ impl Job for TenTimes {
     }
 }
 
-/// Where jobs fail.
+/// The numbers whose jobs fail.
 #[derive(Clone, Copy)]
 enum Failing {
-    /// At these two numbers.
+    /// These two numbers.
     Numbers(u32, u32),
-    /// At each number.
+    /// Each number.
     Each,
 }
 
-/// Answers its number, and counts its runs. At some numbers it fails with a hundred more.
+/// A job that returns its number, and counts its runs. At some numbers it fails with its number
+/// plus 100.
 #[derive(Drop)]
 pub(crate) struct FailsAt {
     failing: Failing,
-    /// How many jobs wait for each other before they end; 0 if none does.
+    /// How many jobs wait for each other before they end, or 0 if none does.
     meets: u64,
     pub runs: AtomicU64,
-    /// How many jobs answered a result.
+    /// How many jobs returned a result.
     pub answered: AtomicU64,
 }
 
@@ -65,12 +66,12 @@ impl FailsAt {
         }
     }
 
-    /// Jobs that fail at two numbers, once `meets` jobs have begun.
+    /// Creates jobs that fail at two numbers, once `meets` jobs have begun.
     pub fn numbers(first: u32, second: u32, meets: u64) -> FailsAt {
         FailsAt::new(Failing::Numbers(first, second), meets)
     }
 
-    /// Jobs of which each fails.
+    /// Creates jobs that all fail.
     pub fn each() -> FailsAt {
         FailsAt::new(Failing::Each, 0)
     }
@@ -103,10 +104,10 @@ impl Job for FailsAt {
     }
 }
 
-/// How often a job looks that is to meet another.
+/// How often a job looks for the job that it is to meet.
 pub(crate) const MANY_LOOKS: u64 = 1_000_000_000;
 
-/// Looks at a count until it is high enough, at most so many times. Whether it was.
+/// Looks at a count until it is high enough, at most `looks` times. Returns whether it was.
 fn saw(count: &AtomicU64, wanted: u64, looks: u64) -> bool {
     for _ in 0..looks {
         if count.load(Ordering::SeqCst) >= wanted {
@@ -116,21 +117,22 @@ fn saw(count: &AtomicU64, wanted: u64, looks: u64) -> bool {
     false
 }
 
-/// Which jobs meet.
+/// The jobs that meet.
 #[derive(Clone, Copy)]
 pub(crate) struct Meeting {
     /// The least number of a job that is to meet others.
     pub from: u32,
     /// How many jobs are to meet.
     pub wanted: u64,
-    /// How often a job looks that is to meet others, at most.
+    /// How often a job that is to meet others looks for them, at most.
     pub looks: u64,
-    /// How often a job looks that comes before them.
+    /// How often a job with a lesser number looks at a count that is never reached.
     pub looks_before: u64,
 }
 
-/// Jobs from a number on each raise a count, and look until it is high enough. They answer whether they saw it; the jobs
-/// before that number look for a while at what nobody sets, and answer true.
+/// Jobs that meet: each job from a number on raises a count, and looks until it is high enough. It
+/// returns whether it saw that. The jobs before that number look for a while at a count that is
+/// never reached, and return true.
 #[derive(Drop)]
 pub(crate) struct Meets {
     meeting: Meeting,
@@ -165,17 +167,17 @@ impl Job for Meets {
     }
 }
 
-/// What the jobs leave of a number.
+/// The marks that the jobs leave at a number.
 #[derive(Drop)]
 struct Mark {
     /// How often its job was run.
     runs: AtomicU64,
-    /// 1 where its job has ended.
+    /// 1 if its job has ended.
     flag: AtomicU64,
 }
 
-/// Each job counts its run, notes whether the flags of its successors are set as it starts, looks at a flag that nobody sets,
-/// and sets its own flag as its last act.
+/// Jobs that look at flags. Each job counts its run, notes whether the flags of its successors are
+/// set as it starts, looks at a flag that no job sets, and sets its own flag at its end.
 #[derive(Drop)]
 pub(crate) struct Flags {
     lists: Vec<Vec<u32>>,
@@ -184,7 +186,7 @@ pub(crate) struct Flags {
     never: AtomicU64,
 }
 
-/// So many marks of nothing.
+/// Creates `count` marks of numbers whose jobs were not run.
 fn marks(alloc: Global, count: usize) -> Result<Vec<Mark>, AllocError> {
     let mut marks = Vec::with_capacity(alloc, count)?;
     for _ in 0..count {
@@ -207,7 +209,7 @@ impl Flags {
         })
     }
 
-    /// Whether the flag of a number is set.
+    /// Returns whether the flag of a number is set.
     fn is_set(&self, number: u32) -> bool {
         match self.marks.get(number as usize) {
             Some(mark) => mark.flag.load(Ordering::SeqCst) == 1,
@@ -215,7 +217,7 @@ impl Flags {
         }
     }
 
-    /// Whether the flags of all successors of a number are set.
+    /// Returns whether the flags of all successors of a number are set.
     fn found(&self, number: u32) -> bool {
         let Some(list) = self.lists.get(number as usize) else {
             return false;
@@ -228,7 +230,7 @@ impl Flags {
         true
     }
 
-    /// Whether the flag that nobody sets is seen set.
+    /// Returns whether the flag that no job sets is ever seen set.
     fn saw_never(&self) -> bool {
         for _ in 0..self.looks {
             if self.never.load(Ordering::SeqCst) == 1 {
@@ -238,7 +240,7 @@ impl Flags {
         false
     }
 
-    /// Whether each job was run once.
+    /// Returns whether each job was run once.
     pub fn ran_once(&self) -> bool {
         for mark in &self.marks {
             if mark.runs.load(Ordering::SeqCst) != 1 {

@@ -5,20 +5,20 @@ use std::alloc::{AllocError, Global};
 use std::process::Abort;
 use std::test::Fail;
 
-/// What is asked of a board, and what it answers.
+/// A call of a board, and its expected result.
 #[derive(Clone, Copy, Debug)]
 enum Step {
     /// A job of a number has ended.
     Done(u32, Option<(usize, usize)>),
-    /// The pass of a number, which tells the number.
+    /// The pass of a number is asked for. The expected result is the number of the pass.
     Pass(u32, Option<u32>),
-    /// The issue list is this.
+    /// The issue list has these numbers.
     Issued(&'static [u32]),
     /// The board is stopped.
     Stop,
 }
 
-/// A board of the diamond.
+/// Creates a board of the diamond.
 fn board(rt: &impl Abort, alloc: Global) -> Result<Board, AllocError> {
     let order = ordered(rt, alloc, DIAMOND)?;
     match Board::new(alloc, &order) {
@@ -27,7 +27,7 @@ fn board(rt: &impl Abort, alloc: Global) -> Result<Board, AllocError> {
     }
 }
 
-/// Whether the issue list is this; the first five places are looked at.
+/// Returns whether the issue list has these numbers. It looks at the first five places.
 fn is_issued(board: &Board, numbers: &[u32]) -> bool {
     for place in 0..5 {
         if board.issued(place) != numbers.get(place).copied() {
@@ -37,7 +37,7 @@ fn is_issued(board: &Board, numbers: &[u32]) -> bool {
     true
 }
 
-/// Whether the board answers so.
+/// Returns whether the board returns the expected result.
 fn answers(board: &mut Board, step: Step) -> bool {
     match step {
         Done(number, answer) => board.done(number) == answer,
@@ -50,7 +50,7 @@ fn answers(board: &mut Board, step: Step) -> bool {
     }
 }
 
-/// A board of the diamond answers so, step by step.
+/// Asserts each step on a board of the diamond.
 fn assert_steps(rt: &impl Abort, alloc: Global, steps: &[Step]) -> Result<(), Fail> {
     let mut board = board(rt, alloc)?;
     for (place, step) in steps.iter().enumerate() {

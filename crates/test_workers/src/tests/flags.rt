@@ -14,9 +14,9 @@ use test_support::{Shape, graph, graph_of, random_graph};
 #[derive(Clone, Copy, Debug)]
 enum Graph {
     Diamond,
-    /// A random one of 2000 numbers, by its seed.
+    /// A random graph of 2000 numbers, by its seed.
     Random(u64),
-    /// A chain of so many numbers.
+    /// A chain of this many numbers.
     Chain(u32),
 }
 
@@ -33,7 +33,7 @@ fn lists(alloc: Global, jobs: Graph) -> Result<Vec<Vec<u32>>, AllocError> {
     }
 }
 
-/// Whether each job ran once, and found the flags of its successors set as it started.
+/// Returns whether each job ran once, and found the flags of its successors set as it started.
 fn in_order<R: Threads + Wait + Sync>(
     rt: &R,
     alloc: Global,
@@ -47,7 +47,7 @@ fn in_order<R: Threads + Wait + Sync>(
     }
 }
 
-/// The same of an order of a graph, whose lists are made once more for the jobs.
+/// Like `in_order`, for the order of a graph. Its lists are made once more for the jobs.
 fn graph_in_order<R: Threads + Wait + Sync>(
     rt: &R,
     alloc: Global,

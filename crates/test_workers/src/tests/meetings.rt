@@ -14,7 +14,7 @@ const TWO: &[&[u32]] = &[&[], &[]];
 /// 1 and 2 need 0.
 const FORK: &[&[u32]] = &[&[], &[0], &[0]];
 
-/// Whether all jobs met that were to meet.
+/// Returns whether all jobs met that were to meet.
 fn met<R: Threads + Wait + Sync>(
     rt: &R,
     alloc: Global,
@@ -28,7 +28,8 @@ fn met<R: Threads + Wait + Sync>(
     }
 }
 
-/// In each of so many runs all jobs meet that are to meet, or not all of them where they are too many for the workers.
+/// Asserts for each of `times` runs whether all jobs met that were to meet. If they are too many
+/// for the workers, not all of them meet.
 fn assert_met<R: Threads + Wait + Sync + Abort>(
     rt: &R,
     alloc: Global,
@@ -47,7 +48,7 @@ fn assert_met<R: Threads + Wait + Sync + Abort>(
     Ok(())
 }
 
-/// A meeting of so many jobs, from a number on.
+/// Returns a meeting of `wanted` jobs, from the number `from` on.
 const fn of(from: u32, wanted: u64) -> Meeting {
     Meeting {
         from,
@@ -62,7 +63,7 @@ fn meeting(rt: HostRuntime) -> Result<(), Fail> {
     assert_met(&rt, rt.alloc(), TWO, 2, of(0, 2), (1, true))
 }
 
-/// What two jobs answer that one worker runs, if each looks so often for the other.
+/// Returns the results of two jobs that one worker runs, if each looks `looks` times for the other.
 fn alone<R: Threads + Wait + Sync>(
     rt: &R,
     alloc: Global,
@@ -79,7 +80,8 @@ fn alone<R: Threads + Wait + Sync>(
     }
 }
 
-/// One worker runs the first job to its end, which gives up, and then the second, which finds that the first has come.
+/// One worker runs the first job to its end, and it does not meet the second. Then it runs the
+/// second job, which sees that the first has raised the count.
 #[test]
 fn one_worker(rt: HostRuntime) -> Result<(), Fail> {
     let order = ordered(&rt, rt.alloc(), TWO)?;
@@ -90,7 +92,7 @@ fn one_worker(rt: HostRuntime) -> Result<(), Fail> {
     Ok(())
 }
 
-/// Where no number of workers is told there are three: three jobs meet, and four do not.
+/// If 0 workers are asked for, there are three: three jobs meet, and four do not.
 #[test]
 fn usual_workers(rt: HostRuntime) -> Result<(), Fail> {
     const THREE: &[&[u32]] = &[&[], &[], &[]];
@@ -109,8 +111,8 @@ fn stealing(rt: HostRuntime) -> Result<(), Fail> {
     assert_met(&rt, rt.alloc(), FORK, 2, of(1, 2), (100, true))
 }
 
-/// The first job goes on for so long that the other worker waits before it ends: the numbers that it makes ready have to
-/// wake that worker.
+/// The first job goes on for so long that the other worker waits before it ends. The numbers that
+/// it makes ready have to wake that worker.
 #[test]
 fn waking(rt: HostRuntime) -> Result<(), Fail> {
     let meeting = Meeting {
@@ -120,7 +122,7 @@ fn waking(rt: HostRuntime) -> Result<(), Fail> {
     assert_met(&rt, rt.alloc(), FORK, 2, meeting, (10, true))
 }
 
-/// The line of the fault of a run of two jobs that meet and then both fail.
+/// Returns the line of the fault of a run of two jobs that meet and then both fail.
 fn both_fail<R: Threads + Wait + Sync>(
     rt: &R,
     alloc: Global,

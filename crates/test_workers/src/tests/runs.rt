@@ -11,7 +11,7 @@ use std::test::Fail;
 use std::thread::Threads;
 use test_support::{Shape, graph};
 
-/// What is run.
+/// The jobs of a run.
 #[derive(Clone, Copy)]
 enum Kind {
     TenTimes,
@@ -19,7 +19,7 @@ enum Kind {
     FailsAtOne,
 }
 
-/// Tells the results of a run, or its fault, and how many jobs were run.
+/// Writes the results of a run, or its fault, and how many jobs were run.
 fn tell_ten_times<R: Threads + Wait + Sync>(
     rt: &R,
     alloc: Global,
@@ -49,8 +49,8 @@ fn tell_all(results: &[u64], text: &mut String) -> Result<(), AllocError> {
     Ok(())
 }
 
-/// Tells of a run whose job of number 1 fails: whether it has as many results as jobs answered, its fault, and the numbers and
-/// results.
+/// Writes about a run whose job of number 1 fails: whether the number of results is the number of
+/// jobs that returned one, its fault, and the numbers and results.
 fn tell_fails_at_one<R: Threads + Wait + Sync>(
     rt: &R,
     alloc: Global,
@@ -77,7 +77,7 @@ fn tell_done(done: &[(u32, u32)], text: &mut String) -> Result<(), AllocError> {
     Ok(())
 }
 
-/// What is told of a run.
+/// Returns the line about a run.
 fn told<R: Threads + Wait + Sync>(
     rt: &R,
     alloc: Global,
@@ -102,14 +102,15 @@ fn is_one_of(told: &str, lines: &[&str]) -> bool {
     false
 }
 
-/// Runs of the jobs of a graph, each by a number of workers from the first on to before the last.
+/// Runs of the jobs of a graph, one for each number of workers from the first up to, but not
+/// including, the last.
 #[derive(Clone, Copy)]
 struct Row<'a> {
     name: &'a str,
     lists: &'a [&'a [u32]],
     workers: (u32, u32),
     kind: Kind,
-    /// One of these lines is told of each run.
+    /// The line about each run is one of these.
     lines: &'a [&'a str],
 }
 
@@ -191,7 +192,8 @@ fn jobs(rt: HostRuntime) -> Result<(), Fail> {
     assert_runs(&rt, rt.alloc(), &ROW)
 }
 
-/// How many jobs are run of an order where each fails; nothing where the run does not tell the fault of a job, or has a result.
+/// Returns how many jobs are run of an order if all fail. Returns nothing if the fault of the run
+/// is not that of a job, or if it has a result.
 fn runs_of_fails<R: Threads + Wait + Sync>(
     rt: &R,
     alloc: Global,
@@ -209,7 +211,8 @@ fn runs_of_fails<R: Threads + Wait + Sync>(
     Some(job.runs.load(Ordering::SeqCst))
 }
 
-/// No worker begins a job after the run has stopped: where each job fails, which stops the run, each worker runs one at most.
+/// No worker begins a job after the run has stopped. If all jobs fail, the first one stops the run,
+/// so each worker runs at most one.
 #[test]
 fn none_after_a_stop(rt: HostRuntime) -> Result<(), Fail> {
     let alloc = rt.alloc();
@@ -226,7 +229,7 @@ fn none_after_a_stop(rt: HostRuntime) -> Result<(), Fail> {
     Ok(())
 }
 
-/// A fault's number and its line are these.
+/// Asserts the number and the line of a fault.
 fn assert_fault(
     rt: &impl Abort,
     alloc: Global,
