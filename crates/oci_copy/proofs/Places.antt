@@ -17,7 +17,7 @@ use Rattle.oci_plan.specs.Order.{IsOrder}
 use Rattle.oci_plan.specs.Plan.{Planned, IsPlan, FollowsListed, keys_before}
 use Rattle.oci_plan.specs.Visiting.{successors_at}
 
-length-keys_of : {X : Type 0} (pairs : List (Descriptor × X)) → length (keys_of pairs) ≡ length pairs
+pub length-keys_of : {X : Type 0} (pairs : List (Descriptor × X)) → length (keys_of pairs) ≡ length pairs
 length-keys_of [] = refl
 length-keys_of (p ∷ pairs) = omega (arith, length-keys_of pairs)
 
@@ -78,21 +78,9 @@ same_number ks m n k distinct at_m at_n =
         let same : same_key (get_or ks i k) (get_or ks j k) ≡ true = rw (one, two) itself in
         false≢true (sym differ ∙ same)
 
-no_key : Descriptor
-no_key = record { media_type = []; digest = []; size = 0 }
-
 module _ (p : Planned) (plan : IsPlan p) (order : IsOrder p.order) where
   numbers_len : length p.order.sequence ≡ length p.keys
   numbers_len = order.topological.len ∙ plan.numbered
-
-  -- each place of the order has a number, and that a key
-  pub key_at : (place : ℕ) → place < length p.keys → (n : ℕ) × (k : Descriptor) × (slice_get p.order.sequence place ≡ Some n) × (slice_get p.keys n ≡ Some k)
-  key_at place lt =
-      let within : place < length p.order.sequence = omega (arith, numbers_len) in
-      let n = get_or p.order.sequence place 0 in
-      let known : n < length p.order.lists = order.topological.numbers place 0 within in
-      let below : n < length p.keys = omega (arith, known, plan.numbered) in
-      (n, get_or p.keys n no_key, slice_get-get_or p.order.sequence place 0 within, slice_get-get_or p.keys n no_key below)
 
   -- after the key of a place, one key more has been pushed
   pub keys_before-more : (place n : ℕ) (k : Descriptor) → slice_get p.order.sequence place ≡ Some n → slice_get p.keys n ≡ Some k → keys_before (place + 1) p ≡ keys_before place p ++ k ∷ []

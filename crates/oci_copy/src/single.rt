@@ -1,9 +1,7 @@
-ghost use Rattle.std.specs.Prelude.{◌≡◌, OnOk, IfOk, IfErr, ◌+◌, ◌<◌, ℕ, Some, length, slice_get, true, List, Contains};
+ghost use Rattle.std.specs.Prelude.{◌≡◌, OnOk, IfOk, IfErr, ◌+◌, length, true, List, Contains};
 ghost use Rattle.oci_manifest.specs.Descriptor.{Descriptor};
 ghost use Rattle.oci_store.specs.Keyed.{HasAll};
 ghost use Rattle.oci_store.specs.Parts.{IsLeaf};
-ghost use Rattle.oci_plan.specs.Order.{IsOrder};
-ghost use Rattle.oci_plan.specs.Plan.{IsPlan};
 ghost use Rattle.oci_copy.specs.Brought.{CanBring, IsBrought};
 ghost use Rattle.oci_copy.specs.Cause.{IsRefusal, IsTurnCause};
 ghost use Rattle.oci_copy.specs.Copy.{IsCopy, OnlyGrows};
@@ -89,29 +87,15 @@ pub(crate) fn push_all<A: Source, D: Dest>(
         fault) }
 {
     for place in 0..plan.len() {
-        push_planned(source, destination, key_at(plan, place))?;
+        let Some(key) = plan.key_in_order(place) else {
+            unreachable!()
+        };
+        push_planned(source, destination, key)?;
     }
     Ok(())
 }
 
-/// The key at a place of the plan's order.
-fn key_at(plan: &Plan, place: usize) -> &Key
-    requires plan { IsPlan plan.now }
-    requires order { IsOrder plan.now.order }
-    requires place { place < length plan.now.keys }
-    ensures { (n : ℕ) × (slice_get plan.now.order.sequence place ≡ Some n)
-        × (slice_get plan.now.keys n ≡ Some result.now) }
-{
-    let Some(number) = plan.order().at(place) else {
-        unreachable!()
-    };
-    let Some(key) = plan.key(number) else {
-        unreachable!()
-    };
-    key
-}
-
-/// Fetches a planned key and pushes it, after what it lists.
+/// Fetches a planned key and pushes it. The keys that it lists are pushed before.
 pub(crate) fn push_planned<A: Source, D: Dest>(
     source: &A,
     destination: &mut D,

@@ -22,8 +22,8 @@ loop-place-init g c = record {
 
 pub push_planned-requires : goal.push_planned-requires
 push_planned-requires g c =
-    let at = c.key_at.ensures in
-    let k = c.key_at.result.now in
+    let at = c.in-Some.ensures.key in
+    let k = c.in-Some.key.now in
     let source = g.A.Store.state c.args.source.now in
     let opening = (g.D.Store.state c.args.destination.now).nodes in
     let now = (g.D.Store.state c.loop-place.destination).nodes in
@@ -39,31 +39,31 @@ push_planned-requires g c =
 
 pub returns-in_err-push_planned-clause-keeps : goal.returns-in_err-push_planned-clause-keeps
 returns-in_err-push_planned-clause-keeps g c =
-    let at = c.key_at.ensures in
-    c.push_planned.ensures.keeps c.args.plan.now.keys c.args.destination.now (Contains-from_slice_get c.args.plan.now.keys at.0 c.key_at.result.now at.2) c.loop-place.invariant.keeps
+    let at = c.in-Some.ensures.key in
+    c.push_planned.ensures.keeps c.args.plan.now.keys c.args.destination.now (Contains-from_slice_get c.args.plan.now.keys at.0 c.in-Some.key.now at.2) c.loop-place.invariant.keeps
 
 pub returns-in_err-push_planned-clause-cause : goal.returns-in_err-push_planned-clause-cause
 returns-in_err-push_planned-clause-cause g c =
-    let at = c.key_at.ensures in
+    let at = c.in-Some.ensures.key in
     let p = err_from_is_err_and c.from_residual.result c.from_residual.ensures.1 in
     rw (p.1, p.2) (
-      c.key_at.result.now,
-      Contains-from_slice_get c.args.plan.now.keys at.0 c.key_at.result.now at.2,
-      turn_earlier (g.A.Store.state c.args.source.now) (g.D.Store.state c.args.destination.now) (g.D.Store.state c.loop-place.destination) (g.D.Store.state c.push_planned.new.destination) c.key_at.result.now _
+      c.in-Some.key.now,
+      Contains-from_slice_get c.args.plan.now.keys at.0 c.in-Some.key.now at.2,
+      turn_earlier (g.A.Store.state c.args.source.now) (g.D.Store.state c.args.destination.now) (g.D.Store.state c.loop-place.destination) (g.D.Store.state c.push_planned.new.destination) c.in-Some.key.now _
           c.loop-place.invariant.running c.loop-place.invariant.keeps.rising c.in_err-push_planned.ensures.brought.cause,
     )
 
 pub loop-place-preserved : goal.loop-place-preserved
 loop-place-preserved g c =
-    let at = c.key_at.ensures in
+    let at = c.in-Some.ensures.key in
     let pushed = c.in_ok-push_planned.ensures.brought.pushed in
-    let more = length-more (g.D.Store.state c.loop-place.destination).nodes (g.D.Store.state c.push_planned.new.destination).nodes c.key_at.result.now pushed in
+    let more = length-more (g.D.Store.state c.loop-place.destination).nodes (g.D.Store.state c.push_planned.new.destination).nodes c.in-Some.key.now pushed in
     record {
-      keys = pushed ∙ (ap (λ (ks : List Descriptor). ks ++ c.key_at.result.now ∷ []) c.loop-place.invariant.keys
-          ∙ (append_assoc (keys_of (g.D.Store.state c.args.destination.now).nodes) (keys_before c.loop-place.place c.args.plan.now) (c.key_at.result.now ∷ []) ∙ ap (λ (ks : List Descriptor). keys_of (g.D.Store.state c.args.destination.now).nodes ++ ks)
-          (sym (keys_before-more c.args.plan.now c.requires.plan c.requires.order c.loop-place.place at.0 c.key_at.result.now at.1 at.2))));
+      keys = pushed ∙ (ap (λ (ks : List Descriptor). ks ++ c.in-Some.key.now ∷ []) c.loop-place.invariant.keys
+          ∙ (append_assoc (keys_of (g.D.Store.state c.args.destination.now).nodes) (keys_before c.loop-place.place c.args.plan.now) (c.in-Some.key.now ∷ []) ∙ ap (λ (ks : List Descriptor). keys_of (g.D.Store.state c.args.destination.now).nodes ++ ks)
+          (sym (keys_before-more c.args.plan.now c.requires.plan c.requires.order c.loop-place.place at.0 c.in-Some.key.now at.1 at.2))));
       count = omega (arith, more, c.loop-place.invariant.count);
-      keeps = c.push_planned.ensures.keeps c.args.plan.now.keys c.args.destination.now (Contains-from_slice_get c.args.plan.now.keys at.0 c.key_at.result.now at.2) c.loop-place.invariant.keeps;
+      keeps = c.push_planned.ensures.keeps c.args.plan.now.keys c.args.destination.now (Contains-from_slice_get c.args.plan.now.keys at.0 c.in-Some.key.now at.2) c.loop-place.invariant.keeps;
       running = λ halted. c.loop-place.invariant.running (c.in_ok-push_planned.ensures.brought.running halted);
     }
 
