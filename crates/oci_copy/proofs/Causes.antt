@@ -1,5 +1,5 @@
 -- Why a planned key is not pushed, and what that says of the copy.
-use Rattle.std.proofs.Common.{◌≡◌, ◌∙◌, ℕ, ◌≤◌, inl, inr, false, List, [], Option, Some, None, Result, Ok, Err, refl, sym, ap, subst, arith}
+use Rattle.std.proofs.Common.{◌≡◌, ◌∙◌, ◌⊎◌, ℕ, ◌≤◌, inl, inr, false, List, [], Option, Some, None, Result, Ok, Err, refl, sym, ap, subst, arith}
 use Rattle.std.specs.Prelude.{Contains, IsOk, option_map, unwrap_or}
 use Rattle.std.specs.Result.{result_unwrap_or}
 use Rattle.oci_manifest.specs.Descriptor.{Descriptor}
@@ -20,8 +20,8 @@ use Rattle.oci_copy.specs.declared.fault.CopyFault.{CopyFault}
 use Rattle.oci_copy.specs.declared.fault.CopyFault.TheVariants as fault
 use Rattle.oci_plan.specs.declared.fault.PlanFault.{PlanFault}
 use Rattle.oci_copy.specs.Cause.{HasFailed, IsTooEarly, IsStepCause, IsTurnCause, IsRefusal}
-use Rattle.oci_copy.specs.Fault.{IsStuck, IsOtherPush, ReportsPush}
-use Rattle.oci_copy.specs.Destination.{IsClosedWhenSkipping}
+use Rattle.oci_copy.specs.Fault.{of_push}
+use Rattle.oci_copy.specs.Destination.{IsClosedWhenSkipping, IsNotClosedWhenSkipping}
 use Rattle.oci_copy.specs.Grown.{graph_of}
 use Rattle.oci_copy.specs.Planned.{IsPlanOf}
 use Rattle.oci_copy.proofs.Checks.{closed_check-read}
@@ -41,6 +41,24 @@ listed_at entries k bytes listed own reads =
 pub not_err : {X F : Type 0} (r : Result X F) (f : F) → r ≡ Err f → IsOk r → ⊥
 not_err (Ok x) f e ok = cc e
 not_err (Err g) f e ok = cc ok
+
+-- a fault that is reported as it is, or as a memory error, has a cause that both have
+pub reported_as : (P : CopyFault → Type 0) (e reported : CopyFault) → (reported ≡ fault.Memory) ⊎ (reported ≡ e) → P fault.Memory → P e → P reported
+reported_as P e reported (inl memory) of_memory own = rw memory of_memory
+reported_as P e reported (inr is) of_memory own = rw is own
+
+-- why a push is refused whose check finds no fault but a listed key that is not held: then the copy is stuck
+pub push_cause : (failed : Type 0) (source opening : State) (k : Descriptor) (check : Result (List Descriptor) Refusal) → ((r : Refusal) → check ≡ Err r → (m : Descriptor) × (r ≡ missing_successor m))
+    → (e : PushFault) → Refused e check → (e ≡ push.Device → failed) → (e ≡ push.Halted → opening.is_halted)
+    → IsStepCause failed source opening k (of_push k e) ⊎ ((m : Descriptor) × (of_push k e ≡ fault.Stuck k) × (check ≡ Err (missing_successor m)))
+push_cause failed source opening k check only push.AlreadyExists refused device halt = let it = only already_exists refused in cc (it.1)
+push_cause failed source opening k check only push.SizeMismatch refused device halt = let it = only size_mismatch refused in cc (it.1)
+push_cause failed source opening k check only push.DigestMismatch refused device halt = let it = only digest_mismatch refused in cc (it.1)
+push_cause failed source opening k check only (push.BadManifest m) refused device halt = let it = only (bad_manifest refused.0) refused.1 in cc (it.1)
+push_cause failed source opening k check only push.Memory refused device halt = inl tt
+push_cause failed source opening k check only (push.MissingSuccessor m) refused device halt = inr (m, refl, refused)
+push_cause failed source opening k check only push.Device refused device halt = inl (refl, device refl)
+push_cause failed source opening k check only push.Halted refused device halt = inl (refl, halt refl)
 
 module _ (source before now : State) (k : Descriptor) (bytes : List ℕ) (listed : List Descriptor)
     (fresh : has_key before.nodes k ≡ false) (checked : IsChecked k bytes listed) (own : source.is_honest → value_at source.entries k ≡ Some bytes)
@@ -73,35 +91,19 @@ module _ (source before now : State) (k : Descriptor) (bytes : List ℕ) (listed
     dishonest = not_honest m first;
   }
 
-  push_cause : (e : PushFault) → Refused e (closed_check before.nodes k bytes) → (e ≡ push.Device → HasFailed before now) → (e ≡ push.Halted → before.is_halted) → IsOtherPush e
-      → IsStepCause (HasFailed before now) source before k (fault.Push k e)
-  push_cause push.AlreadyExists refused device halt other = absurd other
-  push_cause push.SizeMismatch refused device halt other = let it = only size_mismatch refused in cc (it.2)
-  push_cause push.DigestMismatch refused device halt other = let it = only digest_mismatch refused in cc (it.2)
-  push_cause (push.BadManifest m) refused device halt other = let it = only (bad_manifest refused.0) refused.1 in cc (it.2)
-  push_cause push.Memory refused device halt other = absurd other
-  push_cause (push.MissingSuccessor m) refused device halt other = absurd other
-  push_cause push.Device refused device halt other = (refl, device refl)
-  push_cause push.Halted refused device halt other = (refl, halt refl)
-
-  stuck_cause : (e : PushFault) → Refused e (closed_check before.nodes k bytes) → IsStuck e → IsTooEarly source now k
-  stuck_cause push.AlreadyExists refused stuck = let it = only already_exists refused in cc (it.2)
-  stuck_cause (push.MissingSuccessor m) refused stuck = let it = only (missing_successor m) refused in too_early it.0 it.1
-  stuck_cause other refused stuck = absurd stuck
-
   lacks : has_key now.nodes k ≡ false
   lacks = subst (λ (graph : List Node). has_key graph k ≡ false) (sym same) fresh
 
   -- what a refused push is reported as has its cause
   pub turn_cause : (e : PushFault) (reported : CopyFault) → Refused e (closed_check before.nodes k bytes) → (e ≡ push.Device → HasFailed before now) → (e ≡ push.Halted → before.is_halted)
-      → ReportsPush k e reported → IsTurnCause now source before k reported
-  turn_cause e (fault.Push named t) refused device halt tells = (
-    lacks,
-    inl (let is : fault.Push named t ≡ fault.Push k e = rw (tells.0, tells.1) refl in subst (λ (f : CopyFault). IsStepCause (HasFailed before now) source before k f) (sym is) (push_cause e refused device halt tells.2)),
-  )
-  turn_cause e (fault.Stuck named) refused device halt tells = (lacks, inr (ap (λ (d : Descriptor). fault.Stuck d) tells.0, stuck_cause e refused tells.1))
-  turn_cause e fault.Memory refused device halt tells = (lacks, inl tt)
-  turn_cause e other refused device halt tells = absurd tells
+      → (reported ≡ fault.Memory) ⊎ (reported ≡ of_push k e) → IsTurnCause now source before k reported
+  turn_cause e reported refused device halt tells = reported_as (IsTurnCause now source before k) (of_push k e) reported tells (lacks, inl tt) (lacks, elim push_caused [
+    | inl step ↦ inl step
+    | inr early ↦ inr (early.1, (let it = only (missing_successor early.0) early.2 in too_early it.0 it.1))
+  ])
+    where
+      push_caused : IsStepCause (HasFailed before now) source before k (of_push k e) ⊎ ((m : Descriptor) × (of_push k e ≡ fault.Stuck k) × (closed_check before.nodes k bytes ≡ Err (missing_successor m)))
+      push_caused = push_cause (HasFailed before now) source before k (closed_check before.nodes k bytes) (λ r wrong. let it = only r wrong in (it.0, it.2)) e refused device halt
 
 -- a cause at one key's turn is a cause since an earlier opening
 pub turn_earlier : (source opening before now : State) (k : Descriptor) (reported : CopyFault) → (before.is_halted → opening.is_halted) → opening.failures ≤ before.failures
@@ -130,6 +132,13 @@ pub refused_at_turn : {source : State} {options : Options} {opening : State} {ro
 refused_at_turn now = refused_in_run (IsTurnCause now)
     (λ k holder missing cause. elim cause.1 [ inl never ↦ never | inr early ↦ (let no = early.0 in cc no) ])
     (λ k e cause. elim cause.1 [ inl never ↦ never | inr early ↦ (let no = early.0 in cc no) ])
+
+-- why a copy is refused whose destination is
+pub refused_open : (step : State → State → Descriptor → CopyFault → Type 0) (options : Options) (source opening : State) (roots : List Descriptor) (reported : CopyFault)
+    → (reported ≡ fault.Memory) ⊎ ((holder : Descriptor) × (missing : Descriptor) × (reported ≡ fault.DestinationOpen holder missing) × IsNotClosedWhenSkipping options.existing opening.nodes holder missing)
+    → IsRefusal step options source opening roots reported
+refused_open step options source opening roots reported (inl memory) = rw memory (tt)
+refused_open step options source opening roots reported (inr it) = rw it.2 it.3
 
 -- why a copy is refused that has none
 pub refused_at_start : (step : State → State → Descriptor → CopyFault → Type 0) (options : Options) (source opening : State) (roots : List Descriptor) (reported : CopyFault)

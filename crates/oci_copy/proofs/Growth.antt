@@ -1,20 +1,23 @@
 -- A push keeps what a run keeps.
-use Rattle.std.proofs.Common.{◌≡◌, ◌<◌, ◌≤◌, ◌-◌, ◌^◌, inl, inr, ℕ, true, false, List, [], ◌∷◌, ◌++◌, Some, Result, Ok, Err, refl, sym, ap, ◌∙◌, append_assoc, append-nil, subst, arith}
-use Rattle.std.specs.Prelude.{Contains, option_map}
+use Rattle.std.proofs.Common.{◌≡◌, ◌<◌, ◌≤◌, ◌-◌, ◌^◌, ◌⊎◌, inl, inr, ℕ, true, false, List, [], ◌∷◌, ◌++◌, Some, Result, Ok, Err, refl, sym, ap, ◌∙◌, append_assoc, append-nil, subst, arith}
+use Rattle.std.specs.Prelude.{Contains, IsErrOf, option_map}
 use Rattle.std.specs.List.{All}
 use Rattle.std.proofs.lemmas.List.Elements.{All-nil, All-weaker, All-push}
 use Rattle.std.specs.Result.{result_unwrap_or}
 use Rattle.oci_manifest.specs.Descriptor.{Descriptor}
 use Rattle.oci_manifest.specs.Fault.{Fault}
 use Rattle.oci_store.specs.Keyed.{value_at, has_key, HasAll}
-use Rattle.oci_store.specs.Content.{Entry, IsChecked, successors_in}
+use Rattle.oci_store.specs.Content.{Entry, Matches, IsChecked, successors_in}
 use Rattle.oci_store.specs.Graph.{Node, node_of}
 use Rattle.oci_store.specs.Push.{IsCalm, IsUndisturbed, AgreesAt, IsPush}
-use Rattle.oci_store.specs.Parts.{IsLostPush}
+use Rattle.oci_store.specs.Parts.{IsLeaf, IsLostPush}
 use Rattle.oci_store.specs.declared.fault.PushFault.{PushFault}
+use Rattle.oci_store.specs.declared.fault.PushFault.TheVariants as push
 use Rattle.oci_store.specs.State.{State}
+use Rattle.oci_store.proofs.Leaves.{IsChecked-leaf}
 use Rattle.oci_store.proofs.Lookups.{All-value_at, value_at-append_cases, has_key-append_left}
 use Rattle.oci_plan.proofs.Items.{value_at-nodes_of}
+use Rattle.oci_copy.specs.Brought.{IsDrafted}
 use Rattle.oci_copy.specs.Grown.{graph_of, HasKnownBytes, ListsByBytes}
 use Rattle.oci_copy.specs.Kept.{Keeps, IsOpeningAnd}
 use Rattle.oci_copy.proofs.Checks.{held-from_check}
@@ -152,3 +155,19 @@ keeps_lost {before = before} did keeps = record {
   tags = did.tags ∙ keeps.tags;
   name = did.name ∙ keeps.name;
 }
+
+-- and a push of a draft, lost or not
+pub keeps_drafted : {shares lost : Type 0} {drafted : List ℕ → Type 0} {source : State} {planned : List Descriptor} {opening before after : State} {k : Descriptor} {pushed : Result ℕ PushFault}
+    → IsDrafted lost drafted source k → (lost → IsLostPush before after k pushed) → ((bytes : List ℕ) → drafted bytes → Matches k bytes → IsPush shares before after (k, bytes) pushed)
+    → IsLeaf k → Contains planned k → has_key before.nodes k ≡ false → Keeps shares source planned opening before → Keeps shares source planned opening after
+keeps_drafted (inl lost) left did leaf plan fresh keeps = keeps_lost (left lost) keeps
+keeps_drafted {k = k} {pushed = pushed} (inr it) left did leaf plan fresh keeps =
+    let own = it.1 in
+    keeps_answered {listed = []} pushed (did it.0 own.is_drafted own.matching) own.own plan fresh (IsChecked-leaf k it.0 [] leaf own.matching refl) keeps
+
+-- a push of a draft halts a store only if memory runs out
+pub drafted_running : (source : State) {shares lost : Type 0} {drafted : List ℕ → Type 0} {before after : State} {k : Descriptor} {pushed : Result ℕ PushFault}
+    → IsDrafted lost drafted source k → (lost → IsLostPush before after k pushed) → ((bytes : List ℕ) → drafted bytes → Matches k bytes → IsPush shares before after (k, bytes) pushed)
+    → after.is_halted → before.is_halted ⊎ IsErrOf pushed push.Memory
+drafted_running source (inl lost) left did = let it = left lost in it.running
+drafted_running source (inr own) left did = let it = did own.0 own.1.is_drafted own.1.matching in it.running

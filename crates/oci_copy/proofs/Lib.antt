@@ -4,7 +4,6 @@ pub mod Destinations
 pub mod Growth
 pub mod Places
 pub mod Headline
-pub mod References
 pub mod Unfailing
 pub mod InMemory
 pub mod Tagging

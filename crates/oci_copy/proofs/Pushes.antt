@@ -1,5 +1,5 @@
 -- What is done to bring one planned key.
-use Rattle.std.proofs.Common.{◌≡◌, ℕ, false, List, [], ◌∷◌, Ok, Err, Some, inl, inr, ap, sym, subst, ◌∙◌}
+use Rattle.std.proofs.Common.{◌≡◌, ◌⊎◌, ℕ, false, List, [], ◌∷◌, Ok, Err, Some, inl, inr, ap, sym, subst, ◌∙◌}
 use Rattle.std.specs.Map.{keys_of}
 use Rattle.oci_manifest.specs.Descriptor.{Descriptor}
 use Rattle.oci_store.specs.Content.{IsChecked}
@@ -10,10 +10,11 @@ use Rattle.oci_store.specs.Push.{IsPush}
 use Rattle.oci_store.specs.State.{State}
 use Rattle.oci_store.specs.declared.fault.PushFault.{PushFault}
 use Rattle.oci_copy.specs.Brought.{CanBring, IsBrought}
-use Rattle.oci_copy.specs.Cause.{HasFailed}
-use Rattle.oci_copy.specs.Fault.{ReportsPush}
+use Rattle.oci_copy.specs.Cause.{HasFailed, IsStepCause}
+use Rattle.oci_copy.specs.Fault.{of_push}
 use Rattle.oci_copy.specs.declared.fault.CopyFault.{CopyFault}
-use Rattle.oci_copy.proofs.Causes.{turn_cause, HasFailed-raised}
+use Rattle.oci_copy.specs.declared.fault.CopyFault.TheVariants as fault
+use Rattle.oci_copy.proofs.Causes.{reported_as, turn_cause, HasFailed-raised}
 use Rattle.oci_copy.proofs.Workers.{keys_of-append, step_from_lost}
 
 -- content of the key is pushed that was checked, and is the source's where that is honest
@@ -27,7 +28,7 @@ module _ {X : Type 0} {shares : Type 0} {source old new : State} {k : Descriptor
     running = λ halted. elim (did.running halted) [ inl was ↦ was | inr memory ↦ cc memory ];
   }
 
-  pub refused : {e : PushFault} {reported : CopyFault} → IsPush shares old new (k, bytes) (Err e) → ReportsPush k e reported → IsBrought {X = X} source old new k (Err reported)
+  pub refused : {e : PushFault} {reported : CopyFault} → IsPush shares old new (k, bytes) (Err e) → (reported ≡ fault.Memory) ⊎ (reported ≡ of_push k e) → IsBrought {X = X} source old new k (Err reported)
   refused {e = e} {reported = reported} did tells = record {
     pushed = tt;
     refused = did.keys.refused;
@@ -37,15 +38,15 @@ module _ {X : Type 0} {shares : Type 0} {source old new : State} {k : Descriptor
   }
 
 -- a draft of the key is pushed that is lost
-pub refused_lost : {X : Type 0} {source old new : State} {k : Descriptor} {e : PushFault} {reported : CopyFault} → CanBring source old k → IsLostPush old new k (Err e) → ReportsPush k e reported
+pub refused_lost : {X : Type 0} {source old new : State} {k : Descriptor} {e : PushFault} {reported : CopyFault} → CanBring source old k → IsLostPush old new k (Err e) → (reported ≡ fault.Memory) ⊎ (reported ≡ of_push k e)
     → IsBrought {X = X} source old new k (Err reported)
 refused_lost {source = source} {old = old} {new = new} {k = k} {e = e} {reported = reported} can did tells = record {
   pushed = tt;
   refused = did.keys.same;
   cause = (
     subst (λ (graph : List Node). has_key graph k ≡ false) (sym did.keys.same) can.fresh,
-    inl (step_from_lost (HasFailed old new) source old old.nodes k can.fresh e reported did.keys.checked
-        (λ same. HasFailed-raised old new (did.device (cc))) (λ same. did.halted (cc)) tells),
+    inl (reported_as (IsStepCause (HasFailed old new) source old k) (of_push k e) reported tells (tt) (step_from_lost (HasFailed old new) source old old.nodes k can.fresh e did.keys.checked
+        (λ same. HasFailed-raised old new (did.device (cc))) (λ same. did.halted (cc)))),
   );
   running = tt;
 }

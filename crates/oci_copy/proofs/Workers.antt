@@ -16,7 +16,7 @@ use Rattle.oci_store.specs.Content.{IsChecked, successors_in}
 use Rattle.oci_store.specs.Graph.{Node}
 use Rattle.oci_store.specs.Parts.{leaf_check}
 use Rattle.oci_store.specs.State.{State}
-use Rattle.oci_store.specs.Push.{IsRaised, Refusal, Refused, closed_check, held_check, already_exists, size_mismatch, digest_mismatch, bad_manifest, missing_successor}
+use Rattle.oci_store.specs.Push.{IsRaised, Refusal, Refused, closed_check, held_check, missing_successor}
 use Rattle.oci_store.specs.declared.fault.PushFault.{PushFault}
 use Rattle.oci_store.specs.declared.fault.PushFault.TheVariants as push
 use Rattle.oci_store.proofs.KeyOrder.{same_key_laws}
@@ -28,23 +28,19 @@ use Rattle.oci_copy.specs.declared.options.Options.{Options}
 use Rattle.oci_copy.specs.declared.fault.CopyFault.{CopyFault}
 use Rattle.oci_copy.specs.declared.fault.CopyFault.TheVariants as fault
 use Rattle.oci_copy.specs.Cause.{CanFail, IsContentCause, IsStepCause, RefusedAt, IsRefusal, RefusedByWorkers}
-use Rattle.oci_copy.specs.Fault.{ReportsPush, IsStuck, IsOtherPush}
+use Rattle.oci_copy.specs.Fault.{of_push}
 use Rattle.oci_copy.specs.Destination.{IsClosedWhenSkipping}
 use Rattle.oci_copy.specs.Kept.{IsNoted, Keeps}
 use Rattle.oci_copy.specs.Plain.{IsUnfailing, RefusedForPlan}
 use Rattle.oci_copy.specs.Planned.{IsPlanOf}
-use Rattle.oci_copy.proofs.Causes.{refused_in_run}
+use Rattle.oci_copy.proofs.Causes.{push_cause, refused_in_run}
 use Rattle.oci_copy.proofs.Checks.{closed_check-read}
-use Rattle.oci_copy.proofs.Places.{Contains-from_slice_get}
+use Rattle.oci_copy.proofs.Places.{Contains-from_slice_get, length-keys_of}
 use Rattle.oci_copy.proofs.Unfailing.{refused_for_plan, step_for_memory}
 
 pub keys_of-append : {X : Type 0} (a b : List (Descriptor × X)) → keys_of (a ++ b) ≡ keys_of a ++ keys_of b
 keys_of-append [] b = refl
 keys_of-append (e ∷ a) b = ap (λ (ks : List Descriptor). e.0 ∷ ks) (keys_of-append a b)
-
-length-keys_of : {X : Type 0} (pairs : List (Descriptor × X)) → length (keys_of pairs) ≡ length pairs
-length-keys_of [] = refl
-length-keys_of (p ∷ pairs) = omega (arith, length-keys_of pairs)
 
 -- what was pushed last is held
 pub held_after : {X : Type 0} (old new : List (Descriptor × X)) (k : Descriptor) (x : X) → new ≡ old ++ (k, x) ∷ [] → has_key new k ≡ true
@@ -87,39 +83,22 @@ as_many_pushed {planned = planned} {opening = opening} {now = now} keeps distinc
           | inr new ↦ Contains-from_has_key keeps.added k (has_key-from_value keeps.added k it.0 new)
         ]
 
-module _ (failed : Type 0) (source opening : State) (k : Descriptor) (check : Result (List Descriptor) Refusal) (listed : List Descriptor) (passes : check ≡ Ok listed) where
-  no_cause : (r : Refusal) → check ≡ Err r → ⊥
-  no_cause r e = let both : Ok listed ≡ Err r = sym passes ∙ e in cc both
-
-  stuck : (e : PushFault) → Refused e check → IsStuck e → ⊥
-  stuck push.AlreadyExists refused is = no_cause already_exists refused
-  stuck (push.MissingSuccessor m) refused is = no_cause (missing_successor m) refused
-  stuck other refused is = is
-
-  push_cause : (e : PushFault) → Refused e check → (e ≡ push.Device → failed) → (e ≡ push.Halted → opening.is_halted) → IsOtherPush e → IsStepCause failed source opening k (fault.Push k e)
-  push_cause push.AlreadyExists refused device halt other = absurd other
-  push_cause push.SizeMismatch refused device halt other = absurd (no_cause size_mismatch refused)
-  push_cause push.DigestMismatch refused device halt other = absurd (no_cause digest_mismatch refused)
-  push_cause (push.BadManifest m) refused device halt other = absurd (no_cause (bad_manifest refused.0) refused.1)
-  push_cause push.Memory refused device halt other = absurd other
-  push_cause (push.MissingSuccessor m) refused device halt other = absurd other
-  push_cause push.Device refused device halt other = (refl, device refl)
-  push_cause push.Halted refused device halt other = (refl, halt refl)
-
-  -- why a push is refused that its check lets through
-  step_from_passed : (e : PushFault) (reported : CopyFault) → Refused e check → (e ≡ push.Device → failed) → (e ≡ push.Halted → opening.is_halted) → ReportsPush k e reported
-      → IsStepCause failed source opening k reported
-  step_from_passed e (fault.Push named t) refused device halt tells =
-      let is : fault.Push named t ≡ fault.Push k e = rw (tells.0, tells.1) refl in subst (λ (f : CopyFault). IsStepCause failed source opening k f) (sym is) (push_cause e refused device halt tells.2)
-  step_from_passed e (fault.Stuck named) refused device halt tells = absurd (stuck e refused tells.1)
-  step_from_passed e fault.Memory refused device halt tells = tt
-  step_from_passed e other refused device halt tells = absurd tells
+-- why a push is refused that its check lets through
+step_from_passed : (failed : Type 0) (source opening : State) (k : Descriptor) (check : Result (List Descriptor) Refusal) (listed : List Descriptor) → check ≡ Ok listed
+    → (e : PushFault) → Refused e check → (e ≡ push.Device → failed) → (e ≡ push.Halted → opening.is_halted) → IsStepCause failed source opening k (of_push k e)
+step_from_passed failed source opening k check listed passes e refused device halt =
+    elim (push_cause failed source opening k check (λ r wrong. absurd (no_cause r wrong)) e refused device halt) [
+      | inl step ↦ step
+      | inr early ↦ absurd (no_cause (missing_successor early.0) early.2)
+    ]
+  where
+    no_cause : (r : Refusal) → check ≡ Err r → ⊥
+    no_cause r wrong = let both : Ok listed ≡ Err r = sym passes ∙ wrong in cc both
 
 -- why a push under the lock is refused, once all that the content lists is held
 pub step_from_push : (failed : Type 0) (source opening : State) (graph : List Node) (k : Descriptor) (bytes : List ℕ) (listed : List Descriptor)
     → has_key graph k ≡ false → IsChecked k bytes listed → HasAll graph (successors_in k bytes)
-    → (e : PushFault) (reported : CopyFault) → Refused e (closed_check graph k bytes) → (e ≡ push.Device → failed) → (e ≡ push.Halted → opening.is_halted) → ReportsPush k e reported
-    → IsStepCause failed source opening k reported
+    → (e : PushFault) → Refused e (closed_check graph k bytes) → (e ≡ push.Device → failed) → (e ≡ push.Halted → opening.is_halted) → IsStepCause failed source opening k (of_push k e)
 step_from_push failed source opening graph k bytes listed fresh checked held =
     let all : HasAll graph listed = subst (HasAll graph) (ap (λ (r : Result (List Descriptor) Fault). result_unwrap_or r []) checked.reads) held in
     step_from_passed failed source opening k (closed_check graph k bytes) listed
@@ -127,8 +106,7 @@ step_from_push failed source opening graph k bytes listed fresh checked held =
 
 -- and one of a lost draft
 pub step_from_lost : (failed : Type 0) (source opening : State) (graph : List Node) (k : Descriptor) → has_key graph k ≡ false
-    → (e : PushFault) (reported : CopyFault) → Refused e (leaf_check graph k) → (e ≡ push.Device → failed) → (e ≡ push.Halted → opening.is_halted) → ReportsPush k e reported
-    → IsStepCause failed source opening k reported
+    → (e : PushFault) → Refused e (leaf_check graph k) → (e ≡ push.Device → failed) → (e ≡ push.Halted → opening.is_halted) → IsStepCause failed source opening k (of_push k e)
 step_from_lost failed source opening graph k fresh = step_from_passed failed source opening k (leaf_check graph k) [] (leaf_check-fresh graph k fresh)
 
 -- a halt after a push was there at the opening, or a push ran out of memory

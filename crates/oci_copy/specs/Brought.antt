@@ -1,8 +1,9 @@
--- What it takes to push one planned key, and what that does.
-use Rattle.std.specs.Prelude.{◌≡◌, true, false, ◌++◌, ◌∷◌, [], Result, OnOk, OnErr, IfErr}
+-- The push of one planned key: what it needs and what it does.
+use Rattle.std.specs.Prelude.{◌≡◌, ◌⊎◌, ℕ, true, false, List, ◌++◌, ◌∷◌, [], Result, OnOk, OnErr, IfErr}
 use Rattle.std.specs.Map.{keys_of}
 use Rattle.oci_manifest.specs.Descriptor.{Descriptor}
-use Rattle.oci_store.specs.Keyed.{has_key, HasAll}
+use Rattle.oci_store.specs.Keyed.{value_at, has_key, HasAll}
+use Rattle.oci_store.specs.Parts.{IsDraftOf}
 use Rattle.oci_store.specs.State.{State}
 use Rattle.oci_plan.specs.Visiting.{successors_at}
 use Rattle.oci_copy.specs.Cause.{IsTurnCause}
@@ -18,7 +19,11 @@ pub record CanBring (source now : State) (k : Descriptor) : Type 0 where
   pub reads : source.is_honest → CanBeRead source.entries k
   pub ready : source.is_honest → HasAll now.nodes (successors_at (graph_of source) k)
 
--- what was done to bring the key, by the answer
+-- a write of the draft failed, or the draft has bytes that match the key, and those of an honest source
+abbrev pub IsDrafted : Type 0 → (List ℕ → Type 0) → State → Descriptor → Type 0
+IsDrafted lost drafted source k = lost ⊎ ((bytes : List ℕ) × IsDraftOf drafted k source.is_honest (value_at source.entries k) bytes)
+
+-- the effect of a push of the key, by its result
 pub record IsBrought {X : Type 0} (source old new : State) (k : Descriptor) (answer : Result X CopyFault) : Type 0 where
   -- the key stands after the others; where it is refused, for its cause, they are as they were
   pub pushed : OnOk answer (keys_of new.nodes ≡ keys_of old.nodes ++ k ∷ [])

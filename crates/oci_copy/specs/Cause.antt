@@ -76,14 +76,9 @@ IsTurnCause now source opening k e = (has_key now.nodes k ≡ false)
 abbrev pub RefusedAt : {X : Type 0} → (X → Type 0) → (X → CopyFault → Type 0) → CopyFault → Type 0
 RefusedAt {X} these cause e = (e ≡ fault.Memory) ⊎ ((x : X) × these x × cause x e)
 
--- why the destination is refused: it is not closed, which the first key shows that lists one that is not held; or a memory error
-abbrev pub IsNotClosedCause : Existing → State → CopyFault → Type 0
-IsNotClosedCause existing opening (fault.DestinationOpen holder missing) = IsNotClosedWhenSkipping existing opening.nodes holder missing
-IsNotClosedCause existing opening fault.Memory = Unit {0}
-IsNotClosedCause existing opening e = ⊥
-
--- Why a copy is refused. The causes are looked at in this order: the destination is not closed; there is no plan; a key that the copy
--- has to bring is not pushed, for the cause that `step` gives. A memory error may come at any point.
+-- Why a copy is refused, in this order: the destination is not closed; there is no plan; a key that
+-- the copy has to bring is not pushed, for the cause `step`. A memory error is possible at any
+-- point.
 abbrev pub IsRefusal : (State → State → Descriptor → CopyFault → Type 0) → Options → State → State → List Descriptor → CopyFault → Type 0
 IsRefusal step options source opening roots (fault.DestinationOpen holder missing) =
     IsNotClosedWhenSkipping options.existing opening.nodes holder missing

@@ -1,5 +1,5 @@
--- The faults of a copy: their numbers, and how a refusal from below is reported.
-use Rattle.std.specs.Prelude.{◌≡◌, ◌≢◌, ℕ, Option, Some, None}
+-- The faults of a copy: their numbers, and how a fault from below is reported.
+use Rattle.std.specs.Prelude.{ℕ, Option, Some, None}
 use Rattle.oci_manifest.specs.Descriptor.{Descriptor}
 use Rattle.oci_store.specs.declared.fault.FetchFault.{FetchFault}
 use Rattle.oci_store.specs.declared.fault.FetchFault.TheVariants as fetch
@@ -34,45 +34,31 @@ IsEarly fault.BadWorkers = Unit {0}
 IsEarly (fault.Reference e) = Unit {0}
 IsEarly e = ⊥
 
--- how a refused plan is reported: as itself, or as a memory error where it was one
-abbrev pub ReportsPlan : PlanFault → CopyFault → Type 0
-ReportsPlan e (fault.Plan reported) = (reported ≡ e) × (e ≢ plan.Memory)
-ReportsPlan e fault.Memory = e ≡ plan.Memory
-ReportsPlan e other = ⊥
+-- the fault of a copy that has no plan
+abbrev pub of_plan : PlanFault → CopyFault
+of_plan plan.Memory = fault.Memory
+of_plan e = fault.Plan e
 
--- how a refused fetch is reported: as itself under the key, or as a memory error, which it may itself have been
-abbrev pub ReportsFetch : Descriptor → FetchFault → CopyFault → Type 0
-ReportsFetch k e (fault.Fetch named reported) = (named ≡ k) × (reported ≡ e) × (e ≢ fetch.Memory)
-ReportsFetch k e fault.Memory = Unit {0}
-ReportsFetch k e other = ⊥
+-- the fault of a copy whose fetch of this key is refused
+abbrev pub of_fetch : Descriptor → FetchFault → CopyFault
+of_fetch k fetch.Memory = fault.Memory
+of_fetch k e = fault.Fetch k e
 
--- the key is held, or one that its content lists is not
-abbrev pub IsStuck : PushFault → Type 0
-IsStuck push.AlreadyExists = Unit {0}
-IsStuck (push.MissingSuccessor k) = Unit {0}
-IsStuck e = ⊥
+-- the fault of a copy whose push of this key is refused: the copy is stuck if the destination has
+-- the key or lacks one that the content lists
+abbrev pub of_push : Descriptor → PushFault → CopyFault
+of_push k push.AlreadyExists = fault.Stuck k
+of_push k (push.MissingSuccessor missing) = fault.Stuck k
+of_push k push.Memory = fault.Memory
+of_push k e = fault.Push k e
 
--- a refused push that is neither of these, and no memory error
-abbrev pub IsOtherPush : PushFault → Type 0
-IsOtherPush push.AlreadyExists = ⊥
-IsOtherPush (push.MissingSuccessor k) = ⊥
-IsOtherPush push.Memory = ⊥
-IsOtherPush e = Unit {0}
+-- the fault of a copy whose reference is refused
+abbrev pub of_reference : RefFault → CopyFault
+of_reference reference.Memory = fault.Memory
+of_reference e = fault.Reference e
 
--- how a refused push is reported
-abbrev pub ReportsPush : Descriptor → PushFault → CopyFault → Type 0
-ReportsPush k e (fault.Push named reported) = (named ≡ k) × (reported ≡ e) × IsOtherPush e
-ReportsPush k e (fault.Stuck named) = (named ≡ k) × IsStuck e
-ReportsPush k e fault.Memory = Unit {0}
-ReportsPush k e other = ⊥
-
--- how a refused reference is reported: as itself, or as a memory error where it was one
-abbrev pub ReportsReference : RefFault → CopyFault → Type 0
-ReportsReference e (fault.Reference reported) = (reported ≡ e) × (e ≢ reference.Memory)
-ReportsReference e fault.Memory = e ≡ reference.Memory
-ReportsReference e other = ⊥
-
--- what a stopped run of workers reports: its job's fault, or a memory error; a run that is only incomplete goes on by a wait
+-- the fault of a copy whose run of workers stopped: that of a job, or a memory error; if the run is
+-- only incomplete there is none, and the copy waits
 abbrev pub reported_fault : PoolFault CopyFault → Option CopyFault
 reported_fault (pool.Job k e) = Some e
 reported_fault (pool.Incomplete k) = None

@@ -20,19 +20,16 @@ ResolvesIn store name k = Resolves (keys_of store.nodes) store.tags name k
 abbrev pub IsRootOf : State → List ℕ → List Descriptor → Type 0
 IsRootOf store name roots = (roots ≡ []) ⊎ ((k : Descriptor) × (roots ≡ k ∷ []) × ResolvesIn store name k)
 
--- why there is no root: the reference does not resolve
-abbrev pub IsResolveCause : State → List ℕ → CopyFault → Type 0
-IsResolveCause store name (fault.Reference reference.EmptyReference) = name ≡ []
-IsResolveCause store name (fault.Reference reference.UnknownReference) = (name ≢ []) × ((k : Descriptor) → ResolvesIn store name k → ⊥)
-IsResolveCause store name fault.Memory = Unit {0}
-IsResolveCause store name e = ⊥
-
--- why a copy by reference is refused: the source's reference does not resolve, or it does, and the copy from its key is refused for
--- this cause; to set the tag can only run out of memory
+-- why a copy by reference is refused: a memory error; or the source's reference is empty; or it is
+-- not empty and resolves to no key; or it resolves to a key, and the copy from that key has this
+-- cause
 abbrev pub RefusedByReference : State → List ℕ → (Descriptor → CopyFault → Type 0) → CopyFault → Type 0
-RefusedByReference store name cause e = IsResolveCause store name e ⊎ ((k : Descriptor) × ResolvesIn store name k × cause k e)
+RefusedByReference store name cause e = (e ≡ fault.Memory)
+    ⊎ ((e ≡ fault.Reference reference.EmptyReference) × (name ≡ []))
+    ⊎ ((e ≡ fault.Reference reference.UnknownReference) × (name ≢ []) × ((k : Descriptor) → ResolvesIn store name k → ⊥))
+    ⊎ ((k : Descriptor) × ResolvesIn store name k × cause k e)
 
--- nothing but the tags may differ
+-- only the tags may differ
 pub record IsRetagged (old new : State) : Type 0 where
   pub nodes : new.nodes ≡ old.nodes
   pub entries : new.entries ≡ old.entries

@@ -7,7 +7,7 @@ ghost use Rattle.oci_copy.specs.Copy.{IsCopy, OnlyGrows};
 ghost use Rattle.oci_copy.specs.Fault.{IsEarly};
 ghost use Rattle.oci_copy.specs.Plain.{NeitherFails, RefusedForPlan};
 ghost use Rattle.oci_copy.specs.Report.{IsReport};
-ghost use Rattle.oci_copy.specs.Tagged.{name_of, ResolvesIn, IsRootOf, RefusedByReference, IsResolveCause, IsRetagged};
+ghost use Rattle.oci_copy.specs.Tagged.{name_of, ResolvesIn, IsRootOf, RefusedByReference, IsRetagged};
 
 use crate::fault::CopyFault;
 use crate::graph::copy_graph;
@@ -93,7 +93,8 @@ where
 pub(crate) fn resolve_root<A: Tagger>(source: &A, reference: &str) -> Result<Key, CopyFault>
     ensures found { IfOk result (ResolvesIn (A.state source.now) reference.now) }
     ensures named { OnOk result (reference.now ≢ []) }
-    ensures cause { IfErr result (IsResolveCause (A.state source.now) reference.now) }
+    ensures cause { IfErr result (RefusedByReference (A.state source.now) reference.now
+        (λ root fault. ⊥)) }
 {
     match source.resolve(reference) {
         Ok(root) => Ok(root),

@@ -63,9 +63,9 @@ impl CopyFault {
 
 /// A refused reference is reported as itself, or as out of memory where it was that.
 impl From<RefFault> for CopyFault {
-    ghost use Rattle.oci_copy.specs.Fault.{ReportsReference};
+    ghost use Rattle.oci_copy.specs.Fault.{of_reference};
 
-    ghost from_gives = { λ refused fault. ReportsReference refused fault };
+    ghost from_gives = { λ refused fault. fault ≡ of_reference refused };
 
     fn from(fault: RefFault) -> CopyFault {
         match fault {

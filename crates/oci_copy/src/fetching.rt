@@ -1,10 +1,11 @@
-ghost use Rattle.std.specs.Prelude.{◌≡◌, ◌⊎◌, true, [], List, ℕ, Some, IfOk, OnOk, IfErr, IsTrue};
+ghost use Rattle.std.specs.Prelude.{◌≡◌, ◌⊎◌, true, [], List, Some, IfOk, OnOk, IfErr, IsTrue};
 ghost use Rattle.oci_manifest.specs.Descriptor.{Descriptor};
 ghost use Rattle.oci_store.specs.Content.{IsChecked};
 ghost use Rattle.oci_store.specs.Keyed.{value_at, has_key};
-ghost use Rattle.oci_store.specs.Parts.{IsLeaf, IsDraftOf};
+ghost use Rattle.oci_store.specs.Parts.{IsLeaf};
+ghost use Rattle.oci_copy.specs.Brought.{IsDrafted};
 ghost use Rattle.oci_copy.specs.Cause.{IsContentCause};
-ghost use Rattle.oci_copy.specs.Fault.{ReportsFetch, ReportsPush};
+ghost use Rattle.oci_copy.specs.Fault.{of_fetch, of_push};
 ghost use Rattle.oci_copy.specs.Planned.{CanBeRead};
 
 use crate::fault::CopyFault;
@@ -51,9 +52,8 @@ pub(crate) fn draft_planned<A: Source, W: Drafting>(
     requires empty { W.drafted draft.old [] }
     requires fails { (A.state source.now).fails_at key.now ≡ true }
     requires there { has_key (A.state source.now).entries key.now ≡ true }
-    ensures drafted { OnOk result (W.is_lost draft.new ⊎ ((bytes : List ℕ)
-        × IsDraftOf (W.drafted draft.new) key.now (A.state source.now).is_honest
-        (value_at (A.state source.now).entries key.now) bytes)) }
+    ensures drafted { OnOk result (IsDrafted (W.is_lost draft.new) (W.drafted draft.new)
+        (A.state source.now) key.now) }
     ensures cause { IfErr result (IsContentCause (A.state source.now) key.now) }
 {
     match fetch_into(source, key, draft) {
@@ -64,7 +64,7 @@ pub(crate) fn draft_planned<A: Source, W: Drafting>(
 
 /// The fault of a copy whose source refused the key.
 fn fetch_fault(key: &Key, fault: FetchFault) -> CopyFault
-    ensures { ReportsFetch key.now fault result }
+    ensures { (result ≡ CopyFault.Memory) ⊎ (result ≡ of_fetch key.now fault) }
 {
     match fault {
         FetchFault::Memory => CopyFault::Memory,
@@ -77,7 +77,7 @@ fn fetch_fault(key: &Key, fault: FetchFault) -> CopyFault
 
 /// The fault of a copy whose push of the key was refused.
 pub(crate) fn push_fault(key: &Key, fault: PushFault) -> CopyFault
-    ensures { ReportsPush key.now fault result }
+    ensures { (result ≡ CopyFault.Memory) ⊎ (result ≡ of_push key.now fault) }
 {
     let Ok(key) = key.try_clone() else {
         return CopyFault::Memory;

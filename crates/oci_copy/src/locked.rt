@@ -1,12 +1,13 @@
-ghost use Rattle.std.specs.Prelude.{◌≡◌, ◌⊎◌, ◌++◌, List, ℕ, true, false, Some, Contains, All, IfOk, IfErr, IsErrOf};
+ghost use Rattle.std.specs.Prelude.{◌≡◌, ◌⊎◌, ◌++◌, List, true, false, Some, Contains, All, IfOk, IfErr, IsErrOf};
 ghost use Rattle.oci_manifest.specs.Descriptor.{Descriptor};
 ghost use Rattle.oci_store.specs.Closed.{IsClosed};
 ghost use Rattle.oci_store.specs.Content.{IsChecked, successors_in};
 ghost use Rattle.oci_store.specs.Graph.{Node};
 ghost use Rattle.oci_store.specs.Keyed.{value_at, HasAll};
-ghost use Rattle.oci_store.specs.Parts.{IsLeaf, IsDraftOf};
+ghost use Rattle.oci_store.specs.Parts.{IsLeaf};
+ghost use Rattle.oci_copy.specs.Brought.{IsDrafted};
 ghost use Rattle.oci_copy.specs.Cause.{CanFail, IsStepCause};
-ghost use Rattle.oci_copy.specs.Fault.{ReportsPush};
+ghost use Rattle.oci_copy.specs.Fault.{of_push};
 ghost use Rattle.oci_copy.specs.Grown.{graph_of, HasKnownBytes};
 ghost use Rattle.oci_copy.specs.Kept.{Keeps, IsOpeningAnd};
 
@@ -120,9 +121,7 @@ impl<D: Dest, T: CopyStart> LockedDestination<D, T> {
     ) -> Result<Held<'k>, CopyFault>
         requires planned { Contains T.planned key.now }
         requires leaf { IsLeaf key.now }
-        requires own { D.Draft.is_lost draft ⊎ ((bytes : List ℕ)
-            × IsDraftOf (D.Draft.drafted draft) key.now T.source.is_honest
-            (value_at T.source.entries key.now) bytes) }
+        requires own { IsDrafted (D.Draft.is_lost draft) (D.Draft.drafted draft) T.source key.now }
         ensures held { IfOk result (λ held. held ≡ key.now) }
         ensures cause { IfErr result (IsStepCause (CanFail D.state T.opening) T.source T.opening
             key.now) }
@@ -167,8 +166,8 @@ fn has_run_out(ran_out: bool, pushed: &Result<usize, PushFault>) -> bool
 /// The fault of a copy whose push of the key was refused. A halt after a push that ran out of
 /// memory followed from it, and is reported as out of memory.
 fn locked_fault(key: &Key, fault: PushFault, ran_out: bool) -> CopyFault
-    ensures reports { ReportsPush key.now fault result }
-    ensures halted { (result ≡ CopyFault.Memory) ⊎ (fault ≡ PushFault.Halted → ran_out ≡ false) }
+    ensures { (result ≡ CopyFault.Memory) ⊎ ((result ≡ of_push key.now fault)
+        × (fault ≡ PushFault.Halted → ran_out ≡ false)) }
 {
     if ran_out {
         return match fault {

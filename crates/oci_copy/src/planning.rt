@@ -1,8 +1,8 @@
-ghost use Rattle.std.specs.Prelude.{OnOk, IfOk, IfErr};
-ghost use Rattle.oci_store.specs.Closed.{IsClosed};
-ghost use Rattle.oci_copy.specs.Cause.{IsNotClosedCause, IsRefusal};
-ghost use Rattle.oci_copy.specs.Fault.{ReportsPlan};
-ghost use Rattle.oci_copy.specs.Destination.{IsClosedWhenSkipping};
+ghost use Rattle.std.specs.Prelude.{◌≡◌, ◌⊎◌, OnOk, IfOk, IfErr};
+ghost use Rattle.oci_manifest.specs.Descriptor.{Descriptor};
+ghost use Rattle.oci_copy.specs.Cause.{IsRefusal};
+ghost use Rattle.oci_copy.specs.Fault.{of_plan};
+ghost use Rattle.oci_copy.specs.Destination.{IsClosedWhenSkipping, IsNotClosedWhenSkipping};
 ghost use Rattle.oci_copy.specs.Planned.{IsPlanOf};
 
 use crate::fault::CopyFault;
@@ -42,30 +42,24 @@ pub fn plan_copy<A: Source, D: Dest>(
 fn check_destination<D: Dest>(destination: &D, options: &Options) -> Result<(), CopyFault>
     ensures closed { OnOk result (IsClosedWhenSkipping options.now.existing
         (D.state destination.now).nodes) }
-    ensures not_closed { IfErr result (IsNotClosedCause options.now.existing
-        (D.state destination.now)) }
+    ensures open { IfErr result (λ fault. (fault ≡ CopyFault.Memory) ⊎ ((holder : Descriptor)
+        × (missing : Descriptor) × (fault ≡ CopyFault.DestinationOpen holder missing)
+        × IsNotClosedWhenSkipping options.now.existing (D.state destination.now).nodes holder
+        missing)) }
 {
     match options.existing {
-        Existing::Skip => check_closed(destination),
+        Existing::Skip => match destination.missing() {
+            Ok(None) => Ok(()),
+            Ok(Some((holder, missing))) => Err(CopyFault::DestinationOpen(holder, missing)),
+            Err(_) => Err(CopyFault::Memory),
+        },
         Existing::Descend => Ok(()),
     }
 }
 
-/// A destination is closed.
-fn check_closed<D: Dest>(destination: &D) -> Result<(), CopyFault>
-    ensures closed { OnOk result (IsClosed (D.state destination.now).nodes) }
-    ensures not_closed { IfErr result (IsNotClosedCause Existing.Skip (D.state destination.now)) }
-{
-    match destination.missing() {
-        Ok(None) => Ok(()),
-        Ok(Some((holder, missing))) => Err(CopyFault::DestinationOpen(holder, missing)),
-        Err(_) => Err(CopyFault::Memory),
-    }
-}
-
-/// The fault of a copy that has no plan.
+/// Returns the fault of a copy whose plan was refused.
 fn plan_fault(fault: PlanFault) -> CopyFault
-    ensures { ReportsPlan fault result }
+    ensures { result ≡ of_plan fault }
 {
     match fault {
         PlanFault::Memory => CopyFault::Memory,

@@ -1,7 +1,8 @@
-ghost use Rattle.std.specs.Prelude.{◌≡◌, ◌↔◌, ◌⊎◌, [], List, ℕ, Some, Contains, IfOk, IfErr, IsSomeAnd, IsTrue};
+ghost use Rattle.std.specs.Prelude.{◌≡◌, ◌↔◌, [], Some, Contains, IfOk, IfErr, IsSomeAnd, IsTrue};
 ghost use Rattle.std.specs.Sync.Mutex.{mutex_guard_value};
 ghost use Rattle.oci_store.specs.Keyed.{value_at, HasAll};
-ghost use Rattle.oci_store.specs.Parts.{IsLeaf, IsDraftOf};
+ghost use Rattle.oci_store.specs.Parts.{IsLeaf};
+ghost use Rattle.oci_copy.specs.Brought.{IsDrafted};
 ghost use Rattle.oci_copy.specs.Cause.{CanFail, IsStepCause};
 
 use super::copy_start::CopyStart;
@@ -113,9 +114,7 @@ pub(crate) fn push_draft_now<'k, D: Dest + Drop, T: CopyStart, R: Wait>(
 ) -> Result<Held<'k>, CopyFault>
     requires planned { Contains T.planned key.now }
     requires leaf { IsLeaf key.now }
-    requires own { D.Draft.is_lost draft ⊎ ((bytes : List ℕ)
-        × IsDraftOf (D.Draft.drafted draft) key.now T.source.is_honest
-        (value_at T.source.entries key.now) bytes) }
+    requires own { IsDrafted (D.Draft.is_lost draft) (D.Draft.drafted draft) T.source key.now }
     ensures held { IfOk result (λ held. held ≡ key.now) }
     ensures cause { IfErr result (IsStepCause (CanFail D.state T.opening) T.source T.opening
         key.now) }

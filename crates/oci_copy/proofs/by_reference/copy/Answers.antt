@@ -17,11 +17,11 @@ pub returns-in-Err-clause-grows : goal.returns-in-Err-clause-grows
 returns-in-Err-clause-grows g c = ([], inl refl, unchanged_grows g.D.Dest.shares (g.A.Store.state c.args.source.now) (g.D.Store.state c.args.destination) [])
 
 pub returns-in-Err-copied-clause-refused : goal.returns-in-Err-copied-clause-refused
-returns-in-Err-copied-clause-refused g c = inr (
+returns-in-Err-copied-clause-refused g c = inr (inr (inr (
   c.in-Ok.root,
   c.in-Ok.ensures.found,
   rw c.from_ref-roots.ensures.value at (rw c.in-Err-copied.is at c.copy_graph-destination.ensures.refused),
-)
+)))
 
 pub returns-in-Ok-copied-clause-copied : goal.returns-in-Ok-copied-clause-copied
 returns-in-Ok-copied-clause-copied g c =
@@ -53,7 +53,7 @@ returns-in-Ok-copied-clause-refused g c =
     (λ (root : Descriptor). RefusedByWorkers c.args.options.now.workers
     (IsRefusal (IsStepCause (CanFail g.D.Store.state (g.D.Store.state c.args.destination))) c.args.options.now
     (g.A.Store.state c.args.source.now) (g.D.Store.state c.args.destination) (root ∷ []))))
-    c.in-Ok.ensures.named there (inl tt) c.tag_copied.ensures.wants
+    c.in-Ok.ensures.named there (inl refl) c.tag_copied.ensures.wants
 
 pub returns-in-Ok-copied-clause-unchanged : goal.returns-in-Ok-copied-clause-unchanged
 returns-in-Ok-copied-clause-unchanged g c =
@@ -63,11 +63,11 @@ returns-in-Ok-copied-clause-unchanged g c =
     c.in-Ok.ensures.named there (λ early. absurd early) c.tag_copied.ensures.wants
 
 pub returns-in-Err-copied-clause-plain : goal.returns-in-Err-copied-clause-plain
-returns-in-Err-copied-clause-plain g c unfailing = inr (
+returns-in-Err-copied-clause-plain g c unfailing = inr (inr (inr (
   c.in-Ok.root,
   c.in-Ok.ensures.found,
   rw c.from_ref-roots.ensures.value at ((rw c.in-Err-copied.is at c.copy_graph-destination.ensures.plain) unfailing),
-)
+)))
 
 pub returns-in-Ok-copied-clause-plain : goal.returns-in-Ok-copied-clause-plain
 returns-in-Ok-copied-clause-plain g c =
@@ -78,4 +78,4 @@ returns-in-Ok-copied-clause-plain g c =
     → RefusedByReference (g.A.Store.state c.args.source.now) c.args.source_reference.now
     (λ (root : Descriptor). RefusedByWorkers c.args.options.now.workers
     (RefusedForPlan (g.A.Store.state c.args.source.now).entries c.args.options.now (g.D.Store.state c.args.destination).nodes (root ∷ []))) e)
-    c.in-Ok.ensures.named there (λ unfailing. inl tt) c.tag_copied.ensures.wants
+    c.in-Ok.ensures.named there (λ unfailing. inl refl) c.tag_copied.ensures.wants

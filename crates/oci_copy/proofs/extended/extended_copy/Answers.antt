@@ -34,7 +34,7 @@ returns-in-Ok-copied-clause-grows g c =
     (was.0, roots_of_reference (g.A.Store.state c.args.source.now) c.args.source_reference.now c.in-Ok.root c.args.depth was.0 was.1 c.in-Ok.ensures.found, growth_tagged c.tag_copied.ensures.stays was.2)
 
 pub returns-in-Err-copied-clause-refused : goal.returns-in-Err-copied-clause-refused
-returns-in-Err-copied-clause-refused g c = inr (c.in-Ok.root, c.in-Ok.ensures.found, rw c.in-Err-copied.is at c.extended_copy_graph-destination.ensures.refused)
+returns-in-Err-copied-clause-refused g c = inr (inr (inr (c.in-Ok.root, c.in-Ok.ensures.found, rw c.in-Err-copied.is at c.extended_copy_graph-destination.ensures.refused)))
 
 pub returns-in-Err-copied-clause-grows : goal.returns-in-Err-copied-clause-grows
 returns-in-Err-copied-clause-grows g c =
@@ -42,4 +42,4 @@ returns-in-Err-copied-clause-grows g c =
     (was.0, roots_of_reference (g.A.Store.state c.args.source.now) c.args.source_reference.now c.in-Ok.root c.args.depth was.0 was.1 c.in-Ok.ensures.found, was.2)
 
 pub returns-in-Err-copied-clause-plain : goal.returns-in-Err-copied-clause-plain
-returns-in-Err-copied-clause-plain g c unfailing = inr (c.in-Ok.root, c.in-Ok.ensures.found, (rw c.in-Err-copied.is at c.extended_copy_graph-destination.ensures.plain) unfailing)
+returns-in-Err-copied-clause-plain g c unfailing = inr (inr (inr (c.in-Ok.root, c.in-Ok.ensures.found, (rw c.in-Err-copied.is at c.extended_copy_graph-destination.ensures.plain) unfailing)))

@@ -1,6 +1,6 @@
 use Rattle.std.proofs.Common.{inl, inr, [], refl}
 use Rattle.oci_store.proofs.Leaves.{IsChecked-leaf, drafted-from_read}
-use Rattle.oci_copy.proofs.Growth.{keeps_answered, keeps_lost}
+use Rattle.oci_copy.proofs.Growth.{keeps_drafted}
 use Rattle.oci_copy.proofs.Pushes.{brought, refused, refused_lost}
 use Rattle.oci_copy.proofs.single.push_parts.Goals as goal
 
@@ -27,20 +27,8 @@ returns-in-Err-clause-brought g c =
 
 pub returns-in-Ok-push_draft-clause-keeps : goal.returns-in-Ok-push_draft-clause-keeps
 returns-in-Ok-push_draft-clause-keeps g c planned opening plan keeps =
-    elim c.in_ok-draft_planned.ensures.drafted [
-      | inl lost ↦ keeps_lost {after = g.D.Store.state c.push_draft.new.self} (c.push_draft.ensures.lost lost) keeps
-      | inr drafted ↦
-          let own = drafted.1 in
-          keeps_answered {after = g.D.Store.state c.push_draft.new.self} {listed = []} _ (c.push_draft.ensures.pushed drafted.0 own.is_drafted own.matching) own.own plan c.requires.can.fresh
-          (IsChecked-leaf c.args.key.now drafted.0 [] c.requires.leaf own.matching refl) keeps
-    ]
+    keeps_drafted c.in_ok-draft_planned.ensures.drafted c.push_draft.ensures.lost c.push_draft.ensures.pushed c.requires.leaf plan c.requires.can.fresh keeps
 
 pub returns-in-Err-clause-keeps : goal.returns-in-Err-clause-keeps
 returns-in-Err-clause-keeps g c planned opening plan keeps =
-    elim c.in_ok-draft_planned.ensures.drafted [
-      | inl lost ↦ keeps_lost {after = g.D.Store.state c.push_draft.new.self} (c.push_draft.ensures.lost lost) keeps
-      | inr drafted ↦
-          let own = drafted.1 in
-          keeps_answered {after = g.D.Store.state c.push_draft.new.self} {listed = []} _ (c.push_draft.ensures.pushed drafted.0 own.is_drafted own.matching) own.own plan c.requires.can.fresh
-          (IsChecked-leaf c.args.key.now drafted.0 [] c.requires.leaf own.matching refl) keeps
-    ]
+    keeps_drafted c.in_ok-draft_planned.ensures.drafted c.push_draft.ensures.lost c.push_draft.ensures.pushed c.requires.leaf plan c.requires.can.fresh keeps

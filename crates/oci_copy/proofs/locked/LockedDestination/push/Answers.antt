@@ -45,13 +45,14 @@ returns-in-Err-clause-cause g c =
     let bytes = c.args.content.1 in
     let before = g.D.Store.state c.self.inside.destination in
     let opening = g.T.CopyStart.opening in
-    elim c.locked_fault.ensures.halted [
+    elim c.locked_fault.ensures [
       | inl memory ↦ subst (IsStepCause (CanFail g.D.Store.state opening) g.T.CopyStart.source opening k) (sym memory) (tt)
-      | inr not ↦
-          step_from_push (CanFail g.D.Store.state opening) g.T.CopyStart.source opening before.nodes k bytes c.requires.checked.0
-          (sym c.if-has.ensures) c.requires.checked.1 (subst (λ (graph : List Node). HasAll graph (successors_in k bytes)) (sym c.self.view_is) c.requires.ready) c.in-Err.fault c.locked_fault.result
+      | inr own ↦
+          subst (IsStepCause (CanFail g.D.Store.state opening) g.T.CopyStart.source opening k) (sym own.0)
+          (step_from_push (CanFail g.D.Store.state opening) g.T.CopyStart.source opening before.nodes k bytes c.requires.checked.0
+          (sym c.if-has.ensures) c.requires.checked.1 (subst (λ (graph : List Node). HasAll graph (successors_in k bytes)) (sym c.self.view_is) c.requires.ready) c.in-Err.fault
           (subst (λ (d : Descriptor). Refused c.in-Err.fault (closed_check before.nodes d bytes)) c.requires.same (rw c.in-Err.is at did.keys.checked))
           (λ same. can_fail g.D.Store.state opening before c.push_checked-pushed.new.self c.self.invariant.0.rising (did.device (c.in-Err.is ∙ ap (λ (f : PushFault). Err f) same)))
-          (λ same. halted_before c.self.inside.ran_out c.has_run_out-self-inside.result c.self.invariant.1 c.has_run_out-self-inside.ensures.before (not same)
-          (did.halted (c.in-Err.is ∙ ap (λ (f : PushFault). Err f) same))) c.locked_fault.ensures.reports
+          (λ same. halted_before c.self.inside.ran_out c.has_run_out-self-inside.result c.self.invariant.1 c.has_run_out-self-inside.ensures.before (own.1 same)
+          (did.halted (c.in-Err.is ∙ ap (λ (f : PushFault). Err f) same))))
     ]

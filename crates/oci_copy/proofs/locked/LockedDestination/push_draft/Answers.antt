@@ -3,43 +3,25 @@ use Rattle.oci_store.specs.Content.{successors_in}
 use Rattle.oci_store.specs.declared.fault.PushFault.{PushFault}
 use Rattle.oci_store.proofs.Leaves.{IsChecked-leaf, HasAll-leaf}
 use Rattle.oci_copy.specs.Cause.{CanFail, IsStepCause}
-use Rattle.oci_copy.proofs.Growth.{keeps_answered, keeps_lost}
+use Rattle.oci_copy.proofs.Growth.{keeps_drafted, drafted_running}
 use Rattle.oci_copy.proofs.Workers.{step_from_push, step_from_lost, held_after, halted_after, halted_before, can_fail}
 use Rattle.oci_copy.proofs.locked.LockedDestination.push_draft.Goals as goal
 
 pub invariant_of-self : goal.invariant_of-self
 invariant_of-self g c =
-    let k = c.args.key.now in
-    let was = c.self.invariant in
-    let ran_out = c.has_run_out-self-inside.ensures in
-    elim c.requires.own [
-      | inl lost ↦
-          let did = c.push_draft-pushed.ensures.lost lost in
-          (keeps_lost did was.0, halted_after was.1 did.running ran_out.before ran_out.now)
-      | inr drafted ↦
-          let own = drafted.1 in
-          let did = c.push_draft-pushed.ensures.pushed drafted.0 own.is_drafted own.matching in (
-            keeps_answered {listed = []} _ did own.own c.requires.planned (sym c.if-has.ensures) (IsChecked-leaf k drafted.0 [] c.requires.leaf own.matching refl) was.0,
-            halted_after was.1 did.running ran_out.before ran_out.now,
-          )
-    ]
+    let did = c.push_draft-pushed.ensures in
+    let ran_out = c.has_run_out-self-inside.ensures in (
+      keeps_drafted c.requires.own did.lost did.pushed c.requires.leaf c.requires.planned (sym c.if-has.ensures) c.self.invariant.0,
+      halted_after c.self.invariant.1 (drafted_running g.T.CopyStart.source c.requires.own did.lost did.pushed) ran_out.before ran_out.now,
+    )
 
 pub invariant_of-self-in-Err : goal.invariant_of-self-in-Err
 invariant_of-self-in-Err g c =
-    let k = c.args.key.now in
-    let was = c.self.invariant in
-    let ran_out = c.has_run_out-self-inside.ensures in
-    elim c.requires.own [
-      | inl lost ↦
-          let did = c.push_draft-pushed.ensures.lost lost in
-          (keeps_lost did was.0, halted_after was.1 did.running ran_out.before ran_out.now)
-      | inr drafted ↦
-          let own = drafted.1 in
-          let did = c.push_draft-pushed.ensures.pushed drafted.0 own.is_drafted own.matching in (
-            keeps_answered {listed = []} _ did own.own c.requires.planned (sym c.if-has.ensures) (IsChecked-leaf k drafted.0 [] c.requires.leaf own.matching refl) was.0,
-            halted_after was.1 did.running ran_out.before ran_out.now,
-          )
-    ]
+    let did = c.push_draft-pushed.ensures in
+    let ran_out = c.has_run_out-self-inside.ensures in (
+      keeps_drafted c.requires.own did.lost did.pushed c.requires.leaf c.requires.planned (sym c.if-has.ensures) c.self.invariant.0,
+      halted_after c.self.invariant.1 (drafted_running g.T.CopyStart.source c.requires.own did.lost did.pushed) ran_out.before ran_out.now,
+    )
 
 pub by-requires-in-Ok : goal.by-requires-in-Ok
 by-requires-in-Ok g c =
@@ -63,22 +45,22 @@ returns-in-Err-clause-cause g c =
     let source = g.T.CopyStart.source in
     let earlier = c.has_run_out-self-inside.ensures.before in
     let is_err = λ (f : PushFault) (same : c.in-Err.fault ≡ f). c.in-Err.is ∙ ap (λ (e : PushFault). Err e) same in
-    elim c.locked_fault.ensures.halted [
+    elim c.locked_fault.ensures [
       | inl memory ↦ subst (IsStepCause (CanFail g.D.Store.state opening) source opening k) (sym memory) (tt)
-      | inr not ↦
-          elim c.requires.own [
+      | inr told ↦
+          subst (IsStepCause (CanFail g.D.Store.state opening) source opening k) (sym told.0) (elim c.requires.own [
             | inl lost ↦
                 let did = c.push_draft-pushed.ensures.lost lost in
-                step_from_lost (CanFail g.D.Store.state opening) source opening before.nodes k (sym c.if-has.ensures) c.in-Err.fault c.locked_fault.result (rw c.in-Err.is at did.keys.checked)
+                step_from_lost (CanFail g.D.Store.state opening) source opening before.nodes k (sym c.if-has.ensures) c.in-Err.fault (rw c.in-Err.is at did.keys.checked)
                 (λ same. can_fail g.D.Store.state opening before c.push_draft-pushed.new.self was.0.rising (did.device (is_err _ same)))
-                (λ same. halted_before c.self.inside.ran_out c.has_run_out-self-inside.result was.1 earlier (not same) (did.halted (is_err _ same))) c.locked_fault.ensures.reports
+                (λ same. halted_before c.self.inside.ran_out c.has_run_out-self-inside.result was.1 earlier (told.1 same) (did.halted (is_err _ same)))
             | inr drafted ↦
                 let own = drafted.1 in
                 let did = c.push_draft-pushed.ensures.pushed drafted.0 own.is_drafted own.matching in
                 step_from_push (CanFail g.D.Store.state opening) source opening before.nodes k drafted.0 []
-                (sym c.if-has.ensures) (IsChecked-leaf k drafted.0 [] c.requires.leaf own.matching refl) (HasAll-leaf before.nodes k drafted.0 c.requires.leaf) c.in-Err.fault c.locked_fault.result
+                (sym c.if-has.ensures) (IsChecked-leaf k drafted.0 [] c.requires.leaf own.matching refl) (HasAll-leaf before.nodes k drafted.0 c.requires.leaf) c.in-Err.fault
                 (rw c.in-Err.is at did.keys.checked)
                 (λ same. can_fail g.D.Store.state opening before c.push_draft-pushed.new.self was.0.rising (did.device (is_err _ same)))
-                (λ same. halted_before c.self.inside.ran_out c.has_run_out-self-inside.result was.1 earlier (not same) (did.halted (is_err _ same))) c.locked_fault.ensures.reports
-          ]
+                (λ same. halted_before c.self.inside.ran_out c.has_run_out-self-inside.result was.1 earlier (told.1 same) (did.halted (is_err _ same)))
+          ])
     ]
