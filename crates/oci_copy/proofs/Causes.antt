@@ -94,7 +94,7 @@ module _ (source before now : State) (k : Descriptor) (bytes : List ℕ) (listed
   lacks : has_key now.nodes k ≡ false
   lacks = subst (λ (graph : List Node). has_key graph k ≡ false) (sym same) fresh
 
-  -- what a refused push is reported as has its cause
+  -- why a key is not pushed at its turn
   pub turn_cause : (e : PushFault) (reported : CopyFault) → Refused e (closed_check before.nodes k bytes) → (e ≡ push.Device → HasFailed before now) → (e ≡ push.Halted → before.is_halted)
       → (reported ≡ fault.Memory) ⊎ (reported ≡ of_push k e) → IsTurnCause now source before k reported
   turn_cause e reported refused device halt tells = reported_as (IsTurnCause now source before k) (of_push k e) reported tells (lacks, inl tt) (lacks, elim push_caused [

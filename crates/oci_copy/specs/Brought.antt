@@ -11,8 +11,8 @@ use Rattle.oci_copy.specs.Grown.{graph_of}
 use Rattle.oci_copy.specs.Planned.{CanBeRead}
 use Rattle.oci_copy.specs.declared.fault.CopyFault.{CopyFault}
 
--- the key can be pushed: the source has it and the destination lacks it, and of an honest source it reads, and the destination has all
--- that it lists
+-- the key can be pushed: the source has it and the destination does not; with an honest source, its
+-- bytes read and the destination has all that it lists
 pub record CanBring (source now : State) (k : Descriptor) : Type 0 where
   pub there : has_key source.entries k ≡ true
   pub fresh : has_key now.nodes k ≡ false
@@ -25,9 +25,9 @@ IsDrafted lost drafted source k = lost ⊎ ((bytes : List ℕ) × IsDraftOf draf
 
 -- the effect of a push of the key, by its result
 pub record IsBrought {X : Type 0} (source old new : State) (k : Descriptor) (answer : Result X CopyFault) : Type 0 where
-  -- the key stands after the others; where it is refused, for its cause, they are as they were
+  -- a pushed key comes after the others; a refused push leaves them unchanged, and has a cause
   pub pushed : OnOk answer (keys_of new.nodes ≡ keys_of old.nodes ++ k ∷ [])
   pub refused : OnErr answer (new.nodes ≡ old.nodes)
   pub cause : IfErr answer (IsTurnCause new source old k)
-  -- a push that is done halts nothing
+  -- a successful push halts nothing
   pub running : OnOk answer (new.is_halted → old.is_halted)

@@ -18,8 +18,9 @@ use Rattle.oci_copy.specs.Destination.{IsClosedWhenSkipping, IsNotClosedWhenSkip
 use Rattle.oci_copy.specs.declared.fault.CopyFault.{CopyFault}
 use Rattle.oci_copy.specs.declared.fault.CopyFault.TheVariants as fault
 
--- why there is no plan: what the fault names is at fault; it is no key that only the destination has, and none that the plan
--- does not visit; it was met on the way from the roots; and of an honest source it is the first that is at fault
+-- why there is no plan: the keys that the fault names are at fault, none of them is only in the
+-- destination, the plan visits each, and each was met on the way from the roots; with an honest
+-- source, no fault comes before this one
 pub record IsPlanCause (source : State) (options : Options) (opening : State) (roots : List Descriptor) (e : PlanFault) : Type 0 where
   pub refusal : e ≢ plan.Memory
   pub named : IsKeyFault source.is_honest source.fails_at source.entries (limit_of options) e
@@ -28,35 +29,38 @@ pub record IsPlanCause (source : State) (options : Options) (opening : State) (r
   pub met : NamesMet options.existing source.entries opening.nodes roots e
   pub first : source.is_honest → IsFirstFault options.existing source.entries opening.nodes roots (limit_of options) e
 
--- the copy has to bring the key, as far as the source is honest
+-- if the source is honest, the copy has to bring the key
 abbrev pub IsWanted : Existing → State → State → List Descriptor → Descriptor → Type 0
 IsWanted existing source opening roots k = source.is_honest → IsToBring existing (graph_of source) opening.nodes roots k
 
--- a put failed between the two states, or so many had failed before that no more are counted
+-- a put failed between the two states, or the count of failed puts is at its greatest value and
+-- stays
 abbrev pub HasFailed : State → State → Type 0
 HasFailed opening now = (opening.failures < now.failures) ⊎ (now.failures ≡ 2 ^ 64 - 1)
 
--- puts of a store of this kind may have failed since the opening: across a lock no more is known of a failed put
+-- a store of this kind may have failed puts since the opening: across a lock no more is known of a
+-- failed put
 abbrev pub CanFail : {X : Type 0} → (X → State) → State → Type 0
 CanFail {X} state opening = (store : X) × HasFailed opening (state store)
 
--- why the content of a planned key is not to be had: the source's device fails there, or the bytes that were fetched match the key
--- and do not read, for the reason that the fault gives, which no honest source's do
+-- why the content of a planned key cannot be had: the device of the source fails there, or the
+-- fetched bytes match the key and do not read, for the reason in the fault; no honest source has
+-- such bytes
 abbrev pub IsContentCause : State → Descriptor → CopyFault → Type 0
 IsContentCause source k (fault.Fetch named e) = (named ≡ k) × (source.fails_at k ≡ true) × IsDeviceFault e
 IsContentCause source k (fault.Push named (push.BadManifest e)) = (named ≡ k) × IsUnread source.is_honest source.entries k e × (source.is_honest → ⊥)
 IsContentCause source k fault.Memory = Unit {0}
 IsContentCause source k e = ⊥
 
--- why a planned key is not pushed: its content is not to be had, a put failed, which is said by the first type, or the destination
--- had halted
+-- why a planned key is not pushed: its content cannot be had, a put failed, as the first type
+-- states, or the destination had halted
 abbrev pub IsStepCause : Type 0 → State → State → Descriptor → CopyFault → Type 0
 IsStepCause failed source opening k (fault.Push named push.Device) = (named ≡ k) × failed
 IsStepCause failed source opening k (fault.Push named push.Halted) = (named ≡ k) × opening.is_halted
 IsStepCause failed source opening k e = IsContentCause source k e
 
--- the bytes that were fetched match the key and list one that the destination does not hold, which no honest source's do at
--- the key's turn; the first such key is this
+-- the fetched bytes match the key and list a key that the destination does not hold, and `missing`
+-- is the first such key; no honest source has such bytes at the turn of the key
 pub record IsTooEarly (source now : State) (k : Descriptor) : Type 0 where
   pub bytes : List ℕ
   pub listed : List Descriptor
@@ -66,13 +70,13 @@ pub record IsTooEarly (source now : State) (k : Descriptor) : Type 0 where
   pub first : first_missing now.nodes listed ≡ Some missing
   pub dishonest : source.is_honest → ⊥
 
--- why a planned key is not pushed at its turn on one thread, where failed puts are counted, and is not held: one of these causes, or
--- it comes too early
+-- why a planned key is not pushed at its turn on one thread: it is not held afterwards, and one of
+-- the causes above holds, with the failed puts of this destination, or the key is too early
 abbrev pub IsTurnCause : State → State → State → Descriptor → CopyFault → Type 0
 IsTurnCause now source opening k e = (has_key now.nodes k ≡ false)
     × (IsStepCause (HasFailed opening now) source opening k e ⊎ ((e ≡ fault.Stuck k) × IsTooEarly source now k))
 
--- memory ran out, or one of these is refused for this cause
+-- a memory error, or a fault that has its cause at one of these
 abbrev pub RefusedAt : {X : Type 0} → (X → Type 0) → (X → CopyFault → Type 0) → CopyFault → Type 0
 RefusedAt {X} these cause e = (e ≡ fault.Memory) ⊎ ((x : X) × these x × cause x e)
 
@@ -88,6 +92,7 @@ IsRefusal step options source opening roots fault.Memory = Unit {0}
 IsRefusal step options source opening roots e = IsClosedWhenSkipping options.existing opening.nodes
     × ((k : Descriptor) × IsWanted options.existing source opening roots k × step source opening k e)
 
--- why a copy by workers is refused: there are more than 64, or not, and there is this cause
+-- why a copy by workers is refused: more than 64 workers are asked for, or at most 64 are and the
+-- copy has this cause
 abbrev pub RefusedByWorkers : ℕ → (CopyFault → Type 0) → CopyFault → Type 0
 RefusedByWorkers workers cause e = ((e ≡ fault.BadWorkers) × (64 < workers)) ⊎ ((workers ≤ 64) × cause e)

@@ -1,4 +1,4 @@
--- What a copy does to its destination.
+-- The effect of a copy on its destination.
 use Rattle.std.specs.Prelude.{◌≡◌, ◌≤◌, true, List, ◌++◌}
 use Rattle.std.specs.List.{All}
 use Rattle.oci_manifest.specs.Descriptor.{Descriptor}
@@ -16,43 +16,47 @@ use Rattle.oci_copy.specs.Options.{limit_of}
 use Rattle.oci_copy.specs.Destination.{IsClosedWhenSkipping}
 use Rattle.oci_copy.specs.Grown.{graph_of, BeginsWith, IsGrown, HasKnownBytes, ListsByBytes}
 
--- the destination is a copy: it has what it had, and what the source reaches from the roots, and nothing else
+-- the destination is a copy: it has its earlier contents and all that the source reaches from the
+-- roots, and nothing else
 pub record IsCopy (shares : Type 0) (options : Options) (source opening : State) (roots : List Descriptor) (now : State) : Type 0 where
-  -- so of keys and of what each lists, where the source is honest and the two graphs agree
+  -- so for the keys and what each lists, if the source is honest and the two graphs agree
   pub graph : source.is_honest → Agree (graph_of source) opening.nodes
       → IsCopied (graph_of source) (graph_of source) roots opening.nodes now.nodes
-  -- there too, every key that the source reaches is held
+  -- then every key that the source reaches is held
   pub reached : source.is_honest → Agree (graph_of source) opening.nodes
       → (k : Descriptor) → Reaches (graph_of source) roots k → has_key now.nodes k ≡ true
-  -- so of bytes, where they are known and the two contents agree
+  -- so for the bytes, if they are known and the two contents agree
   pub content : HasKnownBytes shares source opening now → Agree source.entries opening.entries
       → IsCopied (graph_of source) source.entries roots opening.entries now.entries
   -- the roots are held
   pub roots_held : HasAll now.nodes roots
-  -- the destination was closed, where what it has is skipped
+  -- the destination was closed, if the copy skips the keys that it has
   pub was_closed : IsClosedWhenSkipping options.existing opening.nodes
-  -- an honest source had every key that was visited, and each manifest among them is within the limit and reads; where held
-  -- keys are visited, but for those that it does not have
+  -- an honest source had every visited key, and each manifest among them is within the limit and
+  -- reads; if the copy visits held keys, the source may lack these
   pub was_sound : source.is_honest → (k : Descriptor) → IsVisited options.existing (graph_of source) opening.nodes roots k
       → IsSoundVisit options.existing source.entries opening.nodes (limit_of options) k
 
--- the destination lost nothing, and gained nothing but what the source reaches from the roots: so after a refusal too
+-- the destination lost nothing, and gained only what the source reaches from the roots, also after
+-- an error
 pub record OnlyGrows (shares : Type 0) (source opening : State) (roots : List Descriptor) (now : State) : Type 0 where
-  -- its keys begin with those that it had, in their order
+  -- its keys begin with its earlier keys, in their order
   pub begins : BeginsWith opening.nodes now.nodes
-  -- what an honest source brought are its keys that the roots reach, and what each lists is what the source's bytes list
+  -- the new keys from an honest source are reached from the roots, and each lists what its bytes
+  -- list in the source
   pub grown : source.is_honest → IsGrown (graph_of source) (graph_of source) roots opening.nodes now.nodes
-  -- so of bytes, where they are known; and there the destination stays sound
+  -- so for the bytes, if they are known; the destination then stays sound
   pub grown_content : HasKnownBytes shares source opening now → IsGrown (graph_of source) source.entries roots opening.entries now.entries
   pub sound : HasKnownBytes shares source opening now → now.is_sound
-  -- whatever the source's device has now, each new key is a root, or bytes that match such a key of the source list it
+  -- whatever the source's device has now, each new key is a root, or bytes that match another such
+  -- key of the source list it
   pub met : (added : List Node) × (now.nodes ≡ opening.nodes ++ added) × All (λ (n : Node). IsMet Descend source.entries opening.nodes roots n.0) added
-  -- it has all that the new keys list
+  -- all that the new keys list is held
   pub whole : (added : List Node) × (now.nodes ≡ opening.nodes ++ added) × All (λ (n : Node). HasAll now.nodes n.1) added
-  -- of any source: what a new key lists is what bytes that match the key list
+  -- from any source: each new key lists what bytes that match it list
   pub checked : (added : List Node) × (now.nodes ≡ opening.nodes ++ added) × All ListsByBytes added
-  -- where it was closed it is closed
+  -- if it was closed, it is closed
   pub closed : IsClosed opening.nodes → IsClosed now.nodes
-  -- no failed put is forgotten, and it is the same store
+  -- the count of failed puts does not fall, and it is the same store
   pub failures : opening.failures ≤ now.failures
   pub name : now.name ≡ opening.name

@@ -26,7 +26,7 @@ number_of fault.Memory = 86
 number_of (fault.Reference e) = 87
 number_of (fault.Fetch k e) = 88
 
--- a refusal that comes only before the first push
+-- a fault that is only returned before the first push
 abbrev pub IsEarly : CopyFault → Type 0
 IsEarly (fault.DestinationOpen holder missing) = Unit {0}
 IsEarly (fault.Plan e) = Unit {0}

@@ -1,4 +1,4 @@
--- What a run of pushes keeps true of its destination.
+-- The facts that a run of pushes keeps of its destination.
 use Rattle.std.specs.Prelude.{◌≡◌, ◌≤◌, ◌↔◌, List, ◌++◌, Some, Contains}
 use Rattle.std.specs.List.{All}
 use Rattle.oci_manifest.specs.Descriptor.{Descriptor}
@@ -7,35 +7,37 @@ use Rattle.oci_store.specs.Graph.{Node}
 use Rattle.oci_store.specs.State.{State}
 use Rattle.oci_copy.specs.Grown.{graph_of, HasKnownBytes, ListsByBytes}
 
--- these are the source's pairs of planned keys
+-- these are pairs of the source whose keys are planned
 abbrev pub ArePlanned : {X : Type 0} → List (Descriptor × X) → List Descriptor → List (Descriptor × X) → Type 0
 ArePlanned {X} source planned added =
     All (λ (e : Descriptor × X). Contains planned e.0 × (value_at source e.0 ≡ Some e.1)) added
 
--- the pairs are the opening ones, and then the source's pairs of planned keys
+-- the pairs are the opening ones, and then pairs of the source whose keys are planned
 pub record IsOpeningAnd {X : Type 0} (source : List (Descriptor × X)) (planned : List Descriptor) (opening now : List (Descriptor × X)) : Type 0 where
   pub added : List (Descriptor × X)
   pub is : now ≡ opening ++ added
   pub each : ArePlanned source planned added
 
--- what a run of pushes of planned keys keeps true of its destination, from its opening until now
+-- the facts that a run of pushes of planned keys keeps of its destination, from its opening until
+-- now
 pub record Keeps (shares : Type 0) (source : State) (planned : List Descriptor) (opening now : State) : Type 0 where
-  -- what was added is planned, and all that it lists is held
+  -- the added keys are planned, and all that they list is held
   pub added : List Node
   pub is : now.nodes ≡ opening.nodes ++ added
   pub planned_keys : All (λ (n : Node). Contains planned n.0) added
   pub supported : All (λ (n : Node). HasAll now.nodes n.1) added
-  -- of any source: what it lists is what bytes that match its key list
+  -- from any source: each added key lists what bytes that match it list
   pub checked : All ListsByBytes added
-  -- of an honest source it is what the source has, and where the bytes are known, so are the bytes
+  -- from an honest source, each added node is the source's; if the bytes are known, so is each
+  -- added entry
   pub own : source.is_honest → All (λ (n : Node). value_at (graph_of source) n.0 ≡ Some n.1) added
   pub known : HasKnownBytes shares source opening now → now.is_sound × IsOpeningAnd source.entries planned opening.entries now.entries
-  -- the rest is as it was, but for puts that failed
+  -- the rest is unchanged, except the count of failed puts
   pub rising : opening.failures ≤ now.failures
   pub tags : now.tags ≡ opening.tags
   pub name : now.name ≡ opening.name
 
--- the source gives what a run noted of it when it began
+-- the source is as a run noted it when it began
 pub record IsNoted (noted now : State) : Type 0 where
   pub entries : now.entries ≡ noted.entries
   pub fails_at : now.fails_at ≡ noted.fails_at

@@ -1,4 +1,4 @@
--- Why a copy is refused where neither store fails.
+-- Why a copy is refused if neither store fails.
 use Rattle.std.specs.Prelude.{◌≡◌, false, List}
 use Rattle.oci_manifest.specs.Descriptor.{Descriptor}
 use Rattle.oci_store.specs.Keyed.{has_key}
@@ -15,8 +15,9 @@ use Rattle.oci_copy.specs.Destination.{IsClosedWhenSkipping}
 use Rattle.oci_copy.specs.declared.fault.CopyFault.{CopyFault}
 use Rattle.oci_copy.specs.declared.fault.CopyFault.TheVariants as fault
 
--- neither store fails: the source is honest, its contents read, and it gives each of them; the destination was closed where
--- the copy skips what it has, it took content, and none of its puts has failed
+-- neither store fails: the source is honest, its contents read, and it returns each of them; the
+-- destination was closed if the copy skips the keys that it has, it had not halted, and none of its
+-- puts has failed
 pub record IsUnfailing (existing : Existing) (source opening now : State) : Type 0 where
   pub is_honest : source.is_honest
   pub content : IsContent source.entries
@@ -25,13 +26,14 @@ pub record IsUnfailing (existing : Existing) (source opening now : State) : Type
   pub takes : opening.is_halted → ⊥
   pub no_failures : now.failures ≡ 0
 
--- neither store fails, whatever the destination has become
+-- neither store fails, whatever the state of the destination now
 abbrev pub NeitherFails : {X : Type 0} → Existing → (X → State) → State → State → Type 0
 NeitherFails {X} existing state source opening = (store : X) → IsUnfailing existing source opening (state store)
 
--- where neither store fails a copy is refused for a memory error, or since there is no plan: the first visited key that is at fault is
--- in neither store, or it is too large and not only in the destination; or a cycle is to be brought, and every visited key is sound; or
--- too many keys are to be brought, and those visited so far are sound
+-- if neither store fails, a copy is refused for a memory error, or because there is no plan: the
+-- first visited key at fault is in neither store, or is too large and not only in the destination;
+-- or a cycle is to be brought, and every visited key is sound; or too many keys are to be brought,
+-- and the keys visited so far are sound
 abbrev pub RefusedForPlan : List Entry → Options → List Node → List Descriptor → CopyFault → Type 0
 RefusedForPlan source options opening roots (fault.Plan (plan.NotFound k)) =
     IsNextVisited options.existing (nodes_of source) source opening roots (limit_of options) k

@@ -1,4 +1,4 @@
--- What a copy knows of its plan.
+-- The facts about its plan that a copy uses.
 use Rattle.std.specs.Prelude.{◌≡◌, ℕ, true, false, List, filter, Some, IsOk, ◌⊎◌, ◌↔◌, Contains}
 use Rattle.std.specs.List.{All}
 use Rattle.oci_manifest.specs.Descriptor.{Descriptor}
@@ -15,12 +15,12 @@ use Rattle.oci_copy.specs.Grown.{graph_of}
 use Rattle.oci_copy.specs.declared.options.Options.{Options}
 use Rattle.oci_copy.specs.Options.{limit_of}
 
--- the bytes that a content has under the key read
+-- if there are bytes under the key, they read
 abbrev pub CanBeRead : List Entry → Descriptor → Type 0
 CanBeRead entries k = (bytes : List ℕ) → value_at entries k ≡ Some bytes → IsOk (succ_of k bytes)
 
--- the keys can be pushed in the plan's order: the source has them, the destination has none of them, and of an honest source
--- they read and each comes after what it lists
+-- the keys can be pushed in the order of the plan: the source has all of them and the destination
+-- none; with an honest source their bytes read, and each key comes after the keys that it lists
 pub record CanPush (source opening : State) (p : Planned) : Type 0 where
   pub plan : IsPlan p
   pub order : IsOrder p.order
@@ -29,8 +29,9 @@ pub record CanPush (source opening : State) (p : Planned) : Type 0 where
   pub reads : source.is_honest → All (CanBeRead source.entries) p.keys
   pub follows : source.is_honest → FollowsListed (graph_of source) opening.nodes p
 
--- it is the plan of a copy of these roots: they are held or planned, the held ones are named as skipped, each key was met on the
--- way from the roots, and of an honest source the keys are those to bring, and each visited key is sound under the limit
+-- it is the plan of a copy from these roots: each root is held or planned, the held ones are listed
+-- as skipped, and each planned key was met on the way from the roots; with an honest source, the
+-- planned keys are exactly the keys to bring, and each visited key is sound under the limit
 pub record IsPlanOf (source : State) (options : Options) (opening : State) (roots : List Descriptor) (p : Planned) : Type 0 where
   pub can_push : CanPush source opening p
   pub roots_held : All (λ k. (has_key opening.nodes k ≡ true) ⊎ Contains p.keys k) roots

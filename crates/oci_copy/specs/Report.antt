@@ -12,25 +12,25 @@ use Rattle.oci_plan.specs.declared.gathering.Existing.{Existing}
 use Rattle.oci_copy.specs.Grown.{graph_of}
 use Rattle.oci_copy.specs.declared.report.Report.{Report}
 
--- so many keys are to be brought
+-- this is the number of keys to bring
 abbrev pub IsToBringCount : Existing → List Node → List Node → List Descriptor → ℕ → Type 0
 IsToBringCount existing source held roots n = (keys : List Descriptor) × IsDistinct same_key keys
     × ((k : Descriptor) → Contains keys k ↔ IsToBring existing source held roots k) × (length keys ≡ n)
 
--- how many distinct roots are held
+-- the number of distinct roots that are held
 abbrev pub held_count : List Node → List Descriptor → ℕ
 held_count held roots = length (first_places (filter (has_key held) roots))
 
--- what a copy that succeeded reports
+-- the report of a successful copy
 pub record IsReport (existing : Existing) (source opening : State) (roots : List Descriptor) (now : State) (report : Report) : Type 0 where
-  -- of an honest source as many keys were planned as were to be brought
+  -- with an honest source, the number of planned keys is the number of keys to bring
   pub planned : source.is_honest → IsToBringCount existing (graph_of source) opening.nodes roots report.planned
-  -- all of them were pushed, and so many keys came
+  -- all of them were pushed, and the destination gained that many keys
   pub pushed : report.planned ≡ report.pushed
   pub gained : length now.nodes ≡ length opening.nodes + report.pushed
-  -- so many distinct roots were held
+  -- the number of distinct roots that were held
   pub skipped : report.skipped ≡ held_count opening.nodes roots
 
--- how a report prints: each number in decimal after its name, with a space between
+-- the text of a report: each number in decimal after its name, with a space between
 abbrev pub report_text : Report → List ℕ
 report_text r = codes "planned " ++ decimal r.planned ++ codes " pushed " ++ decimal r.pushed ++ codes " skipped " ++ decimal r.skipped

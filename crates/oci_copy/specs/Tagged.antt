@@ -8,7 +8,7 @@ use Rattle.oci_store.specs.declared.fault.RefFault.TheVariants as reference
 use Rattle.oci_copy.specs.declared.fault.CopyFault.{CopyFault}
 use Rattle.oci_copy.specs.declared.fault.CopyFault.TheVariants as fault
 
--- the tag that a copy sets: the destination's reference, or the source's where that is empty
+-- the tag that a copy sets: the destination's reference, or the source's if that is empty
 abbrev pub name_of : List ℕ → List ℕ → List ℕ
 name_of source_reference destination_reference = if length destination_reference == 0 then source_reference else destination_reference
 
@@ -16,7 +16,7 @@ name_of source_reference destination_reference = if length destination_reference
 abbrev pub ResolvesIn : State → List ℕ → Descriptor → Type 0
 ResolvesIn store name k = Resolves (keys_of store.nodes) store.tags name k
 
--- there is no root as yet, or it is the key that the reference resolves to
+-- there is no root yet, or it is the key that the reference resolves to
 abbrev pub IsRootOf : State → List ℕ → List Descriptor → Type 0
 IsRootOf store name roots = (roots ≡ []) ⊎ ((k : Descriptor) × (roots ≡ k ∷ []) × ResolvesIn store name k)
 

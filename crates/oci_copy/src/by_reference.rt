@@ -21,15 +21,22 @@ use std::slice;
 use std::sync::Wait;
 use std::thread::Threads;
 
-/// Copies what a reference of the source resolves to, and tags it in the destination (oras-go v2,
-/// "Copy").
+/// Copies the graph under the key that a reference of the source resolves to, and tags that key in
+/// the destination (oras-go v2, "Copy").
 ///
-/// The tag is the destination's reference, or the source's where that is empty; it is set last.
-/// Beside the report comes the key that was copied.
+/// The tag is the destination's reference, or the source's if the destination's is empty. It is set
+/// last. The key is returned with the report.
 ///
-/// Refused, in this order, with `Reference`, where the source's reference does not resolve; with
-/// `BadWorkers`, over 64; and as `copy_graph` of that root. A refusal leaves the tags as they were.
-/// With `Memory` the copy may be complete.
+/// # Errors
+///
+/// In this order:
+///
+/// - 87 `Reference` if the source's reference is empty or does not resolve. Nothing is changed.
+/// - 85 `BadWorkers` and the other errors of [`copy_graph`] from that key, with the state that they
+///   leave.
+///
+/// 86 `Memory` can be returned at any point, also after a complete copy whose tag failed. An error
+/// leaves the tags as they were.
 pub fn copy<
     A: Source + Tagger + Sync,
     D: Dest + Tagger + Drop + Send,
@@ -89,7 +96,7 @@ where
     }
 }
 
-/// The key that a reference of the source resolves to.
+/// Returns the key that a reference of the source resolves to.
 pub(crate) fn resolve_root<A: Tagger>(source: &A, reference: &str) -> Result<Key, CopyFault>
     ensures found { IfOk result (ResolvesIn (A.state source.now) reference.now) }
     ensures named { OnOk result (reference.now ≢ []) }
@@ -126,7 +133,7 @@ pub(crate) fn tag_copied<D: Tagger>(
     }
 }
 
-/// The name that the copied key gets.
+/// Returns the name of the tag that the copied key gets.
 fn tag_name<'a>(source_reference: &'a str, destination_reference: &'a str) -> &'a str
     ensures { result.now ≡ name_of source_reference.now destination_reference.now }
 {

@@ -19,14 +19,17 @@ use std::alloc::Global;
 use std::sync::Wait;
 use std::thread::Threads;
 
-/// `copy_graph` from a store in memory to a closed one: the copy by workers in the plainest words.
+/// Copies from a store in memory to a closed one: `copy_graph` with the plainest contract.
 ///
-/// After a copy that succeeds, with any number of workers, where the two stores agree, the
-/// destination has exactly what it had and what the source reaches from the roots, each content
-/// matching its key. It is closed after a refusal too.
+/// After a successful copy with any number of workers, if the two stores agree, the destination has
+/// exactly its earlier contents and the contents that the source reaches from the roots. Each
+/// content matches its key. The destination is also closed after an error.
 ///
-/// Refused with `BadWorkers`, over 64, and for `Plan` with `NotFound`, `TooLarge`, `Cycle` or
-/// `TooMany`, with which nothing is changed, and for `Memory`; for nothing else.
+/// # Errors
+///
+/// - 85 `BadWorkers` if `options.workers` is over 64. Nothing is changed.
+/// - 81 `Plan` with 53 `NotFound`, 54 `TooLarge`, 55 `Cycle` or 59 `TooMany`. Nothing is changed.
+/// - 86 `Memory` at any point. The keys pushed before stay.
 pub fn copy_memory_by_workers<R: Threads + Wait + Sync, H: Hooks + Sync>(
     rt: &R,
     alloc: Global,
@@ -46,8 +49,8 @@ pub fn copy_memory_by_workers<R: Threads + Wait + Sync, H: Hooks + Sync>(
         roots.now)) }
     ensures unchanged { IfErr result.1 (λ fault. IsEarly fault → result.0 ≡ destination) }
 {
-    // These calls do nothing here. Their contracts say what each store keeps before the copy, and
-    // the call below after it.
+    // No-ops at run time: they bring the stores' invariants into the proof. So does the call below,
+    // after the copy.
     let _readable = source.len();
     let _closed = destination.memory();
     let (destination, copied) = copy_graph(rt, alloc, source, destination, roots, options, hooks);
@@ -55,18 +58,21 @@ pub fn copy_memory_by_workers<R: Threads + Wait + Sync, H: Hooks + Sync>(
     (destination, copied)
 }
 
-/// Brings what a store in memory lacks under some roots, below what it holds too, from another:
-/// `copy_graph` with [`Existing::Descend`] in the plainest words. The destination need not be
-/// closed.
+/// Copies the keys that a store in memory lacks under some roots, also below the keys that it
+/// holds: `copy_graph` with [`Existing::Descend`] and the plainest contract. The destination need
+/// not be closed.
 ///
-/// After a repair that succeeds, with any number of workers, where the two stores agree, the
-/// destination has exactly what it had and what the source reaches from the roots, each content
-/// matching its key. What it lacked elsewhere it still lacks. The options say how many workers
-/// there are and how large a manifest may be, and no more.
+/// After a successful repair with any number of workers, if the two stores agree, the destination
+/// has exactly its earlier contents and the contents that the source reaches from the roots. Each
+/// content matches its key. Keys that it lacked elsewhere are still missing. Of the options, only
+/// the number of workers and the maximum size of a manifest are used.
 ///
-/// Refused with `BadWorkers`, over 64, and for `Plan` with `NotFound`, `TooLarge`, `Cycle` or
-/// `TooMany`, with which nothing is changed, and for `Memory`; for nothing else. No key that the
-/// destination has and the source lacks is at fault.
+/// # Errors
+///
+/// - 85 `BadWorkers` if `options.workers` is over 64. Nothing is changed.
+/// - 81 `Plan` with 53 `NotFound`, 54 `TooLarge`, 55 `Cycle` or 59 `TooMany`. Nothing is changed. A
+///   key that the destination has and the source lacks is no error.
+/// - 86 `Memory` at any point. The keys pushed before stay.
 pub fn repair_memory_by_workers<R: Threads + Wait + Sync, H: Hooks + Sync>(
     rt: &R,
     alloc: Global,
@@ -85,7 +91,7 @@ pub fn repair_memory_by_workers<R: Threads + Wait + Sync, H: Hooks + Sync>(
         (nodes_of destination.entries) roots.now)) }
     ensures unchanged { IfErr result.1 (λ fault. IsEarly fault → result.0 ≡ destination) }
 {
-    // This call does nothing here. Its contract says what the store keeps; so does the one below,
+    // A no-op at run time: it brings the store's invariant into the proof. So does the call below,
     // after the copy.
     let _readable = source.len();
     let descend = descending(options);

@@ -18,19 +18,20 @@ use std::alloc::Global;
 use std::sync::{Condvar, Mutex, Wait};
 use std::thread::Threads;
 
-/// The destination, with what the lock kept.
+/// Returns the destination of a run, with the facts that every state of the lock kept.
 fn finish<D: Dest, T: CopyStart>(locked: LockedDestination<D, T>) -> D
     ensures nodes { (D.state result).nodes ≡ locked }
     ensures distinct { HasDistinctKeys (D.state result).nodes }
     ensures keeps { Keeps D.shares T.source T.planned T.opening (D.state result) }
 {
     let destination = locked.into_destination();
-    // The contract of `count` gives the proof that no key is held twice.
+    // A no-op at run time: its contract states that no key is held twice.
     let _distinct = destination.count();
     destination
 }
 
-/// The fault of a copy whose run stopped. A run that is only incomplete goes on by a wait.
+/// Returns the fault of a copy whose run stopped, or nothing if the run is only incomplete. The
+/// copy then waits for the missing keys.
 fn reported<D: Dest, T: CopyStart>(workers: u32, fault: PoolFault<CopyFault>) -> Option<CopyFault>
     requires workers { workers ≤ 64 }
     requires fault { IsCause workers (λ n it. IsSomeAnd (slice_get T.planned n)
@@ -47,7 +48,8 @@ fn reported<D: Dest, T: CopyStart>(workers: u32, fault: PoolFault<CopyFault>) ->
     }
 }
 
-/// Runs the job of each planned key by workers, over what the run knows from its start on.
+/// Pushes each planned key by workers, and returns the destination. `T` notes the state of both
+/// stores at the start.
 pub(crate) fn run_copy_jobs<
     'a,
     A: Source + Sync,

@@ -4,13 +4,13 @@ ghost use Rattle.oci_store.specs.State.{State};
 
 use std::marker::Brand;
 
-/// What a run of workers knows from its start on. It has no value: what a run knows is noted once,
-/// when it begins.
+/// The state of both stores at the start of a run of workers, as the contracts name it. It has no
+/// value: it is noted once, when the run begins.
 pub trait CopyStart {
-    /// What the source means.
+    /// The state of the source.
     ghost source: { State };
 
-    /// What the destination meant when the run began.
+    /// The state of the destination when the run began.
     ghost opening: { State };
 
     /// The planned keys.

@@ -24,17 +24,19 @@ use std::alloc::Global;
 use std::sync::Wait;
 use std::thread::Threads;
 
-/// Copies a key of the source with what leads to it, and all that those reach, by workers (oras-go
-/// v2, "ExtendedCopyGraph").
+/// Copies a key of the source with the keys that lead to it and all that these reach, by workers
+/// (oras-go v2, "ExtendedCopyGraph").
 ///
-/// It is `copy_graph` whose roots are the answer of `climb`: the key, and every key of the source
-/// from which a path of at most `depth` edges leads to it; depth 0 sets no limit. So an image comes
+/// It is `copy_graph` from the roots that [`climb`] returns: the key, and every key of the source
+/// that has a path of at most `depth` edges to it. Depth 0 sets no limit. So an image is copied
 /// with its signatures and with the indexes that list it, and each of these with all that it lists.
 ///
-/// Refused as by `copy_graph` of these roots, in its order and with what it leaves. `Memory` may come
-/// at any point, in the climb too.
+/// Takes a lock and joins its workers. Termination is not proved.
 ///
-/// It takes a lock and joins its workers; no clause says that it returns.
+/// # Errors
+///
+/// The errors of [`copy_graph`] from these roots, in its order and with the state that they leave.
+/// The climb can also return 86 `Memory`.
 pub fn extended_copy_graph<
     A: GraphSource + Sync,
     D: Dest + Drop + Send,
@@ -83,16 +85,22 @@ where
     copy_graph(rt, alloc, source, destination, &roots, options, hooks)
 }
 
-/// Copies what a reference of the source resolves to with what leads to it, and tags it in the
-/// destination (oras-go v2, "ExtendedCopy").
+/// Copies the key that a reference of the source resolves to with the keys that lead to it and all
+/// that these reach, and tags that key in the destination (oras-go v2, "ExtendedCopy").
 ///
-/// It is `copy` by `extended_copy_graph`: the tag is the destination's reference, or the source's
-/// where that is empty, it names the key that the source's reference resolves to, and it is set
-/// last. Beside the report comes that key.
+/// It is `copy` by `extended_copy_graph`. The tag is the destination's reference, or the source's
+/// if the destination's is empty. It names the key that the source's reference resolves to, and is
+/// set last. That key is returned with the report.
 ///
-/// Refused, in this order, with `Reference`, where the source's reference does not resolve; and as
-/// `extended_copy_graph` of that key. A refusal leaves the tags as they were. With `Memory` the
-/// copy may be complete.
+/// # Errors
+///
+/// In this order:
+///
+/// - 87 `Reference` if the source's reference is empty or does not resolve. Nothing is changed.
+/// - The errors of [`extended_copy_graph`] of that key, with the state that they leave.
+///
+/// 86 `Memory` can be returned at any point, also after a complete copy whose tag failed. An error
+/// leaves the tags as they were.
 pub fn extended_copy<
     A: GraphSource + Tagger + Sync,
     D: Dest + Tagger + Drop + Send,

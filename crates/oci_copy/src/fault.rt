@@ -6,44 +6,46 @@ use oci_plan::PlanFault;
 use oci_store::{FetchFault, PushFault, RefFault};
 use thiserror::Error;
 
-/// Why a copy is refused.
+/// Why a copy failed.
 ///
-/// Out of memory, at any depth, is `Memory`, and no other variant contains it.
+/// Every memory error of a copy is `Memory`, and no other variant contains one.
 #[derive(Debug, Drop, Error)]
 pub enum CopyFault {
     /// The destination is not closed: the first key lists the second, which is not held. Nothing
     /// was changed.
     #[error("80 DestinationOpen {0} {1}")]
     DestinationOpen(Key, Key),
-    /// There is no plan. Nothing was changed.
+    /// The plan was refused. Nothing was changed.
     #[error("81 Plan {0}")]
     Plan(PlanFault),
-    /// The destination refused the key's content. What was pushed before stays.
+    /// The destination refused the key's content, or the content does not read. The keys pushed
+    /// before stay.
     #[error("82 Push {0} {1}")]
     Push(Key, PushFault),
-    /// The destination lacks what the key lists, or has the key. What was pushed before stays.
+    /// At the key's turn, its content lists a key that the destination lacks. Only
+    /// [`copy_one`](crate::copy_one) returns it. The keys pushed before stay.
     #[error("83 Stuck {0}")]
     Stuck(Key),
-    /// The workers have ended, and the destination lacks the key. What was pushed stays.
+    /// Never returned: a copy by workers waits for each planned key.
     #[error("84 Incomplete {0}")]
     Incomplete(Key),
     /// More than 64 workers were asked for. Nothing was changed.
     #[error("85 BadWorkers")]
     BadWorkers,
-    /// Memory was refused. What was pushed before stays.
+    /// Out of memory. The keys pushed before stay.
     #[error("86 Memory")]
     Memory,
-    /// The source's reference does not resolve. Nothing was changed. (A destination refuses the tag
-    /// of a key that it holds for lack of memory alone; the copy is then complete.)
+    /// The source's reference is empty or does not resolve. Nothing was changed. (A tag of a held
+    /// key fails only for lack of memory; the copy is then complete.)
     #[error("87 Reference {0}")]
     Reference(RefFault),
-    /// The source refused the key's content. What was pushed before stays.
+    /// The source refused the key's content. The keys pushed before stay.
     #[error("88 Fetch {0} {1}")]
     Fetch(Key, FetchFault),
 }
 
 impl CopyFault {
-    /// The number that the fault's line begins with.
+    /// Returns the number at the start of the fault's line.
     pub fn number(&self) -> u8
         ensures { result ≡ number_of self.now }
     {
@@ -61,7 +63,7 @@ impl CopyFault {
     }
 }
 
-/// A refused reference is reported as itself, or as out of memory where it was that.
+/// Converts a refused reference. A memory error becomes `Memory`.
 impl From<RefFault> for CopyFault {
     ghost use Rattle.oci_copy.specs.Fault.{of_reference};
 

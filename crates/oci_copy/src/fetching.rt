@@ -12,7 +12,8 @@ use crate::fault::CopyFault;
 use oci_manifest::{Key, Kind};
 use oci_store::{CheckedContent, Drafting, FetchFault, PushFault, Source, fetch_into};
 
-/// The content of a planned key, read. The fetch looked at its bytes, so they are not hashed again.
+/// Fetches and reads the content of a planned key. The fetch checked its bytes, so they are not
+/// hashed again.
 pub(crate) fn fetch_planned<A: Source>(source: &A, key: &Key) -> Result<CheckedContent, CopyFault>
     requires there { has_key (A.state source.now).entries key.now ≡ true }
     requires reads { (A.state source.now).is_honest
@@ -34,8 +35,8 @@ pub(crate) fn fetch_planned<A: Source>(source: &A, key: &Key) -> Result<CheckedC
     }
 }
 
-/// Whether a key's content is read part by part: it lists nothing, and its source does not hold it
-/// in memory.
+/// Returns whether a key's content is read part by part: if the key lists nothing, and the source
+/// may refuse a key that it holds.
 pub(crate) fn goes_by_parts<A: Source>(source: &A, key: &Key) -> bool
     ensures leaf { IsTrue result → IsLeaf key.now }
     ensures fails { IsTrue result → (A.state source.now).fails_at key.now ≡ true }
@@ -43,7 +44,7 @@ pub(crate) fn goes_by_parts<A: Source>(source: &A, key: &Key) -> bool
     Kind::of(key.media_type()) == Kind::Leaf && source.may_fail(key)
 }
 
-/// The content of a planned key, read into a draft, up to the first write that fails.
+/// Reads the content of a planned key into a draft, up to the first write that fails.
 pub(crate) fn draft_planned<A: Source, W: Drafting>(
     source: &A,
     key: &Key,
@@ -62,7 +63,7 @@ pub(crate) fn draft_planned<A: Source, W: Drafting>(
     }
 }
 
-/// The fault of a copy whose source refused the key.
+/// Returns the fault of a copy whose source refused the key.
 fn fetch_fault(key: &Key, fault: FetchFault) -> CopyFault
     ensures { (result ≡ CopyFault.Memory) ⊎ (result ≡ of_fetch key.now fault) }
 {
@@ -75,7 +76,7 @@ fn fetch_fault(key: &Key, fault: FetchFault) -> CopyFault
     }
 }
 
-/// The fault of a copy whose push of the key was refused.
+/// Returns the fault of a copy whose push of the key was refused.
 pub(crate) fn push_fault(key: &Key, fault: PushFault) -> CopyFault
     ensures { (result ≡ CopyFault.Memory) ⊎ (result ≡ of_push key.now fault) }
 {

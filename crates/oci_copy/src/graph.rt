@@ -17,29 +17,38 @@ use std::alloc::Global;
 use std::sync::Wait;
 use std::thread::Threads;
 
-/// Copies what the source has under some roots, by workers (oras-go v2, "CopyGraph").
+/// Copies the keys that the source reaches from some roots, by workers (oras-go v2, "CopyGraph").
 ///
-/// The destination always comes back. It gains each key that the source reaches from a root along
-/// keys that the destination lacks; nothing that it had is lost, and its tags stay. A key that it
-/// has is taken to have all that it lists, so the destination has to be closed. With
-/// `Existing::Descend` it need not be: it gains each key that the source reaches from a root and
-/// that it lacks. What comes of it is the same for every number of workers; the order of the new
-/// entries is open.
+/// The destination is always returned. It gains each key that the source reaches from a root along
+/// keys that the destination lacks. It keeps all its keys and its tags. A key that it has is
+/// assumed to have all that it lists, so the destination has to be closed. With `Existing::Descend`
+/// it need not be: it gains each key that the source reaches from a root and that it lacks. The
+/// outcome is the same for every number of workers, but the order of the new entries is
+/// unspecified.
 ///
-/// The hooks get each distinct root that is held, on the calling thread, before anything else. Then
-/// a worker takes a key whose successors are pushed: it calls `pre_copy`, fetches the key and reads
-/// it, pushes it under the lock of the destination, and calls `post_copy` without that lock.
+/// The hooks first get each distinct root that is held, on the calling thread. Then a worker takes
+/// a key whose successors are pushed. It calls `pre_copy`, fetches and reads the content, pushes it
+/// under the lock of the destination, and calls `post_copy` outside that lock.
 ///
-/// Refused, in this order, with `BadWorkers`, over 64; with `DestinationOpen`; with `Plan`, where
-/// the source cannot give what is to be brought; and then with `Fetch` or `Push` of a key: of
-/// several that fail, the one with the least number of the plan. With the first three nothing is
-/// changed, and with the others the keys pushed before stay, each with all that it lists, so that a
-/// closed destination is closed. `Memory` may come at any point, and leaves what the others leave.
-/// `Stuck` and `Incomplete` never come: where the source gives other bytes for a push than for the
-/// plan, of one size and one digest, and they list a key that nobody brings, the copy waits for it
-/// and does not return.
+/// Takes a lock and joins its workers. Termination is not proved.
 ///
-/// It takes a lock and joins its workers; no clause says that it returns.
+/// # Errors
+///
+/// In this order:
+///
+/// - 85 `BadWorkers` if `options.workers` is over 64.
+/// - 80 `DestinationOpen` if held keys are skipped and the destination is not closed.
+/// - 81 `Plan` if the plan is refused.
+/// - 88 `Fetch` or 82 `Push` of a key. If several keys fail, it is the one with the least number of
+///   the plan.
+///
+/// 86 `Memory` can be returned at any point. After 80, 81 and 85 nothing is changed. After 82, 86
+/// and 88 the keys pushed before stay, each with all that it lists, so a closed destination is
+/// still closed.
+///
+/// `Stuck` and `Incomplete` are never returned. If the source returns other bytes for the push than
+/// for the plan, of the same size and digest, and they list a key that is not planned, the copy
+/// waits for that key and does not return.
 pub fn copy_graph<
     A: Source + Sync,
     D: Dest + Drop + Send,

@@ -7,10 +7,10 @@ use oci_manifest::Key;
 use oci_store::Dest;
 use std::marker::Model;
 
-/// That the destination of a run came to hold a key. To a contract it is that key.
+/// Proof that the destination of a run held a key. To a contract it is that key.
 ///
-/// One is made from a locked destination that holds the key. A job reaches no other than that of
-/// its run, under the lock: so one that answers has pushed its key, or has found it held.
+/// It is made only from a locked destination that holds the key. A job reaches only the destination
+/// of its run, under the lock. So a job that returns one has pushed its key or has found it held.
 #[derive(Drop)]
 pub(crate) struct Held<'k> {
     key: &'k Key,
@@ -25,7 +25,7 @@ impl<'k> Model for Held<'k> {
 }
 
 impl<'k> Held<'k> {
-    /// That this destination holds the key.
+    /// Creates the proof from a destination that holds the key.
     pub(crate) fn by<D: Dest, T: CopyStart>(_locked: &LockedDestination<D, T>, key: &'k Key) -> Self
         requires held { has_key _locked.now key.now ≡ true }
         ensures { result ≡ key.now }

@@ -14,7 +14,7 @@ use oci_store::{Dest, Source};
 use std::marker::Model;
 use std::sync::{Condvar, Mutex, Wait};
 
-/// The job of each planned key: fetch it, and push it once all that it lists is held.
+/// The job of each planned key: to fetch it, and to push it once all that it lists is held.
 #[derive(Drop)]
 pub(crate) struct CopyJob<'a, A: Source, D: Dest, T: CopyStart, R: Wait, H: Hooks> {
     pub(crate) rt: &'a R,
@@ -43,9 +43,9 @@ impl<'a, A: Source, D: Dest, T: CopyStart, R: Wait, H: Hooks> Model for CopyJob<
 }
 
 impl<'a, A: Source, D: Dest + Drop, T: CopyStart, R: Wait, H: Hooks> CopyJob<'a, A, D, T, R, H> {
-    /// Fetches a planned key and reads it, and then pushes it, once all that it lists is held.
+    /// Fetches and reads a planned key, and pushes it once all that it lists is held.
     ///
-    /// A key that lists nothing is read part by part, and written as it comes, outside the lock.
+    /// If the key is read part by part, each part is written to a draft outside the lock.
     fn copy_key(&self, key: &'a Key) -> Result<Held<'a>, CopyFault>
         requires planned { Contains T.planned key.now }
         ensures held { IfOk result (λ held. held ≡ key.now) }
@@ -70,7 +70,7 @@ impl<
     R: Wait + Sync,
     H: Hooks + Sync,
 > Job for CopyJob<'a, A, D, T, R, H> {
-    /// That the key is held: nothing for what is no number of the plan.
+    /// Proof that the key is held, or nothing for a number that the plan does not have.
     type Out = Option<Held<'a>>;
 
     type Fault = CopyFault;

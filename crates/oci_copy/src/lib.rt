@@ -1,41 +1,47 @@
 //! Copies of content graphs from one store to another (oras-go v2, "Copy" and "CopyGraph").
 //!
-//! | Call | What it copies |
+//! | Call | Copies |
 //! |---|---|
-//! | [`copy_graph`] | what a source has under a list of keys, by workers |
-//! | [`copy_one`] | the same on the calling thread |
-//! | [`copy`] | what a reference of the source resolves to, by workers; then it tags that |
-//! | [`extended_copy_graph`], [`extended_copy`] | `copy_graph` and `copy`, with what leads to a key |
-//! | [`copy_memory_by_workers`], [`copy_memory`] | as `copy_graph` and `copy_one`, between stores in memory |
-//! | [`repair_memory_by_workers`], [`repair_memory`] | as these, below what the destination holds too |
-//! | [`plan_copy`] | nothing: it returns the plan of such a copy |
-//! | [`copy_plan`] | what a plan of `plan_copy` has, by workers |
+//! | [`copy_graph`] | the keys that the source reaches from a list of roots, by workers |
+//! | [`copy_one`] | these keys, on the calling thread |
+//! | [`copy`] | the graph of the key that a reference resolves to, by workers; it also sets a tag |
+//! | [`extended_copy_graph`] | like `copy_graph`, with all keys that lead to a key |
+//! | [`extended_copy`] | like `copy`, with all keys that lead to its key |
+//! | [`copy_memory_by_workers`] | like `copy_graph`, between stores in memory |
+//! | [`copy_memory`] | like `copy_one`, between stores in memory |
+//! | [`repair_memory_by_workers`] | like `copy_memory_by_workers`, also below keys that are held |
+//! | [`repair_memory`] | like `copy_memory`, also below keys that are held |
+//! | [`plan_copy`] | nothing: it returns the plan of `copy_graph` |
+//! | [`copy_plan`] | the keys of a plan that `plan_copy` returned, by workers |
 //!
-//! What leads to a key is each key from which a path of some length leads to it: of an image its
-//! signatures and its indexes.
+//! A key leads to another if the source's graph has a path from the one to the other. An image's
+//! signatures and indexes lead to the image.
 //!
-//! After a copy that succeeds the destination has what it had and what the source reaches from the
-//! roots, and nothing else. The destination always comes back. A refusal leaves all that it had,
-//! and perhaps some of what was to be brought; where the destination was closed it is closed, and
-//! the tags are as they were. For that, and for which refusal comes, no store need be honest.
+//! After a successful copy the destination has its earlier keys and the keys that the source
+//! reaches from the roots, and no others. The destination is always returned. An error leaves all
+//! that the destination had, and perhaps some of the keys to copy. A destination that was closed
+//! stays closed, and the tags are unchanged. These guarantees after an error, and the order of the
+//! errors, hold for any store, honest or not.
 //!
-//! A copy with `Existing::Skip` takes a key that the destination holds to have all that it lists,
-//! and does not look below it. So the destination has to be closed: each key that it lists is held.
-//! Where it is not, nothing is copied. A copy with `Existing::Descend` looks below the keys that
-//! the destination holds too, and brings what is missing there; the destination need not be closed.
-//! It reads each of their manifests in the source, and where the source does not have such a key,
-//! the copy goes on.
+//! A copy with `Existing::Skip` assumes that a key of the destination has all that it lists, and
+//! does not look below it. So the destination has to be closed: it holds every key that its keys
+//! list. If it is not closed, nothing is copied. A copy with `Existing::Descend` also looks below
+//! the keys that the destination holds, and copies the keys that are missing there. The destination
+//! need not be closed. The copy reads the manifests of these keys in the source, and passes over a
+//! key that the source does not have.
 //!
-//! What the new keys are, and what each lists, rests on an honest source and on two graphs that
-//! agree; so do the first fault of a plan, and that a key which is named had to be brought. What is
-//! said of bytes rests beside that on a destination whose device returns what was written and did
-//! not fail meanwhile. Of stores in memory all of it holds but the agreement, which fails only
-//! where two contents have one size and one digest.
+//! Some statements need an honest source: which keys are new and what each of them lists, which
+//! plan error comes first, and that a key named by an error had to be copied. That nothing else is
+//! in the destination also needs two graphs that agree: a key of both lists the same keys in both.
+//! Statements about bytes also need a destination whose device returns the bytes that were written
+//! and did not fail during the copy. If it keeps one file per digest, contents of one digest have
+//! to be equal. Stores in memory meet all of this except the agreement, which fails only if two
+//! contents have one size and one digest.
 //!
-//! While workers copy, the destination stands in a lock that they share, as [`LockedDestination`]:
-//! what each state of the lock shows is kept by that type and said by its method. Before it takes
-//! the lock, a worker fetches and reads a manifest, or reads, hashes and writes a leaf's content
-//! part by part.
+//! During a copy by workers, the destination is in a lock that the workers share, as a
+//! [`LockedDestination`]. The contract of its method states what holds whenever the lock is free. A
+//! worker fetches and reads content outside the lock. If a leaf is read part by part, the worker
+//! also hashes the parts and writes them to a draft outside the lock.
 #![tactic(auto)]
 
 mod by_reference;

@@ -19,11 +19,11 @@ use oci_manifest::Key;
 use oci_store::{CheckedContent, Dest, PushFault};
 use std::marker::{Model, PhantomData};
 
-/// A destination while workers copy into it, as it stands in the lock that they share. To a
-/// contract it is its graph.
+/// A destination during a copy by workers, in the lock that they share. To a contract it is its
+/// graph.
 ///
-/// Its type keeps what every state of the lock shows;
-/// [`destination`](LockedDestination::destination) says it.
+/// The type keeps the facts that hold whenever the lock is free. The contract of
+/// [`destination`](LockedDestination::destination) states them.
 #[derive(Drop)]
 pub struct LockedDestination<D: Dest, T: CopyStart> {
     destination: D,
@@ -46,7 +46,7 @@ impl<D: Dest, T: CopyStart> Model for LockedDestination<D, T> {
 }
 
 impl<D: Dest, T: CopyStart> LockedDestination<D, T> {
-    /// The destination as a run begins.
+    /// Wraps a destination at the start of a run.
     pub(crate) fn new(destination: D) -> Self
         requires keeps { Keeps D.shares T.source T.planned T.opening (D.state destination) }
         requires halted { (D.state destination).is_halted → T.opening.is_halted }
@@ -59,12 +59,12 @@ impl<D: Dest, T: CopyStart> LockedDestination<D, T> {
         }
     }
 
-    /// What each worker finds that takes the lock, and whoever takes the destination out at the
-    /// end.
+    /// Returns the destination. Its contract states what holds whenever the lock is free.
     ///
-    /// The destination has all that the new keys list, and is closed, where it was when the run
-    /// began. It begins with the entries that it had, and each later one is the source's pair of a
-    /// planned key. Its tags and its name are those that it had.
+    /// The destination has all that the new keys list. If it was closed when the run began, it is
+    /// closed. Each new key is planned. With an honest source, each new node is the source's. If
+    /// the bytes are known, each new entry is the source's too. The tags and the name are
+    /// unchanged.
     pub fn destination(&self) -> &D
         ensures nodes { (D.state result.now).nodes ≡ self.now }
         ensures closed { IsClosed T.opening.nodes → IsClosed (D.state result.now).nodes }
@@ -86,8 +86,8 @@ impl<D: Dest, T: CopyStart> LockedDestination<D, T> {
         &self.destination
     }
 
-    /// Pushes the content of a planned key, unless the key is held: then the destination has the
-    /// source's content of it. All that the content lists is held.
+    /// Pushes the content of a planned key, unless the key is held. All that the content lists has
+    /// to be held.
     pub(crate) fn push<'k>(
         &mut self,
         key: &'k Key,
@@ -113,7 +113,7 @@ impl<D: Dest, T: CopyStart> LockedDestination<D, T> {
         }
     }
 
-    /// Pushes what was drafted of a planned key that lists nothing, unless the key is held.
+    /// Pushes the drafted content of a planned key that lists nothing, unless the key is held.
     pub(crate) fn push_draft<'k>(
         &mut self,
         key: &'k Key,
@@ -137,7 +137,7 @@ impl<D: Dest, T: CopyStart> LockedDestination<D, T> {
         }
     }
 
-    /// The destination, once the run has ended.
+    /// Returns the destination, once the run has ended.
     pub(crate) fn into_destination(self) -> D
         ensures nodes { (D.state result).nodes ≡ self }
         ensures keeps { Keeps D.shares T.source T.planned T.opening (D.state result) }
@@ -151,7 +151,7 @@ impl<D: Dest, T: CopyStart> LockedDestination<D, T> {
     }
 }
 
-/// Whether a push was refused because memory ran out, this one or one before.
+/// Returns whether this push or an earlier one was refused because memory ran out.
 fn has_run_out(ran_out: bool, pushed: &Result<usize, PushFault>) -> bool
     ensures before { ran_out ≡ true → result ≡ true }
     ensures now { IsErrOf pushed.now PushFault.Memory → result ≡ true }
@@ -163,8 +163,8 @@ fn has_run_out(ran_out: bool, pushed: &Result<usize, PushFault>) -> bool
     }
 }
 
-/// The fault of a copy whose push of the key was refused. A halt after a push that ran out of
-/// memory followed from it, and is reported as out of memory.
+/// Returns the fault of a copy whose push of the key was refused. A halt after a push that ran out
+/// of memory is a consequence of that push, and is reported as `Memory`.
 fn locked_fault(key: &Key, fault: PushFault, ran_out: bool) -> CopyFault
     ensures { (result ≡ CopyFault.Memory) ⊎ ((result ≡ of_push key.now fault)
         × (fault ≡ PushFault.Halted → ran_out ≡ false)) }

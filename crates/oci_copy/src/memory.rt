@@ -15,14 +15,17 @@ use oci_plan::Existing;
 use oci_store::{ClosedStore, MemoryStore};
 use std::alloc::Global;
 
-/// `copy_one` from a store in memory to a closed one: the copy in the plainest words.
+/// Copies from a store in memory to a closed one, on the calling thread: `copy_one` with the
+/// plainest contract.
 ///
-/// After a copy that succeeds, where the two agree, the destination has exactly what it had and
-/// what the source reaches from the roots, each content matching its key. It is closed after a
-/// refusal too.
+/// After a successful copy, if the two stores agree, the destination has exactly its earlier
+/// contents and the contents that the source reaches from the roots. Each content matches its key.
+/// The destination is also closed after an error.
 ///
-/// Refused for `Plan` with `NotFound`, `TooLarge`, `Cycle` or `TooMany`, with which nothing is
-/// changed, and for `Memory`; for nothing else.
+/// # Errors
+///
+/// - 81 `Plan` with 53 `NotFound`, 54 `TooLarge`, 55 `Cycle` or 59 `TooMany`. Nothing is changed.
+/// - 86 `Memory` at any point. The keys pushed before stay.
 pub fn copy_memory(
     alloc: Global,
     source: &MemoryStore,
@@ -38,8 +41,8 @@ pub fn copy_memory(
         (nodes_of destination.entries) roots.now) }
     ensures unchanged { IfErr result.1 (λ fault. IsEarly fault → result.0 ≡ destination) }
 {
-    // These calls do nothing here. Their contracts say what each store keeps before the copy, and
-    // the call below after it.
+    // No-ops at run time: they bring the stores' invariants into the proof. So does the call below,
+    // after the copy.
     let _readable = source.len();
     let _closed = destination.memory();
     let (destination, copied) = copy_one(alloc, source, destination, roots, options);
@@ -47,16 +50,20 @@ pub fn copy_memory(
     (destination, copied)
 }
 
-/// Brings what a store in memory lacks under some roots, below what it holds too, from another:
-/// `copy_one` with [`Existing::Descend`] in the plainest words. The destination need not be closed.
+/// Copies the keys that a store in memory lacks under some roots, also below the keys that it
+/// holds: `copy_one` with [`Existing::Descend`] and the plainest contract. The destination need not
+/// be closed.
 ///
-/// After a repair that succeeds, where the two stores agree, the destination has exactly what it
-/// had and what the source reaches from the roots, each content matching its key. What it lacked
-/// elsewhere it still lacks. The options say how large a manifest may be, and no more.
+/// After a successful repair, if the two stores agree, the destination has exactly its earlier
+/// contents and the contents that the source reaches from the roots. Each content matches its key.
+/// Keys that it lacked elsewhere are still missing. Of the options, only the maximum size of a
+/// manifest is used.
 ///
-/// Refused for `Plan` with `NotFound`, `TooLarge`, `Cycle` or `TooMany`, with which nothing is
-/// changed, and for `Memory`; for nothing else. No key that the destination has and the source
-/// lacks is at fault.
+/// # Errors
+///
+/// - 81 `Plan` with 53 `NotFound`, 54 `TooLarge`, 55 `Cycle` or 59 `TooMany`. Nothing is changed. A
+///   key that the destination has and the source lacks is no error.
+/// - 86 `Memory` at any point. The keys pushed before stay.
 pub fn repair_memory(
     alloc: Global,
     source: &MemoryStore,
@@ -71,7 +78,7 @@ pub fn repair_memory(
         (nodes_of destination.entries) roots.now) }
     ensures unchanged { IfErr result.1 (λ fault. IsEarly fault → result.0 ≡ destination) }
 {
-    // This call does nothing here. Its contract says what the store keeps; so does the one below,
+    // A no-op at run time: it brings the store's invariant into the proof. So does the call below,
     // after the copy.
     let _readable = source.len();
     let descend = descending(options);

@@ -3,22 +3,22 @@ ghost use Rattle.oci_copy.specs.Options.{limit_of, descending};
 
 use oci_plan::Existing;
 
-/// How a copy is made. Where a number is 0, the default is taken.
+/// The options of a copy. A number that is 0 means its default.
 #[derive(Clone, Copy, Debug, PartialEq, Eq, Default)]
 pub struct Options {
-    /// How many workers copy, at most 64; 0 means 3. A larger number is refused, but by
-    /// [`copy_one`](crate::copy_one) and [`copy_memory`](crate::copy_memory), which do not look at
-    /// it.
+    /// The number of workers, at most 64; 0 means 3. The calls on the calling thread, such as
+    /// [`copy_one`](crate::copy_one), do not look at it; for the others a larger number is an
+    /// error.
     pub workers: u32,
-    /// How large a manifest may be, in bytes; 0 means 4194304, which is 4 MiB.
+    /// The maximum size of a manifest, in bytes; 0 means 4194304, which is 4 MiB.
     pub max_metadata_bytes: u64,
-    /// What a copy does with a key that the destination has. With [`Existing::Descend`] it looks
-    /// below the key too, and the destination need not be closed.
+    /// How a copy treats a key that the destination has. With [`Existing::Descend`] it also looks
+    /// below the key, and the destination need not be closed.
     pub existing: Existing,
 }
 
 impl Options {
-    /// How large a manifest may be, in bytes.
+    /// Returns the maximum size of a manifest, in bytes.
     pub fn metadata_limit(&self) -> u64
         ensures { result ≡ limit_of self.now }
     {
@@ -29,7 +29,7 @@ impl Options {
     }
 }
 
-/// The same options for a copy that looks below what the destination has.
+/// Returns these options with [`Existing::Descend`].
 pub(crate) fn descending(options: &Options) -> Options
     ensures { result ≡ descending options.now }
 {

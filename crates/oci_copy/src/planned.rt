@@ -20,20 +20,26 @@ use std::marker::Brand;
 use std::sync::Wait;
 use std::thread::Threads;
 
-/// Copies what is planned, by workers: what [`copy_graph`](crate::copy_graph) does once it has its
+/// Copies the keys of a plan, by workers: the part of [`copy_graph`](crate::copy_graph) after the
 /// plan.
 ///
-/// The plan is one that [`plan_copy`](crate::plan_copy) gave of this source, this destination,
+/// The plan is one that [`plan_copy`](crate::plan_copy) returned for this source, this destination,
 /// these roots and these options, and neither store has changed since. So a caller can look at the
-/// plan, or print it, before the first push, and nothing is planned twice. What comes of it, and
-/// what the hooks get, is as with `copy_graph` of these roots.
+/// plan, or print it, before the first push, and nothing is planned twice. The outcome and the
+/// calls of the hooks are those of `copy_graph` from these roots.
 ///
-/// Refused with `BadWorkers`, over 64, with which nothing is changed; and then with `Fetch` or
-/// `Push` of a planned key: of several that fail, the one with the least number of the plan. With
-/// these the keys pushed before stay, each with all that it lists, so that a closed destination is
-/// closed. `Memory` may come at any point, and leaves what the others leave.
+/// Takes a lock and joins its workers. Termination is not proved.
 ///
-/// It takes a lock and joins its workers; no clause says that it returns.
+/// # Errors
+///
+/// In this order:
+///
+/// - 85 `BadWorkers` if `options.workers` is over 64. Nothing is changed.
+/// - 88 `Fetch` or 82 `Push` of a planned key. If several keys fail, it is the one with the least
+///   number of the plan.
+///
+/// 86 `Memory` can be returned at any point. After 82, 86 and 88 the keys pushed before stay, each
+/// with all that it lists, so a closed destination is still closed.
 pub fn copy_plan<
     A: Source + Sync,
     D: Dest + Drop + Send,

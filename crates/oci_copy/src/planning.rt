@@ -12,10 +12,16 @@ use oci_plan::{Existing, Plan, PlanFault, gather};
 use oci_store::{Dest, Source};
 use std::alloc::Global;
 
-/// What a copy of these roots would bring, and in which order: each key after what it lists.
+/// Returns the plan of a copy from these roots: the keys to copy, in an order in which each key
+/// comes after the keys that it lists.
 ///
-/// Refused as the copy is refused before it brings anything: with `DestinationOpen`, with `Plan`,
-/// and with `Memory`. Nothing is changed.
+/// # Errors
+///
+/// The errors of the copy before its first push, in this order. Nothing is changed.
+///
+/// - 80 `DestinationOpen` if held keys are skipped and the destination is not closed.
+/// - 81 `Plan` if the plan is refused.
+/// - 86 `Memory`, at any point.
 pub fn plan_copy<A: Source, D: Dest>(
     alloc: Global,
     source: &A,
@@ -38,7 +44,7 @@ pub fn plan_copy<A: Source, D: Dest>(
     }
 }
 
-/// Looks at the destination of a copy: it has to be closed where the copy skips what it has.
+/// Checks that the destination is closed if the copy skips the keys that it has.
 fn check_destination<D: Dest>(destination: &D, options: &Options) -> Result<(), CopyFault>
     ensures closed { OnOk result (IsClosedWhenSkipping options.now.existing
         (D.state destination.now).nodes) }

@@ -4,16 +4,16 @@ use oci_plan::Plan;
 use std::fmt;
 use std::fmt::Display;
 
-/// What a copy that succeeded did.
+/// The numbers of a successful copy.
 ///
 /// It prints as `planned 2 pushed 2 skipped 0`.
 #[derive(Clone, Copy, Debug, PartialEq, Eq)]
 pub struct Report {
-    /// How many keys were to be brought.
+    /// The number of planned keys.
     pub planned: u64,
-    /// How many entries the destination gained.
+    /// The number of entries that the destination gained.
     pub pushed: u64,
-    /// How many distinct roots the destination had before.
+    /// The number of distinct roots that the destination had before.
     pub skipped: u64,
 }
 
@@ -32,7 +32,7 @@ impl Display for Report {
     }
 }
 
-/// The report of a copy that pushed all that was planned.
+/// Returns the report of a copy that pushed all planned keys.
 pub(crate) fn report_of(plan: &Plan) -> Report
     ensures planned { result.planned ≡ length plan.now.keys }
     ensures pushed { result.pushed ≡ length plan.now.keys }

@@ -21,22 +21,29 @@ use oci_plan::Plan;
 use oci_store::{Dest, Source};
 use std::alloc::Global;
 
-/// Copies what the source has under some roots, on the calling thread (oras-go v2, "CopyGraph").
+/// Copies the keys that the source reaches from some roots, on the calling thread (oras-go v2,
+/// "CopyGraph").
 ///
-/// The destination always comes back. It gains each key that the source reaches from a root along
-/// keys that the destination lacks; nothing that it had is lost, and its tags stay. A key that it
-/// has is taken to have all that it lists, so the destination has to be closed. With
-/// `Existing::Descend` it need not be: it gains each key that the source reaches from a root and
-/// that it lacks.
+/// The destination is always returned. It gains each key that the source reaches from a root along
+/// keys that the destination lacks. It keeps all its keys and its tags. A key that it has is
+/// assumed to have all that it lists, so the destination has to be closed. With `Existing::Descend`
+/// it need not be: it gains each key that the source reaches from a root and that it lacks.
 ///
-/// Refused, in this order, with `DestinationOpen`; with `Plan`, where the source cannot give what
-/// is to be brought; and then, for each key in turn, with `Fetch`, `Push` or `Stuck`. With the
-/// first two nothing is changed, and with the others the keys pushed before stay, each with all
-/// that it lists, so that a closed destination is closed. `Memory` may come at any point, and
-/// leaves what the others leave.
-///
-/// Each manifest is fetched once for the plan, and each key once for its push; contents are shared
+/// Each manifest is fetched once for the plan, and each key once for its push. Contents are shared
 /// and not copied.
+///
+/// # Errors
+///
+/// In this order:
+///
+/// - 80 `DestinationOpen` if held keys are skipped and the destination is not closed.
+/// - 81 `Plan` if the plan is refused.
+/// - 88 `Fetch`, 82 `Push` or 83 `Stuck` of the first key, in the order of the plan, that cannot be
+///   pushed.
+///
+/// 86 `Memory` can be returned at any point. After 80 and 81 nothing is changed. After 82, 83, 86
+/// and 88 the keys pushed before stay, each with all that it lists, so a closed destination is
+/// still closed.
 pub fn copy_one<A: Source, D: Dest>(
     alloc: Global,
     source: &A,
@@ -118,7 +125,7 @@ pub(crate) fn push_planned<A: Source, D: Dest>(
     }
 }
 
-/// The same of a key that lists nothing, whose content is read part by part.
+/// Like `push_planned`, for a key that lists nothing and is read part by part.
 fn push_parts<A: Source, D: Dest>(
     source: &A,
     destination: &mut D,

@@ -13,7 +13,7 @@ use oci_manifest::Key;
 use oci_store::{CheckedContent, Dest};
 use std::sync::{Condvar, Mutex, MutexGuard, Wait};
 
-/// Whether all of these keys are held.
+/// Returns whether all of these keys are held.
 fn has_all<D: Dest, T: CopyStart>(locked: &LockedDestination<D, T>, keys: &[Key]) -> bool
     ensures { IsTrue result ↔ HasAll locked.now keys.now }
 {
@@ -21,7 +21,7 @@ fn has_all<D: Dest, T: CopyStart>(locked: &LockedDestination<D, T>, keys: &[Key]
     keys.iter().all(|key| destination.has(key))
 }
 
-/// Whether the destination is there, and all of these keys are held.
+/// Returns whether the destination is in the lock and holds all of these keys.
 fn is_ready<D: Dest, T: CopyStart>(locked: &Option<LockedDestination<D, T>>, keys: &[Key]) -> bool
     ensures { IsTrue result ↔ IsSomeAnd locked.now (λ g. HasAll g keys.now) }
 {
@@ -31,7 +31,7 @@ fn is_ready<D: Dest, T: CopyStart>(locked: &Option<LockedDestination<D, T>>, key
     }
 }
 
-/// Waits until all of these keys are held, and keeps the lock.
+/// Waits until all of these keys are held, and returns with the lock held.
 fn wait_for<'b, D: Dest + Drop, T: CopyStart, R: Wait>(
     rt: &R,
     lock: &'b Mutex<Option<LockedDestination<D, T>>>,
@@ -50,10 +50,10 @@ fn wait_for<'b, D: Dest + Drop, T: CopyStart, R: Wait>(
     unreachable!()
 }
 
-/// Pushes a key's content, once all that it lists is held, and returns that it is held. It was
-/// fetched and hashed before.
+/// Pushes a key's content once all that it lists is held. The content was fetched and hashed
+/// before.
 ///
-/// The push is under the lock. So a layout reads the old file of that digest there, and writes the
+/// The push is under the lock. A layout then reads the old file of that digest, and writes the
 /// content unless the file has it.
 pub(crate) fn push_later<'k, D: Dest + Drop, T: CopyStart, R: Wait>(
     rt: &R,
@@ -79,7 +79,7 @@ pub(crate) fn push_later<'k, D: Dest + Drop, T: CopyStart, R: Wait>(
     held
 }
 
-/// A draft of a key's content.
+/// Creates a draft for a key's content.
 pub(crate) fn begin_draft<D: Dest + Drop, T: CopyStart, R: Wait>(
     rt: &R,
     lock: &Mutex<Option<LockedDestination<D, T>>>,
@@ -100,11 +100,11 @@ pub(crate) fn begin_draft<D: Dest + Drop, T: CopyStart, R: Wait>(
     }
 }
 
-/// Pushes what was drafted of a key that lists nothing, and returns that it is held. It was read,
-/// hashed and written before. If a write failed, the push is refused.
+/// Pushes the drafted content of a key that lists nothing. It was read, hashed and written before.
+/// If a write failed, the push is refused.
 ///
-/// The push is under the lock. A layout only renames a file there, unless the old file of that
-/// digest begins with the content and is longer: then it copies the content there.
+/// The push is under the lock. A layout then only renames a file, unless the old file of that
+/// digest begins with the content and is longer. In that case it copies the content.
 pub(crate) fn push_draft_now<'k, D: Dest + Drop, T: CopyStart, R: Wait>(
     rt: &R,
     lock: &Mutex<Option<LockedDestination<D, T>>>,
@@ -129,7 +129,7 @@ pub(crate) fn push_draft_now<'k, D: Dest + Drop, T: CopyStart, R: Wait>(
     held
 }
 
-/// Takes the destination out, once all of these keys are held.
+/// Takes the destination out of the lock, once all of these keys are held.
 pub(crate) fn take<D: Dest + Drop, T: CopyStart, R: Wait>(
     rt: &R,
     lock: &Mutex<Option<LockedDestination<D, T>>>,
