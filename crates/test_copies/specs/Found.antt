@@ -1,4 +1,4 @@
--- What a walk along every edge has found.
+-- The keys that a walk along every edge has found.
 use Rattle.std.specs.Prelude.{◌≡◌, ℕ, List, [], ◌∷◌, take}
 use Rattle.std.specs.List.{All}
 use Rattle.oci_manifest.specs.Descriptor.{Descriptor}
@@ -7,7 +7,7 @@ use Rattle.oci_store.specs.Graph.{Node, Reaches}
 use Rattle.oci_store.specs.Visiting.{candidates}
 use Rattle.oci_plan.specs.Visiting.{successors_at}
 
--- the root and what the keys before a place list are found, each once, and all of it is reached
+-- the found keys are the root and the keys that those before a place list, each once, and all are reached
 pub record IsFound (graph : List Node) (root : Descriptor) (place : ℕ) (found : List Descriptor) : Type 0 where
   pub exact : found ≡ first_places (candidates (successors_at graph) (root ∷ []) (take place found))
   pub reached : All (Reaches graph (root ∷ [])) found

@@ -1,14 +1,17 @@
 //! Tests of copies, on one thread and by workers, run through their public calls.
 //!
-//! A proof covers what a contract says, for every input and every order in which workers come; what the tests show is what no
-//! contract says: that a call succeeds where memory is there and returns, that two workers are at work at once, when hooks are
-//! called, and what a store that fails once leaves. `plain` is a plain program that is proved, with which they compare copies.
+//! A proof covers all that a contract states, for every input and every order of the workers. The
+//! tests show the rest: that a call succeeds with enough memory and returns, that two workers run
+//! at the same time, when hooks are called, and the state after a store fails once. `plain` is a
+//! plain, proved program. The tests compare copies with it.
 //!
-//! `tests` has `graphs` (small graphs, on one thread and with each number of workers), `references` (copies by a reference),
-//! `referrers` (extended copies, of a key and of a reference), `refusals` (limits and open destinations), `faults` (how each refusal
-//! prints), `hooks` (when they are called), `meetings` (two workers at work at once), `failing` (stores that fail once), `large`
-//! (many layers and long chains), and `descending` and `descending_graphs` (copies that look below what is held). Most of these
-//! are rows of data for `copies`, which runs each row and asserts what it tells and leaves; `calls` has the calls that copy.
+//! `tests` has `graphs` (small graphs, on one thread and with each number of workers), `references`
+//! (copies by a reference), `referrers` (extended copies, of a key and of a reference), `refusals`
+//! (limits and open destinations), `faults` (how each refusal prints), `hooks` (when they are
+//! called), `meetings` (two workers at the same time), `failing` (stores that fail once), `large`
+//! (many layers and long chains), and `descending` and `descending_graphs` (copies that look below
+//! held keys). Most of these are rows of data for `copies`, which runs each row and asserts its
+//! report and its effect; `calls` has the calls that copy.
 #![tactic(auto)]
 
 mod plain;

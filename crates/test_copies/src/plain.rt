@@ -1,4 +1,5 @@
-//! What a copy that looks below held keys has to bring: found by a plain program whose contract is the definition.
+//! The keys that a copy has to bring if it looks below held keys, found by a plain program whose
+//! contract is the definition.
 
 ghost use Rattle.std.specs.Prelude.{◌≡◌, ◌↔◌, [], ◌∷◌, filter, IfOk, Contains};
 ghost use Rattle.oci_manifest.specs.Descriptor.{Descriptor};
@@ -11,7 +12,7 @@ use oci_manifest::Key;
 use oci_store::{Graph, KeyList, MemoryStore};
 use std::alloc::Global;
 
-/// What a graph lists under a key: nothing where it does not have the key.
+/// Returns the keys that a graph lists under a key, or none if it does not have the key.
 fn listed<'g>(graph: &'g Graph, key: &Key) -> &'g [Key]
     ensures { result.now ≡ successors_at graph.now key.now }
 {
@@ -24,7 +25,8 @@ fn listed<'g>(graph: &'g Graph, key: &Key) -> &'g [Key]
     listed
 }
 
-/// The keys that a graph reaches from a root: the root, and what each of them lists, until nothing is new.
+/// Returns the keys that a graph reaches from a root: the root, and the keys that each of them
+/// lists, until nothing is new.
 fn reached(alloc: Global, graph: &Graph, root: &Key) -> Result<Vec<Key>, NoMemory>
     ensures { IfOk result (λ keys. (k : Descriptor) → Contains keys.items k
         ↔ Reaches graph.now (root.now ∷ []) k) }
@@ -50,7 +52,8 @@ fn drop_held(keys: &mut Vec<Key>, held: &Graph)
     keys.retain(|key| !held.holds(key));
 }
 
-/// What a copy of the root has to bring that looks below held keys: what the source reaches and the destination does not hold.
+/// Returns the keys that a copy of the root has to bring if it looks below held keys: the source
+/// reaches them and the destination does not hold them.
 pub fn lacking(
     alloc: Global,
     source: &MemoryStore,

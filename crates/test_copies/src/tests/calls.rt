@@ -1,4 +1,4 @@
-//! The calls that copy, on the calling thread and by workers, with their answers as text.
+//! The calls that copy, on the calling thread and by workers, with their results as text.
 
 use crate::tests::copies::{Call, Run, Word, assert_same, printed, sized, text_of};
 use oci_copy::{
@@ -17,13 +17,13 @@ use std::test::Fail;
 use std::thread::Threads;
 use test_support::{Sample, keys};
 
-/// How many workers copy; `None` is for the calling thread.
+/// The number of workers; `None` is for the calling thread.
 pub(crate) type Workers = Option<u32>;
 
-/// The destination that a copy gives back, and what is told of the copy.
+/// The destination that a copy returns, and its report or fault.
 pub(crate) type Copied<D> = (D, Result<String, Fail>);
 
-/// On the calling thread, and by one worker, by three and by 64.
+/// The calling thread, and one, three and 64 workers.
 pub(crate) const EACH: [Workers; 4] = [None, Some(1), Some(3), Some(64)];
 
 /// The options of a copy.
@@ -56,13 +56,13 @@ fn line_of_reference(
     }
 }
 
-/// What a copy answers, as text.
+/// Returns the report or the fault of a copy as text.
 fn told<D>(alloc: Global, copied: (D, Result<Report, CopyFault>)) -> Copied<D> {
     let (destination, answer) = copied;
     (destination, line(alloc, &answer))
 }
 
-/// What a copy by reference answers, as text.
+/// Returns the report or the fault of a copy by reference as text.
 fn told_of_reference<D>(alloc: Global, copied: (D, Result<(Key, Report), CopyFault>)) -> Copied<D> {
     let (destination, answer) = copied;
     (destination, line_of_reference(alloc, &answer))
@@ -85,7 +85,7 @@ where
     )
 }
 
-/// What is told of a copy of samples by workers.
+/// Copies samples by workers, and returns the report or the fault.
 pub(crate) fn told_by_workers<
     R: AllocGlobal + Threads + Wait + Sync,
     A: Source + Sync,
@@ -130,7 +130,7 @@ where
     }
 }
 
-/// The run told this.
+/// The report or the fault of the run is this.
 pub(crate) fn assert_told(
     rt: &impl Abort,
     told: Result<String, Fail>,
@@ -141,7 +141,7 @@ pub(crate) fn assert_told(
     Ok(())
 }
 
-/// What the copy of a key leaves, which tells this.
+/// Returns the store that the copy of a key leaves, and asserts its report or fault.
 pub(crate) fn left<
     R: AllocGlobal + Threads + Wait + Sync + Abort,
     A: Source + Sync,
@@ -288,7 +288,7 @@ where
     }
 }
 
-/// Copies what leads to a key.
+/// Copies the keys that lead to a key.
 fn extended_key<R: AllocGlobal + Threads + Wait + Sync, D: Dest + Drop + Send>(
     rt: &R,
     source: &MemoryStore,
@@ -316,7 +316,7 @@ where
     )
 }
 
-/// Copies what leads to the key of a sample.
+/// Copies the keys that lead to the key of a sample.
 fn extended<R: AllocGlobal + Threads + Wait + Sync, D: Dest + Drop + Send>(
     rt: &R,
     source: &MemoryStore,
@@ -334,7 +334,7 @@ where
     }
 }
 
-/// Copies what leads to a reference within one step.
+/// Copies the keys that lead to a reference within one step.
 fn extended_reference<R: AllocGlobal + Threads + Wait + Sync, D: Dest + Tagger + Drop + Send>(
     rt: &R,
     source: &MemoryStore,
@@ -404,7 +404,7 @@ fn copied_keys_in_memory<R: AllocGlobal + Threads + Wait + Sync>(
     }
 }
 
-/// The same of samples.
+/// Copies samples by the calls between stores in memory into a closed one.
 pub(crate) fn copied_in_memory<R: AllocGlobal + Threads + Wait + Sync>(
     rt: &R,
     source: &MemoryStore,
@@ -441,7 +441,7 @@ fn repaired_keys<R: AllocGlobal + Threads + Wait + Sync>(
     }
 }
 
-/// The same of samples.
+/// Repairs below samples by the calls between stores in memory.
 pub(crate) fn repaired<R: AllocGlobal + Threads + Wait + Sync>(
     rt: &R,
     source: &MemoryStore,

@@ -1,4 +1,5 @@
-//! Copies of samples between stores in memory, as rows of data: what a copy begins with, what it tells and what it leaves.
+//! Copies of samples between stores in memory, as rows of data: the two stores, the report or the
+//! fault, and the contents afterwards.
 
 use crate::tests::calls::{
     Copied, EACH, Workers, copied_case, copied_in_memory, options, repaired,
@@ -33,46 +34,48 @@ pub(crate) struct Tag<'a> {
     pub name: Word<'a>,
 }
 
-/// What is copied, and by which call.
+/// The call that copies, and its roots.
 #[derive(Clone, Copy)]
 pub(crate) enum Call<'a> {
     /// `copy_graph` of these roots, and `copy_one` on the calling thread.
     Graph(&'a [Sample]),
     /// `plan_copy` of these roots, and then `copy_plan`.
     Planned(&'a [Sample]),
-    /// `copy_graph` and `copy_one` of the key of an image of this size that has the digest of the empty object.
+    /// `copy_graph` and `copy_one` of the key of an image of this size that has the digest of the
+    /// empty object.
     Sized(u64),
-    /// The calls between stores in memory: into a closed store `copy_memory_by_workers`, and `copy_memory` on the calling thread;
-    /// into another `repair_memory_by_workers` and `repair_memory`.
+    /// The calls between stores in memory. Into a closed store they are `copy_memory_by_workers`,
+    /// and `copy_memory` on the calling thread; into another `repair_memory_by_workers` and
+    /// `repair_memory`.
     InMemory(&'a [Sample]),
     /// `copy` of the first reference to the second.
     Reference(Word<'a>, &'a str),
     /// `extended_copy_graph` of a key, with the depth.
     Extended(Sample, u32),
-    /// `extended_copy` of a reference to the same, with depth 1.
+    /// `extended_copy` of a reference, which is also the tag, with depth 1.
     ExtendedReference(&'a str),
 }
 
-/// A copy, and what comes of it.
+/// A copy, and its result.
 #[derive(Clone, Copy)]
 pub(crate) struct Case<'a> {
-    /// What a failure calls it.
+    /// The name that a failure prints.
     pub name: &'a str,
     pub call: Call<'a>,
     pub workers: &'a [Workers],
     pub existing: Existing,
-    /// How many bytes a manifest may have; 0 is for the usual limit.
+    /// The maximum size of a manifest; 0 is for the default limit.
     pub max_metadata_bytes: u64,
     pub source: &'a [Sample],
     pub source_tag: Option<Tag<'a>>,
-    /// What the destination has before.
+    /// The contents of the destination before the copy.
     pub destination: &'a [Sample],
     pub destination_tag: Option<Tag<'a>>,
     /// Whether the destination is a store whose type keeps it closed.
     pub into_closed: bool,
-    /// The report or the fault, as it prints.
+    /// The printed report or fault.
     pub told: &'a [Word<'a>],
-    /// What the destination then has, and whether its entries are in this order.
+    /// The contents of the destination after the copy, and whether its entries are in this order.
     pub copied: &'a [Sample],
     pub is_in_order: bool,
     pub is_closed: bool,
@@ -99,7 +102,7 @@ pub(crate) const NOTHING: Case<'static> = Case {
     copied_tag: None,
 };
 
-/// What is told of a destination that has `image_0` without its config, if held keys are skipped.
+/// The fault for a destination that has `image_0` without its config, if held keys are skipped.
 pub(crate) const OPEN_AT_IMAGE_0: &[Word<'static>] = &[
     Word::Text("80 DestinationOpen "),
     Word::KeyOf(Sample::Image0),
@@ -196,7 +199,7 @@ fn assert_text<R: AllocGlobal + Abort>(
     Ok(())
 }
 
-/// The store holds these samples, and nothing else, after a run that told this.
+/// The store holds these samples, and nothing else, after a run with this report or fault.
 pub(crate) fn assert_holds<R: AllocGlobal + Abort, A: Source + Dest>(
     rt: &R,
     store: &A,
@@ -216,7 +219,7 @@ fn is_content(alloc: Global, bytes: &Bytes, sample: Sample) -> Result<bool, Fail
     Ok(*bytes == sample.bytes(alloc)?)
 }
 
-/// The key and the bytes are those of the sample.
+/// The key and the bytes are the sample's.
 fn is_sample(alloc: Global, key: &Key, bytes: &Bytes, sample: Sample) -> Result<bool, Fail> {
     match is_key(alloc, key, sample)? {
         true => is_content(alloc, bytes, sample),
@@ -287,7 +290,7 @@ fn assert_tags<R: AllocGlobal + Abort>(
     Ok(())
 }
 
-/// The entries are in the order of the case, where it has one.
+/// The entries are in the order of the case, if it has one.
 fn assert_order<R: AllocGlobal + Abort>(
     rt: &R,
     store: &MemoryStore,
@@ -312,7 +315,7 @@ fn assert_closed<R: AllocGlobal + Abort>(
     Ok(())
 }
 
-/// The order of the entries, the tag, and whether the store is closed, are those of the case.
+/// The order of the entries, the tag, and whether the store is closed are as in the case.
 fn assert_left<R: AllocGlobal + Abort>(
     rt: &R,
     store: &MemoryStore,
@@ -324,7 +327,7 @@ fn assert_left<R: AllocGlobal + Abort>(
     assert_tags(rt, &store.tags()?, case.copied_tag, run)
 }
 
-/// What the copy told, and what the destination holds, is that of the case.
+/// The report or the fault, and the contents of the destination, are as in the case.
 fn assert_held<R: AllocGlobal + Abort, D: Source + Dest>(
     rt: &R,
     destination: &D,
@@ -429,7 +432,7 @@ fn assert_into_memory<R: AllocGlobal + Threads + Wait + Sync + Abort>(
     assert_left(rt, &destination, case, run)
 }
 
-/// The copy of a case by so many workers.
+/// The copy of a case by this number of workers.
 pub(crate) fn assert_copied_by<R: AllocGlobal + Threads + Wait + Sync + Abort>(
     rt: &R,
     case: &Case<'_>,

@@ -1,5 +1,5 @@
-//! Copies of samples with `Existing::Descend` beside the same with `Existing::Skip`, from stores in memory to stores in memory that
-//! may be open, on one thread and by workers.
+//! Copies of samples with `Existing::Descend` and with `Existing::Skip`, between stores in memory
+//! that may be open, on one thread and by workers.
 
 use crate::tests::copies::Word::{KeyOf, Text};
 use crate::tests::copies::{Call, Case, NOTHING, OPEN_AT_IMAGE_0, Word, assert_cases};
@@ -11,7 +11,7 @@ use std::thread::Threads;
 use test_support::Sample;
 use test_support::Sample::{Empty, Foo, Image0, Image2};
 
-/// A destination, and what comes of a copy into it.
+/// A destination, and the results of copies into it.
 #[derive(Clone, Copy)]
 struct Row<'a> {
     source: &'a [Sample],
@@ -19,11 +19,12 @@ struct Row<'a> {
     /// Whether the destination is closed before.
     was_closed: bool,
     roots: &'a [Sample],
-    /// What is told where held keys are skipped; nothing is changed then.
+    /// The fault if held keys are skipped; nothing is changed then.
     skipping: &'a [Word<'a>],
-    /// What is told where the copy descends.
+    /// The report or the fault of the copy that descends.
     descending: &'a [Word<'a>],
-    /// The entries of the destination after the copy that descends, in their order, and whether it is closed then.
+    /// The entries of the destination after the copy that descends, in their order, and whether it
+    /// is closed then.
     copied: &'a [Sample],
     is_closed: bool,
 }
@@ -74,7 +75,7 @@ fn assert_row<R: AllocGlobal + Threads + Wait + Sync + Abort>(
     assert_cases(rt, &[skipping(row), descending(row), repairing(row)])
 }
 
-/// What a held image lacks is brought.
+/// The keys that a held image lacks are copied.
 #[test]
 fn below_a_held_image(rt: HostRuntime) -> Result<(), Fail> {
     static ROW: Row<'static> = Row {
@@ -90,7 +91,7 @@ fn below_a_held_image(rt: HostRuntime) -> Result<(), Fail> {
     assert_row(&rt, &ROW)
 }
 
-/// What is open beside the roots stays open.
+/// Keys that are missing elsewhere stay missing.
 #[test]
 fn beside_an_open_image(rt: HostRuntime) -> Result<(), Fail> {
     static ROW: Row<'static> = Row {
@@ -106,7 +107,7 @@ fn beside_an_open_image(rt: HostRuntime) -> Result<(), Fail> {
     assert_row(&rt, &ROW)
 }
 
-/// Of what only the destination has nothing is asked.
+/// The source is not asked for keys below a key that only the destination has.
 #[test]
 fn of_an_image_that_the_source_lacks(rt: HostRuntime) -> Result<(), Fail> {
     static ROW: Row<'static> = Row {
@@ -122,7 +123,7 @@ fn of_an_image_that_the_source_lacks(rt: HostRuntime) -> Result<(), Fail> {
     assert_row(&rt, &ROW)
 }
 
-/// A layer that only the destination has is no fault.
+/// A layer that only the destination has is no error.
 #[test]
 fn of_a_layer_that_the_source_lacks(rt: HostRuntime) -> Result<(), Fail> {
     static ROW: Row<'static> = Row {
@@ -138,7 +139,7 @@ fn of_a_layer_that_the_source_lacks(rt: HostRuntime) -> Result<(), Fail> {
     assert_row(&rt, &ROW)
 }
 
-/// A layer that neither store has is one.
+/// A layer that neither store has is an error.
 #[test]
 fn of_a_layer_that_both_lack(rt: HostRuntime) -> Result<(), Fail> {
     static ROW: Row<'static> = Row {

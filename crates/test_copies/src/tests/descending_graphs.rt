@@ -1,5 +1,5 @@
-//! Repairs of large graphs with holes, and of random ones, beside what a plain program says of them that is proved to find what a
-//! copy has to bring.
+//! Repairs of large graphs with holes, and of random ones, compared with a plain program that is
+//! proved to find the keys which a copy has to bring.
 
 use crate::plain::lacking;
 use crate::tests::calls::{Copied, EACH, Workers, copied, left, options};
@@ -17,7 +17,7 @@ use std::thread::Threads;
 use test_support::Sample::Empty;
 use test_support::{Content, INDEX, below, is_closed, memory, put_chain, random_list};
 
-/// Puts bytes into a store. What is there stays.
+/// Puts bytes into a store, unless the key is held.
 fn put_bytes(store: &mut MemoryStore, key: &Key, bytes: Bytes) {
     let _ = store.push(key, bytes);
 }
@@ -31,7 +31,7 @@ fn put_entry(from: &MemoryStore, place: usize, to: &mut MemoryStore) -> Result<(
     Ok(())
 }
 
-/// A store with all entries of another but every third.
+/// Returns a store with all entries of another except every third.
 fn without_every_third(alloc: Global, store: &MemoryStore) -> Result<MemoryStore, Fail> {
     let mut damaged = MemoryStore::new(alloc);
     for place in 0..store.len() {
@@ -42,7 +42,7 @@ fn without_every_third(alloc: Global, store: &MemoryStore) -> Result<MemoryStore
     Ok(damaged)
 }
 
-/// The store has what the source has, and is closed.
+/// The store has all that the source has, and is closed.
 fn assert_whole<R: AllocGlobal + Abort>(
     rt: &R,
     repaired: &MemoryStore,
@@ -55,7 +55,7 @@ fn assert_whole<R: AllocGlobal + Abort>(
     Ok(())
 }
 
-/// What the repair of a chain leaves where every third content is missing.
+/// Repairs a chain without every third content, and returns the store.
 fn repaired_chain<R: AllocGlobal + Threads + Wait + Sync + Abort>(
     rt: &R,
     source: &MemoryStore,
@@ -68,7 +68,7 @@ fn repaired_chain<R: AllocGlobal + Threads + Wait + Sync + Abort>(
     left(rt, source, damaged, root, (run, Existing::Descend), want)
 }
 
-/// The repair by so many workers.
+/// The repair by this number of workers is complete.
 fn assert_repaired_by<R: AllocGlobal + Threads + Wait + Sync + Abort>(
     rt: &R,
     source: &MemoryStore,
@@ -100,7 +100,8 @@ fn assert_chain<R: AllocGlobal + Threads + Wait + Sync + Abort>(
     assert_repaired(rt, source, &root)
 }
 
-/// A chain of images of which every third content is missing is whole again. The last image is one of those.
+/// A chain of images without every third content, the last image included, is complete again after
+/// the repair.
 #[test]
 fn long_chain(rt: HostRuntime) -> Result<(), Fail> {
     assert_chain(&rt, &mut memory(rt.alloc(), &[Empty])?)
@@ -136,7 +137,7 @@ fn numbered_index(alloc: Global, number: u32, list: &str) -> Result<Content, Fai
     })
 }
 
-/// The content of a number: a layer, or an index of what it lists.
+/// The content of a number: a layer, or an index of the contents that it lists.
 fn content(
     alloc: Global,
     contents: &[Content],
@@ -170,7 +171,7 @@ fn push_marks(state: &mut u64, graph: &mut Graph, holes: u32) -> Result<(), Fail
     Ok(())
 }
 
-/// A random graph with so many numbers, of which the source lacks some, and the destination more.
+/// A random graph of `count` contents. The source lacks some of them, and the destination more.
 fn random_graph(alloc: Global, state: &mut u64, round: u32, count: u32) -> Result<Graph, Fail> {
     let mut graph = Graph {
         name: format!(in alloc; "random graph {round}")?,
@@ -239,7 +240,8 @@ fn last_key(alloc: Global, graph: &Graph) -> Result<Key, Fail> {
     }
 }
 
-/// A copy of the last content of a random graph: its two stores, its root, and what it has to bring.
+/// A copy of the last content of a random graph: its two stores, its root, and the keys that it has
+/// to bring.
 #[derive(Clone, Copy)]
 struct Repair<'a> {
     graph: &'a Graph,
@@ -258,12 +260,12 @@ fn has_keys(store: &MemoryStore, keys: &[Key]) -> bool {
     true
 }
 
-/// Whether a key that the copy has to bring is in neither store.
+/// Returns whether a key that the copy has to bring is in neither store.
 fn is_refused(repair: &Repair<'_>) -> bool {
     !has_keys(repair.source, repair.lacking)
 }
 
-/// How what is told of the copy begins.
+/// Returns the beginning of the report or the fault of the copy.
 fn beginning(alloc: Global, repair: &Repair<'_>) -> Result<String, Fail> {
     if is_refused(repair) {
         return Ok(String::from_str(alloc, "81 Plan 53 NotFound ")?);
@@ -273,7 +275,8 @@ fn beginning(alloc: Global, repair: &Repair<'_>) -> Result<String, Fail> {
     Ok(format!(in alloc; "planned {lacking} pushed {lacking} skipped {skipped}")?)
 }
 
-/// The store has exactly what the destination had, and what the copy had to bring unless it was refused.
+/// Returns whether the store has exactly the earlier keys, and the keys that the copy had to bring
+/// unless it was refused.
 fn is_repaired(store: &MemoryStore, repair: &Repair<'_>) -> bool {
     let came = if is_refused(repair) {
         &[]
@@ -285,7 +288,7 @@ fn is_repaired(store: &MemoryStore, repair: &Repair<'_>) -> bool {
         && has_keys(store, came)
 }
 
-/// What was told begins as the plain program says.
+/// The report or the fault begins as the plain program says.
 fn assert_begins<R: AllocGlobal + Abort>(
     rt: &R,
     repair: &Repair<'_>,
@@ -297,12 +300,12 @@ fn assert_begins<R: AllocGlobal + Abort>(
     Ok(())
 }
 
-/// A store as the destination is.
+/// Returns a store with the contents of the destination.
 fn opening(alloc: Global, graph: &Graph) -> Result<MemoryStore, Fail> {
     marked_store(alloc, &graph.contents, &graph.in_destination)
 }
 
-/// The copy into a store as the destination is.
+/// Copies into a store with the contents of the destination.
 fn copied_repair<R: AllocGlobal + Threads + Wait + Sync>(
     rt: &R,
     repair: &Repair<'_>,
@@ -314,7 +317,7 @@ fn copied_repair<R: AllocGlobal + Threads + Wait + Sync>(
     copied(rt, repair.source, opening, roots, workers, &options)
 }
 
-/// The copy that left this store, and told this, is as the plain program says.
+/// A copy with this store and this report or fault is as the plain program says.
 fn assert_repair<R: AllocGlobal + Abort>(
     rt: &R,
     repair: &Repair<'_>,
@@ -328,7 +331,7 @@ fn assert_repair<R: AllocGlobal + Abort>(
     Ok(())
 }
 
-/// The copy by so many workers leaves, and tells, what the plain program says of it.
+/// The copy by this number of workers is as the plain program says.
 fn assert_wanted_by<R: AllocGlobal + Threads + Wait + Sync + Abort>(
     rt: &R,
     repair: &Repair<'_>,
@@ -340,7 +343,8 @@ fn assert_wanted_by<R: AllocGlobal + Threads + Wait + Sync + Abort>(
     assert_repair(rt, repair, &store, told, Run { name, workers })
 }
 
-/// The same on the calling thread, and by one worker, by three and by 64: whether it is refused.
+/// The copy on the calling thread, and by one, three and 64 workers, is as the plain program says.
+/// Returns whether it is refused.
 fn assert_wanted<R: AllocGlobal + Threads + Wait + Sync + Abort>(
     rt: &R,
     repair: &Repair<'_>,
@@ -351,7 +355,7 @@ fn assert_wanted<R: AllocGlobal + Threads + Wait + Sync + Abort>(
     Ok(is_refused(repair))
 }
 
-/// The same of a graph and its two stores.
+/// Like `assert_wanted`, for a graph and its two stores.
 fn assert_between<R: AllocGlobal + Threads + Wait + Sync + Abort>(
     rt: &R,
     graph: &Graph,
@@ -370,7 +374,7 @@ fn assert_between<R: AllocGlobal + Threads + Wait + Sync + Abort>(
     assert_wanted(rt, &repair)
 }
 
-/// The same of a graph and its source.
+/// Like `assert_wanted`, for a graph and its source.
 fn assert_from<R: AllocGlobal + Threads + Wait + Sync + Abort>(
     rt: &R,
     graph: &Graph,
@@ -379,7 +383,7 @@ fn assert_from<R: AllocGlobal + Threads + Wait + Sync + Abort>(
     assert_between(rt, graph, source, &opening(rt.alloc(), graph)?)
 }
 
-/// The same of a graph.
+/// Like `assert_wanted`, for a graph.
 fn assert_graph<R: AllocGlobal + Threads + Wait + Sync + Abort>(
     rt: &R,
     graph: &Graph,
@@ -388,7 +392,7 @@ fn assert_graph<R: AllocGlobal + Threads + Wait + Sync + Abort>(
     assert_from(rt, graph, &source)
 }
 
-/// The same of the next random graph.
+/// Like `assert_wanted`, for the next random graph.
 fn assert_random<R: AllocGlobal + Threads + Wait + Sync + Abort>(
     rt: &R,
     state: &mut u64,
@@ -398,7 +402,8 @@ fn assert_random<R: AllocGlobal + Threads + Wait + Sync + Abort>(
     assert_graph(rt, &random_graph(rt.alloc(), state, round, count)?)
 }
 
-/// Random graphs into destinations with random holes, some of them from sources with holes of their own.
+/// Random graphs are copied into destinations with random holes, some of them from sources with
+/// holes of their own.
 #[test]
 fn random_graphs(rt: HostRuntime) -> Result<(), Fail> {
     let mut state = 2026;

@@ -1,4 +1,5 @@
-//! Copies from and into stores that fail once: what is told and left, and that the same copy again brings the rest.
+//! Copies from and into stores that fail once: the report, the state that is left, and that the
+//! same copy again brings the rest.
 
 use crate::tests::calls::{Copied, Workers, copied_samples, options};
 use crate::tests::copies::Word::{KeyOf, Text};
@@ -31,7 +32,7 @@ where
     copied_samples(rt, source, destination, &[Index1], run.workers, &options)
 }
 
-/// Copies it from a store in memory into a store that fails.
+/// Copies the index from a store in memory into a store that fails.
 fn copied_into<D: Dest + Drop + Send, R: AllocGlobal + Threads + Wait + Sync>(
     rt: &R,
     destination: D,
@@ -50,7 +51,8 @@ fn lacks<D: Dest>(alloc: Global, destination: &D, sample: Sample) -> Result<bool
     Ok(!destination.has(&sample.key(alloc)?))
 }
 
-/// Whether this tells that the push of one of the samples failed, which the destination then does not hold.
+/// Returns whether the text reports a failed push of one of the samples, and the destination lacks
+/// that sample.
 fn names_missing<D: Dest>(alloc: Global, destination: &D, told: &str) -> Result<bool, Fail> {
     for sample in ALL {
         if is_text(
@@ -64,7 +66,7 @@ fn names_missing<D: Dest>(alloc: Global, destination: &D, told: &str) -> Result<
     Ok(false)
 }
 
-/// One push failed, and what was pushed before is closed.
+/// One push failed, and the keys pushed before are closed.
 fn assert_failed_once<R: AllocGlobal + Abort, D: Dest>(
     rt: &R,
     destination: &D,
@@ -75,7 +77,7 @@ fn assert_failed_once<R: AllocGlobal + Abort, D: Dest>(
     Ok(())
 }
 
-/// The same, and this tells of the push.
+/// One push failed, the text reports it, and the keys pushed before are closed.
 fn assert_failed<R: AllocGlobal + Abort, D: Dest>(
     rt: &R,
     destination: &D,
@@ -88,7 +90,7 @@ fn assert_failed<R: AllocGlobal + Abort, D: Dest>(
     assert_failed_once(rt, destination, run)
 }
 
-/// A copy into a store of which a push fails, which is refused: what it left.
+/// Copies into a store whose push fails, asserts the refusal, and returns the store.
 fn left_by_refused<D: Dest + Drop + Send, R: AllocGlobal + Threads + Wait + Sync + Abort>(
     rt: &R,
     destination: D,
@@ -102,12 +104,12 @@ where
     Ok(destination)
 }
 
-/// What is told of a copy that brings so many keys.
+/// Returns the report of a copy of `count` keys.
 fn brought(alloc: Global, count: usize) -> Result<String, Fail> {
     Ok(format!(in alloc; "planned {count} pushed {count} skipped 0")?)
 }
 
-/// The copy brought so many keys.
+/// The copy pushed `count` keys.
 fn assert_brought<R: AllocGlobal + Abort>(
     rt: &R,
     told: &str,
@@ -119,7 +121,7 @@ fn assert_brought<R: AllocGlobal + Abort>(
     Ok(())
 }
 
-/// The copy brought so many keys, and the destination then holds all.
+/// The copy pushed `count` keys, and the destination then holds all.
 fn assert_rest<A: Dest + Source, R: AllocGlobal + Abort>(
     rt: &R,
     destination: &A,
@@ -146,7 +148,8 @@ where
     assert_rest(rt, &destination, told, rest, run)
 }
 
-/// A copy into a store of which a push fails, and the same copy again: how many contents the first one left.
+/// Copies into a store whose push fails, and then again. Returns the number of contents that the
+/// first copy left.
 fn left_by_failed<A: Dest + Source + Drop + Send, R: AllocGlobal + Threads + Wait + Sync + Abort>(
     rt: &R,
     destination: A,
@@ -161,8 +164,8 @@ where
     Ok(left)
 }
 
-/// The third push into a closed store fails. The plan leaves the order of the pushes open, so any key that is not held may be the
-/// third one.
+/// The third push into a closed store fails. The order of the pushes is unspecified, so any missing
+/// key may be the third one.
 #[test]
 fn failing_push(rt: HostRuntime) -> Result<(), Fail> {
     let run = Run {
@@ -175,7 +178,8 @@ fn failing_push(rt: HostRuntime) -> Result<(), Fail> {
     Ok(())
 }
 
-/// The copy into a device that fails the put after so many.
+/// Copies into a device whose put fails once, and then again. Returns the number of contents that
+/// the first copy left.
 fn left_on_device<R: AllocGlobal + Threads + Wait + Sync + Abort>(
     rt: &R,
     device: &Device,
@@ -184,12 +188,13 @@ fn left_on_device<R: AllocGlobal + Threads + Wait + Sync + Abort>(
     left_by_failed(rt, on_device(rt.alloc(), device, &[])?, run)
 }
 
-/// What fails once, and after how many others.
+/// Returns the name of a run: the call that fails, and the number of calls that pass before.
 fn name(alloc: Global, failing: &str, passing: u64) -> Result<String, Fail> {
     Ok(format!(in alloc; "{failing} after {passing}")?)
 }
 
-/// The put after so many fails. On one thread what was pushed before is there; workers may have gone on with what was begun.
+/// The put after `passing` others fails. On one thread exactly the contents put before are left;
+/// workers may have finished others that were begun.
 fn assert_put<R: AllocGlobal + Threads + Wait + Sync + Abort>(
     rt: &R,
     passing: u64,
@@ -202,7 +207,7 @@ fn assert_put<R: AllocGlobal + Threads + Wait + Sync + Abort>(
     Ok(())
 }
 
-/// The same on one thread, and by three workers.
+/// A put fails, on one thread and by three workers.
 fn assert_put_by_each<R: AllocGlobal + Threads + Wait + Sync + Abort>(
     rt: &R,
     passing: u64,
@@ -215,8 +220,7 @@ fn assert_put_by_each<R: AllocGlobal + Threads + Wait + Sync + Abort>(
     Ok(())
 }
 
-/// One put fails, and the copy is refused; the same copy into what came back brings the rest. On one thread what was pushed before
-/// is there; workers may have gone on with what was begun.
+/// One put fails, and the copy is refused. The same copy into the returned store brings the rest.
 #[test]
 fn failing_puts(rt: HostRuntime) -> Result<(), Fail> {
     for passing in 0..6u64 {
@@ -234,7 +238,7 @@ fn assert_closed<R: AllocGlobal + Abort>(
     Ok(())
 }
 
-/// The fetch failed, for the plan or at a push, and what was pushed is closed.
+/// The fetch failed, for the plan or for a push, and the keys pushed before are closed.
 fn assert_not_fetched<R: AllocGlobal + Abort>(
     rt: &R,
     destination: &ClosedStore,
@@ -247,7 +251,7 @@ fn assert_not_fetched<R: AllocGlobal + Abort>(
     assert_closed(rt, destination, run)
 }
 
-/// Whether the copy was refused for a fetch.
+/// Returns whether the copy was refused for a fetch, and asserts the state that it left.
 fn is_refused<R: AllocGlobal + Abort>(
     rt: &R,
     destination: &ClosedStore,
@@ -262,7 +266,7 @@ fn is_refused<R: AllocGlobal + Abort>(
     Ok(refused)
 }
 
-/// What a copy leaves in an empty store, and whether it was refused for a fetch.
+/// Copies into an empty store. Returns the store, and whether the copy was refused for a fetch.
 fn copied_once<R: AllocGlobal + Threads + Wait + Sync + Abort>(
     rt: &R,
     source: &DeviceStore<'_>,
@@ -273,7 +277,7 @@ fn copied_once<R: AllocGlobal + Threads + Wait + Sync + Abort>(
     Ok((destination, refused))
 }
 
-/// The destination holds all after a copy that told this.
+/// The destination holds all after the copy, whose report is `told`.
 fn assert_all<R: AllocGlobal + Abort>(
     rt: &R,
     destination: &ClosedStore,
@@ -283,7 +287,7 @@ fn assert_all<R: AllocGlobal + Abort>(
     assert_holds(rt, destination, &ALL, told?.as_str(), run)
 }
 
-/// The copy again brings all.
+/// The same copy again brings all.
 fn assert_whole<R: AllocGlobal + Threads + Wait + Sync + Abort>(
     rt: &R,
     source: &DeviceStore<'_>,
@@ -294,7 +298,7 @@ fn assert_whole<R: AllocGlobal + Threads + Wait + Sync + Abort>(
     assert_all(rt, &destination, told, run)
 }
 
-/// A copy from a store, and the same copy again: whether the first was refused.
+/// Copies from a store, and then again. Returns whether the first copy was refused.
 fn is_refused_first<R: AllocGlobal + Threads + Wait + Sync + Abort>(
     rt: &R,
     source: &DeviceStore<'_>,
@@ -305,7 +309,8 @@ fn is_refused_first<R: AllocGlobal + Threads + Wait + Sync + Abort>(
     Ok(refused)
 }
 
-/// The same from a device that fails the get after so many.
+/// Copies from a device whose get fails once, and then again. Returns whether the first copy was
+/// refused.
 fn is_refused_once<R: AllocGlobal + Threads + Wait + Sync + Abort>(
     rt: &R,
     device: &Device,
@@ -314,7 +319,7 @@ fn is_refused_once<R: AllocGlobal + Threads + Wait + Sync + Abort>(
     is_refused_first(rt, &on_device(rt.alloc(), device, &ALL)?, run)
 }
 
-/// The get after so many fails, on one thread or for workers.
+/// The get after `passing` others fails.
 fn assert_get<R: AllocGlobal + Threads + Wait + Sync + Abort>(
     rt: &R,
     passing: u64,
@@ -326,7 +331,7 @@ fn assert_get<R: AllocGlobal + Threads + Wait + Sync + Abort>(
     Ok(())
 }
 
-/// The same on one thread, and for three workers.
+/// A get fails, on one thread and for three workers.
 fn assert_get_by_each<R: AllocGlobal + Threads + Wait + Sync + Abort>(
     rt: &R,
     passing: u64,
@@ -339,8 +344,8 @@ fn assert_get_by_each<R: AllocGlobal + Threads + Wait + Sync + Abort>(
     Ok(())
 }
 
-/// One fetch fails, at each place in turn, until a copy meets no failure: that is after the three manifests for the plan and the
-/// six contents.
+/// One fetch fails, at each place in turn. The last copy meets no failure: there are three
+/// manifests for the plan and six contents.
 #[test]
 fn failing_fetch(rt: HostRuntime) -> Result<(), Fail> {
     for passing in 0..10u64 {

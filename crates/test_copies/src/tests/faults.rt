@@ -1,4 +1,4 @@
-//! How each refusal of a copy prints: its number, its name, and what it carries.
+//! The text of each refusal of a copy: its number, its name, and its fields.
 
 use crate::tests::copies::Word::{KeyOf, Text};
 use crate::tests::copies::{Word, printed, text};
@@ -10,7 +10,7 @@ use std::process::Abort;
 use std::test::Fail;
 use test_support::Sample::{Bar, Foo};
 
-/// A refusal, with the key of `foo` and that of `bar` where it carries two.
+/// A refusal, with the key of `foo`, and the key of `bar` if it has two keys.
 #[derive(Clone, Copy)]
 enum Refusal {
     DestinationOpen,
@@ -68,7 +68,7 @@ fn assert_line<R: AllocGlobal + Abort>(
     assert_prints(rt, fault, line_of(rt.alloc(), fault, words)?.as_str())
 }
 
-/// A refusal prints so.
+/// A refusal prints as its number and its words.
 fn assert_refusal<R: AllocGlobal + Abort>(
     rt: &R,
     refusal: Refusal,

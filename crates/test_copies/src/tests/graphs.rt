@@ -16,7 +16,7 @@ use test_support::{Sample, descriptor};
 
 const IMAGE: [Sample; 2] = [Empty, Image0];
 
-/// The config comes before the image that lists it, on one thread and by workers.
+/// The config is copied before the image that lists it, on one thread and by workers.
 #[test]
 fn one_image(rt: HostRuntime) -> Result<(), Fail> {
     static CASES: [Case<'static>; 1] = [Case {
@@ -45,7 +45,7 @@ fn copy_again(rt: HostRuntime) -> Result<(), Fail> {
     assert_cases(&rt, &CASES)
 }
 
-/// A layer that is listed twice comes once.
+/// A layer that is listed twice is copied once.
 #[test]
 fn doubled_layer(rt: HostRuntime) -> Result<(), Fail> {
     static CASES: [Case<'static>; 1] = [Case {
@@ -59,7 +59,7 @@ fn doubled_layer(rt: HostRuntime) -> Result<(), Fail> {
     assert_cases(&rt, &CASES)
 }
 
-/// Nothing is copied for no roots.
+/// Without roots, nothing is copied.
 #[test]
 fn no_roots(rt: HostRuntime) -> Result<(), Fail> {
     static CASES: [Case<'static>; 1] = [Case {
@@ -96,7 +96,8 @@ fn assert_by_each<R: AllocGlobal + Threads + Wait + Sync + Abort>(
     Ok(())
 }
 
-/// An index of two images arrives whole on one thread and with each number of workers; over 64 of them nothing is copied.
+/// An index of two images is copied completely on one thread and with each number of workers; with
+/// more than 64 workers nothing is copied.
 #[test]
 fn two_images(rt: HostRuntime) -> Result<(), Fail> {
     static BY_EACH: Case<'static> = TWO_IMAGES;
@@ -118,8 +119,8 @@ fn two_images(rt: HostRuntime) -> Result<(), Fail> {
     assert_cases(&rt, &CASES)
 }
 
-/// The same index arrives whole if one call makes the plan and another runs it, and a held root is counted; over 64 workers
-/// nothing is copied.
+/// This index is also copied completely if one call makes the plan and another runs it, and a held
+/// root is counted; with more than 64 workers nothing is copied.
 #[test]
 fn two_images_planned(rt: HostRuntime) -> Result<(), Fail> {
     const WORKERS: [Workers; 4] = [Some(0), Some(1), Some(3), Some(64)];
@@ -149,7 +150,7 @@ fn two_images_planned(rt: HostRuntime) -> Result<(), Fail> {
     assert_cases(&rt, &CASES)
 }
 
-/// The calls between stores in memory are the same copy, on one thread and by workers.
+/// The calls between stores in memory make the same copy, on one thread and by workers.
 #[test]
 fn two_images_in_memory(rt: HostRuntime) -> Result<(), Fail> {
     const WORKERS: [Workers; 2] = [None, Some(3)];
@@ -166,7 +167,7 @@ fn two_images_in_memory(rt: HostRuntime) -> Result<(), Fail> {
     assert_cases(&rt, &CASES)
 }
 
-/// Roots are copied whichever way they stand to each other, each key once.
+/// Several roots are copied, each key once: roots that list the same key, and a root that is held.
 #[test]
 fn many_roots(rt: HostRuntime) -> Result<(), Fail> {
     const SOURCE: [Sample; 7] = [Empty, Foo, Bar, Image0, Image2, Image3, Index1];
@@ -193,7 +194,7 @@ fn many_roots(rt: HostRuntime) -> Result<(), Fail> {
     assert_cases(&rt, &CASES)
 }
 
-/// How long the descriptor of a sample is.
+/// Returns the length of the descriptor of a sample.
 fn descriptor_length(alloc: Global, sample: Sample) -> Result<usize, Fail> {
     let key = sample.key(alloc)?;
     Ok(descriptor(alloc, &key)?.len())
@@ -203,7 +204,7 @@ fn size(alloc: Global, sample: Sample) -> Result<u64, Fail> {
     Ok(sample.key(alloc)?.size())
 }
 
-/// The descriptor of the layer and the image are as long as they are outside.
+/// The descriptors of the layer and the image have their known lengths.
 fn assert_sizes<R: AllocGlobal + Abort>(rt: &R) -> Result<(), Fail> {
     let length = descriptor_length(rt.alloc(), FooBySha512)?;
     let size = size(rt.alloc(), Image5)?;
@@ -212,7 +213,7 @@ fn assert_sizes<R: AllocGlobal + Abort>(rt: &R) -> Result<(), Fail> {
     Ok(())
 }
 
-/// A layer whose digest is by SHA-512 comes as any other.
+/// A layer with a SHA-512 digest is copied like any other.
 #[test]
 fn sha512_layer(rt: HostRuntime) -> Result<(), Fail> {
     static CASES: [Case<'static>; 1] = [Case {
@@ -227,7 +228,7 @@ fn sha512_layer(rt: HostRuntime) -> Result<(), Fail> {
     assert_cases(&rt, &CASES)
 }
 
-/// The only layer of a Docker image stays where it is, which is nowhere.
+/// The only layer of a Docker image is in no store, and is not copied.
 #[test]
 fn foreign_layer(rt: HostRuntime) -> Result<(), Fail> {
     static CASES: [Case<'static>; 1] = [Case {
@@ -241,7 +242,7 @@ fn foreign_layer(rt: HostRuntime) -> Result<(), Fail> {
     assert_cases(&rt, &CASES)
 }
 
-/// One digest under two media types is two keys, and both come.
+/// One digest under two media types makes two keys, and both are copied.
 #[test]
 fn two_media_types(rt: HostRuntime) -> Result<(), Fail> {
     const IMAGES: [Sample; 5] = [Empty, Image0, Image0AsLayer, Image4, Index2];
@@ -268,7 +269,7 @@ fn missing_layer(rt: HostRuntime) -> Result<(), Fail> {
     assert_cases(&rt, &CASES)
 }
 
-/// What is held is not looked below, so a source that lacks a layer of it serves.
+/// A copy does not look below held keys, so the source may lack a layer there.
 #[test]
 fn held_above_a_hole(rt: HostRuntime) -> Result<(), Fail> {
     static CASES: [Case<'static>; 1] = [Case {

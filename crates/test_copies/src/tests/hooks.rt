@@ -14,17 +14,17 @@ use std::thread::Threads;
 use test_support::Sample::{Bar, Empty, Foo, Image0, Image2, Image3, Index1};
 use test_support::{Device, DeviceStore, closed, keys, memory, on_device};
 
-/// Hooks that count their calls, and those that come out of order.
+/// Hooks that count their calls, and the calls that are out of order.
 #[derive(Drop)]
 struct Counting<'d> {
     device: &'d Device,
-    /// How many puts there were before the copy.
+    /// The number of puts before the copy.
     before: u64,
     skipped: AtomicU64,
     began: AtomicU64,
     ended: AtomicU64,
-    /// Roots that were told as held once a key had begun, keys that began once so many were pushed, and keys that ended before so
-    /// many were pushed.
+    /// Calls out of order: held roots reported after the first key began, keys that began after
+    /// that many were pushed, and keys that ended before that many were pushed.
     late: AtomicU64,
 }
 
@@ -40,12 +40,13 @@ impl<'d> Counting<'d> {
         }
     }
 
-    /// How many contents were pushed, or are being pushed.
+    /// Returns the number of contents that the copy pushed or is pushing.
     fn pushed(&self) -> u64 {
         self.device.puts().saturating_sub(self.before)
     }
 
-    /// How many roots were told as held; how many keys began, were pushed, and ended; and how many calls came out of order.
+    /// Returns the number of held roots reported; of keys that began, were pushed, and ended; and
+    /// of calls out of order.
     fn counts(&self) -> [u64; 5] {
         [
             self.skipped.load(Ordering::SeqCst),
@@ -98,7 +99,7 @@ fn copied_images<R: AllocGlobal + Threads + Wait + Sync>(
     told_by_workers(rt, source, destination, &roots, &options, hooks)
 }
 
-/// Two roots were held, and three keys were brought, with each call in its place.
+/// Two roots were held and three keys were copied, with each call in its place.
 fn assert_counted(rt: &impl Abort, hooks: &Counting<'_>) {
     let counts = hooks.counts();
     assert_eq!(rt; counts, [2, 3, 3, 3, 0], "{INTO_LAYERS}");
@@ -117,21 +118,22 @@ fn assert_calls<R: AllocGlobal + Threads + Wait + Sync + Abort>(
     Ok(())
 }
 
-/// Each held root is told once and first; each key that is brought is told before it is pushed, and once it is.
+/// Each held root is reported once and first. Each copied key is reported before and after its
+/// push.
 #[test]
 fn calls_of_hooks(rt: HostRuntime) -> Result<(), Fail> {
     let source = memory(rt.alloc(), &[Empty, Foo, Bar, Image2, Image3, Index1])?;
     assert_calls(&rt, &source, &Device::failing(None, None))
 }
 
-/// Hooks that know which roots they are to be told as held, in their order.
+/// Hooks that know the held roots, in the order in which they have to be reported.
 #[derive(Drop)]
 struct Naming {
     held: Vec<Key>,
-    /// How many roots were told as held, and how many keys began.
+    /// The number of held roots reported, and of keys that began.
     skipped: AtomicU64,
     began: AtomicU64,
-    /// Roots that were told out of turn, or once a key had begun.
+    /// Roots that were reported out of order, or after a key had begun.
     wrong: AtomicU64,
 }
 
@@ -145,7 +147,8 @@ impl Naming {
         }
     }
 
-    /// How many roots were told as held, how many keys began, and how many roots were told out of turn.
+    /// Returns the number of held roots reported, of keys that began, and of roots reported out of
+    /// order.
     fn counts(&self) -> [u64; 3] {
         [
             self.skipped.load(Ordering::SeqCst),
@@ -177,7 +180,8 @@ impl Hooks for Naming {
     }
 }
 
-/// Copies two images and a layer, of which the layer and an image without its config are held, by so many workers that descend.
+/// Copies two images and a layer with `Existing::Descend`. The destination holds the layer, and one
+/// image without its config.
 fn copied_below<R: AllocGlobal + Threads + Wait + Sync>(
     rt: &R,
     source: &MemoryStore,
@@ -190,7 +194,7 @@ fn copied_below<R: AllocGlobal + Threads + Wait + Sync>(
     told_by_workers(rt, source, open, &roots, &options, hooks)
 }
 
-/// Two roots were held, which were told in their order, and two keys were brought.
+/// Two held roots were reported in their order, and two keys were copied.
 fn assert_named(rt: &impl Abort, hooks: &Naming, run: Run<'_>) {
     let counts = hooks.counts();
     assert_eq!(rt; counts, [2, 2, 0], "{run}");
@@ -209,7 +213,7 @@ fn assert_calls_below<R: AllocGlobal + Threads + Wait + Sync + Abort>(
     Ok(())
 }
 
-/// The same of one worker, and of three.
+/// The calls are in order with one worker and with three.
 fn assert_calls_by_each<R: AllocGlobal + Threads + Wait + Sync + Abort>(
     rt: &R,
     source: &MemoryStore,
@@ -221,7 +225,8 @@ fn assert_calls_by_each<R: AllocGlobal + Threads + Wait + Sync + Abort>(
     Ok(())
 }
 
-/// A copy that descends tells held roots as one that skips them: each once, in their order, and first.
+/// A copy that descends reports held roots like one that skips them: each once, in their order, and
+/// first.
 #[test]
 fn calls_of_hooks_below_held_keys(rt: HostRuntime) -> Result<(), Fail> {
     assert_calls_by_each(&rt, &memory(rt.alloc(), &[Empty, Foo, Image0, Image2])?)
@@ -242,7 +247,7 @@ impl<S> CountedStore<S> {
         }
     }
 
-    /// How many contents were fetched, or are being fetched.
+    /// Returns the number of contents that were or are being fetched.
     fn fetches(&self) -> u64 {
         self.fetches.load(Ordering::SeqCst)
     }
@@ -273,11 +278,11 @@ impl<S: Source> Source for CountedStore<S> {
     }
 }
 
-/// Hooks that count the keys that begin, and those that begin once as many were fetched.
+/// Hooks that count the keys that begin, and the keys that begin after their fetch may have.
 #[derive(Drop)]
 struct Beginning<'s> {
     source: &'s CountedStore<MemoryStore>,
-    /// How many fetches there were before the copy.
+    /// The number of fetches before the copy.
     before: u64,
     began: AtomicU64,
     late: AtomicU64,
@@ -293,12 +298,12 @@ impl<'s> Beginning<'s> {
         }
     }
 
-    /// How many contents the copy fetched, or is fetching.
+    /// Returns the number of contents that the copy fetched or is fetching.
     fn fetched(&self) -> u64 {
         self.source.fetches().saturating_sub(self.before)
     }
 
-    /// How many keys began, and were fetched; and how many began late.
+    /// Returns the number of keys that began, that were fetched, and that began late.
     fn counts(&self) -> [u64; 3] {
         [
             self.began.load(Ordering::SeqCst),
@@ -321,8 +326,8 @@ impl<'s> Hooks for Beginning<'s> {
     fn skipped(&self, _key: &Key) {}
 }
 
-/// Plans the copy of keys into an empty store, and then runs the plan: how many keys began and were fetched, and how many began
-/// late.
+/// Plans the copy of keys into an empty store and runs the plan. Returns the number of keys that
+/// began, that were fetched, and that began late.
 fn beginnings<R: AllocGlobal + Threads + Wait + Sync>(
     rt: &R,
     source: &CountedStore<MemoryStore>,
@@ -339,7 +344,7 @@ fn beginnings<R: AllocGlobal + Threads + Wait + Sync>(
     Ok(hooks.counts())
 }
 
-/// Six keys began by so many workers, each before it was fetched.
+/// With this number of workers, six keys began, each before its fetch.
 fn assert_beginnings<R: AllocGlobal + Threads + Wait + Sync + Abort>(
     rt: &R,
     source: &CountedStore<MemoryStore>,
@@ -351,7 +356,7 @@ fn assert_beginnings<R: AllocGlobal + Threads + Wait + Sync + Abort>(
     Ok(())
 }
 
-/// The same of one worker, and of three.
+/// Keys begin before their fetch with one worker and with three.
 fn assert_beginnings_by_each<R: AllocGlobal + Threads + Wait + Sync + Abort>(
     rt: &R,
     source: &CountedStore<MemoryStore>,
@@ -361,7 +366,7 @@ fn assert_beginnings_by_each<R: AllocGlobal + Threads + Wait + Sync + Abort>(
     assert_beginnings(rt, source, &roots, 3)
 }
 
-/// A worker says that it begins with a key before it fetches that key.
+/// A worker calls `pre_copy` for a key before it fetches that key.
 #[test]
 fn keys_begin_before_their_fetch(rt: HostRuntime) -> Result<(), Fail> {
     let source = memory(rt.alloc(), &[Empty, Foo, Bar, Image2, Image3, Index1])?;

@@ -26,7 +26,7 @@ pub(crate) fn has_all(store: &MemoryStore, other: &MemoryStore) -> bool {
     true
 }
 
-/// A large copy into an empty store, and what it tells.
+/// A large copy into an empty store, and its report.
 #[derive(Clone, Copy)]
 struct Large<'a> {
     name: &'a str,
@@ -43,7 +43,7 @@ fn by<'a>(copy: &Large<'a>, workers: Workers) -> Run<'a> {
     }
 }
 
-/// What a copy leaves.
+/// Returns the store that a copy leaves.
 fn copied<R: AllocGlobal + Threads + Wait + Sync + Abort>(
     rt: &R,
     copy: &Large<'_>,
@@ -65,7 +65,7 @@ fn assert_alike<R: AllocGlobal + Abort>(
     Ok(())
 }
 
-/// A run brings what a copy on one thread brought.
+/// The run of a copy leaves the same contents as the copy on one thread.
 fn assert_same_by<R: AllocGlobal + Threads + Wait + Sync + Abort>(
     rt: &R,
     copy: &Large<'_>,
@@ -75,7 +75,7 @@ fn assert_same_by<R: AllocGlobal + Threads + Wait + Sync + Abort>(
     assert_alike(rt, &copied(rt, copy, run)?, single, run)
 }
 
-/// A copy by each of these numbers of workers brings what a copy on one thread brings.
+/// A copy by each of these numbers of workers leaves the same contents as a copy on one thread.
 fn assert_same<R: AllocGlobal + Threads + Wait + Sync + Abort>(
     rt: &R,
     copy: &Large<'_>,
@@ -88,7 +88,7 @@ fn assert_same<R: AllocGlobal + Threads + Wait + Sync + Abort>(
     Ok(())
 }
 
-/// The same of a chain that is put into the store.
+/// The copies of a chain that is put into the store leave the same contents.
 fn assert_chain<R: AllocGlobal + Threads + Wait + Sync + Abort>(
     rt: &R,
     store: &mut MemoryStore,
@@ -103,7 +103,7 @@ fn assert_chain<R: AllocGlobal + Threads + Wait + Sync + Abort>(
     assert_same(rt, &copy, &[3])
 }
 
-/// A chain, of which one key at a time can be pushed.
+/// A chain: only one key at a time can be pushed.
 #[test]
 fn long_chain(rt: HostRuntime) -> Result<(), Fail> {
     assert_chain(&rt, &mut memory(rt.alloc(), &[Empty])?)
@@ -147,7 +147,7 @@ fn put_layer(
     put(alloc, store, layer)
 }
 
-/// Puts so many layers into the store, and gives the list of their descriptors.
+/// Puts `count` layers into the store, and returns the list of their descriptors.
 fn put_layers(alloc: Global, store: &mut MemoryStore, length: u32) -> Result<String, Fail> {
     let mut list = String::new(alloc);
     for number in 0..length {
@@ -156,7 +156,7 @@ fn put_layers(alloc: Global, store: &mut MemoryStore, length: u32) -> Result<Str
     Ok(list)
 }
 
-/// Puts so many layers and their index into the store, and gives the key of the index.
+/// Puts `count` layers and their index into the store, and returns the key of the index.
 fn put_index(alloc: Global, store: &mut MemoryStore, length: u32) -> Result<Key, Fail> {
     let list = put_layers(alloc, store, length)?;
     put_content(alloc, store, index(alloc, list.as_str())?)
@@ -177,7 +177,7 @@ fn assert_index<R: AllocGlobal + Threads + Wait + Sync + Abort>(
     assert_same(rt, &copy, &[1, 64])
 }
 
-/// An index, of which all keys but one can be pushed at once.
+/// An index: all keys except one can be pushed at once.
 #[test]
 fn wide_index(rt: HostRuntime) -> Result<(), Fail> {
     assert_index(&rt, &mut memory(rt.alloc(), &[])?)

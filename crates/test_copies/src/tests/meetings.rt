@@ -13,10 +13,11 @@ use std::thread::Threads;
 use test_support::Sample::{Bar, Foo};
 use test_support::{closed, memory};
 
-/// How often to look where nobody is to give up for some seconds.
+/// A number of looks that takes some seconds.
 const LOOKS: u64 = 1_000_000_000;
 
-/// A place that two workers are to be at together: whoever comes looks for the other so often, and then gives up.
+/// A place where two workers wait for each other: each looks `looks` times for the other, and then
+/// gives up.
 #[derive(Drop)]
 struct MeetingPlace {
     looks: u64,
@@ -43,13 +44,13 @@ impl MeetingPlace {
         }
     }
 
-    /// How many met the other.
+    /// Returns the number of workers that met the other.
     fn met(&self) -> u64 {
         self.met.load(Ordering::SeqCst)
     }
 }
 
-/// Hooks of which each call before a fetch comes to a meeting, and each call after a push to another.
+/// Hooks with two meeting places: one for the calls before a fetch, one for the calls after a push.
 #[derive(Drop)]
 struct MeetingHooks {
     began: MeetingPlace,
@@ -68,7 +69,7 @@ impl Hooks for MeetingHooks {
     fn skipped(&self, _key: &Key) {}
 }
 
-/// A store of which each fetch comes to a meeting.
+/// A store with a meeting place for its fetches.
 #[derive(Drop)]
 struct MeetingStore<S> {
     store: S,
@@ -100,7 +101,8 @@ impl<S: Source> Source for MeetingStore<S> {
     }
 }
 
-/// A store whose fetches may fail, so that layers are read part by part. Each such read comes to a meeting.
+/// A store whose fetches may fail, so that layers are read part by part. It has a meeting place for
+/// these reads.
 #[derive(Drop)]
 struct PartsMeet {
     store: MemoryStore,
@@ -151,7 +153,7 @@ impl Source for PartsMeet {
     }
 }
 
-/// Two layers are copied by so many workers.
+/// Copies two layers by this number of workers.
 fn assert_two<R: AllocGlobal + Threads + Wait + Sync + Abort, A: Source + Sync, H: Hooks + Sync>(
     rt: &R,
     source: &A,
@@ -168,7 +170,8 @@ fn assert_two<R: AllocGlobal + Threads + Wait + Sync + Abort, A: Source + Sync, 
     assert_told(rt, told, "planned 2 pushed 2 skipped 0", run)
 }
 
-/// So many of the workers that copy with these hooks meet before they fetch, and so many after they have pushed.
+/// Of the workers that copy with these hooks, `met` meet before they fetch, and `met` after they
+/// have pushed.
 fn assert_hooks_meet<R: AllocGlobal + Threads + Wait + Sync + Abort>(
     rt: &R,
     workers: u32,
@@ -181,7 +184,8 @@ fn assert_hooks_meet<R: AllocGlobal + Threads + Wait + Sync + Abort>(
     Ok(())
 }
 
-/// So many workers look so often for each other, before they fetch and after they have pushed, and so many of them meet.
+/// Of these workers, which look `looks` times for each other, `met` meet before they fetch and
+/// after they have pushed.
 fn assert_met<R: AllocGlobal + Threads + Wait + Sync + Abort>(
     rt: &R,
     workers: u32,
@@ -195,14 +199,15 @@ fn assert_met<R: AllocGlobal + Threads + Wait + Sync + Abort>(
     assert_hooks_meet(rt, workers, &hooks, met)
 }
 
-/// Two workers are at work at once: each of two keys waits for the other to have begun. Then each waits for the other to have
-/// been pushed, so neither has the destination's lock meanwhile.
+/// Two workers run at the same time: each of two keys waits for the other to begin. Then each waits
+/// for the push of the other, so neither worker holds the destination's lock.
 #[test]
 fn meeting(rt: HostRuntime) -> Result<(), Fail> {
     assert_met(&rt, 2, LOOKS, 2)
 }
 
-/// One worker begins with a key and gives up, since the other key has not begun; with the other it finds that the first has.
+/// One worker begins with a key and gives up, since the other key has not begun. With the other key
+/// it finds that the first has.
 #[test]
 fn meeting_of_one_worker(rt: HostRuntime) -> Result<(), Fail> {
     assert_met(&rt, 1, 1_000, 1)
@@ -218,7 +223,7 @@ fn assert_fetches_meet<R: AllocGlobal + Threads + Wait + Sync + Abort>(
     Ok(())
 }
 
-/// Two workers fetch at once, so none of them has the destination's lock meanwhile.
+/// Two workers fetch at the same time, so neither holds the destination's lock.
 #[test]
 fn fetches_meet(rt: HostRuntime) -> Result<(), Fail> {
     let source = MeetingStore {
@@ -228,7 +233,7 @@ fn fetches_meet(rt: HostRuntime) -> Result<(), Fail> {
     assert_fetches_meet(&rt, &source)
 }
 
-/// Two workers that read parts of what a store has meet.
+/// Two workers that read parts of the contents of a store meet.
 fn assert_parts_meet<R: AllocGlobal + Threads + Wait + Sync + Abort>(
     rt: &R,
     source: &PartsMeet,
@@ -238,7 +243,7 @@ fn assert_parts_meet<R: AllocGlobal + Threads + Wait + Sync + Abort>(
     Ok(())
 }
 
-/// Two workers read parts of two layers at once, so none of them has the destination's lock meanwhile.
+/// Two workers read parts of two layers at the same time, so neither holds the destination's lock.
 #[test]
 fn parts_meet(rt: HostRuntime) -> Result<(), Fail> {
     let source = PartsMeet {

@@ -10,7 +10,7 @@ use test_support::Sample::{Empty, Foo, Image0, Image2};
 
 const IMAGE: [Sample; 2] = [Empty, Image0];
 
-/// The names of the one image that the source has, and of what the destination has.
+/// The names of the only image of the source, and of the contents of the destination.
 const M: Tag<'static> = Tag {
     sample: Image0,
     name: Text("m"),
@@ -28,7 +28,7 @@ const V1: Tag<'static> = Tag {
 
 const USUAL: [Workers; 1] = [Some(0)];
 
-/// The tag comes after the content: a key that is not held takes no name.
+/// The tag is set after the content is there: a key that is not held gets no name.
 #[test]
 fn copy_of_a_tag(rt: HostRuntime) -> Result<(), Fail> {
     static CASES: [Case<'static>; 2] = [
@@ -77,7 +77,7 @@ fn copy_of_a_digest(rt: HostRuntime) -> Result<(), Fail> {
     assert_cases(&rt, &CASES)
 }
 
-/// A copy that is refused: the store of one content, which has the name `e`, is as it was.
+/// A copy is refused, and the store of one content, named `e`, is unchanged.
 const REFUSED: Case<'static> = Case {
     source: &IMAGE,
     source_tag: Some(M),
@@ -116,7 +116,7 @@ fn refused_references(rt: HostRuntime) -> Result<(), Fail> {
     assert_cases(&rt, &CASES)
 }
 
-/// A copy that is refused names nothing.
+/// A refused copy sets no tag.
 #[test]
 fn copy_of_a_hole(rt: HostRuntime) -> Result<(), Fail> {
     static CASES: [Case<'static>; 1] = [Case {
@@ -134,8 +134,8 @@ fn copy_of_a_hole(rt: HostRuntime) -> Result<(), Fail> {
     assert_cases(&rt, &CASES)
 }
 
-/// Where held keys are skipped, a destination that has the image without its config is refused and takes no name. A copy that
-/// descends brings what the held image lacks, and names the image.
+/// If held keys are skipped, a destination that has the image without its config is refused, and no
+/// tag is set. A copy that descends brings the config and tags the image.
 #[test]
 fn copy_below_a_held_image(rt: HostRuntime) -> Result<(), Fail> {
     const SKIPPING: Case<'static> = Case {

@@ -1,4 +1,4 @@
-//! Extended copies, of a key and of a reference: what leads to a key comes along.
+//! Extended copies, of a key and of a reference: the keys that lead to a key are copied too.
 
 use crate::tests::calls::Workers;
 use crate::tests::copies::Word::{KeyOf, Text};
@@ -17,7 +17,7 @@ const FIVE: [Sample; 5] = [Empty, Foo, Image2, Referrer, Index3];
 
 const USUAL: [Workers; 1] = [Some(0)];
 
-/// An image with a signature and an index comes with them by an extended copy, and by a copy without.
+/// An extended copy of an image also copies its signature and its index; a plain copy does not.
 #[test]
 fn referrers(rt: HostRuntime) -> Result<(), Fail> {
     const ALONE: Case<'static> = Case {
@@ -56,7 +56,8 @@ fn referrers(rt: HostRuntime) -> Result<(), Fail> {
     assert_cases(&rt, &CASES)
 }
 
-/// A root brings along all that it lists, also what lies further above: with depth 1 `index_5` is a root and `index_4` is not.
+/// With a root, all that it lists is copied, also keys further above the image: with depth 1
+/// `index_5` is a root and `index_4` is not.
 #[test]
 fn roots_bring_what_they_list(rt: HostRuntime) -> Result<(), Fail> {
     const SEVEN: [Sample; 7] = [Empty, Foo, Image2, Index3, Index4, Index5, Index6];
@@ -83,11 +84,11 @@ fn roots_bring_what_they_list(rt: HostRuntime) -> Result<(), Fail> {
     assert_cases(&rt, &CASES)
 }
 
-/// A key that is not held, and that nothing lists, is its own one root. Too many workers are told before an open destination, and
-/// that before what the source lacks.
+/// A key that is not held, and that nothing lists, is its only root. Too many workers are reported
+/// before an open destination, and an open destination before a key that the source lacks.
 #[test]
 fn refused_extended_copies(rt: HostRuntime) -> Result<(), Fail> {
-    // Each refusal leaves the destination as it was.
+    // Each refusal leaves the destination unchanged.
     const MISSING: Case<'static> = Case {
         name: "a missing key",
         call: Call::Extended(Bar, 3),
@@ -127,7 +128,7 @@ const T: Tag<'static> = Tag {
     name: Text("t"),
 };
 
-/// The image comes with what lists it, and the name is the image's.
+/// The image is copied with the keys that list it, and the tag names the image.
 #[test]
 fn referrers_of_a_tag(rt: HostRuntime) -> Result<(), Fail> {
     static CASES: [Case<'static>; 1] = [Case {
@@ -144,7 +145,7 @@ fn referrers_of_a_tag(rt: HostRuntime) -> Result<(), Fail> {
     assert_cases(&rt, &CASES)
 }
 
-/// A refused copy by reference leaves the destination and its name as they were.
+/// A refused copy by reference leaves the destination and its tag unchanged.
 #[test]
 fn refused_references_of_extended_copies(rt: HostRuntime) -> Result<(), Fail> {
     const E: Tag<'static> = Tag {
@@ -183,8 +184,8 @@ fn refused_references_of_extended_copies(rt: HostRuntime) -> Result<(), Fail> {
     assert_cases(&rt, &CASES)
 }
 
-/// A copy out of the store of the signed image, which has a name, into a store that has the image without its config. It is
-/// refused where it skips held keys.
+/// A copy from the store of the signed image, which has a name, into a store that has the image
+/// without its config. It is refused if it skips held keys.
 const INTO_OPEN: Case<'static> = Case {
     workers: &[Some(1), Some(3)],
     source: &SIX,
@@ -200,7 +201,8 @@ const INTO_OPEN: Case<'static> = Case {
     ..NOTHING
 };
 
-/// An extended copy that descends brings what held roots lack; one that skips them refuses the open destination.
+/// An extended copy that descends brings the keys that held roots lack; one that skips held keys
+/// refuses the open destination.
 #[test]
 fn referrers_below_held_keys(rt: HostRuntime) -> Result<(), Fail> {
     const SKIPPING: Case<'static> = Case {
@@ -224,8 +226,8 @@ fn referrers_below_held_keys(rt: HostRuntime) -> Result<(), Fail> {
     assert_cases(&rt, &CASES)
 }
 
-/// The same of the image's name into a store that has the image and its signature, and nothing else. The copy that descends names
-/// the image.
+/// Extended copies of the image's name into a store that has only the image and its signature. The
+/// copy that descends tags the image.
 #[test]
 fn referrers_of_a_tag_below_held_keys(rt: HostRuntime) -> Result<(), Fail> {
     const SKIPPING: Case<'static> = Case {

@@ -14,7 +14,7 @@ use test_support::{OneContent, Sample, closed, unreadable};
 
 const ONE_AND_THREE: [Workers; 2] = [None, Some(3)];
 
-/// Nothing is copied into a destination that lacks what one of its keys lists.
+/// Nothing is copied into a destination that lacks a key which it lists.
 #[test]
 fn open_destination(rt: HostRuntime) -> Result<(), Fail> {
     static CASES: [Case<'static>; 1] = [Case {
@@ -45,7 +45,7 @@ const TOO_LARGE: Case<'static> = Case {
     ..NOTHING
 };
 
-/// The same of one that is as large as the limit.
+/// The copy of the key of an image that no store has, and whose size is the limit.
 const NOT_FOUND: Case<'static> = Case {
     name: "at the usual limit",
     call: Call::Sized(4194304),
@@ -65,10 +65,10 @@ const LIMITED: Case<'static> = Case {
     ..NOTHING
 };
 
-/// What is larger than the limit, 4 MiB where none is given, is not asked for.
+/// A manifest over the limit, which is 4 MiB by default, is not fetched.
 #[test]
 fn size_limit(rt: HostRuntime) -> Result<(), Fail> {
-    // What the destination holds stays.
+    // The destination keeps its contents.
     const HELD: [Sample; 1] = [Foo];
     static CASES: [Case<'static>; 6] = [
         TOO_LARGE,
@@ -97,11 +97,11 @@ fn size_limit(rt: HostRuntime) -> Result<(), Fail> {
     assert_cases(&rt, &CASES)
 }
 
-/// What is told of an image that is an empty JSON list.
+/// The fault for an image that is an empty JSON list.
 const UNREADABLE: &str =
     "81 Plan 56 Manifest sha256:4f53cda18c2baa0c0354bb5f9a3ecbe5ed12ab4d8e11ba873c2f11161202b945 2 application/vnd.oci.image.manifest.v1+json 11 NotObject";
 
-/// The copy of an image that does not read is refused, and what the destination holds stays.
+/// The copy of an image that does not read is refused, and the destination keeps its contents.
 fn assert_unread<R: AllocGlobal + Threads + Wait + Sync + Abort>(
     rt: &R,
     source: &OneContent,
