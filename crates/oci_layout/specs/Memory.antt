@@ -19,8 +19,9 @@ half bytes = take (length bytes / 2) bytes
 abbrev pub device_of : MemDir → Device
 device_of d = record { file = files_of d.files; is_honest = ⊤; fails_reads = false; failures = d.failures }
 
--- a put succeeds if there is no fuse, or the fuse still allows one, and then it allows one less;
--- else the put fails and leaves the first half of the bytes
+-- a put succeeds only if the fuse, if there is one, still allows it, and then it allows one less; a
+-- put that the fuse stops leaves the first half of its bytes; if memory ran out, the fuse is
+-- unchanged
 abbrev pub Burns : MemDir → MemDir → List ℕ → List ℕ → Result Unit DirFault → Type 0
 Burns old new path bytes (Ok u) = (old.fuse ≡ Some 0 → ⊥) × (new.fuse ≡ option_map (λ puts. puts - 1) old.fuse)
 Burns old new path bytes (Err dir.Failed) = (old.fuse ≡ Some 0) × (new.fuse ≡ old.fuse) × Puts (files_of old.files) (files_of new.files) path (half bytes)

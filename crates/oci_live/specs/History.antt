@@ -11,7 +11,8 @@ pub record IsCounted (cells : List Cell) (log : List Entry) : Type 0 where
 abbrev pub head_of : Book → Named
 head_of b = record { tracked = true; key = 0; book = b }
 
--- the entry was appended to the list that had been seen, or the history was longer
+-- if the word found is the expected one, the entry was appended to the list that had been seen; if
+-- not, the list that is seen now has the length found
 abbrev pub Appends : Step Entry → View Entry ℕ → ℕ → View Entry ℕ → Type 0
 Appends s v found w = MatchBool (found == s.old) (w.0 ≡ v.0 ++ s.ask ∷ []) (length w.0 ≡ found)
 

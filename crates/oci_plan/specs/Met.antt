@@ -23,7 +23,7 @@ pub data IsMet (existing : Existing) (entries : List Entry) (held : List Node) (
   root : {k : Descriptor} → Contains roots k → passes existing held k ≡ true → IsMet existing entries held roots k
   along : {from to : Descriptor} → IsMet existing entries held roots from → IsListedUnder entries from to → passes existing held to ≡ true → IsMet existing entries held roots to
 
--- these are more keys than there are numbers; they are distinct, none is held, and all were met
+-- these are more than 4294967295 distinct keys; none is held, and all were met
 pub record AreTooMany (existing : Existing) (entries : List Entry) (held : List Node) (roots keys : List Descriptor) : Type 0 where
   pub many : 4294967295 < length keys
   pub distinct : IsDistinct same_key keys

@@ -17,13 +17,14 @@ done_count New = 0
 done_count (Open finished) = 0
 done_count Done = 1
 
--- more than the steps that the search may still take at a number
+-- an upper bound on the steps that the search may still take at a number, since a list has at most
+-- 2^64 - 1 elements
 abbrev pub steps_left : Progress → ℕ
 steps_left New = 2 ^ 64 + 1
 steps_left (Open finished) = 2 ^ 64 - finished
 steps_left Done = 0
 
--- a list has at most 2^64 - 1 elements, so the search ends
+-- the sum of these bounds over all numbers; each step lowers it, so the search ends
 abbrev pub work_left : List Progress → ℕ
 work_left progress = sum_by steps_left progress
 

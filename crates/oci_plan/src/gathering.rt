@@ -27,8 +27,8 @@ use walk::{Visited, visit};
 /// How a plan treats a key that the destination has.
 #[derive(Clone, Copy, Debug, PartialEq, Eq, Default)]
 pub enum Existing {
-    /// The plan assumes that the destination also has all keys below it: neither the key nor
-    /// anything below it is visited.
+    /// The plan does not visit the key, and assumes that the destination has all keys below it. A
+    /// key below it is still visited if a path of missing keys leads to it.
     #[default]
     Skip,
     /// The plan visits the key too, so that missing keys below it are found. If the source does not

@@ -1,9 +1,9 @@
 //! Plans of a copy: the contents that it has to push, an order for pushing them, and the roots of
 //! an extended copy.
 //!
-//! [`gather`] visits the keys that a source has under some roots and a destination lacks. It
-//! returns a [`Plan`]: the keys, each with a number, and an [`Order`] of the numbers in which each
-//! key follows the keys that it lists. If there is no plan, it returns a [`PlanFault`].
+//! [`gather`] visits the keys of a source, starting from some roots. It returns a [`Plan`]: the
+//! visited keys that a destination lacks, each with a number, and an [`Order`] of the numbers in
+//! which each key follows the keys that it lists. If there is no plan, it returns a [`PlanFault`].
 //!
 //! [`order`] takes a graph of numbers: list `i` has the successors of number `i`. It returns an
 //! [`Order`] in which each number follows its successors. It returns an [`OrderFault`] if a list

@@ -1,7 +1,7 @@
 use oci_manifest::Key;
 
-/// The calls that a copy makes for each key. They return nothing and change nothing of the copy.
-/// They are assumed to return.
+/// The calls that a copy makes for each key. They have no result and do not change the copy. They
+/// are assumed to terminate.
 ///
 /// Workers call them, so a copy by workers requires `Hooks + Sync`.
 pub trait Hooks {

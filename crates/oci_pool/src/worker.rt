@@ -42,8 +42,8 @@ impl Deques {
 /// One worker: its deques and its results. Contracts see it as the fault for which it stopped the
 /// run, if it did.
 ///
-/// Its invariant: each result is one that the job of its number may return, and a worker may report
-/// its fault.
+/// Its invariant: each result is one that the job of its number may return, and its fault is one
+/// that a worker may report.
 #[derive(Drop)]
 pub(crate) struct Worker<J: Job, T: RunStart<J::Out, J::Fault>> {
     deques: Deques,

@@ -14,8 +14,8 @@ use std::rt::Files;
 /// The state of a draft of a file of a folder.
 #[derive(Drop)]
 enum Stage<'r, R: Files + AllocGlobal> {
-    /// The bytes appended so far are this many, and the file at the place begins with them. Nothing
-    /// is written yet.
+    /// The number of bytes appended so far. The file at the place begins with them, and nothing is
+    /// written yet.
     Found(u64),
     /// The appended bytes are in a file beside the place.
     Written(Beside<'r, R>),

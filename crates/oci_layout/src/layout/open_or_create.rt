@@ -15,8 +15,8 @@ impl<D: Dir> Layout<D> {
     ///
     /// # Errors
     ///
-    /// Those of `open` but for 70 `NoLayoutFile`, with the directory unchanged, and those of
-    /// `create`, with what it left of the directory.
+    /// Those of `open` except 70 `NoLayoutFile`: the directory is then unchanged. Those of
+    /// `create`: the directory is then as `create` left it.
     pub fn open_or_create(alloc: Global, dir: D) -> Result<Layout<D>, (D, LayoutFault)>
         ensures layout { IfOk result (λ layout. ((layout.0 ≡ dir)
             × ((D.device dir).is_honest → IsOpened (D.device dir).file layout.1 layout.2))

@@ -43,7 +43,7 @@ fn issue_one(issue: &mut Vec<u32>, issued: &mut Vec<bool>, number: u32)
     issued[number as usize] = true;
 }
 
-/// Issues a number that waits for nothing.
+/// Issues a number if it waits for no successor.
 fn issue_if_ready(issue: &mut Vec<u32>, issued: &mut Vec<bool>, waiting: &Vec<usize>, number: u32)
     requires number { number < length issued.old.items }
     requires waiting { length waiting.now.items ≡ length issued.old.items }

@@ -10,8 +10,8 @@ pub(crate) struct Tally {
     pub taken: LinkedList<u32>,
 }
 
-/// The rule of a deque: a number that was put is still in it, or was taken from it, as often as it
-/// was put.
+/// The rule of a deque: it holds a number as often as the number was put into it and not yet taken
+/// from it.
 pub(crate) struct Balanced;
 
 impl Protocol<u32, Tally> for Balanced {
