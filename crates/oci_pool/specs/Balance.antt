@@ -16,6 +16,6 @@ abbrev pub total : (Tally → ℕ) → List Tally → ℕ
 total f [] = 0
 total f (v ∷ vs) = f v + total f vs
 
--- over all seats together, each number was put as often as it was taken and is in the deque
+-- the deque holds a number as often as the number was put by all seats together and not yet taken
 abbrev pub IsBalanced : List ℕ → List Tally → Type 0
 IsBalanced items views = (x : ℕ) → total (λ v. times x v.put) views ≡ total (λ v. times x v.taken) views + times x items

@@ -159,8 +159,8 @@ impl<'j, J: Job, T: RunStart<J::Out, J::Fault>> Shared<'j, J, T> {
     }
 
     /// Marks a number done, and puts the numbers that became ready into the deque of the worker
-    /// that ran it. It wakes one worker for each of them beyond the first, which this worker will
-    /// take. Returns an error if memory was refused; the run is then stopped.
+    /// that ran it. It wakes one worker for each of them but the first, since this worker goes on
+    /// itself. Returns an error if memory was refused; the run is then stopped.
     pub fn done<R: Wait>(
         &self,
         rt: &R,

@@ -7,7 +7,7 @@ use std::alloc::Global;
 /// The results of a run that stopped, and why it stopped.
 #[derive(Drop)]
 pub struct Stopped<J: Job> {
-    /// Each result that a job returned, with its number, by rising numbers.
+    /// Each result that a job returned, with its number, in ascending order of the numbers.
     pub done: Vec<(u32, J::Out)>,
     /// Why the run stopped.
     pub fault: PoolFault<J::Fault>,

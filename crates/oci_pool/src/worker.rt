@@ -137,8 +137,8 @@ impl<J: Job, T: RunStart<J::Out, J::Fault>> Worker<J, T> {
     }
 }
 
-/// Runs each worker in a thread of its own, as far as there are threads. The calling thread is one
-/// of them. All workers have ended when it returns.
+/// Runs each worker in a thread of its own; the calling thread is one of them. If the system has
+/// too few threads, fewer workers run. All workers have ended when it returns.
 pub(crate) fn work_all<
     J: Job,
     T: RunStart<J::Out, J::Fault> + Send + Sync,

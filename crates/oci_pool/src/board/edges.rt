@@ -50,7 +50,7 @@ fn list_of(order: &Order, number: u32) -> &[u32]
     }
 }
 
-/// Returns the numbers that list each number, rising.
+/// Returns, for each number, the numbers that list it in ascending order.
 pub(crate) fn predecessors(alloc: Global, order: &Order) -> Result<Vec<Vec<u32>>, NoMemory>
     requires { IsOrder order.now }
     ensures len { IfOk result (λ v. vec_len v ≡ length order.now.lists) }

@@ -81,7 +81,7 @@ pub(crate) fn issue_ready(
     }
 }
 
-/// Issues all numbers that wait for nothing, rising.
+/// Issues all numbers without successors, in ascending order.
 pub(crate) fn issue_leaves(issue: &mut Vec<u32>, issued: &mut Vec<bool>, waiting: &Vec<usize>)
     requires count { length issued.old.items ≤ 4294967295 }
     requires waiting { length waiting.now.items ≡ length issued.old.items }
