@@ -16,6 +16,7 @@
 //! No call recurses along the graph, so a chain of any length needs no deep stack.
 #![tactic(auto)]
 
+// A module and a function cannot share a name: hence `climbing`, `gathering` and `ordering`.
 mod climbing;
 mod fault;
 mod gathering;
