@@ -102,8 +102,8 @@ where
     }
 }
 
-/// Appends a part to a draft of `length` bytes, with which the file at the place begins. Returns
-/// the draft's new state.
+/// Appends a part to a draft that has `length` bytes so far. The file at the place begins with
+/// them. Returns the draft's new state.
 fn added<'r, R: Files + AllocGlobal + RandomSource>(
     rt: &'r R,
     place: &str,

@@ -5,7 +5,7 @@ use std::io::ErrorKind;
 use std::rt::Files;
 use std::{fs, io};
 
-/// A folder of a layout in which files are written.
+/// A folder of a layout where files are written.
 #[derive(Clone, Copy)]
 enum Room {
     Top,
