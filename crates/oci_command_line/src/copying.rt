@@ -1,23 +1,25 @@
-/// What a copy copies.
+/// The blobs that a copy starts from.
 #[derive(Clone, Copy)]
 pub enum Selection<'w> {
-    /// What a reference of the source resolves to.
+    /// The blob that a reference resolves to.
     Reference {
+        /// The reference in the source.
         source: &'w str,
-        /// The tag that it gets in the destination; the source's reference where this is empty.
+        /// The tag to set in the destination. If it is empty, the source's reference is set.
         destination: &'w str,
     },
-    /// What each tag of the source resolves to.
+    /// The blob of each tag of the source.
     AllTags,
 }
 
-/// What is shown on stderr while a copy goes on.
+/// The progress that is shown on stderr during a copy.
 #[derive(Clone, Copy)]
 pub enum Shown {
+    /// No progress.
     Nothing,
-    /// A line for each blob as it arrives.
+    /// A line for each blob when it arrives.
     EachBlob,
-    /// One line that says how far the copy is, on a terminal.
+    /// One line on a terminal, with the blobs and bytes that have arrived so far.
     Line,
 }
 
@@ -26,15 +28,18 @@ pub enum Shown {
 pub struct CopyWords<'w> {
     /// The folder to copy from.
     pub source: &'w str,
+    /// The blobs to start from.
     pub selection: Selection<'w>,
     /// The folder to copy into.
     pub destination: &'w str,
-    /// How many workers copy; 0 leaves that open.
+    /// The number of workers; 0 means the default number.
     pub workers: u32,
-    /// How many steps up referrers are copied too, 0 for any number; `None` where they are not copied.
+    /// The number of levels up to which referrers are copied too, 0 for no limit. `None`: they are
+    /// not copied.
     pub referrers: Option<u32>,
+    /// The progress to show.
     pub shown: Shown,
-    /// Whether nothing is to be changed.
+    /// Whether the copy is only planned and printed.
     pub is_dry: bool,
     /// Whether the copy also looks below the blobs that the destination has.
     pub descends: bool,

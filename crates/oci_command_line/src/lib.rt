@@ -1,10 +1,15 @@
-//! The command line of `ocicp`: what its words ask for, the help texts, and what the number of a refusal means.
+//! The command line of `ocicp`: the reading of its words, the help texts, and the meaning of each
+//! error number.
 //!
 //! | Type | What it is |
 //! |---|---|
-//! | [`Request`] | what a command line asks for; [`Request::parse`] reads it |
-//! | [`CopyWords`], [`MemWords`], [`Query`] | the words of `copy`, of `mem`, and of a command that asks one layout |
-//! | [`CommandLineFault`] | why a command line asks for nothing |
+//! | [`Request`] | a valid command line; [`Request::parse`] reads it |
+//! | [`CopyWords`] | the words of `copy` |
+//! | [`MemWords`] | the words of `mem` |
+//! | [`Query`] | a command that reads one layout |
+//! | [`CommandLineFault`] | why parsing failed |
+//!
+//! [`first_sentence`] returns the meaning of an error number in one sentence.
 #![tactic(auto)]
 
 mod copying;
@@ -15,6 +20,7 @@ mod request;
 mod words;
 
 pub use copying::{CopyWords, Selection, Shown};
+pub use explain::first_sentence;
 pub use memory::{Algorithm, MemWords};
 pub use query::Query;
 pub use request::{CommandLineFault, Request};

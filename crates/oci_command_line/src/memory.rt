@@ -1,6 +1,6 @@
 use std::alloc::Global;
 
-/// How the digests of items are made.
+/// The algorithm of a digest.
 #[derive(Clone, Copy)]
 pub enum Algorithm {
     Sha256,
@@ -12,14 +12,14 @@ pub enum Algorithm {
 pub struct MemWords<'w> {
     /// The items, at least one.
     pub items: Vec<&'w str>,
-    /// How many workers copy; none where one thread does.
+    /// The number of workers. `None`: the calling thread copies.
     pub workers: Option<u32>,
-    /// How the digests of the items are made.
+    /// The algorithm of the items' digests.
     pub algorithm: Algorithm,
 }
 
 impl<'w> MemWords<'w> {
-    /// No items.
+    /// Creates the words of a `mem` without items.
     pub(crate) fn none(alloc: Global) -> MemWords<'w> {
         MemWords {
             items: Vec::new(alloc),

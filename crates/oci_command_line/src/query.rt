@@ -1,18 +1,19 @@
-/// What is asked of one layout, which is not changed.
+/// A command that reads one layout and does not change it.
 #[derive(Clone, Copy)]
 pub enum Query<'w> {
-    /// Its tags.
+    /// `tags`.
     Tags,
-    /// What a reference resolves to.
+    /// `resolve`, with the reference.
     Resolve(&'w str),
-    /// What lists the blob that a reference resolves to.
+    /// `predecessors`, with the reference.
     Predecessors(&'w str),
-    /// What a reference reaches.
+    /// `tree`.
     Tree {
+        /// The reference.
         reference: &'w str,
-        /// Whether what refers to it is shown too.
+        /// Whether the referrers are shown too.
         shows_referrers: bool,
     },
-    /// Whether its files match, and nothing that is listed is missing.
+    /// `verify`.
     Verify,
 }

@@ -7,25 +7,25 @@ use clap::error::ErrorKind;
 use clap::{ArgMatches, Error};
 use std::alloc::{AllocError, Global};
 
-/// What a command line asks for.
+/// A valid command line.
 #[derive(Drop)]
 pub enum Request<'w> {
-    /// The text that `--help` or `--version` prints, with the end of its last line.
+    /// `--help` or `--version`, with the text to print and its last line feed.
     Text(String),
-    /// What the number of a refusal means.
+    /// `explain`, with the explanation.
     Explain(&'static str),
-    /// `mem` with its items and flags.
+    /// `mem`, with its items and flags.
     Mem(MemWords<'w>),
-    /// `copy` with its folders, references and flags.
+    /// `copy`, with its folders, references and flags.
     Copy(CopyWords<'w>),
-    /// What is asked of the layout in a folder.
+    /// A command that reads the layout in a folder.
     Query(&'w str, Query<'w>),
 }
 
-/// Why a command line asks for nothing.
+/// Why parsing failed.
 #[derive(Drop)]
 pub enum CommandLineFault {
-    /// It is invalid: the text says why, and how the program is used.
+    /// The command line is invalid. The text says why, and has the usage.
     Usage(String),
     /// Out of memory.
     Memory,
@@ -38,8 +38,12 @@ impl From<AllocError> for CommandLineFault {
 }
 
 impl<'w> Request<'w> {
-    /// Reads the words after the program's name, of a run whose stderr is a terminal or is none. More workers than
-    /// `most_workers` make the command line invalid.
+    /// Parses the words after the program's name. `on_terminal` says whether stderr is a terminal.
+    ///
+    /// # Errors
+    ///
+    /// - `Usage` if the command line is invalid, also if it has more workers than `most_workers`.
+    /// - `Memory` if memory ran out.
     pub fn parse(
         alloc: Global,
         words: &'w [String],
@@ -60,7 +64,7 @@ impl<'w> Request<'w> {
     }
 }
 
-/// What came in place of matches: the text that was asked for, or an invalid command line.
+/// Turns an error of `clap` into the requested text, or into an invalid command line.
 fn text_or_usage<'w>(alloc: Global, error: &Error) -> Result<Request<'w>, CommandLineFault> {
     match error.kind() {
         ErrorKind::OutOfMemory => Err(CommandLineFault::Memory),
@@ -75,7 +79,7 @@ fn text_of(alloc: Global, error: &Error) -> Result<String, AllocError> {
     format!(in alloc; "{error}")
 }
 
-/// What a command and its words ask for.
+/// The request of a command and its words.
 fn request_of<'w>(
     alloc: Global,
     name: &str,
@@ -93,17 +97,17 @@ fn request_of<'w>(
     }
 }
 
-/// The word that was given for an argument, or the empty text.
+/// The word for an argument, or the empty text if there is none.
 fn word<'w>(matches: &ArgMatches<'w>, id: &str) -> &'w str {
     matches.get_str(id).unwrap_or("")
 }
 
-/// A query of the layout in the folder that the command line names.
+/// The request for a query of the layout in the named folder.
 fn of_folder<'w>(matches: &ArgMatches<'w>, query: Query<'w>) -> Request<'w> {
     Request::Query(word(matches, "folder"), query)
 }
 
-/// The tree of the reference that the command line names.
+/// The query for the tree of the named reference.
 fn tree_of<'w>(matches: &ArgMatches<'w>) -> Query<'w> {
     Query::Tree {
         reference: word(matches, "reference"),
@@ -111,7 +115,7 @@ fn tree_of<'w>(matches: &ArgMatches<'w>) -> Query<'w> {
     }
 }
 
-/// The explanation of a refusal. A number that no refusal has makes the command line invalid.
+/// The request for the explanation of a number. An unknown number makes the command line invalid.
 fn explanation_of<'w>(
     alloc: Global,
     number: &str,
@@ -126,7 +130,7 @@ fn explanation_of<'w>(
     }
 }
 
-/// The error of a command line that asks for a number that no refusal has.
+/// The error of a command line with an unknown number.
 fn unknown_number(alloc: Global, number: &str, most_workers: u32) -> Result<Error, AllocError> {
     let message = format!(in alloc; "no error has the number '{number}'")?;
     command(alloc, most_workers)?.error(ErrorKind::InvalidValue, &message)
@@ -145,7 +149,7 @@ fn mem_words<'w>(
     })
 }
 
-/// How the digests of items are made.
+/// The algorithm of the items' digests.
 fn algorithm(matches: &ArgMatches<'_>) -> Algorithm {
     if matches.get_flag("sha512") {
         Algorithm::Sha512
@@ -168,7 +172,7 @@ fn copy_words<'w>(matches: &ArgMatches<'w>, on_terminal: bool) -> CopyWords<'w> 
     }
 }
 
-/// What is shown while the copy goes on.
+/// The progress to show. `--progress` decides first.
 fn shown(matches: &ArgMatches<'_>, on_terminal: bool) -> Shown {
     match (matches.get_flag("progress"), on_terminal) {
         (true, _) => Shown::EachBlob,
@@ -177,7 +181,8 @@ fn shown(matches: &ArgMatches<'_>, on_terminal: bool) -> Shown {
     }
 }
 
-/// What is copied, and the folder that it is copied into, which is the second word where `--all` is given.
+/// The blobs to start from, and the destination's folder. With `--all` the folder is the second
+/// word.
 fn selection_and_destination<'w>(matches: &ArgMatches<'w>) -> (Selection<'w>, &'w str) {
     let second = word(matches, "source-reference");
     if matches.get_flag("all") {
@@ -190,7 +195,7 @@ fn selection_and_destination<'w>(matches: &ArgMatches<'w>) -> (Selection<'w>, &'
     (selection, word(matches, "destination"))
 }
 
-/// How many steps up referrers are copied too; `None` where they are not copied.
+/// The number of levels up to which referrers are copied too. `None`: they are not copied.
 fn referrers(matches: &ArgMatches<'_>) -> Option<u32> {
     if matches.get_flag("referrers") {
         Some(matches.get_one("depth").unwrap_or(0))

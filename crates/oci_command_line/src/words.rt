@@ -11,14 +11,16 @@ use crate::words::queries::{
 use clap::{Arg, Command};
 use std::alloc::{AllocError, Global};
 
-/// What `--version` prints after the program's name.
+/// The version that `--version` prints.
 const VERSION: &str = "0.3.0";
 
-/// The command line of the program, of which a copy takes at most so many workers.
+/// The `clap` command; `most_workers` bounds `--workers`.
 pub(crate) fn command<'w>(alloc: Global, most_workers: u32) -> Result<Command<'w>, AllocError> {
     let program = Command::new(alloc, "ocicp")
         .version(VERSION)
-        .about("Copies container images, and what is attached to them, between OCI image layouts")
+        .about(
+            "Copies container images and the artifacts attached to them between OCI image layouts",
+        )
         .after_help("`ocicp COMMAND --help` shows a command's flags and examples.")
         .no_binary_name(true)
         .disable_help_subcommand(true)

@@ -6,11 +6,11 @@ use std::alloc::{AllocError, Global};
 const EXAMPLES: &str = "\
 Examples:
   ocicp copy build v1 mirror               copies the image that `v1` names, and tags it `v1`
-  ocicp copy build v1 mirror stable        the same, and tags it `stable`
-  ocicp copy --referrers build v1 mirror   with its signatures and SBOMs, and the indexes that list it
-  ocicp copy --all --referrers build mirror    every tag, with what refers to each
-  ocicp copy --all --dry-run build mirror  prints what that would copy
-  ocicp copy --descend build v1 mirror     also brings back blobs that `mirror` has lost";
+  ocicp copy build v1 mirror stable        copies it too, and tags it `stable`
+  ocicp copy --referrers build v1 mirror   copies also its signatures and SBOMs, and the indexes that list it
+  ocicp copy --all --referrers build mirror    copies every tag, with the referrers of each
+  ocicp copy --all --dry-run build mirror  prints the blobs that a copy of every tag would copy
+  ocicp copy --descend build v1 mirror     also restores blobs that `mirror` has lost";
 
 /// `copy [FLAGS] SRC SRCREF DST [DSTREF]` and `copy --all [FLAGS] SRC DST`
 pub(crate) fn copy_command<'w>(
@@ -18,18 +18,20 @@ pub(crate) fn copy_command<'w>(
     most_workers: u32,
 ) -> Result<Command<'w>, AllocError> {
     let command = Command::new(alloc, "copy")
-        .about("Copies what a reference resolves to, or every tag, from one layout into another")
+        .about("Copies an image, or every tag, from one layout into another")
         .long_about(
-            "Copies what a reference resolves to from one layout into another, and tags it there. With \
-             --all it copies every tag.\n\n\
-             Everything that it reaches is copied too: the config and the layers of an image, the images \
-             of an index, the subject of a referrer. Blobs that DST has are not copied again. Creates DST \
-             if it is not a layout. Prints `copied` with the digest, the size and the media type of what was \
-             copied, for each tag, and then how many blobs were planned and pushed, and how many of those \
-             that were asked for DST had before (`skipped`). On a terminal, a line shows how many blobs and \
-             bytes have arrived.\n\n\
-             Every blob is checked against its digest. A copy that is refused sets no tag in DST, and what \
-             DST had stays. Only if the output cannot be written (94), the copy is done and saved.",
+            "Copies the image or other blob that a reference names from one layout into another, and tags it \
+             there. With --all it copies every tag.\n\n\
+             Everything that the blob reaches is copied too: the config and the layers of an image, the \
+             images of an index, the subject of a referrer. Blobs that DST has are not copied again. DST is \
+             created if it is not a layout. On a terminal, a line shows how many blobs and bytes have \
+             arrived.\n\n\
+             Prints `copied` for each tag, with the digest, the size and the media type of its blob. The last \
+             line counts the blobs: `planned`, `pushed`, and `skipped` for requested blobs that DST already \
+             had.\n\n\
+             Every blob is checked against its digest. A copy that is refused sets no tag in DST, and DST \
+             keeps its blobs. The exception is 94: only the output could not be written, and the copy is done \
+             and saved.",
         )
         .override_usage(
             "ocicp copy [OPTIONS] <SRC> <SRCREF> <DST> [DSTREF]\n       \
@@ -39,7 +41,7 @@ pub(crate) fn copy_command<'w>(
     with_folders(alloc, with_flags(alloc, command, most_workers)?)
 }
 
-/// The same with what says how to copy.
+/// Adds the flags, which say how to copy.
 fn with_flags<'w>(
     alloc: Global,
     command: Command<'w>,
@@ -55,7 +57,8 @@ fn with_flags<'w>(
         .arg(dry_run(alloc))
 }
 
-/// The same with what to copy, and where to. With `--all` the second word is the destination's folder, and there is no third.
+/// Adds the words, which say what to copy, and where to. With `--all` the second word is the
+/// destination's folder, and there is no third one.
 fn with_folders<'w>(alloc: Global, command: Command<'w>) -> Result<Command<'w>, AllocError> {
     let source = required(
         alloc,
@@ -67,7 +70,7 @@ fn with_folders<'w>(alloc: Global, command: Command<'w>) -> Result<Command<'w>, 
         alloc,
         "source-reference",
         "SRCREF",
-        "What to copy: a tag of SRC, or the digest of a blob that it has; left out with --all",
+        "A tag of SRC, or the digest of one of its blobs; left out with --all",
     );
     let destination = Arg::new(alloc, "destination")
         .value_name("DST")
@@ -75,7 +78,7 @@ fn with_folders<'w>(alloc: Global, command: Command<'w>) -> Result<Command<'w>, 
         .required_unless_present("all")?;
     let tag = Arg::new(alloc, "destination-reference")
         .value_name("DSTREF")
-        .help("The tag that it gets in DST; SRCREF where this is left out");
+        .help("The tag to set in DST; without it, SRCREF is set");
     command
         .arg(source)?
         .arg(reference)?
@@ -86,8 +89,8 @@ fn with_folders<'w>(alloc: Global, command: Command<'w>) -> Result<Command<'w>, 
 /// `--all`
 fn all<'w>(alloc: Global) -> Result<Arg<'w>, AllocError> {
     let help =
-        "Copies every tag of SRC into DST, in one copy; takes the words SRC DST alone. A tag that DST has too is \
-                overwritten; a tag that SRC does not have stays in DST";
+        "Copies every tag of SRC into DST, in one copy; takes only SRC and DST. Tags that exist in both are \
+                overwritten; other tags in DST are kept";
     flag(alloc, "all", help)
         .conflicts_with("destination")?
         .conflicts_with("destination-reference")
@@ -98,7 +101,7 @@ fn referrers<'w>(alloc: Global) -> Arg<'w> {
     flag(
         alloc,
         "referrers",
-        "Also copies what refers to it, such as signatures and SBOMs, and the indexes that list it, with everything that these reach",
+        "Also copies its referrers, such as signatures and SBOMs, and the indexes that list it, with everything that these reach",
     )
 }
 
@@ -107,7 +110,7 @@ fn depth<'w>(alloc: Global) -> Arg<'w> {
     Arg::new(alloc, "depth")
         .long("depth")
         .value_name("D")
-        .help("With --referrers: how many steps up it goes at most; 0 means no limit")
+        .help("With --referrers: follows them at most D levels up; 0 means no limit")
         .value_parser(ValueParser::Unsigned(0, 4294967295))
         .default_value("0")
 }
@@ -117,7 +120,7 @@ fn descend<'w>(alloc: Global) -> Arg<'w> {
     flag(
         alloc,
         "descend",
-        "Also looks below the blobs that DST has, and copies what is missing there; without it a DST that misses a blob is refused",
+        "Also looks below the blobs that DST has, and copies missing ones; without it, a DST with a missing blob is an error",
     )
 }
 
@@ -136,7 +139,7 @@ fn progress<'w>(alloc: Global) -> Arg<'w> {
     flag(
         alloc,
         "progress",
-        "Prints each blob to stderr as it arrives, in place of the line on a terminal: `pushed`, or `skipped` for one that was asked for and was there before, and its digest, size and media type",
+        "Prints to stderr `pushed KEY` for each blob copied, and `skipped KEY` for each requested blob that DST already had, in place of the line on a terminal. KEY is a digest, a size and a media type",
     )
 }
 
@@ -145,6 +148,6 @@ fn dry_run<'w>(alloc: Global) -> Arg<'w> {
     flag(
         alloc,
         "dry-run",
-        "Changes nothing; prints each blob that would be copied, then how many, how many bytes, and how many of those that were asked for are there",
+        "Changes nothing; prints the blobs that would be copied, then their number, their total size, and how many requested blobs DST already has",
     )
 }

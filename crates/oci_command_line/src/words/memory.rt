@@ -23,17 +23,17 @@ pub(crate) fn mem_command<'w>(alloc: Global, most_workers: u32) -> Result<Comman
     let sha512 = flag(
         alloc,
         "sha512",
-        "Digests are SHA-512; without it they are SHA-256",
+        "Uses SHA-512 digests; without it, they are SHA-256",
     );
     Command::new(alloc, "mem")
-        .about("Copies between two stores in memory, and lists what arrived")
+        .about("Copies between two stores in memory, and lists the blobs that arrived")
         .long_about(
-            "Copies between two stores in memory, and lists what arrived.\n\n\
+            "Copies between two stores in memory, and lists the blobs that arrived.\n\n\
              Each file is put into the first store under its media type, its digest and its size. Then the \
              blob of the last item is copied into the second store, with everything that it reaches: the \
-             config and the layers of an image, the images of an index, the subject of a referrer. Prints \
-             the digest, the size and the media type of each blob that arrived, ordered by media type and \
-             then by digest, and how many were planned, pushed and skipped.",
+             config and the layers of an image, the images of an index, the subject of a referrer.\n\n\
+             Prints the digest, the size and the media type of each blob that arrived, ordered by media type \
+             and then by digest. The last line has the numbers of blobs planned, pushed and skipped.",
         )
         .after_help(EXAMPLES)
         .arg(workers)?

@@ -9,7 +9,7 @@ fn folder<'w>(alloc: Global) -> Arg<'w> {
 
 /// `REF`
 fn reference<'w>(alloc: Global) -> Arg<'w> {
-    let help = "A tag of the layout, or the digest of a blob that it has";
+    let help = "A tag of the layout, or the digest of one of its blobs";
     required(alloc, "reference", "REF", help)
 }
 
@@ -21,7 +21,7 @@ pub(crate) fn tags_command<'w>(alloc: Global) -> Result<Command<'w>, AllocError>
         )
         .long_about(
             "Lists the tags of a layout in byte order, each with the digest, the size and the media type of \
-             the blob that it resolves to. A tag of a blob that the layout does not have is left out.",
+             the blob that it resolves to. A tag whose blob is missing is left out.",
         )
         .after_help("Example:\n  ocicp tags mirror")
         .arg(folder(alloc))
@@ -41,9 +41,9 @@ pub(crate) fn predecessors_command<'w>(alloc: Global) -> Result<Command<'w>, All
     Command::new(alloc, "predecessors")
         .about("Lists the manifests that list a blob: indexes, and referrers such as signatures")
         .long_about(
-            "Lists the manifests of a layout that list the blob that a reference resolves to: indexes, and \
-             referrers such as signatures. Each line is a digest, a size and a media type. Only direct \
-             predecessors are listed; `tree --referrers` shows theirs too.",
+            "Lists the manifests that list the blob of a reference: indexes, and referrers such as \
+             signatures. Each line is a digest, a size and a media type. Only direct predecessors are listed; \
+             `tree --referrers` shows theirs too.",
         )
         .after_help("Example:\n  ocicp predecessors mirror v1")
         .arg(folder(alloc))?
@@ -55,17 +55,20 @@ pub(crate) fn tree_command<'w>(alloc: Global) -> Result<Command<'w>, AllocError>
     let referrers = flag(
         alloc,
         "referrers",
-        "Then shows what refers to it, and what refers to that",
+        "Then shows the manifests that list it, such as signatures, and the manifests that list these",
     );
     Command::new(alloc, "tree")
-        .about("Shows what a reference reaches, indented, for people to read")
+        .about("Shows the blobs that a reference reaches as a tree, for people to read")
         .long_about(
-            "Shows what a reference reaches, for people to read. Each line is the beginning of a digest, a \
-             size, a media type, and the tags of that blob in brackets. The blobs that a manifest lists stand below it, \
-             indented by two spaces. A blob that was shown before is marked `(shown above)`, and what it lists is not \
-             shown again; one that the layout does not have is marked `(absent)`.\n\n\
-             With `--referrers` the blobs that list it follow, with what lists them below. Each of these lines also has, in \
-             parentheses, the artifact type that the blob states: its `artifactType`, or the media type of its config.\n\n\
+            "Shows the blobs that a reference reaches as a tree, for people to read. Each line is the \
+             beginning of a digest, a size, a media type, and the tags of that blob in brackets. The blobs \
+             that a manifest lists are below it, indented by two spaces. A blob that was shown before is \
+             marked `(shown above)`, and its list is not shown again. A blob that the layout does not have is \
+             marked `(absent)`.\n\n\
+             With `--referrers` the title `referrers:` follows, and below it the manifests that list the \
+             blob, each with the manifests that list it in turn. If such a manifest states an artifact type, \
+             its line has the type in parentheses: its `artifactType`, or else the media type of its \
+             config.\n\n\
              Scripts should use `resolve` and `predecessors`, which print whole digests.",
         )
         .after_help("Examples:\n  ocicp tree mirror v1\n  ocicp tree --referrers mirror v1")
@@ -83,10 +86,11 @@ pub(crate) fn verify_command<'w>(alloc: Global) -> Result<Command<'w>, AllocErro
         .long_about(
             "Checks each blob of a layout against its digest, and that no listed blob is missing. It reads \
              the blobs that an entry of `index.json` reaches. An entry whose own blob is missing is left out, \
-             with its tag. A damaged manifest is an error (75), since what it lists is not known.\n\n\
+             with its tag. A damaged manifest is an error (75), since its list is not known.\n\n\
              Prints `corrupt` with the digest, the size and the media type of each blob whose file does not \
-             match, `open` with the first manifest that lists a missing blob and with that blob, and then \
-             `held` and how many blobs the layout has. The status is 1 where something is wrong.",
+             match. If a listed blob is missing, prints `open` with the first manifest that lists one, and \
+             with the missing blob. Then prints `held` and the number of blobs. The status is 1 if something \
+             is wrong.",
         )
         .after_help("Example:\n  ocicp verify mirror")
         .arg(folder(alloc))
@@ -95,7 +99,7 @@ pub(crate) fn verify_command<'w>(alloc: Global) -> Result<Command<'w>, AllocErro
 /// `explain NUMBER`
 pub(crate) fn explain_command<'w>(alloc: Global) -> Result<Command<'w>, AllocError> {
     let help =
-        "A number of an error line, such as 53 in `ocicp: 81 Plan 53 NotFound ..`; the last one says most";
+        "A number of an error line, such as 53 in `ocicp: 81 Plan 53 NotFound ..`; if there are several, the last one is the most specific";
     Command::new(alloc, "explain")
         .about("Explains the number of an error: what it means, and what to do")
         .after_help("Example:\n  ocicp explain 53")

@@ -40,17 +40,20 @@ fn version(rt: HostRuntime) -> Result<(), Fail> {
     assert_runs(&rt, "", "$ ocicp --version\nocicp 0.3.0\n")
 }
 
-/// What `copy --help` prints, but for the spaces at the ends of lines.
+/// The output of `copy --help`, without the spaces at the ends of lines.
 const HELP_OF_COPY: &str = "\
-Copies what a reference resolves to from one layout into another, and tags it there. With --all it copies every tag.
+Copies the image or other blob that a reference names from one layout into another, and tags it there. With --all it copies \
+every tag.
 
-Everything that it reaches is copied too: the config and the layers of an image, the images of an index, the subject of a \
-referrer. Blobs that DST has are not copied again. Creates DST if it is not a layout. Prints `copied` with the digest, the \
-size and the media type of what was copied, for each tag, and then how many blobs were planned and pushed, and how many of \
-those that were asked for DST had before (`skipped`). On a terminal, a line shows how many blobs and bytes have arrived.
+Everything that the blob reaches is copied too: the config and the layers of an image, the images of an index, the subject of \
+a referrer. Blobs that DST has are not copied again. DST is created if it is not a layout. On a terminal, a line shows how \
+many blobs and bytes have arrived.
 
-Every blob is checked against its digest. A copy that is refused sets no tag in DST, and what DST had stays. Only if the \
-output cannot be written (94), the copy is done and saved.
+Prints `copied` for each tag, with the digest, the size and the media type of its blob. The last line counts the blobs: \
+`planned`, `pushed`, and `skipped` for requested blobs that DST already had.
+
+Every blob is checked against its digest. A copy that is refused sets no tag in DST, and DST keeps its blobs. The exception is \
+94: only the output could not be written, and the copy is done and saved.
 
 Usage: ocicp copy [OPTIONS] <SRC> <SRCREF> <DST> [DSTREF]
        ocicp copy --all [OPTIONS] <SRC> <DST>
@@ -60,31 +63,30 @@ Arguments:
           The folder of the layout to copy from
 
   <SRCREF>
-          What to copy: a tag of SRC, or the digest of a blob that it has; left out with --all
+          A tag of SRC, or the digest of one of its blobs; left out with --all
 
   [DST]
           The folder of the layout to copy into
 
   [DSTREF]
-          The tag that it gets in DST; SRCREF where this is left out
+          The tag to set in DST; without it, SRCREF is set
 
 Options:
       --all
-          Copies every tag of SRC into DST, in one copy; takes the words SRC DST alone. A tag that DST has too is \
-overwritten; a tag that SRC does not have stays in DST
+          Copies every tag of SRC into DST, in one copy; takes only SRC and DST. Tags that exist in both are overwritten; other \
+tags in DST are kept
 
       --referrers
-          Also copies what refers to it, such as signatures and SBOMs, and the indexes that list it, with everything that \
-these reach
+          Also copies its referrers, such as signatures and SBOMs, and the indexes that list it, with everything that these \
+reach
 
       --depth <D>
-          With --referrers: how many steps up it goes at most; 0 means no limit
+          With --referrers: follows them at most D levels up; 0 means no limit
 
           [default: 0]
 
       --descend
-          Also looks below the blobs that DST has, and copies what is missing there; without it a DST that misses a blob is \
-refused
+          Also looks below the blobs that DST has, and copies missing ones; without it, a DST with a missing blob is an error
 
       --workers <N>
           How many workers copy at once, at most 64; 0 means 3
@@ -92,30 +94,31 @@ refused
           [default: 0]
 
       --progress
-          Prints each blob to stderr as it arrives, in place of the line on a terminal: `pushed`, or `skipped` for one that \
-was asked for and was there before, and its digest, size and media type
+          Prints to stderr `pushed KEY` for each blob copied, and `skipped KEY` for each requested blob that DST already had, \
+in place of the line on a terminal. KEY is a digest, a size and a media type
 
       --dry-run
-          Changes nothing; prints each blob that would be copied, then how many, how many bytes, and how many of those that \
-were asked for are there
+          Changes nothing; prints the blobs that would be copied, then their number, their total size, and how many requested \
+blobs DST already has
 
   -h, --help
           Print help (see a summary with '-h')
 
 Examples:
   ocicp copy build v1 mirror               copies the image that `v1` names, and tags it `v1`
-  ocicp copy build v1 mirror stable        the same, and tags it `stable`
-  ocicp copy --referrers build v1 mirror   with its signatures and SBOMs, and the indexes that list it
-  ocicp copy --all --referrers build mirror    every tag, with what refers to each
-  ocicp copy --all --dry-run build mirror  prints what that would copy
-  ocicp copy --descend build v1 mirror     also brings back blobs that `mirror` has lost";
+  ocicp copy build v1 mirror stable        copies it too, and tags it `stable`
+  ocicp copy --referrers build v1 mirror   copies also its signatures and SBOMs, and the indexes that list it
+  ocicp copy --all --referrers build mirror    copies every tag, with the referrers of each
+  ocicp copy --all --dry-run build mirror  prints the blobs that a copy of every tag would copy
+  ocicp copy --descend build v1 mirror     also restores blobs that `mirror` has lost";
 
 #[test]
 fn help_of_copy(rt: HostRuntime) -> Result<(), Fail> {
     assert_row(&rt, "copy --help", Wanted::Text(HELP_OF_COPY))
 }
 
-/// `--help` prints on the output, has status 0, and names each command, and of a command each word and an example.
+/// `--help` prints on the output and has status 0. It names each command, and the help of a command
+/// names each word and has an example.
 #[test]
 fn help(rt: HostRuntime) -> Result<(), Fail> {
     let lines = "\
