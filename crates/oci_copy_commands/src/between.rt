@@ -1,10 +1,10 @@
-ghost use Rattle.std.specs.Prelude.{◌≡◌, ◌≢◌, ◌⊎◌, ℕ, List, [], Ok, Err, IfOk, OnOk, OnErr, IfErr};
+ghost use Rattle.std.specs.Prelude.{◌≡◌, ◌≢◌, ◌≤◌, ◌⊎◌, ℕ, List, [], Ok, Err, Contains, IfOk, OnOk, OnErr, IfErr};
 ghost use Rattle.std.specs.List.{All};
 ghost use Rattle.std.specs.Map.{keys_of, values_of};
 ghost use Rattle.oci_store.specs.Closed.{IsClosed};
 ghost use Rattle.oci_store.specs.Keyed.{HasAll};
 ghost use Rattle.oci_store.specs.Tags.{by_bytes};
-ghost use Rattle.oci_copy.specs.Cause.{CanFail};
+ghost use Rattle.oci_copy.specs.Cause.{CanFail, IsStepCause, RefusedAt};
 ghost use Rattle.oci_copy.specs.Destination.{IsClosedWhenSkipping};
 ghost use Rattle.oci_copy.specs.Grown.{BeginsWith};
 ghost use Rattle.oci_copy.specs.Planned.{IsPlanOf};
@@ -12,7 +12,7 @@ ghost use Rattle.oci_copy.specs.Report.{IsReport};
 ghost use Rattle.oci_layout.specs.Files.{HasFiles};
 ghost use Rattle.oci_layout.specs.Refusal.{IsPutFault};
 ghost use Rattle.oci_copy_commands.specs.Between.{BringsOnlyChecked, BringsOnlyMet, HasReached, HoldsWhatCame, IsCopiedBetween, IsSaved, IsTrusted};
-ghost use Rattle.oci_copy_commands.specs.Refusal.{AfterRefusedCopy, IsRefusedBetween, IsRunCause, IsSaveFault};
+ghost use Rattle.oci_copy_commands.specs.Refusal.{AfterRefusedCopy, IsRefusedBetween};
 ghost use Rattle.oci_copy_commands.specs.Selected.{set_tags};
 
 use crate::selected::Selected;
@@ -26,14 +26,19 @@ use oci_store::{RefFault, Store, Tagger};
 use std::sync::Wait;
 use std::thread::Threads;
 
-/// Copies what is planned from one layout into another, sets the selected tags there, and saves that.
+/// Copies the planned blobs from one layout into another, sets the selected tags there, and saves
+/// it.
 ///
-/// The plan is one that `plan_copy` made of these two layouts, the selected roots and these options. The destination always comes
-/// back. A copy that is refused is not saved: `index.json` stays as it was, and files of blobs that came stay.
+/// The plan is one that `plan_copy` made of these two layouts, the selected roots and these
+/// options. The destination is always returned. A refused copy is not saved: `index.json` is
+/// unchanged, and the files of blobs that arrived stay.
 ///
 /// # Errors
 ///
-/// Those of `copy_plan`: 82, 85 and 88; and 74 `Device` if `index.json` could not be written. Out of memory may come at any point.
+/// - 82 `Push` if the destination refuses a blob, and 88 `Fetch` if the source does.
+/// - 85 `BadWorkers` if there are more than 64 workers. Nothing is copied.
+/// - 74 `Device` if `index.json` could not be written.
+/// - Out of memory, at any point.
 pub fn copy_between<
     R: AllocGlobal + Threads + Wait + Sync,
     S: Dir + Sync,
@@ -66,12 +71,13 @@ where
         selected.now.0 (⟦<Layout<D> as Store>⟧.state result.0)) }
     ensures tagged { OnOk result.1 (result.0.2 ≡ set_tags destination.2 selected.now.1) }
     ensures untagged { IfErr result.1 (AfterRefusedCopy (result.0.2 ≡ destination.2)) }
-    ensures refused { IfErr result.1 (IsRefusedBetween
-        (IsRunCause (CanFail ⟦<Layout<D> as Store>⟧.state
-        (⟦<Layout<D> as Store>⟧.state destination)) (⟦<Layout<S> as Store>⟧.state source.now)
-        (⟦<Layout<D> as Store>⟧.state destination) plan.now.keys)
-        (IsSaveFault (⟦<Layout<D> as Store>⟧.state destination)
-        (⟦<Layout<D> as Store>⟧.state result.0))) }
+    ensures refused { IfErr result.1 (IsRefusedBetween (λ fault. (fault ≡ CopyFault.BadWorkers)
+        ⊎ RefusedAt (Contains plan.now.keys) (IsStepCause
+        (CanFail ⟦<Layout<D> as Store>⟧.state (⟦<Layout<D> as Store>⟧.state destination))
+        (⟦<Layout<S> as Store>⟧.state source.now) (⟦<Layout<D> as Store>⟧.state destination))
+        fault)
+        (λ fault. (before : ℕ) × ((⟦<Layout<D> as Store>⟧.state destination).failures ≤ before)
+        × IsPutFault before (⟦<Layout<D> as Store>⟧.state result.0).failures fault)) }
     ensures reached { OnOk result.1 (HasReached (⟦<Layout<S> as Store>⟧.state source.now)
         (⟦<Layout<D> as Store>⟧.state destination) selected.now.0
         (⟦<Layout<D> as Store>⟧.state result.0)) }
@@ -100,7 +106,7 @@ where
     finish(destination, copied, selected)
 }
 
-/// Sets the selected tags in a layout that was copied into, and saves it, unless the copy was refused.
+/// Sets the selected tags in the destination of a copy, and saves it, unless the copy was refused.
 fn finish<D: Dir>(
     destination: Layout<D>,
     copied: Result<Report, CopyFault>,
@@ -150,11 +156,12 @@ fn tag_and_save<D: Dir>(
     }
     match destination.save() {
         Ok(()) => Ok(()),
-        Err(fault) => Err(ProgramFault::Layout(fault)),
+        Err(fault) => Err(ProgramFault::Destination(fault)),
     }
 }
 
-/// Sets tags of held keys in their order. Only memory can be lacking, and then some of them may be set.
+/// Sets tags of held keys in their order. Only a memory error is possible, and then some of them
+/// may be set.
 fn tag_all<D: Dir>(destination: &mut Layout<D>, tags: &[(String, Key)]) -> Result<(), RefFault>
     requires named { All (λ (name : List ℕ). name ≢ []) (keys_of (by_bytes tags.now)) }
     requires held { HasAll destination.old.1 (values_of (by_bytes tags.now)) }

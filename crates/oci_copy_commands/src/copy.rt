@@ -8,24 +8,34 @@ use crate::progress::Progress;
 use crate::selected::Selected;
 use oci_command_line::CopyWords;
 use oci_copy::{Options, Report, plan_copy};
-use oci_exit::{Outcome, ProgramFault, finish_run, print_line};
+use oci_exit::{Ended, Outcome, ProgramFault, finish_run, print_line};
 use oci_layout::{Dir, FolderLock, Layout};
 use oci_plan::Existing;
 use std::io::Write;
 
-/// `copy SRC SRCREF DST [DSTREF]` and `copy --all SRC DST`: copies what is selected, tags it in the destination, saves that,
-/// prints the key of each tag and the report, and returns the exit status. With `--progress` each blob is printed on `err` as it
-/// arrives; without it, on a terminal, one line shows how much has arrived. With `--dry-run` only the plan is printed.
+/// `copy SRC SRCREF DST [DSTREF]` and `copy --all SRC DST`: copies the selected blobs, tags them in
+/// the destination, and saves it. Prints the key of each tag and the report, and returns how the
+/// run ended. With `--progress` each blob is printed on `err` when it arrives. Without it, on a
+/// terminal, one line shows how much has arrived. With `--dry-run` only the plan is printed.
 ///
-/// A destination without `oci-layout` becomes a layout, once the source is open and its reference is resolved. The lock on the
-/// destination's folder is held from before the destination is opened until after it is saved. What killed copies left there is
-/// removed once the copy is planned, and so is known to be made.
+/// Otherwise a destination without `oci-layout` becomes a layout, once the source is open and its
+/// reference is resolved. The destination's folder is locked from before the destination is opened
+/// until after it is saved. Files left by killed copies are removed once the copy is planned.
 ///
 /// # Errors
 ///
-/// 70 to 77 if SRC or DST is no layout that can be read; 35 and 36 for the reference; 80 and 81 if there is no plan: up to here no
-/// file of DST is changed. 82 and 88 if a blob cannot be copied, 74 if the index cannot be written: what came stays, and is not
-/// named. 94 if the output cannot be written: the copy is saved.
+/// The run ends with one of these faults. With 80, 81 and the faults before them, no blob, tag or
+/// entry of DST is changed.
+///
+/// - 70 to 75 and 77 if SRC or DST is not a layout or cannot be read; 74 also if DST cannot be
+///   created or locked.
+/// - 35 `EmptyReference` and 36 `UnknownReference` for the reference.
+/// - 80 `DestinationOpen` and 81 `Plan` if there is no plan.
+/// - 82 `Push` and 88 `Fetch` if a blob cannot be copied, and 74 `Device` if the index cannot be
+///   written. Blobs that arrived stay.
+/// - 85 `BadWorkers` if there are more than 64 workers. Nothing is copied.
+/// - 94 `Output` if `out` cannot be written. The copy is done and saved.
+/// - Out of memory, at any point.
 pub fn run_copy<R: Host, S: Dir + Drop + Sync, D: Dir + Drop + Send, W: Write, X: Write + Send>(
     rt: &R,
     source: S,
@@ -33,47 +43,43 @@ pub fn run_copy<R: Host, S: Dir + Drop + Sync, D: Dir + Drop + Send, W: Write, X
     words: &CopyWords<'_>,
     out: &mut W,
     err: &mut X,
-) -> u8
+) -> Ended
 where
     S::Draft: Send,
     D::Draft: Send,
-    ensures { result ≤ 3 }
+    ensures { result.status ≤ 3 }
 {
-    let done = copy_layout(rt, source, destination, words, out, err);
+    let done = if words.is_dry {
+        show_plan(rt.alloc(), source, destination, words, out)
+    } else {
+        match copy_layout(rt, source, destination, words, err) {
+            Ok((selected, report)) => print_copied(&selected, &report, out),
+            Err(fault) => Err(fault),
+        }
+    };
     finish_run(done, out, err)
 }
 
-/// Copies from one directory into another, whose folder is locked during the copy, or only prints what would be copied.
-fn copy_layout<R: Host, S: Dir + Drop + Sync, D: Dir + Drop + Send, W: Write, X: Write + Send>(
+/// Copies from one directory into another, whose folder is locked during the copy.
+fn copy_layout<R: Host, S: Dir + Drop + Sync, D: Dir + Drop + Send, X: Write + Send>(
     rt: &R,
     source: S,
     destination: D,
     words: &CopyWords<'_>,
-    out: &mut W,
     err: &mut X,
-) -> Result<Outcome, ProgramFault>
+) -> Result<(Selected, Report), ProgramFault>
 where
     S::Draft: Send,
     D::Draft: Send,
 {
     let source = Layout::open(rt.alloc(), source)?;
     let selected = Selected::of(rt.alloc(), &source, words)?;
-    if words.is_dry {
-        let options = options_of(words);
-        return show_plan(
-            rt.alloc(),
-            &source,
-            destination,
-            selected.roots(),
-            &options,
-            out,
-        );
-    }
     let report = copy_selected(rt, &source, destination, &selected, words, err)?;
-    print_copied(&selected, &report, out)
+    Ok((selected, report))
 }
 
-/// Copies what is selected of an open layout into a folder, which is locked from before it is opened until after it is saved.
+/// Copies the selected blobs of an open layout into a folder. The folder is locked from before it
+/// is opened until after it is saved.
 fn copy_selected<R: Host, S: Dir + Sync, D: Dir + Drop + Send, X: Write + Send>(
     rt: &R,
     source: &Layout<S>,
@@ -91,7 +97,7 @@ where
     copy_under_lock(rt, source, destination, selected, words, &lock, err)
 }
 
-/// Plans a copy into an open layout, removes what killed copies left in its folder, and copies.
+/// Plans a copy into an open layout, removes files left by killed copies, and copies.
 fn copy_under_lock<R: Host, S: Dir + Sync, D: Dir + Drop + Send, X: Write + Send>(
     rt: &R,
     source: &Layout<S>,
@@ -122,8 +128,8 @@ where
     copied
 }
 
-/// How the words ask for the copy to be made.
-fn options_of(words: &CopyWords<'_>) -> Options {
+/// The options of a copy that its words name.
+pub(crate) fn options_of(words: &CopyWords<'_>) -> Options {
     let existing = if words.descends {
         Existing::Descend
     } else {
@@ -136,7 +142,7 @@ fn options_of(words: &CopyWords<'_>) -> Options {
     }
 }
 
-/// Prints the key of each tag that was set, and the report.
+/// Prints the key of each tag of a copy, and the report.
 fn print_copied<W: Write>(
     selected: &Selected,
     report: &Report,

@@ -4,12 +4,13 @@ use std::alloc::Global;
 use std::io::Write;
 use std::rt::Files;
 
-/// Locks the folder that a copy writes into, which is made if it is missing. If another process has the lock, says so on `err` and
-/// waits.
+/// Locks the folder that a copy writes into. It is created if it is missing. If another process has
+/// the lock, prints this on `err` and waits.
 ///
 /// # Errors
 ///
-/// 74 `Device` if the folder cannot be made, opened or locked, and out of memory.
+/// - 74 `Device` if the folder cannot be created, opened or locked.
+/// - Out of memory, at any point.
 pub(crate) fn lock_folder<R: Files<File: Lockable> + AllocGlobal, X: Write>(
     rt: &R,
     folder: &str,
@@ -26,7 +27,12 @@ pub(crate) fn lock_folder<R: Files<File: Lockable> + AllocGlobal, X: Write>(
     FolderLock::lock(rt, folder).map_err(fault_of)
 }
 
-/// Removes what killed copies left in a locked folder. What cannot be removed stays, and hinders no copy.
+/// Removes the files that killed copies left in a locked folder. A file that cannot be removed
+/// stays, and does not stop the copy.
+///
+/// # Errors
+///
+/// Out of memory.
 pub(crate) fn remove_leftovers<R: Files<File: Lockable> + AllocGlobal>(
     rt: &R,
     lock: &FolderLock<R>,
@@ -38,17 +44,30 @@ pub(crate) fn remove_leftovers<R: Files<File: Lockable> + AllocGlobal>(
 }
 
 /// Opens the layout in a directory. It is created if there is no `oci-layout`.
+///
+/// # Errors
+///
+/// - 71 to 75 and 77 if the directory has a layout that cannot be opened.
+/// - 74 `Device` if a layout cannot be created.
+/// - Out of memory, at any point.
 pub(crate) fn open_or_create<D: Dir + Drop>(
     alloc: Global,
     dir: D,
 ) -> Result<Layout<D>, ProgramFault> {
     match Layout::open(alloc, dir) {
         Ok(layout) => Ok(layout),
-        Err((dir, LayoutFault::NoLayoutFile)) => Ok(Layout::create(alloc, dir)?),
-        Err((_dir, fault)) => Err(ProgramFault::Layout(fault)),
+        Err((dir, LayoutFault::NoLayoutFile)) => create(alloc, dir),
+        Err((_dir, fault)) => Err(ProgramFault::Destination(fault)),
+    }
+}
+
+fn create<D: Dir + Drop>(alloc: Global, dir: D) -> Result<Layout<D>, ProgramFault> {
+    match Layout::create(alloc, dir) {
+        Ok(layout) => Ok(layout),
+        Err((_dir, fault)) => Err(ProgramFault::Destination(fault)),
     }
 }
 
 fn fault_of(fault: DirFault) -> ProgramFault {
-    ProgramFault::Layout(LayoutFault::from(fault))
+    ProgramFault::Destination(LayoutFault::from(fault))
 }

@@ -1,3 +1,6 @@
+use crate::copy::options_of;
+use crate::selected::Selected;
+use oci_command_line::CopyWords;
 use oci_copy::{Options, plan_copy};
 use oci_exit::{Outcome, ProgramFault, print_line};
 use oci_layout::{Dir, Layout, LayoutFault};
@@ -7,19 +10,32 @@ use oci_store::ClosedStore;
 use std::alloc::Global;
 use std::io::Write;
 
-/// `copy --dry-run`: prints the key of each blob that the copy of these roots would push, each after what it lists, and then how
-/// many, how many bytes they have, and how many roots are there.
+/// `copy --dry-run`: prints the key of each blob that the copy would push, each after the blobs
+/// that it lists. Then prints the number of these blobs, the number of their bytes, and how many
+/// roots the destination already has.
 ///
-/// Nothing is changed and nothing is locked: a destination that is no layout is taken to hold nothing, and is not made.
-pub(crate) fn show_plan<S: Dir, D: Dir + Drop, W: Write>(
+/// Nothing is changed and nothing is locked. A destination without `oci-layout` counts as an empty
+/// layout, and is not created.
+///
+/// # Errors
+///
+/// - 70 to 75 and 77 if one of the two is not a layout or cannot be read; never 70 for the
+///   destination.
+/// - 35 `EmptyReference` and 36 `UnknownReference` for the reference.
+/// - 80 `DestinationOpen` and 81 `Plan` if there is no plan.
+/// - 94 `Output` if `out` cannot be written.
+/// - Out of memory, at any point.
+pub(crate) fn show_plan<S: Dir + Drop, D: Dir + Drop, W: Write>(
     alloc: Global,
-    source: &Layout<S>,
+    source: S,
     destination: D,
-    roots: &[Key],
-    options: &Options,
+    words: &CopyWords<'_>,
     out: &mut W,
 ) -> Result<Outcome, ProgramFault> {
-    let plan = plan_into(alloc, source, destination, roots, options)?;
+    let source = Layout::open(alloc, source)?;
+    let selected = Selected::of(alloc, &source, words)?;
+    let options = options_of(words);
+    let plan = plan_into(alloc, &source, destination, selected.roots(), &options)?;
     let bytes = print_planned(&plan, out)?;
     let (planned, skipped) = (plan.len(), plan.skipped().len());
     writeln!(out, "planned {planned} bytes {bytes} skipped {skipped}").map_err(
@@ -28,7 +44,7 @@ pub(crate) fn show_plan<S: Dir, D: Dir + Drop, W: Write>(
     Ok(Outcome::Good)
 }
 
-/// The plan of a copy from an open layout into a directory.
+/// Plans a copy from an open layout into a directory.
 fn plan_into<S: Dir, D: Dir + Drop>(
     alloc: Global,
     source: &Layout<S>,
@@ -41,16 +57,16 @@ fn plan_into<S: Dir, D: Dir + Drop>(
         Err((_dir, LayoutFault::NoLayoutFile)) => {
             plan_copy(alloc, source, &ClosedStore::new(alloc), roots, options)
         }
-        Err((_dir, fault)) => return Err(ProgramFault::Layout(fault)),
+        Err((_dir, fault)) => return Err(ProgramFault::Destination(fault)),
     };
     Ok(plan?)
 }
 
-/// Prints the keys of a plan, and returns how many bytes they have.
+/// Prints the keys of a plan in its order, and returns the number of their bytes.
 fn print_planned<W: Write>(plan: &Plan, out: &mut W) -> Result<u128, ProgramFault> {
     let mut bytes = 0u128;
     for place in 0..plan.len() {
-        if let Some(key) = plan.order().at(place).and_then(|number| plan.key(number)) {
+        if let Some(key) = plan.key_in_order(place) {
             print_line(key, out)?;
             bytes = bytes.saturating_add(key.size() as u128);
         }

@@ -1,4 +1,3 @@
-use crate::Host;
 use crate::item::Item;
 use oci_command_line::{Algorithm, MemWords};
 use oci_copy::{CopyFault, Options, Report, copy_memory, copy_memory_by_workers};
@@ -9,10 +8,26 @@ use oci_store::{ClosedStore, MemoryStore};
 use std::alloc::Global;
 use std::io::Write;
 use std::rt::Files;
+use std::sync::Wait;
+use std::thread::Threads;
 
-/// `mem [--workers N] [--sha512] TYPE=PATH..`: pushes the items' files into a store in memory, copies from the last item's
-/// key into an empty one, and prints what arrived there, in key order, and the report.
-pub fn run_mem<R: Host, W: Write>(
+/// `mem [--workers N] [--sha512] TYPE=PATH..`: pushes the items' files into a store in memory, and
+/// copies from the key of the last item into an empty store. Prints the keys that arrived there, in
+/// key order, and the report.
+///
+/// # Errors
+///
+/// No file is changed.
+///
+/// - 92 `BadItem` if an item has no `=`.
+/// - 93 `File` if its file cannot be read, and 4 `BadSize` if it is too long for a key.
+/// - 30 `AlreadyExists` if an item is given twice, and 33 `BadManifest` if a file is not a manifest
+///   of its media type.
+/// - 81 `Plan` if a blob that the last item reaches is not among the items.
+/// - 85 `BadWorkers` if there are more than 64 workers.
+/// - 94 `Output` if `out` cannot be written.
+/// - Out of memory, at any point.
+pub fn run_mem<R: Files + AllocGlobal + Threads + Wait + Sync, W: Write>(
     rt: &R,
     words: &MemWords<'_>,
     out: &mut W,
@@ -26,7 +41,7 @@ pub fn run_mem<R: Host, W: Write>(
     Ok(Outcome::Good)
 }
 
-/// Pushes the files of the items, in their order, and gives the key of the last one.
+/// Pushes the files of the items, in their order, and returns the key of the last one.
 fn push_items<R: Files + AllocGlobal>(
     rt: &R,
     store: &mut MemoryStore,
@@ -41,7 +56,7 @@ fn push_items<R: Files + AllocGlobal>(
     Ok(last)
 }
 
-/// Pushes the file of an item, and gives its key.
+/// Pushes the file of an item, and returns its key.
 fn push_item<R: Files + AllocGlobal>(
     rt: &R,
     store: &mut MemoryStore,
@@ -53,8 +68,8 @@ fn push_item<R: Files + AllocGlobal>(
     Ok(key)
 }
 
-/// Copies into an empty store, by so many workers, or on this thread.
-fn copy_roots<R: Host>(
+/// Copies into an empty store, by this number of workers, or on the calling thread.
+fn copy_roots<R: AllocGlobal + Threads + Wait + Sync>(
     rt: &R,
     source: &MemoryStore,
     roots: &[Key],
@@ -72,7 +87,7 @@ fn copy_roots<R: Host>(
     }
 }
 
-/// The key of each entry, in key order.
+/// The keys of a store, in key order.
 fn sorted_keys(alloc: Global, store: &MemoryStore) -> Result<Vec<&Key>, ProgramFault> {
     let mut keys: Vec<&Key> = Vec::new(alloc);
     for place in 0..store.len() {

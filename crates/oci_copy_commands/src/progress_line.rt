@@ -5,10 +5,10 @@ use std::io::Write;
 use std::sync::{Mutex, Wait};
 use std::time::{Clock, Duration, Instant};
 
-/// How many milliseconds a line stands at least before it is drawn again.
+/// Minimum time between redraws, in milliseconds.
 const PAUSE: u64 = 100;
 
-/// Some blobs, and the bytes that they have.
+/// A number of blobs, and the number of their bytes.
 #[derive(Clone, Copy)]
 struct Amount {
     blobs: u64,
@@ -18,7 +18,7 @@ struct Amount {
 impl Amount {
     const NONE: Amount = Amount { blobs: 0, bytes: 0 };
 
-    /// One blob more.
+    /// Returns the amount with one more blob.
     fn with(self, key: &Key) -> Amount {
         Amount {
             blobs: self.blobs.saturating_add(1),
@@ -26,13 +26,11 @@ impl Amount {
         }
     }
 
-    /// All blobs of a plan.
+    /// Returns the amount of all blobs of a plan.
     fn planned(plan: &Plan) -> Amount {
         let mut all = Amount::NONE;
-        for place in 0..plan.len() {
-            if let Some(key) = plan.order().at(place).and_then(|number| plan.key(number)) {
-                all = all.with(key);
-            }
+        for key in plan.keys() {
+            all = all.with(key);
         }
         all
     }
@@ -43,12 +41,12 @@ impl Amount {
 struct Line<'p, X> {
     err: &'p mut X,
     arrived: Amount,
-    /// When it was last drawn.
+    /// The time of the last drawing.
     drawn: Option<Instant>,
 }
 
 impl<'p, X: Write> Line<'p, X> {
-    /// Whether it is time to draw the line, which is then taken as drawn.
+    /// Whether the line is due to be drawn. If so, the time is noted as that of the last drawing.
     fn is_due<R: Clock>(&mut self, rt: &R) -> bool {
         let Ok(now) = Instant::now(rt) else {
             return false;
@@ -62,6 +60,7 @@ impl<'p, X: Write> Line<'p, X> {
         true
     }
 
+    /// Draws the line. A failed write is ignored.
     fn draw(&mut self, planned: Amount) {
         let arrived = self.arrived;
         let _ = write!(
@@ -76,8 +75,9 @@ impl<'p, X: Write> Line<'p, X> {
     }
 }
 
-/// Draws on one line of a terminal how many of the planned blobs, and of their bytes, have arrived: as the first one arrives, and
-/// from then on at most ten times a second. A line that cannot be written is left out, and the copy goes on.
+/// Draws one line on a terminal: how many of the planned blobs, and of their bytes, have arrived.
+/// It is drawn when the first blob arrives, and from then on at most ten times a second. If it
+/// cannot be written, it is left out and the copy goes on.
 #[derive(Drop)]
 pub(crate) struct ProgressLine<'p, R, X> {
     rt: &'p R,
@@ -98,7 +98,7 @@ impl<'p, R: Clock + Wait, X: Write> ProgressLine<'p, R, X> {
         }
     }
 
-    /// Adds a blob that arrived.
+    /// Counts a blob that arrived, and draws the line if it is due.
     pub(crate) fn add(&self, key: &Key) {
         let mut line = self.line.lock(self.rt);
         line.arrived = line.arrived.with(key);
@@ -107,7 +107,7 @@ impl<'p, R: Clock + Wait, X: Write> ProgressLine<'p, R, X> {
         }
     }
 
-    /// Takes the line away, if one was drawn.
+    /// Erases the line, if one was drawn.
     pub(crate) fn erase(&self) {
         let mut line = self.line.lock(self.rt);
         if line.drawn.is_some() {

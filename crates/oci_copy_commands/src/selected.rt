@@ -13,7 +13,7 @@ use oci_store::{GraphSource, KeyList, Store, Tagger};
 use std::alloc::Global;
 use std::marker::Model;
 
-/// What a copy starts from, its roots, and the tags that it sets, each of a root.
+/// The roots of a copy, and the tags that it sets, each of a root.
 #[derive(Drop)]
 pub struct Selected {
     roots: Vec<Key>,
@@ -34,11 +34,13 @@ impl Model for Selected {
 }
 
 impl Selected {
-    /// Selects what the words of a copy name in an open layout: one reference, or every tag.
+    /// Selects the roots and tags that the words of a copy name in an open layout: one reference,
+    /// or every tag.
     ///
     /// # Errors
     ///
-    /// 35 `EmptyReference` and 36 `UnknownReference` if the source has no such reference, and out of memory.
+    /// - 35 `EmptyReference` if the reference is empty, and 36 `UnknownReference` if it is unknown.
+    /// - Out of memory, at any point.
     pub(crate) fn of<D: Dir>(
         alloc: Global,
         source: &Layout<D>,
@@ -53,8 +55,14 @@ impl Selected {
         }
     }
 
-    /// Selects what a reference of the source resolves to, with `referrers` also what refers to it, at most that many steps up,
-    /// 0 for any number. It is tagged `to`, or `from` if that is empty.
+    /// Selects the blob that a reference of the source resolves to. With `referrers` its referrers
+    /// are selected too, at most that number of levels up; 0 means no limit. The blob is tagged
+    /// `to`, or `from` if `to` is empty.
+    ///
+    /// # Errors
+    ///
+    /// - 35 `EmptyReference` if `from` is empty, and 36 `UnknownReference` if it is unknown.
+    /// - Out of memory, at any point.
     pub fn reference<D: Dir>(
         alloc: Global,
         source: &Layout<D>,
@@ -90,7 +98,12 @@ impl Selected {
         Ok(Selected { roots, tags })
     }
 
-    /// Selects what each tag of the source names, with `referrers` also what refers to that. Each tag is set as it is.
+    /// Selects the blob of each tag of the source, and with `referrers` its referrers. The copy
+    /// sets the same tags.
+    ///
+    /// # Errors
+    ///
+    /// Out of memory.
     pub fn all_tags<D: Dir>(
         alloc: Global,
         source: &Layout<D>,
@@ -105,14 +118,14 @@ impl Selected {
         Ok(Selected { roots, tags })
     }
 
-    /// The keys that the copy starts from, each once.
+    /// Returns the keys that the copy starts from, each once.
     pub fn roots(&self) -> &[Key]
         ensures { result.now ≡ self.now.0 }
     {
         &self.roots
     }
 
-    /// The tags that the copy sets, and the root that each names.
+    /// Returns the tags that the copy sets, and the root that each names.
     pub fn tags(&self) -> &[(String, Key)]
         ensures tags { by_bytes result.now ≡ self.now.1 }
         ensures of_roots { AreOfRoots self.now.0 self.now.1 }
@@ -121,7 +134,7 @@ impl Selected {
     }
 }
 
-/// The tag that a copied reference gets: the destination's reference, or the source's if that is empty.
+/// The tag to set: the destination's reference, or the source's if that is empty.
 fn tag_name(alloc: Global, from: &str, to: &str) -> Result<String, ProgramFault>
     ensures name { IfOk result (λ name. string_bytes name ≡ name_of from.now to.now) }
     ensures named { from.now ≢ [] → IfOk result (λ name. string_bytes name ≢ []) }
@@ -159,21 +172,23 @@ fn place_roots<A: GraphSource>(
     roots: &mut KeyList,
 ) -> Result<(), ProgramFault>
     ensures { OnOk result ((root : Descriptor) → Contains roots.new root
-        ↔ (Contains roots.old root ⊎ IsRootOfKey (A.state source.now).nodes referrers key.now root)) }
+        ↔ (Contains roots.old root
+        ⊎ IsRootOfKey (A.state source.now).nodes referrers key.now root)) }
 {
     let more = roots_of(alloc, source, key, referrers)?;
     roots.place_all(&more)?;
     Ok(())
 }
 
-/// The roots of a copy of one key: the key, and with `referrers` what refers to it.
+/// The roots of a copy of one key: the key, and with `referrers` its referrers.
 fn roots_of<A: GraphSource>(
     alloc: Global,
     source: &A,
     key: &Key,
     referrers: Option<u32>,
 ) -> Result<Vec<Key>, ProgramFault>
-    ensures { IfOk result (λ roots. AreRoots (A.state source.now).nodes referrers key.now roots.items) }
+    ensures { IfOk result (λ roots. AreRoots (A.state source.now).nodes referrers key.now
+        roots.items) }
 {
     match referrers {
         Some(depth) => Ok(climb(alloc, source, key, depth)?),

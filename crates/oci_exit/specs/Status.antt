@@ -1,7 +1,11 @@
--- The status that a run ends with, and the number of its refusal.
+-- The status that a run ends with, and the numbers of its fault.
 use Rattle.std.specs.Prelude.{ℕ, Bool, true, false, if◌then◌else◌, Option, Some, None}
 use Rattle.oci_copy.specs.Fault.{number_of}
 use Rattle.oci_manifest.specs.Fault.{key_number_of}
+use Rattle.oci_manifest.specs.Fault.{number_of as manifest_number_of}
+use Rattle.oci_plan.specs.Fault.{plan_number_of}
+use Rattle.oci_plan.specs.declared.fault.PlanFault.{PlanFault}
+use Rattle.oci_plan.specs.declared.fault.PlanFault.TheVariants as plan
 use Rattle.oci_store.specs.Numbers.{fetch_number, push_number, reference_number}
 use Rattle.oci_layout.specs.Numbers.{layout_number}
 use Rattle.oci_copy.specs.declared.fault.CopyFault.{CopyFault}
@@ -51,6 +55,7 @@ abbrev pub is_memory : ProgramFault → Bool
 is_memory (fault.Push e) = is_push_memory e
 is_memory (fault.Copy e) = is_copy_memory e
 is_memory (fault.Layout e) = is_layout_memory e
+is_memory (fault.Destination e) = is_layout_memory e
 is_memory (fault.Reference e) = is_reference_memory e
 is_memory (fault.Fetch e) = is_fetch_memory e
 is_memory fault.Memory = true
@@ -62,17 +67,17 @@ status_of (ending.Usage error) = 2
 status_of ending.NotUtf8 = 2
 status_of (ending.Fault e) = if is_memory e then 3 else 1
 
--- the status of a run that did what was asked for: 1 where it found something wrong
+-- the status of a run that was not refused: 1 if it found something wrong
 abbrev pub status_of_done : Outcome → ℕ
 status_of_done outcome.Good = 0
 status_of_done outcome.Faulty = 1
 
--- good where both are
+-- good if both are
 abbrev pub both : Outcome → Outcome → Outcome
 both outcome.Good b = b
 both outcome.Faulty b = outcome.Faulty
 
--- the number that a fault's printed text begins with: that of a fault from below; a memory error of the program itself has none
+-- the first number of a fault's text; the program's own memory error has none
 abbrev pub program_number : ProgramFault → Option ℕ
 program_number (fault.BadItem item) = Some 92
 program_number (fault.File path) = Some 93
@@ -81,6 +86,40 @@ program_number (fault.Key e) = Some (key_number_of e)
 program_number (fault.Push e) = Some (push_number e)
 program_number (fault.Copy e) = Some (number_of e)
 program_number (fault.Layout e) = Some (layout_number e)
+program_number (fault.Destination e) = Some (layout_number e)
 program_number (fault.Reference e) = Some (reference_number e)
 program_number (fault.Fetch e) = Some (fetch_number e)
 program_number fault.Memory = None
+
+-- the last number of a refused push: that of the manifest's fault, if there is one
+abbrev pub last_push_number : PushFault → ℕ
+last_push_number (push.BadManifest e) = manifest_number_of e
+last_push_number e = push_number e
+
+-- the last number of a refused plan: that of the fault in it, if there is one
+abbrev pub last_plan_number : PlanFault → ℕ
+last_plan_number (plan.Manifest k e) = manifest_number_of e
+last_plan_number (plan.Fetch k e) = fetch_number e
+last_plan_number e = plan_number_of e
+
+-- the last number of a refused copy
+abbrev pub last_copy_number : CopyFault → ℕ
+last_copy_number (copy.Plan e) = last_plan_number e
+last_copy_number (copy.Push k e) = last_push_number e
+last_copy_number (copy.Reference e) = reference_number e
+last_copy_number (copy.Fetch k e) = fetch_number e
+last_copy_number e = number_of e
+
+-- the last number of a refused layout: that of the manifest's fault, if there is one
+abbrev pub last_layout_number : LayoutFault → ℕ
+last_layout_number (layout.BadIndex e) = manifest_number_of e
+last_layout_number (layout.BadManifest k e) = manifest_number_of e
+last_layout_number e = layout_number e
+
+-- the last number of a fault's text, which is that of its innermost fault
+abbrev pub last_number : ProgramFault → Option ℕ
+last_number (fault.Push e) = Some (last_push_number e)
+last_number (fault.Copy e) = Some (last_copy_number e)
+last_number (fault.Layout e) = Some (last_layout_number e)
+last_number (fault.Destination e) = Some (last_layout_number e)
+last_number e = program_number e

@@ -1,25 +1,26 @@
-ghost use Rattle.std.specs.Prelude.{◌≡◌, ◌≤◌};
-ghost use Rattle.oci_exit.specs.Status.{status_of};
+ghost use Rattle.std.specs.Prelude.{◌≡◌, ◌≤◌, ◌⊎◌, IfErr, IfOk};
+ghost use Rattle.oci_exit.specs.Status.{status_of, status_of_done};
 
 use crate::fault::ProgramFault;
 use crate::outcome::Outcome;
+use crate::refusal::Refusal;
 use std::alloc::AllocError;
 use std::fmt;
 use std::io::Write;
 
-/// Why a run ends before it is done. It prints what the error output shows.
+/// Why a run ended early. `Display` is the text on stderr.
 #[derive(Drop)]
 pub enum Ending {
-    /// The command line is invalid: the text says how the program is used.
+    /// The command line is invalid. The text has the usage.
     Usage(String),
-    /// A word is not UTF-8, which makes the command line invalid too.
+    /// A word is not UTF-8, so the command line is invalid.
     NotUtf8,
-    /// What was asked for is refused.
+    /// The command was refused.
     Fault(ProgramFault),
 }
 
 impl Ending {
-    /// The status of the run: 2 for `Usage` and `NotUtf8`, 3 for out of memory, and otherwise 1.
+    /// Returns the exit status: 2 for `Usage` and `NotUtf8`, 3 for out of memory, and otherwise 1.
     pub fn status(&self) -> u8
         ensures { result ≡ status_of self.now }
     {
@@ -30,7 +31,7 @@ impl Ending {
         }
     }
 
-    /// Writes the ending on `err`, and answers its status, also where `err` cannot be written.
+    /// Writes the ending on `err` and returns its status, also if `err` cannot be written.
     pub fn tell<X: Write>(self, err: &mut X) -> u8
         ensures { result ≡ status_of self }
     {
@@ -62,20 +63,50 @@ impl From<AllocError> for Ending {
     }
 }
 
-/// Ends a run: flushes what a command printed on `out`, or prints its fault on `err`, and returns the exit status.
+/// How a run ended.
+#[derive(Clone, Copy)]
+pub struct Ended {
+    /// The exit status.
+    pub status: u8,
+    /// The refusal, if the run has one with a number.
+    pub refusal: Option<Refusal>,
+}
+
+/// Ends a run: flushes `out` if the command was done, or prints its fault on `err`.
+///
+/// # Errors
+///
+/// The run ends with 94 `Output` or out of memory if `out` cannot be flushed. What was printed
+/// before stays.
 pub fn finish_run<W: Write, X: Write>(
     done: Result<Outcome, ProgramFault>,
     out: &mut W,
     err: &mut X,
-) -> u8
-    ensures { result ≤ 3 }
+) -> Ended
+    ensures status { result.status ≤ 3 }
+    ensures done { IfOk done (λ outcome. (result.status ≡ status_of_done outcome)
+        ⊎ ((result.status ≡ 1) ⊎ (result.status ≡ 3))) }
+    ensures refused { IfErr done (λ fault. result.status ≡ status_of (Ending.Fault fault)) }
 {
-    let fault = match done {
+    match done {
         Ok(outcome) => match out.flush() {
-            Ok(()) => return outcome.status(),
-            Err(error) => ProgramFault::of_output(error),
+            Ok(()) => Ended {
+                status: outcome.status(),
+                refusal: None,
+            },
+            Err(error) => refused(ProgramFault::of_output(error), err),
         },
-        Err(fault) => fault,
-    };
-    Ending::Fault(fault).tell(err)
+        Err(fault) => refused(fault, err),
+    }
+}
+
+/// Ends a run that was refused: prints the fault on `err`.
+fn refused<X: Write>(fault: ProgramFault, err: &mut X) -> Ended
+    ensures { result.status ≡ status_of (Ending.Fault fault) }
+{
+    let refusal = fault.refusal();
+    Ended {
+        status: Ending::Fault(fault).tell(err),
+        refusal,
+    }
 }

@@ -12,7 +12,7 @@ use std::alloc::{AllocError, AllocFailed};
 use std::io;
 use thiserror::Error;
 
-/// Why the program is refused.
+/// Why a command is refused. `Display` is the text after `ocicp: ` on stderr.
 #[derive(Debug, Drop, Error)]
 pub enum ProgramFault {
     /// An item has no `=`.
@@ -33,10 +33,13 @@ pub enum ProgramFault {
     /// The copy was refused.
     #[error("{0}")]
     Copy(#[from] CopyFault),
-    /// A folder is no layout, or could not be read or written.
+    /// The layout that a command reads is no layout, or could not be read.
     #[error("{0}")]
     Layout(#[from] LayoutFault),
-    /// The layout has no such reference.
+    /// The destination of a copy is no layout, or could not be read or written.
+    #[error("{0}")]
+    Destination(LayoutFault),
+    /// The layout does not have the reference.
     #[error("{0}")]
     Reference(#[from] RefFault),
     /// A file of the layout could not be read.
@@ -48,7 +51,8 @@ pub enum ProgramFault {
 }
 
 impl ProgramFault {
-    /// What a writer's error means for the run: out of memory where its kind says so, and otherwise `Output`.
+    /// Returns the fault of an output that failed with this error: `Memory` for `OutOfMemory`, and
+    /// otherwise `Output`.
     pub fn of_output(error: io::Error) -> ProgramFault
         ensures { IsTrue (is_memory result) ↔ (error_kind error ≡ OutOfMemory) }
     {
@@ -66,6 +70,7 @@ impl ProgramFault {
             ProgramFault::Push(fault) => matches!(fault, PushFault::Memory),
             ProgramFault::Copy(fault) => matches!(fault, CopyFault::Memory),
             ProgramFault::Layout(fault) => matches!(fault, LayoutFault::Memory),
+            ProgramFault::Destination(fault) => matches!(fault, LayoutFault::Memory),
             ProgramFault::Reference(fault) => matches!(fault, RefFault::Memory),
             ProgramFault::Fetch(fault) => matches!(fault, FetchFault::Memory),
             ProgramFault::Memory => true,
@@ -73,8 +78,7 @@ impl ProgramFault {
         }
     }
 
-    /// The number that the fault's printed text begins with: that of a fault from below; out of memory in the
-    /// program itself has none.
+    /// Returns the first number of the fault's text. The program's own memory error has none.
     pub fn number(&self) -> Option<u8>
         ensures { result ≡ program_number self.now }
     {
@@ -86,6 +90,7 @@ impl ProgramFault {
             ProgramFault::Push(fault) => Some(fault.number()),
             ProgramFault::Copy(fault) => Some(fault.number()),
             ProgramFault::Layout(fault) => Some(fault.number()),
+            ProgramFault::Destination(fault) => Some(fault.number()),
             ProgramFault::Reference(fault) => Some(fault.number()),
             ProgramFault::Fetch(fault) => Some(fault.number()),
             ProgramFault::Memory => None,
@@ -111,7 +116,7 @@ impl<T: Drop> From<AllocFailed<T>> for ProgramFault {
     }
 }
 
-/// The fault of a directory that is no layout, without the directory.
+/// The fault of a layout that was not opened or not created. Its directory is dropped.
 impl<D: Drop> From<(D, LayoutFault)> for ProgramFault {
     fn from(refused: (D, LayoutFault)) -> ProgramFault {
         let (_dir, fault) = refused;

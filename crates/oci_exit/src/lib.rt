@@ -1,21 +1,25 @@
-//! What the commands of the program share: how a run ends, and how lines and sizes are printed.
+//! The ends of runs, and the printing of lines and sizes, for all commands of the program.
 //!
 //! | Type | What it is |
 //! |---|---|
-//! | [`ProgramFault`] | why a command is refused: a fault from below, or one of the program's own, [92] to [94] |
-//! | [`Ending`] | why a run ends before it is done: the command line is invalid, or it is refused |
-//! | [`Outcome`] | how a run ends that did what was asked for |
+//! | [`ProgramFault`] | why a command is refused, by a fault from below or one of 92 to 94 |
+//! | [`Outcome`] | the result of a command that was not refused |
+//! | [`Ending`] | why a run ended early: an invalid command line, or a refused command |
+//! | [`Ended`] | how a run ended: its exit status, and its [`Refusal`] |
 //! | [`Readable`] | a size as people read it |
 //!
-//! [`finish_run`] ends a run and returns its exit status; [`print_line`] and [`print_lines`] print lines.
+//! [`finish_run`] ends a run; [`print_line`] and [`print_lines`] print lines.
 #![tactic(auto)]
 
 mod ending;
 mod fault;
+mod last_number;
 mod outcome;
 mod printing;
+mod refusal;
 
-pub use ending::{Ending, finish_run};
+pub use ending::{Ended, Ending, finish_run};
 pub use fault::ProgramFault;
 pub use outcome::Outcome;
 pub use printing::{Readable, print_line, print_lines};
+pub use refusal::{Refusal, Subject};

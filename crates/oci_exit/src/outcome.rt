@@ -1,17 +1,17 @@
 ghost use Rattle.std.specs.Prelude.{◌≡◌};
 ghost use Rattle.oci_exit.specs.Status.{both, status_of_done};
 
-/// How a run ends that did what was asked for.
+/// The result of a command that was not refused.
 #[derive(Clone, Copy)]
 pub enum Outcome {
     /// Nothing is wrong.
     Good,
-    /// What is wrong is on the output.
+    /// Something is wrong, and the output says it.
     Faulty,
 }
 
 impl Outcome {
-    /// Good where both are.
+    /// Returns `Good` if both are good.
     pub fn and(self, other: Outcome) -> Outcome
         ensures { result ≡ both self other }
     {
@@ -21,7 +21,7 @@ impl Outcome {
         }
     }
 
-    /// The status of the run: 0 for `Good`, and otherwise 1. (The tests of `ocicp verify` compare it too.)
+    /// Returns the exit status: 0 for `Good`, and otherwise 1.
     pub fn status(self) -> u8
         ensures { result ≡ status_of_done self }
     {

@@ -7,7 +7,7 @@ use std::io::Write;
 ///
 /// # Errors
 ///
-/// 94 `Output` if `out` cannot be written, and out of memory.
+/// 94 `Output` if `out` cannot be written, and out of memory. Lines that were printed before stay.
 pub fn print_lines<T: Display, W: Write>(lines: &[T], out: &mut W) -> Result<(), ProgramFault> {
     for line in lines {
         print_line(line, out)?;
@@ -24,8 +24,8 @@ pub fn print_line<T: Display, W: Write>(line: &T, out: &mut W) -> Result<(), Pro
     writeln!(out, "{line}").map_err(ProgramFault::of_output)
 }
 
-/// A size in bytes, which prints as people read it: `385 B`, `1.2 KB`, `34.0 MB`. The units go up by 1000, to GB; the one decimal
-/// is rounded.
+/// A size in bytes. `Display` prints it as people read it: `385 B`, `1.2 KB`, `34.0 MB`. Each unit
+/// is 1000 times the one before it, up to GB. The one decimal is rounded.
 #[derive(Clone, Copy)]
 pub struct Readable(pub u64);
 

@@ -1,9 +1,11 @@
-//! `ocicp`: copies OCI content between stores, and looks into image layouts.
+//! `ocicp`: copies OCI content between stores, and reads image layouts.
 //!
-//! The whole program is [`run::run_words`]: it takes the words after the program's name and two writers, and returns the exit
-//! status. [`process::run_process`] runs it with the words and the outputs of the process.
+//! The whole program is [`run::run_words`]. It takes the words after the program's name and two
+//! writers, and returns the exit status. [`process::run_process`] runs it with the words and the
+//! outputs of the process.
 #![tactic(auto)]
 
+mod meaning;
 mod process;
 mod run;
 

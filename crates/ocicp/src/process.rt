@@ -5,8 +5,9 @@ use std::io::{BufWriter, IsTerminal, Write};
 use std::rt::Env;
 use std::{env, io};
 
-/// Runs the program on the words that the process was given, and returns its exit status, as [`run_words_on`] does. What is
-/// printed on `out` goes through a buffer. A word that is not UTF-8 makes the command line invalid: status 2.
+/// Runs the program on the words of the process, and returns its exit status, as [`run_words_on`]
+/// does. `out` is written through a buffer. A word that is not UTF-8 makes the command line
+/// invalid: status 2.
 pub fn run_process<R: Env + Host, W: Write + Drop, X: Write + IsTerminal + Send>(
     rt: &R,
     out: W,
@@ -22,14 +23,14 @@ pub fn run_process<R: Env + Host, W: Write + Drop, X: Write + IsTerminal + Send>
     }
 }
 
-/// The words that the process was given.
+/// The words of the process after the program's name.
 fn words<R: Env + AllocGlobal>(rt: &R) -> Result<Vec<String>, Ending> {
     let alloc = rt.alloc();
     let words = env::args(rt).map_err(unread)?.skip(1).collect(alloc)?;
     Ok(words)
 }
 
-/// Why the words could not be read: one of them is not UTF-8, or memory ran out.
+/// The end of a run whose words could not be read: one is not UTF-8, or memory ran out.
 fn unread(error: io::Error) -> Ending {
     match error.kind() {
         io::ErrorKind::InvalidData => Ending::NotUtf8,

@@ -1,8 +1,9 @@
 ghost use Rattle.std.specs.Prelude.{◌≤◌};
 
+use crate::meaning::print_meaning;
 use oci_command_line::{CommandLineFault, Request};
 use oci_copy_commands::{Host, run_copy, run_mem};
-use oci_exit::{Ending, Outcome, ProgramFault, finish_run, print_line};
+use oci_exit::{Ended, Ending, Outcome, ProgramFault, finish_run, print_line};
 use oci_inspect::run_query;
 use oci_layout::FsDir;
 use oci_pool::MAX_WORKERS;
@@ -10,9 +11,13 @@ use std::io::Write;
 
 /// Runs the program on the words after its name, and returns its exit status.
 ///
-/// 0: done; the result is on `out`. 1: refused, with one line on `err`: `ocicp:` and the faults from the outermost to the
-/// innermost; or `verify` found a problem, which is on `out`. 2: an invalid command line, with the usage on `err`. 3: out of
-/// memory, with the line `ocicp: memory` on `err`. With `--progress`, `copy` prints a line for each blob on `err`.
+/// - 0: the command was done, and its result is on `out`.
+/// - 1: the command was refused. `err` has one line, `ocicp:` and the faults from the outermost to
+///   the innermost. Or `verify` found a problem, which is on `out`.
+/// - 2: the command line is invalid, and the usage is on `err`.
+/// - 3: memory ran out. `err` has the line `ocicp: memory`.
+///
+/// With `--progress`, `copy` also prints a line for each blob on `err`.
 pub fn run_words<R: Host, W: Write, X: Write + Send>(
     rt: &R,
     words: &[String],
@@ -24,8 +29,9 @@ pub fn run_words<R: Host, W: Write, X: Write + Send>(
     run_words_on(rt, words, false, out, err)
 }
 
-/// Runs the program as [`run_words`] does. If `err` is a terminal, `copy` without `--progress` draws a line on it that shows how
-/// much has arrived, and erases that line at the end.
+/// Runs the program as [`run_words`] does. If `err` is a terminal, `copy` without `--progress`
+/// draws a line on it that shows how much has arrived, and erases that line at the end. Also, a
+/// second line below the line of a refusal then says what its innermost number means.
 pub fn run_words_on<R: Host, W: Write, X: Write + Send>(
     rt: &R,
     words: &[String],
@@ -39,7 +45,23 @@ pub fn run_words_on<R: Host, W: Write, X: Write + Send>(
         Ok(request) => request,
         Err(fault) => return ending_of(fault).tell(err),
     };
-    match &request {
+    let ended = run_request(rt, &request, out, err);
+    if on_terminal && let Some(refusal) = ended.refusal {
+        print_meaning(&request, refusal, err);
+    }
+    ended.status
+}
+
+/// Runs the command of a valid command line.
+fn run_request<R: Host, W: Write, X: Write + Send>(
+    rt: &R,
+    request: &Request<'_>,
+    out: &mut W,
+    err: &mut X,
+) -> Ended
+    ensures { result.status ≤ 3 }
+{
+    match request {
         Request::Text(text) => finish_run(print_text(text, out), out, err),
         Request::Explain(text) => finish_run(print_explanation(text, out), out, err),
         Request::Mem(words) => finish_run(run_mem(rt, words, out), out, err),
@@ -48,16 +70,16 @@ pub fn run_words_on<R: Host, W: Write, X: Write + Send>(
             FsDir::new(rt, words.destination),
         ) {
             (Ok(source), Ok(destination)) => run_copy(rt, source, destination, words, out, err),
-            _ => Ending::Fault(ProgramFault::Memory).tell(err),
+            _ => finish_run(Err(ProgramFault::Memory), out, err),
         },
         Request::Query(folder, query) => match FsDir::new(rt, folder) {
             Ok(dir) => run_query(rt.alloc(), dir, *query, out, err),
-            Err(_) => Ending::Fault(ProgramFault::Memory).tell(err),
+            Err(_) => finish_run(Err(ProgramFault::Memory), out, err),
         },
     }
 }
 
-/// How a run ends whose command line asks for nothing.
+/// The end of a run whose command line was not parsed.
 fn ending_of(fault: CommandLineFault) -> Ending {
     match fault {
         CommandLineFault::Usage(text) => Ending::Usage(text),
@@ -65,13 +87,13 @@ fn ending_of(fault: CommandLineFault) -> Ending {
     }
 }
 
-/// Prints the text of `--help` or `--version`, which ends its lines itself.
+/// Prints the text of `--help` or `--version`, which has its last line feed.
 fn print_text<W: Write>(text: &str, out: &mut W) -> Result<Outcome, ProgramFault> {
     write!(out, "{text}").map_err(ProgramFault::of_output)?;
     Ok(Outcome::Good)
 }
 
-/// `explain NUMBER`: prints what the number of a refusal means.
+/// `explain NUMBER`: prints the explanation of an error number.
 fn print_explanation<W: Write>(text: &str, out: &mut W) -> Result<Outcome, ProgramFault> {
     print_line(&text, out)?;
     Ok(Outcome::Good)

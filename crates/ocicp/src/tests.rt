@@ -1,7 +1,9 @@
-//! The rows of the commands: words, status, and both outputs, whole. Each has a folder of its own.
+//! Tests of the commands: words, status, and both outputs, whole. Each test has a folder of its
+//! own.
 //!
-//! `sessions` goes through a text of runs and compares, and `rows` through rows of words; `runs` and `files` do what a line of
-//! a session says; `host` has the runtimes, `contents` and `layouts` the files; `broken` has writers and files that fail.
+//! `sessions` runs a text of commands and compares their output, and `rows` runs rows of words.
+//! `runs` and `files` run single lines of a session. `host` has the runtimes, `contents` and
+//! `layouts` have the files, and `broken` has writers and files that fail.
 
 mod algorithms;
 mod broken;
@@ -13,6 +15,7 @@ mod explain;
 mod files;
 mod host;
 mod layouts;
+mod meaning;
 mod mem;
 mod outputs;
 mod progress;

@@ -1,0 +1,62 @@
+"""Refusals on a terminal: a second line says what the last number of the first one means. Through a pipe there is no such line."""
+import os
+import pty
+import subprocess
+
+from layouts import E, FOO, M2, write_layout
+from program import PROGRAM, SECONDS, run
+
+UNKNOWN = "The layout has no tag with this name, and no blob with this digest"
+NO_VERSION = "The file `oci-layout` is not a JSON object with a text `imageLayoutVersion`"
+
+# The words, the fault's line, what the second line is about, what it says, and the number that it names.
+CASES = [
+    ("resolve source nope", "36 UnknownReference", "nope", UNKNOWN, 36),
+    ("copy source nope copied", "36 UnknownReference", "nope", UNKNOWN, 36),
+    ("tags spoiled", "71 BadLayoutFile", "spoiled", NO_VERSION, 71),
+    ("copy spoiled one copied", "71 BadLayoutFile", "spoiled", NO_VERSION, 71),
+    ("copy source one spoiled", "71 BadLayoutFile", "spoiled", NO_VERSION, 71),
+    ("mem abc.txt", "92 BadItem abc.txt", None, "The named item of `ocicp mem` has no `=`", 92),
+]
+
+
+def read_all(terminal):
+    """What was written to a terminal that no process has open any more."""
+    written = b""
+    try:
+        while part := os.read(terminal, 4096):
+            written += part
+    except OSError:
+        pass
+    return written.decode().replace("\r\n", "\n")
+
+
+def run_on_terminal(words, folder):
+    """The status of a run whose error output is a terminal, and what it wrote there."""
+    terminal, err = pty.openpty()
+    try:
+        status = subprocess.run([PROGRAM, *words], cwd=folder, stdin=subprocess.DEVNULL, stdout=subprocess.DEVNULL,
+                                stderr=err, timeout=SECONDS).returncode
+    finally:
+        os.close(err)
+    try:
+        return status, read_all(terminal)
+    finally:
+        os.close(terminal)
+
+
+def checks(room):
+    write_layout(room + "/source", [E, FOO, M2], {"one": M2})
+    write_layout(room + "/spoiled", [E, FOO, M2], {"one": M2})
+    with open(room + "/spoiled/oci-layout", "w") as file:
+        file.write("{}")
+    for words, fault, subject, sentence, number in CASES:
+        line = "ocicp: %s\n" % fault
+        about = "`%s`: " % subject if subject else ""
+        second = "%s%s. Run `ocicp explain %d` for what to do.\n" % (about, sentence, number)
+        found = run_on_terminal(words.split(), room)
+        yield words, None if found == (1, line + second) else "status %d, %r" % found
+        piped = run(words.split(), room)
+        yield words + ", through a pipe", None if piped[:3] == (1, "", line) else "%r" % (piped[:3],)
+    found = run_on_terminal(["tags", "source"], room)
+    yield "tags source", None if found == (0, "") else "status %d, %r" % found
