@@ -1,4 +1,4 @@
--- Why what a copy between layouts promises still stands after its tags and the save.
+-- The promises of a copy between layouts still hold after its tags are set and it is saved.
 use Rattle.std.proofs.Common.{◌≡◌, List, Result, Ok, Err, refl, sym, subst, arith}
 use Rattle.std.specs.Prelude.{⊤, ◌<◌, ◌^◌, ◌-◌, IfOk, OnOk}
 use Rattle.std.proofs.lemmas.Result.{IfOk-at_ok, on_ok_weaker}
@@ -13,19 +13,19 @@ use Rattle.oci_copy.specs.declared.options.Options.{Options}
 use Rattle.oci_copy.specs.declared.report.Report.{Report}
 use Rattle.oci_copy_commands.specs.Between.{IsTrusted, IsSaved, BringsOnlyMet, BringsOnlyChecked, IsCopiedBetween, HoldsWhatCame}
 
--- what follows from what holds of a copy that succeeded holds if the copy with its save did
+-- a consequence of a successful copy holds if the copy and its save both succeeded
 pub after_ok : {X E F P Q : Type 0} (copied : Result X E) (saved : Result X F) → (P → Q) → IfOk saved (λ it. copied ≡ Ok it) → OnOk copied P → OnOk saved Q
 after_ok {P = P} copied (Ok x) gives same holds = gives (subst (λ r. OnOk r P) same holds)
 after_ok copied (Err e) gives same holds = same
 
--- the same of what holds of the report
+-- as `after_ok`, for a fact about the report
 pub after_report : {X E F : Type 0} {P Q : X → Type 0} (copied : Result X E) (saved : Result X F) → ((x : X) → P x → Q x) → IfOk saved (λ it. copied ≡ Ok it) → IfOk copied P → IfOk saved Q
 after_report {P = P} copied (Ok x) gives same holds = gives x (IfOk-at_ok P same holds)
 after_report copied (Err e) gives same holds = same
 
 -- a destination that only grew, and then was saved
 module _ {source old copied new : State} {roots : List Descriptor} (alike : SameByDigest source.entries source.entries) (grows : OnlyGrows ⊤ source old roots copied) (saved : IsSaved copied new) where
-  -- what is known of its bytes after the save was known before it
+  -- the premise about bytes after the save gives the premise before it
   known_before : IsTrusted source old new → HasKnownBytes ⊤ source old copied
   known_before trusted =
       let calm = trusted.is_calm in

@@ -1,4 +1,4 @@
--- What a copy starts from, and the tags that it sets.
+-- Lemmas about the roots of a copy, and the tags that it sets.
 use Rattle.std.proofs.Common.{◌≡◌, ◌≢◌, ℕ, ◌+◌, ◌<◌, ◌≤◌, true, inl, inr, List, [], ◌∷◌, ◌++◌, length, get_or, take, Option, None, Some, refl, sym, ap, subst, ◌∙◌, arith}
 use Rattle.std.specs.Prelude.{◌↔◌, ◌⊎◌, false, Contains, option_map, String, string_bytes, Result, Ok, Err, IfOk, IfErr}
 use Rattle.std.specs.List.{All, slice_get}
@@ -59,7 +59,8 @@ roots_placed graph referrers k old more new are is root = subst (λ (keys : Keys
     there (inl before) = Contains-from_among (with_keys old more) root (stays-with_keys old more root (among_from_Contains old root before))
     there (inr of) = Contains-from_among (with_keys old more) root (there-with_keys old more root (among_from_Contains more root ((roots_are graph referrers k more are root).1 of)))
 
--- the roots of a copy of some keys and those of one key more are the roots of a copy of all these keys
+-- the roots of a copy of some keys and those of one key more are the roots of a copy of all these
+-- keys
 roots_more : (graph : List Node) (referrers : Option ℕ) (keys : Keys) (k : Descriptor) (old new : Keys)
     → ((root : Descriptor) → Contains new root ↔ (Contains old root ⊎ IsRootOfKey graph referrers k root))
     → ((root : Descriptor) → Contains old root ↔ IsRootOfKeys graph referrers keys root)
@@ -84,7 +85,7 @@ pub tagged_there : (graph : List Node) (referrers : Option ℕ) (tags : Tags) (r
 tagged_there graph referrers tags roots are =
     All-weaker (λ (k : Descriptor). Contains (values_of tags) k) (λ (k : Descriptor). Contains roots k) (λ k tagged. (are.each k).1 (k, tagged, starts_there graph referrers k)) (values_of tags) (All-contains_itself (values_of tags))
 
--- a tag of a held key that has a name is refused for want of memory alone
+-- setting a tag with a name on a held key is refused only if memory ran out
 pub only_memory : {X : Type 0} (r : Result X RefFault) (name : List ℕ) (graph : List Node) (k : Descriptor)
     → IsErrOf r fault.EmptyReference ↔ (name ≡ []) → IsErrOf r fault.NotHeld ↔ ((name ≢ []) × (has_key graph k ≡ false)) → (IsErrOf r fault.UnknownReference → ⊥)
     → name ≢ [] → has_key graph k ≡ true → IfErr r (λ e. e ≡ fault.Memory)
@@ -96,7 +97,7 @@ only_memory (Err fault.NotHeld) name graph k empty not_held known named held =
     cc (sym held ∙ absent)
 only_memory (Err fault.Memory) name graph k empty not_held known named held = refl
 
--- what holds of the name of each tag, and what holds of each key, holds at a place
+-- a fact about the name of each tag, or about each key, holds at a place
 module _ (tags : List (String Global × Descriptor)) (i : ℕ) (t : String Global × Descriptor) (within : i < length tags) (is : t ≡ get_or tags i t) where
   at_place : slice_get tags i ≡ Some t
   at_place = slice_get-get_or tags i t within ∙ ap Some (sym is)
@@ -130,7 +131,8 @@ module _ (tags : List (String Global × Descriptor)) (i : ℕ) (t : String Globa
   placed_more graph referrers old new grown before root =
       subst (λ (keys : Keys). Contains new root ↔ IsRootOfKeys graph referrers keys root) (sym keys_more) (roots_more graph referrers (values_of (by_bytes (take i tags))) t.1 old new grown before root)
 
--- before the first tag there are none, and once the roots of all tags are added, they are those of the tags
+-- before the first tag there are none, and once the roots of all tags are added, they are those of
+-- the tags
 pub placed_none : (graph : List Node) (referrers : Option ℕ) (roots : Keys) → roots ≡ [] → (root : Descriptor) → Contains roots root ↔ IsRootOfKeys graph referrers [] root
 placed_none graph referrers roots none root = subst (λ (keys : Keys). Contains keys root ↔ IsRootOfKeys graph referrers [] root) (sym none) (λ there. absurd (empty root there), λ of. absurd (empty of.0 of.1))
   where
@@ -143,7 +145,7 @@ pub placed_all : (graph : List Node) (referrers : Option ℕ) (roots : Keys) (ta
 placed_all graph referrers roots tags i past so_far root =
     subst (λ (ts : List (String Global × Descriptor)). Contains roots root ↔ IsRootOfKeys graph referrers (values_of (by_bytes ts)) root) (take_all i tags past) (so_far root)
 
--- what two facts on a result that succeeded give
+-- combines two facts about a result that succeeded
 pub both_ok : {X E : Type 0} {P Q R : X → Type 0} (r : Result X E) → ((x : X) → P x → Q x → R x) → IfOk r P → IfOk r Q → IfOk r R
 both_ok (Ok x) gives p q = gives x p q
 both_ok (Err e) gives p q = p

@@ -1,4 +1,4 @@
--- What a copy starts from, and the tags that it sets.
+-- The roots of a copy, and the tags that it sets.
 use Rattle.std.specs.Prelude.{◌≡◌, ◌≢◌, ◌↔◌, ℕ, List, [], ◌∷◌, Option, None, Some, Contains}
 use Rattle.std.specs.List.{All, IsDistinct}
 use Rattle.std.specs.Map.{keys_of, values_of}
@@ -12,21 +12,23 @@ pub record AreOfRoots (roots : List Descriptor) (tags : Tags) : Type 0 where
   pub named : All (λ (name : List ℕ). name ≢ []) (keys_of tags)
   pub rooted : All (λ (k : Descriptor). Contains roots k) (values_of tags)
 
--- the roots of a copy of one key: the key alone, or with referrers the keys from which a path within the depth leads to it
+-- the roots of a copy of one key: only the key, or with referrers the keys from which a path within
+-- the depth leads to it
 abbrev pub AreRoots : List Node → Option ℕ → Descriptor → List Descriptor → Type 0
 AreRoots graph None k roots = roots ≡ k ∷ []
 AreRoots graph (Some depth) k roots = IsUp graph k depth roots
 
--- a key that a copy of one key starts from: that key itself, or with referrers one from which a path within the depth leads to it
+-- a root of a copy of one key: the key itself, or with referrers a key from which a path within the
+-- depth leads to it
 abbrev pub IsRootOfKey : List Node → Option ℕ → Descriptor → Descriptor → Type 0
 IsRootOfKey graph None k root = root ≡ k
 IsRootOfKey graph (Some depth) k root = (edges : ℕ) × IsWithinDepth depth edges × HasPath graph edges root k
 
--- a key that a copy of these keys starts from: a root of one of them
+-- a root of a copy of these keys: a root of a copy of one of them
 abbrev pub IsRootOfKeys : List Node → Option ℕ → List Descriptor → Descriptor → Type 0
 IsRootOfKeys graph referrers keys root = (k : Descriptor) × Contains keys k × IsRootOfKey graph referrers k root
 
--- the roots of a copy of these tags: exactly the keys that a copy of the tagged keys starts from, each once
+-- the roots of a copy of these tags: exactly the roots of a copy of the tagged keys, each once
 pub record AreRootsOfTags (graph : List Node) (referrers : Option ℕ) (tags : Tags) (roots : List Descriptor) : Type 0 where
   pub each : (root : Descriptor) → Contains roots root ↔ IsRootOfKeys graph referrers (values_of tags) root
   pub distinct : IsDistinct same_key roots

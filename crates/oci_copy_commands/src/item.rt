@@ -22,14 +22,20 @@ fn digest_of(algorithm: Algorithm, bytes: &[u8]) -> Digest
     }
 }
 
-/// A content and its key, from an item `TYPE=PATH`: the bytes of the file under their digest.
+/// The content of an item `TYPE=PATH`, and its key: the bytes of the file under their digest.
 pub(crate) struct Item {
     pub(crate) key: Key,
     pub(crate) content: CheckedContent,
 }
 
 impl Item {
-    /// Cuts an item at its first `=`, and reads its file.
+    /// Splits an item at its first `=`, and reads its file.
+    ///
+    /// # Errors
+    ///
+    /// - 92 `BadItem` if the item has no `=`.
+    /// - 93 `File` if its file cannot be read, and 4 `BadSize` if it is too long for a key.
+    /// - Out of memory, at any point.
     pub(crate) fn read<R: Files + AllocGlobal>(
         rt: &R,
         item: &str,
@@ -43,7 +49,7 @@ impl Item {
         }
     }
 
-    /// The bytes under their digest. They are hashed once, for the key.
+    /// Makes a content of bytes. They are hashed once, for the key.
     fn of(
         alloc: Global,
         media_type: &str,
@@ -71,7 +77,7 @@ fn key_of(
     Ok(Key::new(media_type, digest, bytes.len() as u64)?)
 }
 
-/// The bytes of a file.
+/// Reads a file.
 fn read_file<R: Files + AllocGlobal>(rt: &R, path: &str) -> Result<Vec<u8>, ProgramFault> {
     match fs::read(rt, path) {
         Ok(bytes) => Ok(bytes),

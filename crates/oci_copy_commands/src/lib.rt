@@ -1,7 +1,8 @@
-//! The commands of `ocicp` that copy: [`run_copy`] between image layouts, and [`run_mem`], a copy in memory.
+//! The commands of `ocicp` that copy: [`run_copy`] between image layouts, and [`run_mem`], a copy
+//! in memory.
 //!
-//! [`copy_between`] copies what is planned and [`Selected`] between two layouts, with what it leaves as its contract. [`Host`] is
-//! what the commands need of their runtime.
+//! [`copy_between`] makes a planned copy of [`Selected`] blobs between two layouts, and its
+//! contract says what the copy leaves. [`Host`] is the runtime that the commands need.
 #![tactic(auto)]
 
 mod between;
@@ -25,8 +26,9 @@ use std::sync::Wait;
 use std::thread::Threads;
 use std::time::Clock;
 
-/// What the program needs of its runtime: files that can be locked and that workers share, memory, random names for new files,
-/// a clock for the progress line, and threads. Each runtime that has these is a host.
+/// The runtime that the program needs: files that can be locked and that workers share, memory,
+/// random names for new files, a clock for the progress line, and threads. Each runtime that has
+/// these is a host.
 pub trait Host: Files<File: Lockable + Send, Dir: Send>
     + AllocGlobal
     + RandomSource

@@ -7,16 +7,19 @@ use std::io::Write;
 use std::sync::{Mutex, Wait};
 use std::time::Clock;
 
-/// Hooks that show on stderr how far a copy is.
+/// Hooks that show the progress of a copy on stderr.
 #[derive(Drop)]
 pub(crate) enum Progress<'p, R, X> {
+    /// Shows nothing.
     Nothing,
+    /// Prints a line for each blob.
     EachBlob(BlobLines<'p, R, X>),
+    /// Draws one line on a terminal.
     Line(ProgressLine<'p, R, X>),
 }
 
 impl<'p, R: Clock + Wait, X: Write> Progress<'p, R, X> {
-    /// Shows what is asked for of the copy of a plan.
+    /// Creates the hooks for the copy of a plan.
     pub(crate) fn new(rt: &'p R, err: &'p mut X, shown: Shown, plan: &Plan) -> Progress<'p, R, X> {
         match shown {
             Shown::Nothing => Progress::Nothing,
@@ -25,7 +28,7 @@ impl<'p, R: Clock + Wait, X: Write> Progress<'p, R, X> {
         }
     }
 
-    /// Erases the line on the terminal, once the copy has ended.
+    /// Erases the line on the terminal. Called when the copy has ended.
     pub(crate) fn end(&self) {
         if let Progress::Line(line) = self {
             line.erase();
@@ -51,8 +54,9 @@ impl<'p, R: Clock + Wait, X: Write> Hooks for Progress<'p, R, X> {
     }
 }
 
-/// Prints a line for each blob: `pushed` and the key if it arrived, `skipped` and the key for a root that was there already. One
-/// line is written at a time, whole; one that cannot be written is left out, and the copy goes on.
+/// Prints a line for each blob: `pushed` and the key if it arrived, `skipped` and the key for a
+/// root that the destination already had. A lock keeps each line whole. If a line cannot be
+/// written, it is left out and the copy goes on.
 #[derive(Drop)]
 pub(crate) struct BlobLines<'p, R, X> {
     rt: &'p R,

@@ -1,5 +1,5 @@
-//! The commands of `ocicp` that look into one image layout and change nothing: `tags`, `resolve`, `predecessors`, `tree` and
-//! `verify`. [`run_query`] opens the layout and runs the command that was asked for.
+//! The commands of `ocicp` that read one image layout and change nothing: `tags`, `resolve`,
+//! `predecessors`, `tree` and `verify`. [`run_query`] opens the layout and runs one of them.
 #![tactic(auto)]
 
 mod listing;

@@ -3,7 +3,8 @@ use oci_layout::{Dir, Layout};
 use oci_store::{GraphSource, Tagger};
 use std::io::Write;
 
-/// `tags FOLDER`: prints each tag and its key, in byte order of the tags, which are printed as they are.
+/// `tags FOLDER`: prints each tag and its key, in byte order of the tags. Tags are printed
+/// unchanged.
 pub(crate) fn tags<D: Dir, W: Write>(
     layout: &Layout<D>,
     out: &mut W,
@@ -25,7 +26,8 @@ pub(crate) fn resolve<T: Tagger, W: Write>(
     Ok(Outcome::Good)
 }
 
-/// `predecessors FOLDER REF`: prints each held key that lists the one that the reference resolves to, in key order.
+/// `predecessors FOLDER REF`: prints each held key that lists the key of the reference, in key
+/// order.
 pub(crate) fn predecessors<A: GraphSource + Tagger, W: Write>(
     store: &A,
     reference: &str,

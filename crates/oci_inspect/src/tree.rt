@@ -10,22 +10,23 @@ use std::io::Write;
 
 mod labels;
 
-/// What a line of the tree shows.
+/// The kind of a line of the tree.
 #[derive(Clone, Copy)]
 enum Shows {
-    /// A blob, with what it lists below it.
+    /// A blob. The blobs that it lists are below it.
     Blob,
-    /// The title above what refers to a blob.
+    /// The title above the referrers of a blob.
     Title,
-    /// A blob that refers to another, with its type, and with what refers to it below it.
+    /// A manifest that lists a blob, with the type that it states. The manifests that list it are
+    /// below it.
     Referrer,
 }
 
-/// A line that is still to be shown.
+/// A line to show.
 #[derive(Drop)]
 struct Line {
     key: Key,
-    /// How far it is indented.
+    /// The number of indents.
     level: usize,
     shows: Shows,
 }
@@ -38,14 +39,17 @@ struct Walk<'t, A> {
     labels: Labels,
     /// The blobs that have a line.
     shown: BTreeSet<Key>,
-    /// The lines that are still to be shown, the next one last.
+    /// The lines to show, the next one last.
     pending: Vec<Line>,
 }
 
-/// `tree [--referrers] FOLDER REF`: shows what a reference reaches, and then what refers to it.
+/// `tree [--referrers] FOLDER REF`: shows the blobs that a reference reaches, and then its
+/// referrers.
 ///
-/// The time grows with the lines, and with the digests and tags of the layout. Only the contents of referrers are read, for their
-/// types. A deep graph takes no stack: the lines that are still to be shown stand in a list.
+/// The time grows with the lines, and with the digests and tags of the layout. With `--referrers`
+/// it also grows with the bytes of the manifests in the referrers' lines: each is read for its
+/// type, one at a time. No other content is read. A deep graph needs no stack, since the lines to
+/// show are in a list.
 pub(crate) fn tree<D: Dir, W: Write>(
     alloc: Global,
     layout: &Layout<D>,
@@ -75,12 +79,12 @@ pub(crate) fn tree<D: Dir, W: Write>(
 }
 
 impl<'t, A: GraphSource> Walk<'t, A> {
-    /// Adds a line, to be shown before all others.
+    /// Adds a line that is shown before all others.
     fn add(&mut self, key: Key, level: usize, shows: Shows) -> Result<(), NoMemory> {
         Ok(self.pending.push(Line { key, level, shows })?)
     }
 
-    /// Adds a line for each of these blobs, to be shown in their order and before all others.
+    /// Adds a line for each of these blobs, in their order. They are shown before all other lines.
     fn add_all(&mut self, keys: Vec<Key>, level: usize, shows: Shows) -> Result<(), NoMemory> {
         for key in keys.into_iter().rev() {
             self.add(key, level, shows)?;
@@ -88,7 +92,7 @@ impl<'t, A: GraphSource> Walk<'t, A> {
         Ok(())
     }
 
-    /// Shows a line, and adds those below it.
+    /// Shows a line, and adds the lines below it.
     fn show<W: Write>(&mut self, line: &Line, out: &mut W) -> Result<(), ProgramFault> {
         match line.shows {
             Shows::Blob => self.show_blob(&line.key, line.level, out),
@@ -97,7 +101,7 @@ impl<'t, A: GraphSource> Walk<'t, A> {
         }
     }
 
-    /// Shows a blob, and adds what it lists.
+    /// Shows a blob, and adds the blobs that it lists.
     fn show_blob<W: Write>(
         &mut self,
         key: &Key,
@@ -114,7 +118,7 @@ impl<'t, A: GraphSource> Walk<'t, A> {
         Ok(self.add_all(listed, level.saturating_add(1), Shows::Blob)?)
     }
 
-    /// Shows the title of what refers to a blob, and adds that.
+    /// Shows the title of a blob's referrers, and adds them.
     fn show_title<W: Write>(&mut self, key: &Key, out: &mut W) -> Result<(), ProgramFault> {
         let referrers = self.source.predecessors(key)?;
         let title = if referrers.is_empty() {
@@ -126,7 +130,7 @@ impl<'t, A: GraphSource> Walk<'t, A> {
         Ok(self.add_all(referrers, 1, Shows::Referrer)?)
     }
 
-    /// Shows a blob that refers to another, and adds what refers to it.
+    /// Shows a manifest that lists a blob, and adds the manifests that list it.
     fn show_referrer<W: Write>(
         &mut self,
         key: &Key,
@@ -142,14 +146,14 @@ impl<'t, A: GraphSource> Walk<'t, A> {
         Ok(self.add_all(referrers, level.saturating_add(1), Shows::Referrer)?)
     }
 
-    /// The type that the content of a referrer states.
+    /// Reads the type that a referrer states.
     fn stated_type(&self, key: &Key) -> Result<Option<String>, ProgramFault> {
         let bytes = self.source.fetch(key)?;
         let kind = Kind::of(key.media_type());
         Ok(artifact_type(self.alloc, kind, bytes.as_slice())?)
     }
 
-    /// Prints a blob at a level, with the type that it states and a mark at the end.
+    /// Prints the line of a blob: the indents, its labels with the stated type, and a mark.
     fn print<W: Write>(
         &self,
         key: &Key,

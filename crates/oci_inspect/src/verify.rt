@@ -6,8 +6,8 @@ use oci_store::{Dest, Drafting, FetchFault, Source, fetch_into};
 use std::alloc::Global;
 use std::io::Write;
 
-/// `verify FOLDER`: prints in key order each key whose file does not match it, then the first key that lists a missing one, with
-/// that one, and then how many keys are held.
+/// `verify FOLDER`: prints each key whose file does not match it, in key order. Then it prints the
+/// first key that lists a missing key, with that key, and the number of held keys.
 pub(crate) fn verify<D: Dir, W: Write>(
     alloc: Global,
     layout: &Layout<D>,
@@ -19,6 +19,7 @@ pub(crate) fn verify<D: Dir, W: Write>(
     Ok(matching.and(closed))
 }
 
+/// Prints each key whose file does not match it.
 fn print_corrupt<D: Dir, W: Write>(
     alloc: Global,
     layout: &Layout<D>,
@@ -44,7 +45,7 @@ fn print_if_corrupt<A: Source, W: Write>(
     Ok(Outcome::Faulty)
 }
 
-/// The keys that the layout holds, in key order.
+/// The held keys, in key order.
 fn sorted_keys<'l, D: Dir>(
     alloc: Global,
     layout: &'l Layout<D>,
@@ -59,7 +60,7 @@ fn sorted_keys<'l, D: Dir>(
     Ok(keys)
 }
 
-/// Whether the file of a key has other bytes, or is gone.
+/// Whether the file of a key does not match it, or is gone.
 fn is_corrupt<A: Source>(source: &A, key: &Key) -> Result<bool, ProgramFault> {
     match check(source, key) {
         Ok(()) => Ok(false),
@@ -68,7 +69,8 @@ fn is_corrupt<A: Source>(source: &A, key: &Key) -> Result<bool, ProgramFault> {
     }
 }
 
-/// Reads a blob and checks it against its key. What may be large is read in parts, and nothing of it is kept.
+/// Reads a blob and checks it against its key. A leaf may be large, so it is read in parts that are
+/// not kept.
 fn check<A: Source>(source: &A, key: &Key) -> Result<(), FetchFault> {
     if source.may_fail(key) && is_leaf(key) {
         return fetch_into(source, key, &mut Discard);
@@ -82,7 +84,7 @@ fn is_leaf(key: &Key) -> bool {
     Kind::of(key.media_type()) == Kind::Leaf
 }
 
-/// A draft that keeps nothing of what it is given.
+/// A draft that discards all bytes.
 #[derive(Drop)]
 struct Discard;
 
@@ -96,6 +98,7 @@ impl Drafting for Discard {
     }
 }
 
+/// Prints the first key that lists a missing key, with that key.
 fn print_open<D: Dest, W: Write>(store: &D, out: &mut W) -> Result<Outcome, ProgramFault> {
     match store.missing()? {
         None => Ok(Outcome::Good),

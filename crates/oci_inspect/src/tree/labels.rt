@@ -7,20 +7,20 @@ use std::alloc::Global;
 use std::collections::BTreeMap;
 use std::io::Write;
 
-/// How many digits of a digest are shown at least.
+/// The least number of digits of a digest that are shown.
 const LEAST_DIGITS: usize = 12;
 
-/// What the line of a blob shows beside its media type.
+/// The labels of the blobs of a layout: their short digests and their tags.
 #[derive(Drop)]
 pub(crate) struct Labels {
-    /// How many digits of each digest are shown: enough to tell apart the digests of the layout.
+    /// The number of digits shown of each digest. The digests of the layout differ in them.
     digits: usize,
-    /// The tags of a key, each in brackets with a space before it.
+    /// The tags of a key, each in brackets after a space.
     tags: BTreeMap<Key, String>,
 }
 
 impl Labels {
-    /// The labels of what a layout has.
+    /// Returns the labels of a layout.
     pub(crate) fn of<D: Dir>(alloc: Global, layout: &Layout<D>) -> Result<Labels, ProgramFault> {
         Ok(Labels {
             digits: distinct_digits(alloc, &sorted_digests(alloc, layout)?)?,
@@ -28,7 +28,7 @@ impl Labels {
         })
     }
 
-    /// Prints the line of a blob with the type that it states, without its end.
+    /// Prints the labels of a blob, with the type that it states. Prints no line feed.
     pub(crate) fn print<W: Write>(
         &self,
         alloc: Global,
@@ -54,7 +54,7 @@ impl Labels {
     }
 }
 
-/// The digests of what a layout has, in order.
+/// The digests of a layout, in order.
 fn sorted_digests<D: Dir>(alloc: Global, layout: &Layout<D>) -> Result<Vec<Digest>, NoMemory> {
     let mut digests = Vec::new(alloc);
     for place in 0..layout.count() {
@@ -66,7 +66,7 @@ fn sorted_digests<D: Dir>(alloc: Global, layout: &Layout<D>) -> Result<Vec<Diges
     Ok(digests)
 }
 
-/// The least number of digits, of those that are shown at least, at which sorted digests are told apart.
+/// The least number of digits, from `LEAST_DIGITS` on, in which sorted digests differ.
 fn distinct_digits(alloc: Global, digests: &[Digest]) -> Result<usize, NoMemory> {
     let mut digits = LEAST_DIGITS;
     for pair in digests.windows(2) {
@@ -77,7 +77,8 @@ fn distinct_digits(alloc: Global, digests: &[Digest]) -> Result<usize, NoMemory>
     Ok(digits)
 }
 
-/// The least number of digits at which two digests are told apart; 0 where they are equal or have two algorithms.
+/// The least number of digits in which two digests differ. 0 if they are equal or have different
+/// algorithms.
 fn needed_digits(alloc: Global, first: &Digest, second: &Digest) -> Result<usize, NoMemory> {
     if first == second || first.algorithm() != second.algorithm() {
         return Ok(0);
@@ -105,7 +106,7 @@ fn bracketed_tags<D: Dir>(
     Ok(tags)
 }
 
-/// Adds a tag in brackets to what stands beside a key.
+/// Adds a bracketed tag to the tags of a key.
 fn add_tag(tags: &mut BTreeMap<Key, String>, key: Key, tag: String) -> Result<(), NoMemory> {
     match tags.get_mut(&key) {
         Some(text) => text.push_str(&tag)?,

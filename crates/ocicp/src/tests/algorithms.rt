@@ -2,7 +2,7 @@ use crate::tests::layouts::BOTH_ALGORITHMS;
 use crate::tests::sessions::assert_session_in;
 use std::test::Fail;
 
-/// The digest of `abc` is the one of FIPS 180-4.
+/// The digest of `abc` is that of FIPS 180-4.
 #[test]
 fn mem_by_sha512(rt: HostRuntime) -> Result<(), Fail> {
     let session = r"
@@ -20,7 +20,7 @@ $ write @/foo <FOO bytes>
     assert_session_in(&rt, "mem_by_sha512", files, session)
 }
 
-/// One content under two digests is two contents, each with a file in its algorithm's folder.
+/// One content under two digests counts as two, each with a file in its algorithm's folder.
 #[test]
 fn copy_of_both_algorithms(rt: HostRuntime) -> Result<(), Fail> {
     let session = r"

@@ -9,14 +9,14 @@ use std::sync::Wait;
 use std::thread::Threads;
 use std::time::{Clock, Duration};
 
-/// A writer that fails in this way, with errors of this kind.
+/// A writer that fails at one step, with errors of one kind.
 #[derive(Drop)]
 pub(crate) struct Broken {
     pub(crate) at: Step,
     pub(crate) kind: io::ErrorKind,
 }
 
-/// What of a writer fails.
+/// The step at which a writer fails.
 #[derive(Clone, Copy)]
 pub(crate) enum Step {
     Write,
@@ -39,7 +39,7 @@ impl Write for Broken {
     }
 }
 
-/// The files of a runtime, of which those cannot be opened that have this text in their path.
+/// The files of a runtime. A file with this text in its path cannot be opened.
 #[derive(Drop)]
 pub(crate) struct Unreadable<'r, R: Files> {
     pub(crate) rt: &'r R,

@@ -1,7 +1,9 @@
-//! Contents, and texts in which they are named. Their digests were computed with `sha256sum` and `sha512sum`.
+//! Contents, and texts in which they are named. Their digests were computed with `sha256sum` and
+//! `sha512sum`.
 //!
-//! `<E>` stands for the line of a content's key, and `<E digest>`, `<E short>`, `<E descriptor>`, `<E bytes>` and `<E file>` for
-//! its digest, the digest's first twelve digits, its descriptor, its bytes, and the place of its blob in a layout.
+//! `<E>` means the line of a content's key. `<E digest>`, `<E short>`, `<E descriptor>`, `<E
+//! bytes>` and `<E file>` mean its digest, the digest's first twelve digits, its descriptor, its
+//! bytes, and the place of its blob in a layout.
 
 use std::alloc::Global;
 use std::test::Fail;
@@ -153,7 +155,7 @@ fn named(name: &str) -> Result<&'static Sample, Fail> {
     }
 }
 
-/// The text with the content's part in the place of each name, and the folder in the place of each `@`.
+/// Replaces each name in a text by the content's part, and each `@` by the folder.
 pub(crate) fn filled(alloc: Global, folder: &str, text: &str) -> Result<String, Fail> {
     let mut told = String::new(alloc);
     for part in text.split('<') {
@@ -162,7 +164,7 @@ pub(crate) fn filled(alloc: Global, folder: &str, text: &str) -> Result<String, 
     Ok(told)
 }
 
-/// A name and what follows it, or the beginning of a text.
+/// Appends a name's part and the text after it, or the beginning of a text.
 fn push_part(told: &mut String, folder: &str, part: &str) -> Result<(), Fail> {
     match part.split_once('>') {
         Some((name, rest)) => {
@@ -173,7 +175,7 @@ fn push_part(told: &mut String, folder: &str, part: &str) -> Result<(), Fail> {
     }
 }
 
-/// A part of a content, its key where no part is named.
+/// Appends a part of a content, or its key if no part is named.
 fn push_named(told: &mut String, name: &str) -> Result<(), Fail> {
     match name.split_once(' ') {
         Some((name, part)) => push_part_of(told, named(name)?, part),
@@ -214,7 +216,7 @@ fn push_part_of(told: &mut String, sample: &Sample, part: &str) -> Result<(), Fa
     }
 }
 
-/// Texts, one after the other.
+/// Appends texts, one after the other.
 pub(crate) fn push_all(told: &mut String, texts: &[&str]) -> Result<(), Fail> {
     for text in texts {
         told.push_str(text)?;
@@ -222,7 +224,7 @@ pub(crate) fn push_all(told: &mut String, texts: &[&str]) -> Result<(), Fail> {
     Ok(())
 }
 
-/// A text without names, where `@` stands for the folder.
+/// Appends a text without names, with the folder in place of each `@`.
 fn push_placed(told: &mut String, folder: &str, text: &str) -> Result<(), Fail> {
     for (place, piece) in text.split('@').enumerate() {
         if place > 0 {

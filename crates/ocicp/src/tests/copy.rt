@@ -2,7 +2,7 @@ use crate::tests::layouts::{IMAGE, REFERRERS};
 use crate::tests::sessions::assert_session_in;
 use std::test::Fail;
 
-/// A layout, and one that is made beside it.
+/// A copy of a layout into a new one.
 #[test]
 fn copy_between_layouts(rt: HostRuntime) -> Result<(), Fail> {
     let session = r"
@@ -34,7 +34,7 @@ held 2
     assert_session_in(&rt, "copy", IMAGE, session)
 }
 
-/// Without a name of its own what is copied gets the reference that it was copied by.
+/// Without a DSTREF the blob gets the reference by which it was copied.
 #[test]
 fn copy_without_a_name(rt: HostRuntime) -> Result<(), Fail> {
     let session = r"
@@ -54,7 +54,7 @@ $ ocicp copy @/L '' @/N
     assert_session_in(&rt, "copy_without_a_name", IMAGE, session)
 }
 
-/// A destination that lacks what it lists is left as it is: neither its blobs nor its index change.
+/// A destination with a missing blob is left unchanged, its blobs and its index.
 #[test]
 fn copy_into_an_open_layout(rt: HostRuntime) -> Result<(), Fail> {
     let session = r#"
@@ -98,8 +98,9 @@ held 2
     assert_session_in(&rt, "copy_descend", IMAGE, session)
 }
 
-/// A damaged manifest closes the whole layout. Once its file is deleted, a copy that descends brings it back, with what it
-/// lists: that is reached from nothing else, so it was not held either.
+/// A layout with a damaged manifest cannot be opened. Once its file is deleted, a copy that
+/// descends restores it with the blobs that it lists. They were not held either, since no other
+/// manifest reaches them.
 #[test]
 fn copy_descend_to_a_manifest(rt: HostRuntime) -> Result<(), Fail> {
     let session = r"
@@ -129,7 +130,8 @@ held 5
     assert_session_in(&rt, "copy_descend_manifest", REFERRERS, session)
 }
 
-/// A copy that descends brings what a destination lacks below what it holds. A damaged file is held, until somebody deletes it.
+/// A copy that descends restores blobs that are missing below held ones. A damaged file counts as
+/// held until somebody deletes it.
 #[test]
 fn copy_below_what_is_held(rt: HostRuntime) -> Result<(), Fail> {
     let session = r"
@@ -157,7 +159,7 @@ held 2
     assert_session_in(&rt, "copy_below", IMAGE, session)
 }
 
-/// A copy that is refused after its destination was made names nothing there.
+/// A copy that is refused after its destination was created sets no tag there.
 #[test]
 fn copy_from_an_open_layout(rt: HostRuntime) -> Result<(), Fail> {
     let session = r"
@@ -188,7 +190,8 @@ $ ocicp tags @/N
     assert_session_in(&rt, "copy_changed", IMAGE, session)
 }
 
-/// With its referrers an image brings its signature, the index that lists it, and, further up, the index of that.
+/// With `--referrers` an image is copied with its signature, the index that lists it, and the index
+/// that lists that index.
 #[test]
 fn copy_with_referrers(rt: HostRuntime) -> Result<(), Fail> {
     let session = r"

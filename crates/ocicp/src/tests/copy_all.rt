@@ -27,7 +27,8 @@ planned 0 pushed 0 skipped 2
     assert_session_in(&rt, "copy_all", BOTH_ALGORITHMS, session)
 }
 
-/// Two tags of one image are copied once, and both are set. What refers to it comes only with `--referrers`.
+/// Two tags of one image are both set, and the image is copied once. Its referrers are copied only
+/// with `--referrers`.
 #[test]
 fn copy_all_with_referrers(rt: HostRuntime) -> Result<(), Fail> {
     let session = r"
@@ -57,7 +58,7 @@ held 6
     assert_session_in(&rt, "copy_all_referrers", REFERRERS, session)
 }
 
-/// A tag that the destination has is moved, and its other tags stay.
+/// A tag that the destination already has is overwritten, and its other tags stay.
 #[test]
 fn copy_all_moves_tags(rt: HostRuntime) -> Result<(), Fail> {
     let session = r"
@@ -77,7 +78,7 @@ w <E>
     assert_session_in(&rt, "copy_all_moves", IMAGE, session)
 }
 
-/// A layout without tags copies nothing, and the destination is made all the same.
+/// Nothing is copied from a layout without tags, but the destination is created.
 #[test]
 fn copy_all_of_no_tags(rt: HostRuntime) -> Result<(), Fail> {
     let files = r#"
@@ -95,7 +96,7 @@ $ ocicp copy --all @/M @/N
     assert_session_in(&rt, "copy_all_none", files, session)
 }
 
-/// Where one tag cannot be copied, none is set.
+/// If one tag cannot be copied, none is set.
 #[test]
 fn refused_copy_of_all(rt: HostRuntime) -> Result<(), Fail> {
     let session = r"
@@ -116,7 +117,8 @@ $ ocicp tags @/N
     assert_session_in(&rt, "copy_all_refused", BOTH_ALGORITHMS, session)
 }
 
-/// `--dry-run` changes nothing. A destination that has lost a blob is refused, and gets it back by `--descend`.
+/// `--dry-run` changes nothing. A destination that has lost a blob is refused, and `--descend`
+/// restores the blob.
 #[test]
 fn copy_all_below_what_is_held(rt: HostRuntime) -> Result<(), Fail> {
     let session = r"

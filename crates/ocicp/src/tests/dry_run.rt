@@ -2,7 +2,8 @@ use crate::tests::layouts::{IMAGE, REFERRERS};
 use crate::tests::sessions::assert_session_in;
 use std::test::Fail;
 
-/// What is planned is printed, and nothing is made; where all is there, nothing is planned.
+/// The plan is printed, and nothing is created. If the destination has everything, nothing is
+/// planned.
 #[test]
 fn dry_run(rt: HostRuntime) -> Result<(), Fail> {
     let session = r"
@@ -26,7 +27,7 @@ $ ocicp copy --dry-run @/L nope @/N
     assert_session_in(&rt, "dry_run", IMAGE, session)
 }
 
-/// The reference is looked up before the destination is opened, as by the copy itself.
+/// The reference is resolved before the destination is opened, as in the copy itself.
 #[test]
 fn dry_run_of_a_bad_reference_to_a_broken_layout(rt: HostRuntime) -> Result<(), Fail> {
     let session = r"
@@ -47,7 +48,8 @@ $ ocicp copy --dry-run @/L v1 @/K
     assert_session_in(&rt, "dry_run_order", IMAGE, session)
 }
 
-/// What the destination holds is not planned, and the root comes after what it lists.
+/// Blobs that the destination holds are not planned. The root is printed after the blobs that it
+/// lists.
 #[test]
 fn dry_run_of_what_is_partly_there(rt: HostRuntime) -> Result<(), Fail> {
     let session = r"

@@ -4,7 +4,7 @@ use crate::tests::rows::{Wanted, assert_rows};
 use crate::tests::sessions::assert_runs;
 use std::test::Fail;
 
-/// The numbers of all refusals, and their names.
+/// All error numbers and their names.
 const NUMBERS: &str = "\
 1 BadForm, 2 UnknownAlgorithm, 3 BadEncoding, 4 BadSize, 10 NotJson, 11 NotObject, 12 NoConfig, 13 BadList, \
 14 BadDescriptor, 15 Memory, 20 NotFound, 21 Corrupt, 22 Device, 23 Memory, 30 AlreadyExists, 31 SizeMismatch, \
@@ -15,20 +15,20 @@ const NUMBERS: &str = "\
 75 Corrupt, 76 Memory, 77 BadManifest, 78 AlreadyLayout, 80 DestinationOpen, 81 Plan, 82 Push, 83 Stuck, 84 Incomplete, \
 85 BadWorkers, 86 Memory, 87 Reference, 88 Fetch, 90 Failed, 91 Memory, 92 BadItem, 93 File, 94 Output";
 
-/// Each number has its name, what it means, and what to do, each on a line.
+/// Each explanation has three lines: the number and name, the meaning, and the remedy.
 #[test]
 fn each_number_is_explained(rt: HostRuntime) -> Result<(), Fail> {
     assert_rows(&rt, NUMBERS, ", ", Wanted::Explanation)
 }
 
-/// A number that no refusal has makes the command line invalid.
+/// An unknown number makes the command line invalid.
 #[test]
 fn unknown_numbers(rt: HostRuntime) -> Result<(), Fail> {
     let numbers = "0 5 9 16 19 24 29 39 49 64 69 79 89 95 100 -1 080 eighty 80x";
     assert_rows(&rt, numbers, " ", Wanted::NoNumber)
 }
 
-/// One of them, whole.
+/// One explanation, whole.
 #[test]
 fn explanation_of_an_open_destination(rt: HostRuntime) -> Result<(), Fail> {
     let session = "\

@@ -1,11 +1,11 @@
-//! The runtimes with which the tests run the program.
+//! The runtimes of the tests.
 
 use std::test::Fail;
 use std::{env, process};
 
 /// A runtime that has a folder for each test.
 pub(crate) trait Placed {
-    /// The path of the folder of this name.
+    /// Returns the path of the folder with this name.
     fn folder(&self, name: &str) -> Result<String, Fail>;
 }
 

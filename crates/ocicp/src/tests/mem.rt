@@ -33,7 +33,7 @@ $ ocicp mem text/plain=@/abc.txt text/plain=@/abc.txt
     assert_session_in(&rt, "mem_command", ABC, session)
 }
 
-/// The first run of the row, where the first write to the output fails.
+/// The first run again, with an output whose first write fails.
 #[test]
 fn mem_command_without_an_output(rt: HostRuntime) -> Result<(), Fail> {
     let session = r"
@@ -42,7 +42,7 @@ $ broken mem text/plain=@/abc.txt
     assert_session_in(&rt, "mem_command_without_an_output", ABC, session)
 }
 
-/// An item is cut at its first `=`; what follows is the path.
+/// An item is split at its first `=`; the rest is the path.
 #[test]
 fn item_with_two_equal_signs(rt: HostRuntime) -> Result<(), Fail> {
     let session = r"
@@ -57,7 +57,7 @@ $ ocicp mem text/plain=@/b=a.txt
     assert_session_in(&rt, "two_equal_signs", ABC, session)
 }
 
-/// What is copied is what the last item reaches, and no other item.
+/// Only the blobs that the last item reaches are copied.
 #[test]
 fn item_that_is_not_reached(rt: HostRuntime) -> Result<(), Fail> {
     let session = r"
@@ -83,7 +83,7 @@ $ ocicp mem application/vnd.oci.image.manifest.v1+json=@/m0.json
     assert_session_in(&rt, "first_run", FILES, session)
 }
 
-/// What arrives is the same by workers.
+/// Workers copy the same blobs.
 #[test]
 fn first_run_by_workers(rt: HostRuntime) -> Result<(), Fail> {
     let session = r"
@@ -98,8 +98,8 @@ $ ocicp mem --workers 0 application/vnd.oci.image.manifest.v1+json=@/m0.json
     assert_session_in(&rt, "first_run_by_workers", FILES, session)
 }
 
-/// What arrived is listed in key order, which is not the order in which it came. The only layer of a Docker image stays where it
-/// is, which is nowhere.
+/// The blobs are listed in key order, which is not the order of their arrival. The only layer of
+/// the Docker image is not distributed, and is not copied.
 #[test]
 fn foreign_layer(rt: HostRuntime) -> Result<(), Fail> {
     let session = r"

@@ -10,13 +10,13 @@ use std::io::ErrorKind;
 use std::process::Abort;
 use std::test::Fail;
 
-/// What the program writes to the error output where the output fails, and its status.
+/// The error output and status of a run whose output fails.
 const OUTPUT: &str = "! ocicp: 94 Output\n? 1\n";
 
-/// The same where memory runs out.
+/// The error output and status of a run that is out of memory.
 const MEMORY: &str = "! ocicp: memory\n? 3\n";
 
-/// The ways in which an output fails, and what is then written.
+/// The ways in which an output fails, each with the error output and status.
 const FAILURES: [(Step, ErrorKind, &str); 5] = [
     (Step::Write, ErrorKind::BrokenPipe, OUTPUT),
     (Step::Write, ErrorKind::Other, OUTPUT),
@@ -25,7 +25,7 @@ const FAILURES: [(Step, ErrorKind, &str); 5] = [
     (Step::Flush, ErrorKind::OutOfMemory, MEMORY),
 ];
 
-/// Runs the program with outputs that fail in each way, and compares its status and the error output.
+/// Runs the program with outputs that fail in each way, and compares the error output and status.
 pub(crate) fn assert_breaks<R: Host + Abort>(rt: &R, words: &str) -> Result<(), Fail> {
     for (at, kind, wanted) in FAILURES {
         let told = broken(rt, words, Broken { at, kind })?;
@@ -34,12 +34,12 @@ pub(crate) fn assert_breaks<R: Host + Abort>(rt: &R, words: &str) -> Result<(), 
     Ok(())
 }
 
-/// What a run with an output that fails in this way printed is what is wanted of it.
+/// Compares the error output and status of a run with those that are wanted.
 fn assert_told<R: Abort>(rt: &R, words: &str, kind: ErrorKind, told: &str, wanted: &str) {
     assert_eq!(rt; told, wanted, "{words}: {kind:?}");
 }
 
-/// What a run with this output writes to the error output, and its status.
+/// The error output and status of a run with this output.
 fn broken<R: Host>(rt: &R, words: &str, out: Broken) -> Result<String, Fail> {
     let words = words_of(rt.alloc(), words)?;
     let mut out = out;
@@ -48,7 +48,8 @@ fn broken<R: Host>(rt: &R, words: &str, out: Broken) -> Result<String, Fail> {
     told(rt.alloc(), &[], &err, status)
 }
 
-/// Each command reports an output that cannot be written or flushed. If memory runs out there, the run is out of memory.
+/// Each command reports an output that cannot be written or flushed. If memory runs out there, the
+/// run is out of memory.
 #[test]
 fn failing_outputs(rt: HostRuntime) -> Result<(), Fail> {
     let session = r"
@@ -70,7 +71,7 @@ $ broken copy @/L v1 @/N
     assert_session_in(&rt, "failing_outputs", IMAGE, session)
 }
 
-/// A run that has no memory to read a file is out of memory; the file is not at fault.
+/// A run without memory to read a file is out of memory; the file is not reported.
 #[test]
 fn files_without_memory(rt: HostRuntime) -> Result<(), Fail> {
     let session = r"
@@ -100,7 +101,7 @@ $ starved N/blobs copy @/L v1 @/N
     assert_session_in(&rt, "files_without_memory", IMAGE, session)
 }
 
-/// Folders and files that this process may not read or write.
+/// Folders and files that the process has no permission to open.
 #[test]
 fn files_without_permission(rt: HostRuntime) -> Result<(), Fail> {
     let session = r"

@@ -2,7 +2,8 @@ use crate::tests::layouts::{IMAGE, REFERRERS};
 use crate::tests::sessions::assert_session_in;
 use std::test::Fail;
 
-/// A content is printed once it is there, after what it lists; of what is there already only what was asked for is printed.
+/// A blob is printed when it has arrived, after the blobs that it lists. Of the blobs that the
+/// destination already had, only requested ones are printed.
 #[test]
 fn copy_with_progress(rt: HostRuntime) -> Result<(), Fail> {
     let session = r"
@@ -25,7 +26,8 @@ $ ocicp copy --progress @/L v1 @/N w
     assert_session_in(&rt, "copy_with_progress", IMAGE, session)
 }
 
-/// A copy that descends prints the image that is there, and then the blob that comes below it.
+/// A copy that descends prints the image that is present, and then the blob below it that is
+/// copied.
 #[test]
 fn progress_below_what_is_held(rt: HostRuntime) -> Result<(), Fail> {
     let session = r"
@@ -42,7 +44,7 @@ planned 1 pushed 1 skipped 1
     assert_session_in(&rt, "progress_below", IMAGE, session)
 }
 
-/// By workers the lines come in some order, and each is whole.
+/// With workers the lines are in any order, and each is whole.
 #[test]
 fn progress_by_workers(rt: HostRuntime) -> Result<(), Fail> {
     let session = "
@@ -59,7 +61,7 @@ planned 6 pushed 6 skipped 0
     assert_session_in(&rt, "progress_by_workers", REFERRERS, session)
 }
 
-/// On a terminal one line is drawn and taken away; with `--progress`, and where nothing arrives, none is.
+/// On a terminal one line is drawn and erased. If nothing arrives, no line is drawn.
 #[test]
 fn progress_on_a_terminal(rt: HostRuntime) -> Result<(), Fail> {
     let session = "

@@ -1,4 +1,4 @@
-//! The commands that list what a layout has: `tags`, `resolve` and `predecessors`.
+//! The commands that list keys of a layout: `tags`, `resolve` and `predecessors`.
 
 use crate::tests::layouts::{IMAGE, REFERRERS};
 use crate::tests::sessions::assert_session_in;
@@ -23,7 +23,8 @@ $ ocicp resolve @/L ''
     assert_session_in(&rt, "tags", IMAGE, session)
 }
 
-/// What lists an image: an index and a referrer, in key order. Names are in byte order, and printed as they are.
+/// The predecessors of an image are an index and a referrer, in key order. Tags are in byte order,
+/// and printed unchanged.
 #[test]
 fn predecessors_of_an_image(rt: HostRuntime) -> Result<(), Fail> {
     let session = r"

@@ -1,4 +1,4 @@
-//! Folders that are no layout, or one that somebody made in bad faith.
+//! Folders that are no layout, or a malicious one.
 
 use crate::tests::layouts::IMAGE;
 use crate::tests::sessions::assert_session_in;
@@ -33,7 +33,8 @@ $ ocicp verify @/list
     assert_session_in(&rt, "no_layouts", files, session)
 }
 
-/// A manifest that does not read refuses the whole layout, as a source and as a destination, which then stays as it is.
+/// A layout with a malformed manifest is refused as a source and as a destination, and is
+/// unchanged.
 #[test]
 fn bad_manifest(rt: HostRuntime) -> Result<(), Fail> {
     let session = r#"
@@ -60,7 +61,7 @@ $ cat @/B/index.json
     assert_session_in(&rt, "bad_manifest", IMAGE, session)
 }
 
-/// A digest of another algorithm, one that is too short, and one that would leave the folder.
+/// A digest of another algorithm, one that is too short, and one whose path is outside the folder.
 #[test]
 fn bad_digests(rt: HostRuntime) -> Result<(), Fail> {
     let files = r#"

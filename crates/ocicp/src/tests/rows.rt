@@ -1,4 +1,4 @@
-//! Rows of words, of whose run something is wanted.
+//! Rows of words, each with an expected result of its run.
 
 use crate::tests::runs::transcript;
 use crate::tests::sessions::parts;
@@ -6,18 +6,20 @@ use oci_copy_commands::Host;
 use std::process::Abort;
 use std::test::Fail;
 
-/// What is wanted of the run of a row.
+/// The expected result of the run of a row.
 #[derive(Clone, Copy)]
 pub(crate) enum Wanted {
-    /// The words are invalid: status 2, and the usage on the error output alone.
+    /// The words are invalid: status 2, and the usage only on the error output.
     Usage,
-    /// The words before the first `:` have status 0, and what follows it is a part of the output, which is all.
+    /// The words are those before the first `:`. They have status 0 and no error output, and the
+    /// text after the `:` is a part of the output.
     Help,
-    /// The row begins with a number, whose explanation has the row, what it means, and what to do, each on a line.
+    /// The row begins with a number. Its explanation has three lines: the row, the meaning, and the
+    /// remedy.
     Explanation,
-    /// The row is no number that `explain` knows: an error, and status 2.
+    /// The row is an unknown number: an error, and status 2.
     NoNumber,
-    /// The output is this text, but for the spaces at the ends of lines.
+    /// The output is this text, without the spaces at the ends of lines.
     Text(&'static str),
 }
 
@@ -42,7 +44,7 @@ pub(crate) fn assert_row<R: Host + Abort>(rt: &R, row: &str, wanted: Wanted) -> 
     Ok(())
 }
 
-/// The command that a row is for, where it does not name one itself, and the words that it gives.
+/// The command of a row, unless the row names one itself, and the words of the row.
 fn words_of_row(row: &str, wanted: Wanted) -> (&'static str, &str) {
     match wanted {
         Wanted::Usage | Wanted::Text(_) => ("", row),
@@ -52,13 +54,13 @@ fn words_of_row(row: &str, wanted: Wanted) -> (&'static str, &str) {
     }
 }
 
-/// All that a run of a command prints, and its status.
+/// The whole output and the status of a run of a command.
 fn run_of<R: Host>(rt: &R, command: &str, words: &str) -> Result<String, Fail> {
     let line = format!(in rt.alloc(); "{command} {words}")?;
     transcript(rt, line.as_str())
 }
 
-/// Whether a run printed what is wanted of its row.
+/// Whether a run had the expected result of its row.
 fn is_as_wanted(told: &str, row: &str, wanted: Wanted) -> bool {
     match wanted {
         Wanted::Usage => told.starts_with("! ") && told.ends_with("\n? 2\n"),
@@ -71,7 +73,7 @@ fn is_as_wanted(told: &str, row: &str, wanted: Wanted) -> bool {
     }
 }
 
-/// Whether a text is this line, and two lines that end with a full stop.
+/// Whether a text is this line and two lines that end with a full stop.
 fn is_explanation(told: &str, refusal: &str) -> bool {
     let (first, rest) = parts(told, '\n');
     let (meaning, rest) = parts(rest, '\n');
@@ -79,7 +81,7 @@ fn is_explanation(told: &str, refusal: &str) -> bool {
     first == refusal && meaning.ends_with('.') && advice.ends_with('.') && rest.is_empty()
 }
 
-/// Whether the lines are the same, but for the spaces at the ends of those that were printed.
+/// Whether the printed lines are the wanted ones, without the spaces at their ends.
 fn has_lines(told: &str, wanted: &str) -> bool {
     for (line, wanted) in told.lines().zip(wanted.lines()) {
         if line.trim_end() != wanted {

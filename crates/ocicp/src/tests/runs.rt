@@ -1,4 +1,4 @@
-//! Runs of the program, and what they write.
+//! Runs of the program, and their output.
 
 use crate::run::{run_words, run_words_on};
 use crate::tests::contents::push_all;
@@ -7,7 +7,7 @@ use std::alloc::Global;
 use std::fmt::Write;
 use std::test::Fail;
 
-/// All that a run of the program prints, and its status.
+/// The whole output and the status of a run of the program.
 pub(crate) fn transcript<R: Host>(rt: &R, words: &str) -> Result<String, Fail> {
     let words = words_of(rt.alloc(), words)?;
     let mut out = Vec::new(rt.alloc());
@@ -16,7 +16,7 @@ pub(crate) fn transcript<R: Host>(rt: &R, words: &str) -> Result<String, Fail> {
     told(rt.alloc(), &out, &err, status)
 }
 
-/// What a run on a terminal writes to stderr, and a line feed.
+/// The error output of a run on a terminal, and a line feed.
 pub(crate) fn drawn<R: Host>(rt: &R, words: &str) -> Result<String, Fail> {
     let words = words_of(rt.alloc(), words)?;
     let mut out = Vec::new(rt.alloc());
@@ -25,7 +25,7 @@ pub(crate) fn drawn<R: Host>(rt: &R, words: &str) -> Result<String, Fail> {
     line_of(rt.alloc(), &err)
 }
 
-/// What was written, and a line feed.
+/// The written text, and a line feed.
 fn line_of(alloc: Global, written: &[u8]) -> Result<String, Fail> {
     let written = str::from_utf8(written)?;
     Ok(format!(in alloc; "{written}\n")?)
@@ -50,7 +50,7 @@ fn word_of(alloc: Global, word: &str) -> Result<String, Fail> {
     }
 }
 
-/// What a run wrote and answered.
+/// The outputs and the status of a run, as a session has them.
 pub(crate) fn told(alloc: Global, out: &[u8], err: &[u8], status: u8) -> Result<String, Fail> {
     let mut told = String::new(alloc);
     push_told(

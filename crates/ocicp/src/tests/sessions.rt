@@ -1,22 +1,22 @@
-//! Sessions: what is typed, and what is then printed, whole.
+//! Sessions: texts with command lines and their whole outputs.
 //!
-//! A session is a text. A line `$ ocicp WORDS` runs the program on the words, which have spaces between them; `''` is the
-//! empty word. The lines below it are its output, then, each after `! `, those of its error output, and then, where it is not
-//! 0, its status after `? `. `@` stands for the folder of the test, and names in angle brackets for contents. The other
-//! commands are these:
+//! A line `$ ocicp WORDS` of a session runs the program on the words, which are separated by
+//! spaces; `''` is the empty word. Below it are the lines of its output. Then follow the lines of
+//! its error output, each after `! `, and its status after `? `, if it is not 0. `@` means the
+//! folder of the test, and a name in angle brackets means a content. The other commands are:
 //!
 //! | Line | What it does |
 //! |---|---|
-//! | `$ unordered WORDS` | runs the program, whose lines may come in any order |
-//! | `$ terminal WORDS` | runs the program on a terminal, and prints what it writes to the error output alone, and a line feed |
-//! | `$ locked PART WORDS` | runs the program, which may not open files that have this part in their path |
-//! | `$ starved PART WORDS` | runs the program, which runs out of memory as it opens such a file |
-//! | `$ beside PATH WORDS` | runs the program while another process has a lock on a folder, until an error line is written |
-//! | `$ broken WORDS` | runs the program with outputs that fail, in each way that `outputs` has, and prints nothing |
-//! | `$ write PATH TEXT` | writes a file, and makes the folders above it |
-//! | `$ large PATH TEXT` | writes a file of 1 MiB, each byte the letter `a`, and this text |
-//! | `$ mkdir PATH` | makes a folder |
-//! | `$ link PATH TARGET` | makes a symbolic link |
+//! | `$ unordered WORDS` | runs the program, whose lines may be in any order |
+//! | `$ terminal WORDS` | runs the program on a terminal; prints its error output and a line feed |
+//! | `$ locked PART WORDS` | runs the program, which may not open paths with this part |
+//! | `$ starved PART WORDS` | runs the program, which has no memory to open such a path |
+//! | `$ beside PATH WORDS` | runs the program while a folder is locked, until an error line |
+//! | `$ broken WORDS` | runs the program with each failing output of `outputs`; prints nothing |
+//! | `$ write PATH TEXT` | writes a file, and creates the folders above it |
+//! | `$ large PATH TEXT` | writes a file of 1 MiB of the letter `a`, and this text after it |
+//! | `$ mkdir PATH` | creates a folder |
+//! | `$ link PATH TARGET` | creates a symbolic link |
 //! | `$ rm PATH` | removes a file |
 //! | `$ cat PATH` | prints a file, and a line feed |
 //! | `$ exists PATH` | prints `yes` or `no` |
@@ -34,7 +34,7 @@ use std::io::ErrorKind;
 use std::process::Abort;
 use std::test::Fail;
 
-/// Goes through two sessions in a folder of this name, which then goes.
+/// Runs two sessions in a folder of this name, and then removes the folder.
 pub(crate) fn assert_session_in<R: Placed + Host + Abort>(
     rt: &R,
     name: &str,
@@ -57,7 +57,7 @@ fn assert_session<R: Host + Abort>(
     Ok(fs::remove_dir_all(rt, folder)?)
 }
 
-/// Goes through a session.
+/// Runs a session.
 pub(crate) fn assert_runs<R: Host + Abort>(
     rt: &R,
     folder: &str,
@@ -70,7 +70,7 @@ pub(crate) fn assert_runs<R: Host + Abort>(
     Ok(())
 }
 
-/// What a line prints is what stands below it.
+/// Runs a line, and compares its output with the lines below it.
 fn assert_run<R: Host + Abort>(rt: &R, run: &str) -> Result<(), Fail> {
     let (line, wanted) = parts(run, '\n');
     let (command, rest) = parts(line, ' ');
@@ -79,7 +79,7 @@ fn assert_run<R: Host + Abort>(rt: &R, run: &str) -> Result<(), Fail> {
     Ok(())
 }
 
-/// What a line printed is what is wanted of it; of a line `unordered`, in some order.
+/// Compares the output of a line with the wanted output; for `unordered`, in any order.
 fn assert_told<R: Abort>(rt: &R, line: &str, told: &str, wanted: &str) {
     if parts(line, ' ').0 == "unordered" {
         assert!(rt; have_same_lines(told, wanted), "{line}: {told}");
@@ -88,7 +88,8 @@ fn assert_told<R: Abort>(rt: &R, line: &str, told: &str, wanted: &str) {
     }
 }
 
-/// What stands before the first of these characters, and what follows it; all of a text that has none.
+/// The text before the first separator, and the text after it. Without a separator, the whole text
+/// and an empty one.
 pub(crate) fn parts(text: &str, separator: char) -> (&str, &str) {
     match text.split_once(separator) {
         Some(parts) => parts,
@@ -96,7 +97,7 @@ pub(crate) fn parts(text: &str, separator: char) -> (&str, &str) {
     }
 }
 
-/// What a line prints.
+/// The output of a line.
 fn telling<R: Host + Abort>(rt: &R, command: &str, rest: &str) -> Result<String, Fail> {
     match command {
         "ocicp" | "unordered" => transcript(rt, rest),
@@ -112,13 +113,13 @@ fn telling<R: Host + Abort>(rt: &R, command: &str, rest: &str) -> Result<String,
     }
 }
 
-/// Runs the program where some files cannot be opened.
+/// Runs the program with some files that cannot be opened.
 fn hindered<R: Host>(rt: &R, line: &str, kind: ErrorKind) -> Result<String, Fail> {
     let (part, words) = parts(line, ' ');
     transcript(&Unreadable { rt, part, kind }, words)
 }
 
-/// Goes through a line that prints nothing.
+/// Runs a line that prints nothing.
 fn silent<R: Host + Abort>(rt: &R, command: &str, rest: &str) -> Result<(), Fail> {
     match command {
         "broken" => assert_breaks(rt, rest),
@@ -126,7 +127,7 @@ fn silent<R: Host + Abort>(rt: &R, command: &str, rest: &str) -> Result<(), Fail
     }
 }
 
-/// The texts have the same lines, in some order.
+/// Whether the texts have the same lines, in any order.
 fn have_same_lines(told: &str, wanted: &str) -> bool {
     for line in wanted.lines() {
         if times(told, line) != times(wanted, line) {
@@ -136,7 +137,7 @@ fn have_same_lines(told: &str, wanted: &str) -> bool {
     told.lines().count() == wanted.lines().count()
 }
 
-/// How many times a text has a line.
+/// Counts how many times a text has a line.
 fn times(text: &str, line: &str) -> usize {
     let mut times = 0usize;
     for other in text.lines() {

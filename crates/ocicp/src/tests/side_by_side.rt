@@ -1,4 +1,5 @@
-//! Runs beside another process that writes into the same folder: one that writes waits for it, and one that reads does not.
+//! Runs during a lock of another process on the same folder. A run that writes waits for the lock,
+//! and a run that reads does not.
 
 use crate::run::run_words;
 use crate::tests::layouts::IMAGE;
@@ -10,7 +11,7 @@ use std::io;
 use std::io::Write;
 use std::test::Fail;
 
-/// An error output that lets a lock go as the first line comes, and keeps what is written.
+/// An error output that releases a lock at the first line, and keeps the written text.
 #[derive(Drop)]
 struct LettingGo<L: Drop> {
     lock: Option<L>,
@@ -28,7 +29,7 @@ impl<L: Drop> Write for LettingGo<L> {
     }
 }
 
-/// All that a run prints while another process has a lock on a folder, as one that copies into it has.
+/// The whole output of a run while another process has the lock on a folder.
 pub(crate) fn beside<R: Host>(rt: &R, line: &str) -> Result<String, Fail> {
     let (folder, words) = parts(line, ' ');
     let lock = FolderLock::make_and_lock(rt, folder)?;
@@ -39,7 +40,7 @@ pub(crate) fn beside<R: Host>(rt: &R, line: &str) -> Result<String, Fail> {
     transcript_to(rt, words, &mut err)
 }
 
-/// All that a run with this error output prints, and its status.
+/// The whole output and the status of a run with this error output.
 fn transcript_to<R: Host>(
     rt: &R,
     words: &str,
@@ -51,7 +52,7 @@ fn transcript_to<R: Host>(
     told(rt.alloc(), &out, &err.text, status)
 }
 
-/// A copy into a folder that another process has locked says so, and goes on once it may.
+/// A copy into a locked folder prints that it waits, and goes on once the lock is released.
 #[test]
 fn a_copy_waits(rt: HostRuntime) -> Result<(), Fail> {
     let session = r"
@@ -65,7 +66,7 @@ v1 <M0>
     assert_session_in(&rt, "a_copy_waits", IMAGE, session)
 }
 
-/// What only reads a folder that another process has does not wait, nor does a copy from it.
+/// A command that only reads a locked folder does not wait, and a copy from it does not either.
 #[test]
 fn readers_do_not_wait(rt: HostRuntime) -> Result<(), Fail> {
     let session = r"

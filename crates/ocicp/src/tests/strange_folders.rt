@@ -1,4 +1,5 @@
-//! Folders that are named twice, are not there, are files, or may not be read: each is reported, and nothing is lost.
+//! Folders that are named twice, are missing, are files, or may not be read. Each is reported, and
+//! nothing is lost.
 
 use crate::tests::layouts::IMAGE;
 use crate::tests::sessions::assert_session_in;
@@ -25,7 +26,7 @@ held 2
     assert_session_in(&rt, "one_folder_twice", IMAGE, session)
 }
 
-/// The folders above a destination are made; those above a source are not.
+/// The folders above a destination are created; the folders above a source are not.
 #[test]
 fn folders_that_are_not_there(rt: HostRuntime) -> Result<(), Fail> {
     let session = r"
@@ -45,7 +46,7 @@ no
     assert_session_in(&rt, "not_there", IMAGE, session)
 }
 
-/// A file in the place of a folder, and one above it, stay as they are.
+/// A file in place of a folder, or in place of a folder above it, is unchanged.
 #[test]
 fn files_in_the_place_of_folders(rt: HostRuntime) -> Result<(), Fail> {
     let session = r"
@@ -68,7 +69,8 @@ kept
     assert_session_in(&rt, "files_as_folders", IMAGE, session)
 }
 
-/// A destination whose blobs cannot be put names nothing that was not copied. A folder that has the name of a leftover stays.
+/// In a destination whose blobs cannot be written, no tag is set. A folder with the name of a
+/// leftover stays.
 #[test]
 fn files_in_the_place_of_blobs(rt: HostRuntime) -> Result<(), Fail> {
     let session = r#"
@@ -94,7 +96,7 @@ yes
     assert_session_in(&rt, "files_as_blobs", IMAGE, session)
 }
 
-/// A link to a file is that file. A device in the place of a file is reported, and not read.
+/// A link to a file is read as that file. A device in place of a file is reported, and not read.
 #[test]
 fn links_in_the_place_of_files(rt: HostRuntime) -> Result<(), Fail> {
     let session = r"

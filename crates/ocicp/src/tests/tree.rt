@@ -1,10 +1,11 @@
-//! The command `tree`, which is for people to read.
+//! The command `tree`.
 
 use crate::tests::layouts::{IMAGE, REFERRERS};
 use crate::tests::sessions::assert_session_in;
 use std::test::Fail;
 
-/// What an image and an index reach; the tags stand behind a blob, in byte order.
+/// The trees of an image and an index. The tags of a blob are at the end of its line, in byte
+/// order.
 #[test]
 fn trees(rt: HostRuntime) -> Result<(), Fail> {
     let session = r"
@@ -27,8 +28,8 @@ $ ocicp tree @/R nope
     assert_session_in(&rt, "trees", REFERRERS, session)
 }
 
-/// With `--referrers` the index that lists the image, the index of that, and the signature follow. A blob that has a line is
-/// marked where it comes again.
+/// With `--referrers` the index that lists the image, the index that lists that index, and the
+/// signature follow. A blob that already has a line is marked.
 #[test]
 fn tree_of_referrers(rt: HostRuntime) -> Result<(), Fail> {
     let session = r"
@@ -94,7 +95,8 @@ $ ocicp tree @/L v1
     assert_session_in(&rt, "tree_absent", IMAGE, session)
 }
 
-/// Digests that begin alike are shown with as many digits as tell them apart; of other layouts they are not looked at.
+/// Digests with a common beginning are shown with enough digits to differ. Other layouts do not
+/// count.
 #[test]
 fn tree_of_digests_that_begin_alike(rt: HostRuntime) -> Result<(), Fail> {
     let files = r#"

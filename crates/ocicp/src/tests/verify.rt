@@ -38,7 +38,8 @@ held 1
     assert_session_in(&rt, "verify_size", files, session)
 }
 
-/// Several files that do not match are reported in key order, and a file that cannot be read is a fault, since nothing is known of it.
+/// Several files that do not match are reported in key order. A file that cannot be read is a
+/// fault, since it is unknown whether it matches.
 #[test]
 fn verify_of_several_files(rt: HostRuntime) -> Result<(), Fail> {
     let session = r"
@@ -58,8 +59,8 @@ $ ocicp verify @/R
     assert_session_in(&rt, "verify_several", REFERRERS, session)
 }
 
-/// A layer of 1 MiB and one byte, each the letter `a`. Its digest was computed with `sha256sum`. That the last byte is another
-/// one is found, though it stands in the second of the parts in which a large blob is read.
+/// A layer of 1 MiB and one byte, each the letter `a`. Its digest was computed with `sha256sum`. A
+/// wrong last byte is found, though it is in the second of the parts in which a large blob is read.
 #[test]
 fn verify_of_a_large_layer(rt: HostRuntime) -> Result<(), Fail> {
     let files = r#"
@@ -80,7 +81,7 @@ held 1
     assert_session_in(&rt, "verify_large", files, session)
 }
 
-/// A manifest whose file does not match is reported by each command, since nothing is known of what it lists.
+/// Each command reports a manifest whose file does not match, since its list is unknown.
 #[test]
 fn verify_of_a_changed_manifest(rt: HostRuntime) -> Result<(), Fail> {
     let session = r"

@@ -3,7 +3,7 @@ use Rattle.oci_store.specs.Tags.{by_bytes}
 use Rattle.oci_copy_commands.specs.Selected.{set_tags}
 use Rattle.oci_copy_commands.proofs.between.tag_all.Given as goal
 
--- the tags that are left, set now, give what all of them give at first; the layout holds what it held
+-- setting the remaining tags now has the effect of setting all at first; the keys are unchanged
 abbrev pub invariant-loop-name : goal.invariant-loop-name
 invariant-loop-name g l = record {
   tagged : set_tags l.destination.2 (by_bytes (drop l.name-index l.tags)) ≡ set_tags l.fn.destination.2 (by_bytes l.tags);
