@@ -115,11 +115,11 @@ Copy its blobs with `copy_out`, and open a new live store with them.
 
 45 NotFound
 The live store did not have this blob yet.
-Look again after the blob was pushed.
+Look again once the blob has been pushed.
 
 46 Unavailable
 The live store is gone, or has no place for another look.
-Keep the store as long as it has looks, and use a look again instead of taking new ones.
+Keep the store while looks are in use, and reuse a look instead of taking new ones.
 
 47 Memory
 Memory ran out during a look at a live store.
@@ -146,7 +146,7 @@ The copy needs the named blob, and the source does not have it. Nothing was copi
 Copy the blob into the source first, for example with `ocicp copy --descend` from a layout that has it.
 
 54 TooLarge
-The named manifest is larger than the limit, the number of bytes after it. Nothing was copied.
+The named manifest is larger than the limit, which follows it in bytes. Nothing was copied.
 Check that this blob really is a manifest. The limit of `ocicp` is 4194304 bytes; a program that uses the library may set another one.
 
 55 Cycle
@@ -202,12 +202,12 @@ The file `index.json` is not an image index. The next error says why.
 Look up the next number, and fetch `index.json` again from the layout's origin.
 
 74 Device
-A file or the folder of the layout could not be read or written, or is of the wrong kind.
+A file or the folder of the layout could not be read or written, or is not of the right kind.
 Check the permissions and the free space of the disk. The files of a layout have to be regular files.
 
 75 Corrupt
 The file of the named manifest does not match its size and digest, so the layout cannot be opened.
-Delete the file of its digest, `blobs/sha256/DIGITS` or `blobs/sha512/DIGITS`. Then restore the manifest with `ocicp copy --descend` from a layout that has it.
+Note its tags in `index.json`, and delete the file of its digest, `blobs/sha256/DIGITS` or `blobs/sha512/DIGITS`. Then run `ocicp copy --descend` for each tag from a layout that has it. A copy drops the other tags of a missing manifest.
 
 76 Memory
 Memory ran out while a layout was opened, created or saved.

@@ -31,7 +31,8 @@ pub(crate) fn copy_command<'w>(
              had.\n\n\
              Every blob is checked against its digest. A copy that is refused sets no tag in DST, and DST \
              keeps its blobs. The exception is 94: only the output could not be written, and the copy is done \
-             and saved.",
+             and saved.\n\n\
+             A copy locks DST. Another copy into it on the same machine waits.",
         )
         .override_usage(
             "ocicp copy [OPTIONS] <SRC> <SRCREF> <DST> [DSTREF]\n       \

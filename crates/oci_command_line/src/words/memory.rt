@@ -35,6 +35,7 @@ pub(crate) fn mem_command<'w>(alloc: Global, most_workers: u32) -> Result<Comman
              Prints the digest, the size and the media type of each blob that arrived, ordered by media type \
              and then by digest. The last line has the numbers of blobs planned, pushed and skipped.",
         )
+        .override_usage("ocicp mem [OPTIONS] <TYPE=PATH>...")
         .after_help(EXAMPLES)
         .arg(workers)?
         .arg(sha512)?

@@ -23,6 +23,7 @@ pub(crate) fn tags_command<'w>(alloc: Global) -> Result<Command<'w>, AllocError>
             "Lists the tags of a layout in byte order, each with the digest, the size and the media type of \
              the blob that it resolves to. A tag whose blob is missing is left out.",
         )
+        .override_usage("ocicp tags <FOLDER>")
         .after_help("Example:\n  ocicp tags mirror")
         .arg(folder(alloc))
 }
@@ -31,6 +32,7 @@ pub(crate) fn tags_command<'w>(alloc: Global) -> Result<Command<'w>, AllocError>
 pub(crate) fn resolve_command<'w>(alloc: Global) -> Result<Command<'w>, AllocError> {
     Command::new(alloc, "resolve")
         .about("Prints the digest, size and media type that a reference resolves to")
+        .override_usage("ocicp resolve <FOLDER> <REF>")
         .after_help("Example:\n  ocicp resolve mirror v1")
         .arg(folder(alloc))?
         .arg(reference(alloc))
@@ -45,6 +47,7 @@ pub(crate) fn predecessors_command<'w>(alloc: Global) -> Result<Command<'w>, All
              signatures. Each line is a digest, a size and a media type. Only direct predecessors are listed; \
              `tree --referrers` shows theirs too.",
         )
+        .override_usage("ocicp predecessors <FOLDER> <REF>")
         .after_help("Example:\n  ocicp predecessors mirror v1")
         .arg(folder(alloc))?
         .arg(reference(alloc))
@@ -71,6 +74,7 @@ pub(crate) fn tree_command<'w>(alloc: Global) -> Result<Command<'w>, AllocError>
              config.\n\n\
              Scripts should use `resolve` and `predecessors`, which print whole digests.",
         )
+        .override_usage("ocicp tree [OPTIONS] <FOLDER> <REF>")
         .after_help("Examples:\n  ocicp tree mirror v1\n  ocicp tree --referrers mirror v1")
         .arg(referrers)?
         .arg(folder(alloc))?
@@ -89,9 +93,10 @@ pub(crate) fn verify_command<'w>(alloc: Global) -> Result<Command<'w>, AllocErro
              with its tag. A damaged manifest is an error (75), since its list is not known.\n\n\
              Prints `corrupt` with the digest, the size and the media type of each blob whose file does not \
              match. If a listed blob is missing, prints `open` with the first manifest that lists one, and \
-             with the missing blob. Then prints `held` and the number of blobs. The status is 1 if something \
-             is wrong.",
+             with the missing blob. Then prints `held` and the number of blobs. The status is 1 if it finds \
+             a problem.",
         )
+        .override_usage("ocicp verify <FOLDER>")
         .after_help("Example:\n  ocicp verify mirror")
         .arg(folder(alloc))
 }
@@ -102,6 +107,7 @@ pub(crate) fn explain_command<'w>(alloc: Global) -> Result<Command<'w>, AllocErr
         "A number of an error line, such as 53 in `ocicp: 81 Plan 53 NotFound ..`; if there are several, the last one is the most specific";
     Command::new(alloc, "explain")
         .about("Explains the number of an error: what it means, and what to do")
+        .override_usage("ocicp explain <NUMBER>")
         .after_help("Example:\n  ocicp explain 53")
         .arg(required(alloc, "number", "NUMBER", help))
 }

@@ -55,6 +55,8 @@ Prints `copied` for each tag, with the digest, the size and the media type of it
 Every blob is checked against its digest. A copy that is refused sets no tag in DST, and DST keeps its blobs. The exception is \
 94: only the output could not be written, and the copy is done and saved.
 
+A copy locks DST. Another copy into it on the same machine waits.
+
 Usage: ocicp copy [OPTIONS] <SRC> <SRCREF> <DST> [DSTREF]
        ocicp copy --all [OPTIONS] <SRC> <DST>
 
