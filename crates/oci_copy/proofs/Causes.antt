@@ -47,7 +47,8 @@ pub reported_as : (P : CopyFault → Type 0) (e reported : CopyFault) → (repor
 reported_as P e reported (inl memory) of_memory own = rw memory of_memory
 reported_as P e reported (inr is) of_memory own = rw is own
 
--- why a push is refused whose check finds no fault but a listed key that is not held: then the copy is stuck
+-- why a push is refused whose check finds no fault except a listed key that is not held: then the
+-- copy is stuck
 pub push_cause : (failed : Type 0) (source opening : State) (k : Descriptor) (check : Result (List Descriptor) Refusal) → ((r : Refusal) → check ≡ Err r → (m : Descriptor) × (r ≡ missing_successor m))
     → (e : PushFault) → Refused e check → (e ≡ push.Device → failed) → (e ≡ push.Halted → opening.is_halted)
     → IsStepCause failed source opening k (of_push k e) ⊎ ((m : Descriptor) × (of_push k e ≡ fault.Stuck k) × (check ≡ Err (missing_successor m)))
@@ -97,10 +98,13 @@ module _ (source before now : State) (k : Descriptor) (bytes : List ℕ) (listed
   -- why a key is not pushed at its turn
   pub turn_cause : (e : PushFault) (reported : CopyFault) → Refused e (closed_check before.nodes k bytes) → (e ≡ push.Device → HasFailed before now) → (e ≡ push.Halted → before.is_halted)
       → (reported ≡ fault.Memory) ⊎ (reported ≡ of_push k e) → IsTurnCause now source before k reported
-  turn_cause e reported refused device halt tells = reported_as (IsTurnCause now source before k) (of_push k e) reported tells (lacks, inl tt) (lacks, elim push_caused [
-    | inl step ↦ inl step
-    | inr early ↦ inr (early.1, (let it = only (missing_successor early.0) early.2 in too_early it.0 it.1))
-  ])
+  turn_cause e reported refused device halt tells = reported_as (IsTurnCause now source before k) (of_push k e) reported tells (lacks, inl tt) (
+    lacks,
+    elim push_caused [
+      | inl step ↦ inl step
+      | inr early ↦ inr (early.1, (let it = only (missing_successor early.0) early.2 in too_early it.0 it.1))
+    ],
+  )
     where
       push_caused : IsStepCause (HasFailed before now) source before k (of_push k e) ⊎ ((m : Descriptor) × (of_push k e ≡ fault.Stuck k) × (closed_check before.nodes k bytes ≡ Err (missing_successor m)))
       push_caused = push_cause (HasFailed before now) source before k (closed_check before.nodes k bytes) (λ r wrong. let it = only r wrong in (it.0, it.2)) e refused device halt
@@ -115,7 +119,8 @@ turn_earlier source opening before now k reported halts earlier cause = (cause.0
     go (fault.Push named push.Halted) h = (h.0, halts h.1)
     go other h = h
 
--- why a copy is refused once it has a plan, by a step that is refused for nothing that comes before it
+-- why a copy is refused once it has a plan, by a step that is refused for nothing that comes before
+-- it
 pub refused_in_run : {source : State} {options : Options} {opening : State} {roots : List Descriptor} {p : Planned} (step : State → State → Descriptor → CopyFault → Type 0)
     → ((k holder missing : Descriptor) → step source opening k (fault.DestinationOpen holder missing) → ⊥) → ((k : Descriptor) (e : PlanFault) → step source opening k (fault.Plan e) → ⊥)
     → (reported : CopyFault) → IsPlanOf source options opening roots p → IsClosedWhenSkipping options.existing opening.nodes → (k : Descriptor) → Contains p.keys k

@@ -125,7 +125,8 @@ can_fail state opening before store up raised = (store, elim raised [ inl more �
 pub halted_before : {was opening : Type 0} (ran_out now : Bool) → (was → opening ⊎ (ran_out ≡ true)) → (ran_out ≡ true → now ≡ true) → now ≡ false → was → opening
 halted_before ran_out now since earlier not halted = elim (since halted) [ inl opening ↦ opening | inr out ↦ absurd (false≢true (sym not ∙ earlier out)) ]
 
--- a key whose content is not to be had is a worker's cause, of what was noted of the source
+-- the cause of a key whose content cannot be had is a worker's cause, for the source as it was
+-- noted
 pub step_from_content : (failed : Type 0) (noted now opening : State) (k : Descriptor) (reported : CopyFault) → IsNoted noted now → IsContentCause now k reported → IsStepCause failed noted opening k reported
 step_from_content failed noted now opening k reported same cause = go reported cause
   where

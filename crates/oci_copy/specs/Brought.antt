@@ -19,7 +19,8 @@ pub record CanBring (source now : State) (k : Descriptor) : Type 0 where
   pub reads : source.is_honest → CanBeRead source.entries k
   pub ready : source.is_honest → HasAll now.nodes (successors_at (graph_of source) k)
 
--- a write of the draft failed, or the draft has bytes that match the key, and those of an honest source
+-- a write of the draft failed, or the draft has bytes that match the key; with an honest source,
+-- they are the source's
 abbrev pub IsDrafted : Type 0 → (List ℕ → Type 0) → State → Descriptor → Type 0
 IsDrafted lost drafted source k = lost ⊎ ((bytes : List ℕ) × IsDraftOf drafted k source.is_honest (value_at source.entries k) bytes)
 

@@ -28,8 +28,8 @@ pub record Keeps (shares : Type 0) (source : State) (planned : List Descriptor) 
   pub supported : All (λ (n : Node). HasAll now.nodes n.1) added
   -- from any source: each added key lists what bytes that match it list
   pub checked : All ListsByBytes added
-  -- from an honest source, each added node is the source's; if the bytes are known, so is each
-  -- added entry
+  -- from an honest source, each added node is the source's; if the bytes are known, each added
+  -- entry is the source's too
   pub own : source.is_honest → All (λ (n : Node). value_at (graph_of source) n.0 ≡ Some n.1) added
   pub known : HasKnownBytes shares source opening now → now.is_sound × IsOpeningAnd source.entries planned opening.entries now.entries
   -- the rest is unchanged, except the count of failed puts

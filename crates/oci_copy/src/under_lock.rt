@@ -31,7 +31,7 @@ fn is_ready<D: Dest, T: CopyStart>(locked: &Option<LockedDestination<D, T>>, key
     }
 }
 
-/// Waits until all of these keys are held, and returns with the lock held.
+/// Waits until all of these keys are held, and returns the guard of the lock.
 fn wait_for<'b, D: Dest + Drop, T: CopyStart, R: Wait>(
     rt: &R,
     lock: &'b Mutex<Option<LockedDestination<D, T>>>,

@@ -7,7 +7,8 @@ use Rattle.oci_store.specs.Graph.{Node, Reaches}
 use Rattle.oci_store.specs.Visiting.{candidates}
 use Rattle.oci_plan.specs.Visiting.{successors_at}
 
--- the found keys are the root and the keys that those before a place list, each once, and all are reached
+-- the found keys are the root and the keys that the earlier ones list up to a place, each once, and
+-- all are reached
 pub record IsFound (graph : List Node) (root : Descriptor) (place : ℕ) (found : List Descriptor) : Type 0 where
   pub exact : found ≡ first_places (candidates (successors_at graph) (root ∷ []) (take place found))
   pub reached : All (Reaches graph (root ∷ [])) found
