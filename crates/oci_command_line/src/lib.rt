@@ -15,12 +15,10 @@
 mod copying;
 mod explain;
 mod memory;
-mod query;
 mod request;
 mod words;
 
 pub use copying::{CopyWords, Selection, Shown};
 pub use explain::first_sentence;
 pub use memory::{Algorithm, MemWords};
-pub use query::Query;
-pub use request::{CommandLineFault, Request};
+pub use request::{CommandLineFault, Query, Request};

@@ -1,7 +1,6 @@
 use crate::copying::{CopyWords, Selection, Shown};
 use crate::explain::explanation;
 use crate::memory::{Algorithm, MemWords};
-use crate::query::Query;
 use crate::words::command;
 use clap::error::ErrorKind;
 use clap::{ArgMatches, Error};
@@ -20,6 +19,26 @@ pub enum Request<'w> {
     Copy(CopyWords<'w>),
     /// A command that reads the layout in a folder.
     Query(&'w str, Query<'w>),
+}
+
+/// A command that reads one layout and does not change it.
+#[derive(Clone, Copy)]
+pub enum Query<'w> {
+    /// `tags`.
+    Tags,
+    /// `resolve`, with the reference.
+    Resolve(&'w str),
+    /// `predecessors`, with the reference.
+    Predecessors(&'w str),
+    /// `tree`.
+    Tree {
+        /// The reference.
+        reference: &'w str,
+        /// Whether the referrers are shown too.
+        shows_referrers: bool,
+    },
+    /// `verify`.
+    Verify,
 }
 
 /// Why parsing failed.

@@ -1,5 +1,5 @@
 //! The digest type: made from content or from text, verified, printed and compared.
-ghost use Rattle.std.specs.Prelude.{◌≡◌, ◌↔◌, ◌++◌, codes, Some, IsTrue, IsOk, IfOk, IsErrOf, is_ok, string_bytes};
+ghost use Rattle.std.specs.Prelude.{◌≡◌, ◌↔◌, ◌++◌, ℕ, List, true, codes, Some, IsTrue, IsOk, IfOk, IsErrOf, is_ok, string_bytes};
 ghost use Rattle.oci_digest.specs.Algorithm.{sha256, sha512};
 ghost use Rattle.oci_digest.specs.Digest.{digest_of, digest_by, text_by, algorithm_of, encoded_of, IsDigest, is_digest, Verifies, verifies};
 ghost use Rattle.oci_digest.specs.Hash.{IsHash, text_of};
@@ -34,7 +34,8 @@ impl Model for Digest {
 
     ghost inverse = { λ text. record { hash = hash_of_text text } };
 
-    ghost inverse_ok = { λ d h. ap (λ kept. record { hash = kept }) (hash_of_text-text_of d.hash h) };
+    ghost inverse_ok = { λ d h. ap (λ kept. record { hash = kept })
+        (hash_of_text-text_of d.hash h) };
 }
 
 impl Digest {
@@ -230,9 +231,19 @@ impl PartialOrd for Digest {
 
     ghost partial_cmp = { as_partial_cmp (slice_cmp nat_cmp) };
 
-    ghost laws = { partial_order_from_own_ties (Prim.search (comparing, rules)) (Prim.search (comparing, rules)) };
+    ghost laws = { partial_order_from_own_ties (Prim.search (comparing, rules))
+        (Prim.search (comparing, rules)) };
 
     fn partial_cmp(&self, other: &Digest) -> Option<Ordering> {
         Some(self.cmp(other))
     }
 }
+
+/// States that the Boolean tests used by contracts decide the readable definitions. `verifies` is
+/// true exactly for a digest and bytes that it verifies. `is_digest` is true exactly for the text
+/// of a digest. The function does nothing at run time.
+pub fn tests_decide_definitions()
+    ensures verifies { (digest bytes : List ℕ)
+        → (verifies digest bytes ≡ true) ↔ Verifies digest bytes }
+    ensures is_digest { (text : List ℕ) → (is_digest text ≡ true) ↔ IsDigest text }
+{}

@@ -37,10 +37,8 @@ mod digest;
 mod fault;
 mod hash;
 mod hasher;
-mod laws;
 mod parse;
 
-pub use digest::Digest;
+pub use digest::{Digest, tests_decide_definitions};
 pub use fault::{DigestFault, NoMemory};
 pub use hasher::Hasher;
-pub use laws::tests_decide_definitions;

@@ -36,12 +36,12 @@
 mod fault;
 mod key;
 mod kind;
-mod law;
 mod manifest;
 mod media_type;
 
 pub use fault::{KeyFault, ManifestFault};
 pub use key::{Key, MAX_SIZE};
 pub use kind::Kind;
-pub use law::successors_are_what_is_listed;
-pub use manifest::{artifact_type, index_keys, read_json, successors};
+pub use manifest::{
+    artifact_type, index_keys, read_json, successors, successors_are_what_is_listed,
+};

@@ -1,10 +1,11 @@
-ghost use Rattle.std.specs.Prelude.{◌≡◌, ◌≢◌, List, Ok, Err, IsOk, IfOk, IfErr, option_map};
+ghost use Rattle.std.specs.Prelude.{◌≡◌, ◌≢◌, ◌↔◌, ℕ, List, Ok, Err, IsOk, IfOk, IfErr, option_map};
 ghost use Rattle.std.specs.List.{IsDistinct};
 ghost use Rattle.serde_json.specs.View.{view};
 ghost use Rattle.oci_manifest.specs.Descriptor.{Descriptor, same_key};
 ghost use Rattle.oci_manifest.specs.Fault.{Fault, Gives, IsFault, not_json};
 ghost use Rattle.oci_manifest.specs.Manifest.{Reads, Breaks};
 ghost use Rattle.oci_manifest.specs.Reading.{reading, or_fault, index_keys, manifest_keys, successors_of};
+ghost use Rattle.oci_manifest.specs.declared.kind.Kind.{Kind};
 ghost use Rattle.oci_manifest.specs.declared.kind.Kind.TheVariants.{Leaf};
 
 mod artifact;
@@ -147,3 +148,14 @@ pub fn successors(alloc: Global, kind: Kind, bytes: &[u8]) -> Result<Vec<Key>, M
 {
     answer(alloc, kind, bytes)
 }
+
+/// States that `successors_of`, which contracts above compute with, agrees with the readable
+/// relations. It returns some keys exactly if the bytes read and list these keys. It returns an
+/// error exactly if that is the first rule that the bytes break. So the edges of every stored or
+/// copied graph are the keys that a manifest lists. The function does nothing at run time.
+pub fn successors_are_what_is_listed()
+    ensures reads { (kind : Kind) (bytes : List ℕ) (listed : List Descriptor)
+        → (successors_of kind bytes ≡ Ok listed) ↔ Reads kind bytes listed }
+    ensures breaks { (kind : Kind) (bytes : List ℕ) (broken : Fault)
+        → (successors_of kind bytes ≡ Err broken) ↔ Breaks kind bytes broken }
+{}

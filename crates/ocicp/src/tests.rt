@@ -2,8 +2,8 @@
 //! own.
 //!
 //! `sessions` runs a text of commands and compares their output, and `rows` runs rows of words.
-//! `runs` and `files` run single lines of a session. `host` has the runtimes, `contents` and
-//! `layouts` have the files, and `broken` has writers and files that fail.
+//! `runs` and `files` run single lines of a session. `contents` and `layouts` have the files, and
+//! `broken` has writers and files that fail.
 
 mod algorithms;
 mod broken;
@@ -13,7 +13,6 @@ mod copy_all;
 mod dry_run;
 mod explain;
 mod files;
-mod host;
 mod layouts;
 mod meaning;
 mod mem;

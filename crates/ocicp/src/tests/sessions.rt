@@ -24,15 +24,28 @@
 use crate::tests::broken::Unreadable;
 use crate::tests::contents::filled;
 use crate::tests::files::{change, shown};
-use crate::tests::host::Placed;
 use crate::tests::outputs::assert_breaks;
 use crate::tests::runs::{drawn, transcript};
 use crate::tests::side_by_side::beside;
 use oci_copy_commands::Host;
-use std::fs;
 use std::io::ErrorKind;
 use std::process::Abort;
 use std::test::Fail;
+use std::{env, fs, process};
+
+/// A runtime that has a folder for each test.
+pub(crate) trait Placed {
+    /// Returns the path of the folder with this name.
+    fn folder(&self, name: &str) -> Result<String, Fail>;
+}
+
+impl Placed for HostRuntime {
+    fn folder(&self, name: &str) -> Result<String, Fail> {
+        let root = env::temp_dir(self)?;
+        let id = process::id(self.process());
+        Ok(format!(in self.alloc(); "{}/ocicp-{name}-{id}", root.display())?)
+    }
+}
 
 /// Runs two sessions in a folder of this name, and then removes the folder.
 pub(crate) fn assert_session_in<R: Placed + Host + Abort>(
