@@ -54,15 +54,7 @@ pub(crate) fn open_or_create<D: Dir + Drop>(
     alloc: Global,
     dir: D,
 ) -> Result<Layout<D>, ProgramFault> {
-    match Layout::open(alloc, dir) {
-        Ok(layout) => Ok(layout),
-        Err((dir, LayoutFault::NoLayoutFile)) => create(alloc, dir),
-        Err((_dir, fault)) => Err(ProgramFault::Destination(fault)),
-    }
-}
-
-fn create<D: Dir + Drop>(alloc: Global, dir: D) -> Result<Layout<D>, ProgramFault> {
-    match Layout::create(alloc, dir) {
+    match Layout::open_or_create(alloc, dir) {
         Ok(layout) => Ok(layout),
         Err((_dir, fault)) => Err(ProgramFault::Destination(fault)),
     }
