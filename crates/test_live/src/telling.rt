@@ -14,7 +14,7 @@ use std::alloc::Global;
 use std::sync::Wait;
 use std::thread::Threads;
 
-/// Copies into a live store by workers, and tells a look of the entries published by then.
+/// Copies into a live store by workers. Afterwards the look sees all that the store has published.
 ///
 /// If the copy succeeds, and source and store agree, the look's list has everything that the store
 /// held and everything that the source reaches from the roots. So has every list that it shows from

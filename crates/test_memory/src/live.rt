@@ -92,7 +92,7 @@ fn copied_twice<R: Threads + Wait + Send + Sync + Copy + Drop>(
     copied(rt, alloc, graph, live, look, line)
 }
 
-/// Copies the image into the live store, and tells the look of the entries published by then.
+/// Copies the image into the live store. Afterwards the look sees all that the store has published.
 fn copied<R: Threads + Wait + Send + Sync + Copy + Drop>(
     rt: &R,
     alloc: Global,
