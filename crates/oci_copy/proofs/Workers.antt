@@ -155,7 +155,8 @@ stop_from_job failed source opening planned n reported cause = at (slice_get pla
     at None is h = absurd h
     at (Some k) is h = inr (k, Contains-from_slice_get planned n k is, h)
 
--- why a copy by workers is refused whose plan was run: for the number of workers, or for what stopped the run
+-- why a copy by workers is refused whose plan was run: for the number of workers, or for what
+-- stopped the run
 module _ {source : State} {options : Options} {opening : State} {roots : List Descriptor} {p : Planned} (failed : Type 0) (workers : ℕ)
     (plan : IsPlanOf source options opening roots p) (closed : IsClosedWhenSkipping options.existing opening.nodes) where
   refused_in_work : (reported : CopyFault) → RefusedAt (Contains p.keys) (IsStepCause failed source opening) reported → IsRefusal (IsStepCause failed) options source opening roots reported

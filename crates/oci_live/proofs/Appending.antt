@@ -42,7 +42,8 @@ appends_goes log v e old len pre false is =
       rw is (ap length all),
     )
 
--- whatever the book is, the exchange adds the pair to all that was seen, or finds that the history is longer
+-- whatever the book is, the exchange adds the pair to all that was seen, or finds that the history
+-- is longer
 pub appends_moves : (v : List Entry) (e : Entry) (old : ℕ) → length v ≡ old
     → Moves IsCounted shown moved 0 (v, (no_nib, None)) (λ n. either (n == old) (old + 1) n) (Appends (step 0 old (old + 1) e) (v, (no_nib, None)))
 appends_moves v e old len cs log kept pre away =

@@ -49,7 +49,8 @@ impl<R: Wait + Drop> Model for LiveStore<R> {
     } };
 
     ghost invariant = { λ s. IsLive (seat_view s.publisher.desk.place) s.publisher.desk.shown.value
-        s.history.front.book s.history.front.log (drop s.publisher.behind s.publisher.log.items) s.is_halted };
+        s.history.front.book s.history.front.log (drop s.publisher.behind s.publisher.log.items)
+        s.is_halted };
 }
 
 impl<R: Wait + Drop> Drop for LiveStore<R> {

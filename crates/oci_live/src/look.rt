@@ -36,7 +36,8 @@ impl Model for Look {
 
     ghost view = { λ s. s.note };
 
-    ghost invariant = { λ s. ((seat_view s.viewer.place).is_told ≡ true) × ((seat_view s.viewer.place).name ≡ s.note.name) };
+    ghost invariant = { λ s. ((seat_view s.viewer.place).is_told ≡ true)
+        × ((seat_view s.viewer.place).name ≡ s.note.name) };
 }
 
 impl Look {

@@ -35,9 +35,17 @@ impl Absorb<Item> for Shelf {
 
     type State = Shared;
 
-    ghost state = { λ s. record { list = s.entries; log = s.witness.log; name = name_of s.witness.book } };
+    ghost state = { λ s. record {
+      list = s.entries;
+      log = s.witness.log;
+      name = name_of s.witness.book;
+    } };
 
-    ghost applied = { λ x i. record { list = x.list ++ i.content ∷ []; log = i.witness.log; name = name_of i.witness.book } };
+    ghost applied = { λ x i. record {
+      list = x.list ++ i.content ∷ [];
+      log = i.witness.log;
+      name = name_of i.witness.book;
+    } };
 
     fn absorb_first(&mut self, item: &Item, _other: &Shelf) -> Result<(), AllocError> {
         add(&mut self.entries, &item.content).map_err(|_| AllocError)?;

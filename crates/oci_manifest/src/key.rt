@@ -36,7 +36,11 @@ impl Model for Key {
 
     ghost Value = { Descriptor };
 
-    ghost view = { λ k. record { media_type = text_in k.media_type; digest = k.digest; size = k.size } };
+    ghost view = { λ k. record {
+      media_type = text_in k.media_type;
+      digest = k.digest;
+      size = k.size;
+    } };
 
     ghost invariant = { λ k. k.size < 2 ^ 63 };
 }
@@ -221,7 +225,8 @@ impl PartialOrd for Key {
 
     ghost partial_cmp = { as_partial_cmp key_cmp };
 
-    ghost laws = { partial_order_from_own_ties (Prim.search (comparing, rules)) (Prim.search (comparing, rules)) };
+    ghost laws = { partial_order_from_own_ties (Prim.search (comparing, rules))
+        (Prim.search (comparing, rules)) };
 
     fn partial_cmp(&self, other: &Key) -> Option<Ordering> {
         Some(self.cmp(other))

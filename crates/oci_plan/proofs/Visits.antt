@@ -53,7 +53,8 @@ visited_along : (existing : Existing) (source held : List Node) (roots : Keys) (
 visited_along Skip source held roots from to before edge pass = outside.along before edge (not_held held to pass)
 visited_along Descend source held roots from to before edge pass = graph.along before edge
 
--- what holds of each root that passes, and along each edge to a key that passes, holds of what is visited
+-- what holds of each root that passes, and along each edge to a key that passes, holds of what is
+-- visited
 outside_all : (source held : List Node) (roots : Keys) (P : Descriptor → Type 0) → ((k : Descriptor) → Contains roots k → is_fresh held k ≡ true → P k)
     → ((from to : Descriptor) → P from → IsEdge source from to → is_fresh held to ≡ true → P to) → (k : Descriptor) → IsOutside source held roots k → P k
 outside_all source held roots P first more k (outside.root there new) = first k there (fresh held k new)

@@ -25,7 +25,10 @@ impl Model for Order {
 
     ghost view = { λ o. record { lists = lists_of o.lists.items; sequence = o.sequence.items } };
 
-    ghost invariant = { λ o. IsOrder (record { lists = lists_of o.lists.items; sequence = o.sequence.items }) };
+    ghost invariant = { λ o. IsOrder (record {
+      lists = lists_of o.lists.items;
+      sequence = o.sequence.items;
+    }) };
 }
 
 impl Order {

@@ -20,9 +20,17 @@ impl Model for Plan {
 
     ghost Value = { Planned };
 
-    ghost view = { λ p. record { keys = p.keys.items; order = p.order; skipped = p.skipped.items } };
+    ghost view = { λ p. record {
+      keys = p.keys.items;
+      order = p.order;
+      skipped = p.skipped.items;
+    } };
 
-    ghost invariant = { λ p. IsPlan (record { keys = p.keys.items; order = p.order; skipped = p.skipped.items }) };
+    ghost invariant = { λ p. IsPlan (record {
+      keys = p.keys.items;
+      order = p.order;
+      skipped = p.skipped.items;
+    }) };
 }
 
 impl Plan {

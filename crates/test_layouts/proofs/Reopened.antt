@@ -17,7 +17,8 @@ use Rattle.oci_layout.specs.Files.{HasFiles}
 use Rattle.oci_layout.specs.Law.{OpensAsSaved}
 use Rattle.oci_layout.specs.Opened.{IsOpened}
 
--- the clauses of `tags`, `save` and `open` are the premises of the law: `old` are the files before the save, `new` those after it
+-- the clauses of `tags`, `save` and `open` are the premises of the law: `old` are the files before
+-- the save, `new` those after it
 pub reopened : OpensAsSaved → (H H' : Type 0) (old new : File) (graph after again : List Node) (tags tags_again : Tags)
     → All IsKey (keys_of graph) → AreNames graph tags → IsStrictlySortedBy (slice_cmp nat_cmp) (keys_of tags) → after ≡ graph
     → (IsSound H old graph → HasFiles new (stored old graph) graph tags) → (H → stored new graph ≡ stored old graph) → (IsSound H old graph → IsSound H' new after)

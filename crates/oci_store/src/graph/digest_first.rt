@@ -86,7 +86,8 @@ impl PartialOrd for DigestFirst {
 
     ghost partial_cmp = { as_partial_cmp digest_cmp };
 
-    ghost laws = { partial_order_from_own_ties (Prim.search (comparing, rules)) (Prim.search (comparing, rules)) };
+    ghost laws = { partial_order_from_own_ties (Prim.search (comparing, rules))
+        (Prim.search (comparing, rules)) };
 
     fn partial_cmp(&self, other: &DigestFirst) -> Option<Ordering> {
         Some(self.cmp(other))
