@@ -5,8 +5,9 @@ use Rattle.std.specs.List.{All}
 use Rattle.std.specs.Map.{keys_of}
 use Rattle.std.proofs.lemmas.List.Elements.{All-nil, All-weaker, All-append, All-contains}
 use Rattle.std.proofs.lemmas.Option.{same_Some}
+use Rattle.std.proofs.lemmas.Bool.{cases_Bool}
 use Rattle.oci_manifest.specs.Descriptor.{Descriptor, same_key}
-use Rattle.oci_manifest.proofs.Keys.{Decides-same_key, cases}
+use Rattle.oci_manifest.proofs.Keys.{Decides-same_key}
 use Rattle.oci_store.specs.Keyed.{value_at, has_key, HasAll}
 use Rattle.oci_store.specs.Content.{Entry, successors_in}
 use Rattle.oci_store.specs.Graph.{Node, nodes_of, Reaches}
@@ -48,7 +49,7 @@ found-nodes_of : (entries : List Entry) (k : Descriptor) (listed : List Descript
     → (bytes : List ℕ) × (value_at entries k ≡ Some bytes) × (listed ≡ successors_in k bytes)
 found-nodes_of [] k listed h = cc h
 found-nodes_of (e ∷ entries) k listed h =
-    elim (cases (same_key e.0 k)) [
+    elim (cases_Bool (same_key e.0 k)) [
       | inl same ↦
           let key = (Decides-same_key e.0 k).0 same in
           let is : successors_in e.0 e.1 ≡ listed = same_Some _ _ (rw same at h) in
@@ -137,7 +138,7 @@ module _ {shares : Type 0} {source : State} {options : Options} {opening now : S
         holds : (existing : Existing) → IsClosedWhenSkipping existing opening.nodes → ((k : Descriptor) → IsToBring existing (graph_of source) opening.nodes roots k → Contains p.keys k)
             → (k : Descriptor) → Reaches (graph_of source) roots k → has_key now.nodes k ≡ true
         holds Skip was_closed bring = holds_reached (graph_of source) now.nodes roots after (closed_kept keeps was_closed) (roots_held all)
-        holds Descend was bring = λ k r. elim (cases (has_key opening.nodes k)) [
+        holds Descend was bring = λ k r. elim (cases_Bool (has_key opening.nodes k)) [
           | inl old ↦ subst (λ (l : List Node). has_key l k ≡ true) (sym keeps.is) (has_key-append_left opening.nodes keeps.added k old)
           | inr new ↦ All-contains (λ d. has_key now.nodes d ≡ true) p.keys k all (bring k (r, new))
         ]

@@ -1,9 +1,9 @@
 -- A test of algorithms that goes over the bytes once.
-use Rattle.std.proofs.Common.{◌≡◌, ◌≢◌, ℕ, ◌&&◌, Bool, true, false, cond, ◌⊎◌, inl, inr, List, [], ◌∷◌, ◌++◌, Decides, Option, Bor, MatchOption, lit<, refl, ap, ◌∙◌, arith}
+use Rattle.std.proofs.Common.{◌≡◌, ◌≢◌, ℕ, ◌&&◌, Bool, true, false, cond, inl, inr, List, [], ◌∷◌, ◌++◌, Decides, Option, Bor, MatchOption, lit<, refl, ap, ◌∙◌, arith}
 use Rattle.std.specs.List.{All, AllPass, AllByRecursion, flat_map}
 use Rattle.std.proofs.lemmas.Str.Pattern.{IsSplitOnceResult, split_after}
 use Rattle.std.proofs.lemmas.List.Elements.{All-cons, All-head, All-nil, All-tail}
-use Rattle.std.proofs.lemmas.Bool.{and_parts}
+use Rattle.std.proofs.lemmas.Bool.{and_parts, cases_Bool}
 use Rattle.std.proofs.lemmas.Bool.Decides.{nat_tests}
 use Rattle.oci_digest.specs.Grammar.{is_component_char, is_separator, IsComponent, IsFurther, IsAlgorithm, Splits}
 
@@ -25,10 +25,6 @@ passes c = is_component_char c ≡ true
 
 separator_apart : (c : ℕ) → is_separator c ≡ true → is_component_char c ≡ false
 separator_apart c h = grind (arith, nat_tests)
-
-pub cases : (b : Bool) → (b ≡ true) ⊎ (b ≡ false)
-cases true = inl refl
-cases false = inr refl
 
 abbrev Found : Bool → List ℕ → Type 0
 Found true s = IsRest s
@@ -60,7 +56,7 @@ found_from : (after : Bool) (s : List ℕ) → algorithm_from after s ≡ true �
 found_from true [] h = record { front = []; more = []; text = refl; chars = All-nil passes; are_further = tt }
 found_from false [] h = cc h
 found_from after (c ∷ cs) h =
-    elim (cases (is_component_char c)) [
+    elim (cases_Bool (is_component_char c)) [
       | inl letter ↦ longer after c cs letter (found_from true cs (rw letter at h))
       | inr other ↦
           let parts = and_parts after (is_separator c && algorithm_from false cs) (rw other at h) in
@@ -96,7 +92,7 @@ Decides-algorithm_from s = (
 pub no_colon : (after : Bool) (s : List ℕ) → algorithm_from after s ≡ true → All (λ (c : ℕ). c ≢ 58) s
 no_colon after [] h = All-nil (λ (c : ℕ). c ≢ 58)
 no_colon after (c ∷ cs) h =
-    elim (cases (is_component_char c)) [
+    elim (cases_Bool (is_component_char c)) [
       | inl letter ↦ All-cons (λ (c : ℕ). c ≢ 58) c cs (grind (arith, nat_tests)) (no_colon true cs (rw letter at h))
       | inr other ↦
           let parts = and_parts after (is_separator c && algorithm_from false cs) (rw other at h) in

@@ -1,7 +1,7 @@
 -- Equal keys, and each key once.
-use Rattle.std.proofs.Common.{◌≡◌, ℕ, Bool, true, false, cond, not, ◌&&◌, ◌⊎◌, inl, inr, List, [], ◌∷◌, ◌++◌, Decides, eqb, refl, sym, ap, ◌∙◌, append-nil}
+use Rattle.std.proofs.Common.{◌≡◌, ℕ, Bool, true, false, cond, not, ◌&&◌, inl, inr, List, [], ◌∷◌, ◌++◌, Decides, eqb, refl, sym, ap, ◌∙◌, append-nil}
 use Rattle.std.specs.List.{filter, IsDistinct, AllByRecursion}
-use Rattle.std.proofs.lemmas.Bool.{and_parts, eqb-true}
+use Rattle.std.proofs.lemmas.Bool.{and_parts, eqb-true, cases_Bool}
 use Rattle.std.proofs.lemmas.Bool.Decides.{Decides-eqb}
 use Rattle.std.proofs.lemmas.List.Elements.{filter-append}
 use Rattle.std.proofs.lemmas.Map.Views.{any-filter_same}
@@ -28,10 +28,6 @@ Decides-same_key a b = (
       let s = (Decides-eqb a.size b.size).1 (ap (λ (k : Descriptor). k.size) e) in
       rw (m, d, s) refl,
 )
-
-pub cases : (b : Bool) → (b ≡ true) ⊎ (b ≡ false)
-cases true = inl refl
-cases false = inr refl
 
 abbrev others : Descriptor → List Descriptor → List Descriptor
 others k ks = filter (λ other. not (same_key k other)) ks
@@ -65,7 +61,7 @@ with_key-cons j k ks h = rw h (elim (is_among ks k) as (λ b. j ∷ cond b ks (k
 pub first_places-push : (ks : List Descriptor) (k : Descriptor) → first_places (ks ++ k ∷ []) ≡ with_key (first_places ks) k
 first_places-push [] k = refl
 first_places-push (j ∷ ks) k =
-    elim (cases (same_key j k)) [
+    elim (cases_Bool (same_key j k)) [
       | inl same ↦
           let e = (Decides-same_key j k).0 same in
           ap (λ (t : List Descriptor). j ∷ others j t) (first_places-push ks k)
@@ -104,7 +100,7 @@ IsDistinct-filter p (k ∷ ks) h = elim (p k) as (λ b. IsDistinct same_key (con
 others-differ : (k : Descriptor) (ks : List Descriptor) → AllByRecursion (λ y. same_key k y ≡ false) (others k ks)
 others-differ k [] = tt
 others-differ k (j ∷ ks) =
-    elim (cases (same_key k j)) [
+    elim (cases_Bool (same_key k j)) [
       | inl same ↦ rw same (others-differ k ks)
       | inr other ↦ rw other (other, others-differ k ks)
     ]

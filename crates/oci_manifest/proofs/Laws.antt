@@ -4,6 +4,7 @@ use Rattle.std.specs.Prelude.{IfOk, IfErr, filter}
 use Rattle.std.specs.List.{IsDistinct}
 use Rattle.std.specs.Str.{is_utf8}
 use Rattle.std.proofs.lemmas.Str.{is_utf8-from_IsUtf8, IsUtf8-from_is_utf8}
+use Rattle.std.proofs.lemmas.Bool.{cases_Bool}
 use Rattle.serde_json.specs.Data.{Data, object, Members}
 use Rattle.serde_json.specs.Find.{as_object}
 use Rattle.oci_manifest.specs.Descriptor.{Descriptor, same_key}
@@ -16,14 +17,14 @@ use Rattle.oci_manifest.specs.declared.kind.Kind.{Kind}
 use Rattle.oci_manifest.specs.declared.kind.Kind.TheVariants.{Image, Index, DockerImage, DockerList, Artifact, Leaf}
 use Rattle.oci_manifest.proofs.Chains.{bind_ok, bind_err, or_ok, or_err, apart, some_or_none}
 use Rattle.oci_manifest.proofs.Descriptors.{object_some}
-use Rattle.oci_manifest.proofs.Keys.{cases, IsDistinct-first_places}
+use Rattle.oci_manifest.proofs.Keys.{IsDistinct-first_places}
 use Rattle.oci_manifest.proofs.Members.{all_keys-sound, all_keys-complete, all_keys-fault, all_keys-broken}
 
 -- ---- the bytes
 
 reading-sound : (bytes : List ℕ) (v : Data) → reading bytes ≡ Some v → HasReading bytes v
 reading-sound bytes v h =
-    elim (cases (is_utf8 bytes)) [
+    elim (cases_Bool (is_utf8 bytes)) [
       | inl text ↦ (IsUtf8-from_is_utf8 bytes text, rw text at h)
       | inr garbled ↦ cc (rw garbled at h)
     ]

@@ -2,8 +2,8 @@
 use Rattle.std.proofs.Common.{◌≡◌, Bool, true, false, cond, inl, inr, List, [], ◌∷◌, ◌++◌, refl, sym, ap, ◌∙◌, append-nil}
 use Rattle.std.specs.List.{filter}
 use Rattle.std.proofs.lemmas.List.Elements.{filter-append}
+use Rattle.std.proofs.lemmas.Bool.{cases_Bool}
 use Rattle.oci_manifest.specs.Descriptor.{Descriptor, is_among}
-use Rattle.oci_manifest.proofs.Keys.{cases}
 use Rattle.oci_store.specs.Graph.{Node}
 use Rattle.oci_store.specs.Visiting.{with_key, with_keys}
 use Rattle.oci_store.proofs.Membership.{Keys, among-filter, among_filter_from}
@@ -22,14 +22,14 @@ filter-push_dropped p ks k drops = filter-append p ks (k ∷ []) ∙ ap (λ (b :
 
 absent-filter : (p : Descriptor → Bool) (ks : Keys) (k : Descriptor) → is_among ks k ≡ false → is_among (filter p ks) k ≡ false
 absent-filter p ks k new =
-    elim (cases (is_among (filter p ks) k)) [
+    elim (cases_Bool (is_among (filter p ks) k)) [
       | inl there ↦ (let old = (among-filter p ks k there).1 in cc (sym new ∙ old))
       | inr absent ↦ absent
     ]
 
 filter-with_key_kept : (p : Descriptor → Bool) (ks : Keys) (k : Descriptor) → p k ≡ true → filter p (with_key ks k) ≡ with_key (filter p ks) k
 filter-with_key_kept p ks k keeps =
-    elim (cases (is_among ks k)) [
+    elim (cases_Bool (is_among ks k)) [
       | inl there ↦
           let kept = among_filter_from p ks k keeps there in
           rw (there, kept) refl
@@ -40,7 +40,7 @@ filter-with_key_kept p ks k keeps =
 
 filter-with_key_dropped : (p : Descriptor → Bool) (ks : Keys) (k : Descriptor) → p k ≡ false → filter p (with_key ks k) ≡ filter p ks
 filter-with_key_dropped p ks k drops =
-    elim (cases (is_among ks k)) [
+    elim (cases_Bool (is_among ks k)) [
       | inl there ↦ rw there refl
       | inr new ↦ rw new (filter-push_dropped p ks k drops)
     ]
@@ -49,7 +49,7 @@ filter-with_keys : (p : Descriptor → Bool) (ks more : Keys) → filter p (with
 filter-with_keys p ks [] = refl
 filter-with_keys p ks (k ∷ more) =
     filter-with_keys p (with_key ks k) more
-    ∙ elim (cases (p k)) [
+    ∙ elim (cases_Bool (p k)) [
       | inl keeps ↦ ap (λ (t : Keys). with_keys t (filter p more)) (filter-with_key_kept p ks k keeps) ∙ ap (λ (b : Bool). with_keys (filter p ks) (cond b (k ∷ filter p more) (filter p more))) (sym keeps)
       | inr drops ↦ ap (λ (t : Keys). with_keys t (filter p more)) (filter-with_key_dropped p ks k drops) ∙ ap (λ (b : Bool). with_keys (filter p ks) (cond b (k ∷ filter p more) (filter p more))) (sym drops)
     ]
@@ -57,7 +57,7 @@ filter-with_keys p ks (k ∷ more) =
 filter-twice : (p : Descriptor → Bool) (ks : Keys) → filter p (filter p ks) ≡ filter p ks
 filter-twice p [] = refl
 filter-twice p (k ∷ ks) =
-    elim (cases (p k)) [
+    elim (cases_Bool (p k)) [
       | inl keeps ↦ rw keeps (rw keeps (ap (λ (t : Keys). k ∷ t) (filter-twice p ks)))
       | inr drops ↦ rw drops (filter-twice p ks)
     ]

@@ -3,6 +3,7 @@ use Rattle.std.proofs.Common.{◌≡◌, ◌≢◌, ℕ, Bool, true, false, inl,
 use Rattle.std.specs.Prelude.{option_map, is_some, unwrap_or}
 use Rattle.std.specs.Result.{result_unwrap_or}
 use Rattle.std.specs.List.{All, IsDistinct}
+use Rattle.std.proofs.lemmas.Bool.{cases_Bool}
 use Rattle.oci_manifest.specs.Descriptor.{Descriptor, same_key}
 use Rattle.oci_manifest.specs.Fault.{Fault, Fails, IsFault}
 use Rattle.oci_manifest.specs.declared.fault.ManifestFault.{ManifestFault}
@@ -11,7 +12,7 @@ use Rattle.oci_manifest.specs.MediaTypes.{kind_of}
 use Rattle.oci_manifest.specs.Reading.{successors_of}
 use Rattle.oci_manifest.specs.declared.kind.Kind.{Kind}
 use Rattle.oci_manifest.specs.declared.kind.Kind.TheVariants.{Leaf}
-use Rattle.oci_manifest.proofs.Keys.{Decides-same_key, cases}
+use Rattle.oci_manifest.proofs.Keys.{Decides-same_key}
 use Rattle.oci_manifest.proofs.Laws.{successors_of-distinct}
 use Rattle.oci_store.specs.Keyed.{value_at, has_key}
 use Rattle.oci_store.specs.Content.{Entry, Matches, succ_of, successors_in}
@@ -30,7 +31,7 @@ use Rattle.oci_plan.specs.Walk.{IsPassed, fetch_refusal, read_refusal}
 pub value_at-nodes_of : (entries : List Entry) (k : Descriptor) → value_at (nodes_of entries) k ≡ option_map (successors_in k) (value_at entries k)
 value_at-nodes_of [] k = refl
 value_at-nodes_of (e ∷ entries) k =
-    elim (cases (same_key e.0 k)) [
+    elim (cases_Bool (same_key e.0 k)) [
       | inl same ↦
           let key = (Decides-same_key e.0 k).0 same in
           let here : Some (successors_in e.0 e.1) ≡ Some (successors_in k e.1) = ap (λ (x : Descriptor). Some (successors_in x e.1)) key in

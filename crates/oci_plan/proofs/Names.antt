@@ -5,7 +5,7 @@ use Rattle.std.proofs.lemmas.List.{map-append, take_more}
 use Rattle.std.proofs.lemmas.List.Elements.{filter_more, filter-append}
 use Rattle.oci_manifest.specs.Descriptor.{Descriptor}
 use Rattle.oci_manifest.specs.Manifest.{first_places}
-use Rattle.oci_manifest.proofs.Keys.{first_places-push, cases}
+use Rattle.oci_manifest.proofs.Keys.{first_places-push}
 use Rattle.oci_plan.specs.Plan.{Number}
 use Rattle.oci_store.specs.Visiting.{with_key, with_keys}
 use Rattle.oci_plan.specs.Fault.{Names}
@@ -13,6 +13,7 @@ use Rattle.oci_plan.specs.declared.fault.PlanFault.{PlanFault}
 use Rattle.oci_store.proofs.Membership.{Keys, slice_get-with_keys, with_keys-append, with_keys-push, with_keys-grows}
 use Rattle.std.proofs.lemmas.List.{length-append, take-append-drop}
 use Rattle.std.proofs.Common.{drop}
+use Rattle.std.proofs.lemmas.Bool.{cases_Bool}
 use Rattle.oci_plan.proofs.Mets.{names_many}
 
 pub first_two : (o p : Option Descriptor) (os ps : List (Option Descriptor)) → ◌≡◌ {A = List (Option Descriptor)} (o ∷ os) (p ∷ ps) → (o ≡ p) × (os ≡ ps)
@@ -54,7 +55,7 @@ filter-drops p ks i k lt is drops =
 pub places_more : (p : Descriptor → Bool) (held ks : Keys) (i : ℕ) (k : Descriptor) → i < length ks → k ≡ get_or ks i k → held ≡ first_places (filter p (take i ks))
     → cond (p k) (with_key held k) held ≡ first_places (filter p (take (i + 1) ks))
 places_more p held ks i k lt is h =
-    elim (cases (p k)) [
+    elim (cases_Bool (p k)) [
       | inl passes ↦ rw passes (ap (λ (t : Keys). with_key t k) h ∙ sym (first_places-push (filter p (take i ks)) k) ∙ ap first_places (sym (filter-passes p ks i k lt is passes)))
       | inr drops ↦ rw drops (h ∙ ap first_places (sym (filter-drops p ks i k lt is drops)))
     ]

@@ -3,13 +3,13 @@ use Rattle.std.proofs.Common.{◌≡◌, ℕ, zero, suc, ◌+◌, ◌-◌, ◌<�
 use Rattle.std.specs.Prelude.{Contains, filter_map}
 use Rattle.std.specs.Global.{Vec}
 use Rattle.std.specs.List.{filter, slice_get, cons_option, All, AllZip, AllByRecursion, IsDistinct}
-use Rattle.std.proofs.lemmas.Bool.{both_ways, eqb-true, cases_lt, or_left, or_right}
+use Rattle.std.proofs.lemmas.Bool.{both_ways, eqb-true, cases_lt, or_left, or_right, cases_Bool}
 use Rattle.std.proofs.lemmas.List.{length-map, get_or_past, get_or_default}
 use Rattle.std.proofs.lemmas.List.Elements.{All-weaker, All-contains, All-contains_itself}
 use Rattle.std.proofs.lemmas.Map.Keys.{IsDistinct-head, IsDistinct-tail, IsDistinct-from_apart}
 use Rattle.std.proofs.lemmas.Option.{slice_get_within, get_or_from_slice_get, slice_get-get_or}
 use Rattle.oci_manifest.specs.Descriptor.{Descriptor, same_key, is_among}
-use Rattle.oci_manifest.proofs.Keys.{Decides-same_key, cases}
+use Rattle.oci_manifest.proofs.Keys.{Decides-same_key}
 use Rattle.oci_store.specs.Keyed.{has_key}
 use Rattle.oci_store.specs.Content.{Entry}
 use Rattle.oci_store.specs.Graph.{Node, nodes_of, IsEdge}
@@ -73,7 +73,7 @@ other_numbers ks n k (m ∷ numbers) [] at h apart = cc h
 other_numbers ks n k (m ∷ numbers) (x ∷ named) at h apart =
     let p = first_two (slice_get ks m) (Some x) (map (slice_get ks) numbers) (map (λ (y : Descriptor). Some y) named) h in
     let rest = other_numbers ks n k numbers named at p.1 apart.1 in
-    elim (cases (eqb n m)) [
+    elim (cases_Bool (eqb n m)) [
       | inr other ↦ rw (other, rest) refl
       | inl same ↦
           let e : n ≡ m = eqb-true n m same in
@@ -217,7 +217,7 @@ module _ (honest : Type 0) (existing : Existing) (entries : List Entry) (held : 
 
       apart : (i j : ℕ) (d : Descriptor) → i < j → j < length named → same_key (get_or named i d) (get_or named j d) ≡ false
       apart i j d lt within =
-          elim (cases (same_key (get_or named i d) (get_or named j d))) [
+          elim (cases_Bool (same_key (get_or named i d) (get_or named j d))) [
             | inr other ↦ other
             | inl same ↦
                 let e = (Decides-same_key (get_or named i d) (get_or named j d)).0 same in
@@ -319,7 +319,7 @@ module _ (honest : Type 0) (existing : Existing) (entries : List Entry) (held : 
 
         earlier : (to : Descriptor) → is_among (successors_at source k) to ≡ true → (has_key held to ≡ true) ⊎ Contains (filter_map (slice_get keys) (take place o.sequence)) to
         earlier to there =
-            elim (cases (has_key held to)) [
+            elim (cases_Bool (has_key held to)) [
               | inl there' ↦ inl there'
               | inr none ↦
                   let passes : is_fresh held to ≡ true = rw none refl in

@@ -3,13 +3,13 @@ use Rattle.std.proofs.Common.{◌≡◌, ℕ, ◌+◌, ◌<◌, ◌≤◌, Bool,
 use Rattle.std.specs.Prelude.{Contains}
 use Rattle.std.specs.Global.{Vec}
 use Rattle.std.specs.List.{filter, slice_get, All, AllZip, IsDistinct}
-use Rattle.std.proofs.lemmas.Bool.{both_ways, not-true}
+use Rattle.std.proofs.lemmas.Bool.{both_ways, not-true, cases_Bool}
 use Rattle.std.proofs.lemmas.List.{take_all, take_more, take-append-le}
 use Rattle.std.proofs.lemmas.List.Elements.{All-nil, All-push, All-weaker, filter-append}
 use Rattle.std.proofs.lemmas.Option.{slice_get_within, get_or_from_slice_get}
 use Rattle.oci_manifest.specs.Descriptor.{Descriptor, same_key, is_among}
 use Rattle.oci_manifest.specs.Manifest.{first_places}
-use Rattle.oci_manifest.proofs.Keys.{IsDistinct-filter, IsDistinct-first_places, cases}
+use Rattle.oci_manifest.proofs.Keys.{IsDistinct-filter, IsDistinct-first_places}
 use Rattle.oci_store.specs.Keyed.{has_key}
 use Rattle.oci_store.specs.Content.{Entry, succ_of}
 use Rattle.oci_store.specs.Graph.{Node, nodes_of}
@@ -133,7 +133,7 @@ module _ (honest : Type 0) (existing : Existing) (entries : List Entry) (held : 
 
       rooted : (k : Descriptor) → is_among roots k ≡ true → (has_key held k ≡ true) ⊎ Contains keys k
       rooted k there =
-          elim (cases (has_key held k)) [
+          elim (cases_Bool (has_key held k)) [
             | inl there' ↦ inl there'
             | inr none ↦
                 let passes' : is_fresh held k ≡ true = rw none refl in
@@ -162,7 +162,7 @@ module _ (honest : Type 0) (existing : Existing) (entries : List Entry) (held : 
   lists_more : (keys more visited : Keys) (lists : List (Vec ℕ)) (k : Descriptor) (numbers : Vec ℕ) → AllZip (IsListOf honest entries held keys) (filter (is_fresh held) visited) lists → IsListOf honest entries held (with_keys keys more) k numbers
       → AllZip (IsListOf honest entries held (with_keys keys more)) (filter (is_fresh held) (visited ++ k ∷ [])) (cond (has_key held k) lists (lists ++ numbers ∷ []))
   lists_more keys more visited lists k numbers h new =
-      elim (cases (has_key held k)) [
+      elim (cases_Bool (has_key held k)) [
         | inl there ↦
             let drops : is_fresh held k ≡ false = rw there refl in
             subst (λ (ls : List (Vec ℕ)). AllZip (IsListOf honest entries held (with_keys keys more)) (filter (is_fresh held) (visited ++ k ∷ [])) ls) (ap (λ (b : Bool). cond b lists (lists ++ numbers ∷ [])) (sym there))
@@ -362,7 +362,8 @@ module _ (honest : Type 0) (existing : Existing) (entries : List Entry) (held : 
   kept_met : (all keys visited : Keys) (lists : List (Vec ℕ)) → IsWalk honest existing entries held roots limit all keys visited lists → All Met keys
   kept_met all keys visited lists walk = All-from_among Met keys (λ k there. All-among Met all k walk.met (among-filter (is_fresh held) all k (ap (λ (t : Keys). is_among t k) (sym walk.kept) ∙ there)).1)
 
-  -- where numbers are refused for the successors of the next key, there are too many keys that were met
+  -- where numbers are refused for the successors of the next key, there are too many keys that were
+  -- met
   pub successors_met : (all keys visited successors : Keys) (lists : List (Vec ℕ)) (i : ℕ) (k : Descriptor) (e : PlanFault) → IsWalk honest existing entries held roots limit all keys visited lists → slice_get all i ≡ Some k
       → All (IsListedUnder entries k) successors → Names (λ _. ⊥) (λ _. ⊥) (4294967295 < length (with_keys keys (filter (is_fresh held) successors))) e → NamesMet existing entries held roots e
   successors_met all keys visited successors lists i k e walk at under refused =

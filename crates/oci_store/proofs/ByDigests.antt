@@ -13,18 +13,17 @@ use Rattle.std.specs.List.Sorted.{IsStrictlySortedBy}
 use Rattle.std.specs.Map.{keys_of}
 use Rattle.std.specs.Ordering.{nat_cmp, is_eq, is_gt, is_le, ordering_then, ordering_reverse}
 use Rattle.std.specs.Str.{bytes_eq}
-use Rattle.std.proofs.lemmas.Bool.{not-false}
+use Rattle.std.proofs.lemmas.Bool.{not-false, cases_Bool}
 use Rattle.std.proofs.lemmas.Cmp.{tied_itself}
 use Rattle.std.proofs.lemmas.List.Elements.{All-nil, All-cons, All-weaker, All-contains, All-contains_itself, All-from_recursion, Contains-append_left, Contains-append_right, Contains-push}
 use Rattle.std.proofs.lemmas.Map.Lookups.{CmpEqualImpliesEq}
 use Rattle.std.proofs.lemmas.Map.Views.{btree_set_contains_iff}
 use Rattle.std.proofs.lemmas.Slice.Eq.{bytes_eq-Decides}
 use Rattle.oci_manifest.specs.Descriptor.{Descriptor, same_key, key_cmp}
-use Rattle.oci_manifest.proofs.Keys.{cases}
 use Rattle.oci_store.specs.ByDigest.{digest_cmp, same_by_digest, AreKeysOf}
 use Rattle.oci_store.specs.Graph.{Node}
 use Rattle.oci_store.specs.Tags.{IsLeastOf}
-use Rattle.oci_store.proofs.KeyOrder.{tied}
+use Rattle.oci_store.proofs.KeyOrder.{cond-or, tied}
 use Rattle.oci_store.proofs.Lookups.{has_key-from_Contains, Contains-from_has_key}
 
 -- ---- the order
@@ -61,13 +60,7 @@ digest_cmp_exact a b h = tied a b (sym (is_eq-digest_cmp a b) ∙ ap is_eq h)
 pub in_more : (set new : BTreeSet Descriptor) (k : Descriptor) → ((other : Descriptor) → contains digest_cmp new other ≡ cond (is_eq (digest_cmp k other)) true (contains digest_cmp set other))
     → (other : Descriptor) → contains digest_cmp new other ≡ (contains digest_cmp set other || same_key k other)
 in_more set new k h other =
-    h other ∙ ap (λ (b : Bool). cond b true (contains digest_cmp set other)) (is_eq-digest_cmp k other) ∙ swap (same_key k other) (contains digest_cmp set other)
-  where
-    swap : (a b : Bool) → cond a true b ≡ (b || a)
-    swap true true = refl
-    swap true false = refl
-    swap false true = refl
-    swap false false = refl
+    h other ∙ ap (λ (b : Bool). cond b true (contains digest_cmp set other)) (is_eq-digest_cmp k other) ∙ cond-or (same_key k other) (contains digest_cmp set other)
 
 pub in_less : (set new : BTreeSet Descriptor) (k : Descriptor) → ((other : Descriptor) → contains digest_cmp new other ≡ cond (is_eq (digest_cmp k other)) false (contains digest_cmp set other))
     → (other : Descriptor) → contains digest_cmp new other ≡ (contains digest_cmp set other && not (same_key k other))
@@ -138,7 +131,7 @@ AllPassOf digest p = (k : Descriptor) → k.digest ≡ digest → p k ≡ true
 none_passes : (digest : List ℕ) (p : Descriptor → Bool) → AllPassOf digest p → (ks : List Descriptor) → filter p ks ≡ [] → All (Apart digest) ks
 none_passes digest p pass [] h = All-nil (Apart digest)
 none_passes digest p pass (k ∷ ks) h =
-    elim (cases (p k)) [
+    elim (cases_Bool (p k)) [
       | inl hit ↦ cc (rw hit at h)
       | inr miss ↦ All-cons (Apart digest) k ks (λ e. cc (sym miss ∙ pass k e)) (none_passes digest p pass ks (rw miss at h))
     ]
@@ -153,7 +146,7 @@ head_of : (digest : List ℕ) (p : Descriptor → Bool) → AllPassOf digest p �
 unfolding IsStrictlySortedBy
 head_of digest p pass [] sorted k rest h = cc h
 head_of digest p pass (x ∷ ks) sorted k rest h =
-    elim (cases (p x)) [
+    elim (cases_Bool (p x)) [
       | inl hit ↦
           let e : x ≡ k = cc (rw hit at h) in
           subst (IsHead digest p (x ∷ ks)) e (record {

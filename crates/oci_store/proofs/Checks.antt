@@ -1,6 +1,6 @@
 -- What the checks of a push give of content that was looked at.
 use Rattle.std.proofs.Common.{◌≡◌, ℕ, true, false, ◌==◌, List, [], ◌∷◌, ◌++◌, length, Result, Ok, Err, inl, refl, sym, ap, ◌∙◌, subst, arith}
-use Rattle.std.specs.Prelude.{IfOk, IfErr, OnOk, OnErr}
+use Rattle.std.specs.Prelude.{IfOk, IfErr, IsErrOf, OnOk, OnErr}
 use Rattle.std.proofs.lemmas.List.{map-append, length-map}
 use Rattle.std.proofs.lemmas.Bool.{eq-eqb}
 use Rattle.oci_digest.specs.Digest.{verifies}
@@ -34,7 +34,8 @@ pub closed_check-held : (graph : List Node) (k : Descriptor) (bytes : List ℕ) 
 unfolding closed_check push_check
 closed_check-held graph k bytes h = rw h refl
 
--- a push of content that was looked at, under a key that is not held, is refused for a missing successor alone
+-- a push of content that was looked at, under a key that is not held, is refused for a missing
+-- successor alone
 pub closed_check-fresh : (graph : List Node) (k : Descriptor) (bytes : List ℕ) (ks : List Descriptor) → has_key graph k ≡ false → IsChecked k bytes ks
     → closed_check graph k bytes ≡ held_check ks (first_missing graph ks)
 unfolding closed_check
@@ -56,15 +57,22 @@ pub Refused-closed : (graph : List Node) (k : Descriptor) (bytes : List ℕ) (e 
 unfolding closed_check
 Refused-closed graph k bytes e absent plain h = refused_so graph e (push_check graph k bytes) plain (rw (push_check-fresh graph k bytes absent) h)
 
+-- a plain fault is no device error, and no halt
+pub plain_no_device : (f : PushFault) → IsPlain f → IsErrOf {T = ℕ} (Err f) fault.Device → ⊥
+plain_no_device f plain is = let same : f ≡ fault.Device = cc is in subst IsPlain same plain
+
+pub plain_no_halt : (f : PushFault) → IsPlain f → IsErrOf {T = ℕ} (Err f) fault.Halted → ⊥
+plain_no_halt f plain is = let same : f ≡ fault.Halted = cc is in subst IsPlain same plain
+
 -- a push that is refused for its content leaves all as it was
 pub IsPush-refused : (shares : Type 0) (s : State) (e : Entry) (f : PushFault) → IsPlain f → Refused f (closed_check s.nodes e.0 e.1) → IsPush shares s s e (Err f)
 IsPush-refused shares s e f plain refused = record {
   keys = record { place = tt; pushed = tt; refused = refl; checked = refused };
   bytes = record { pushed = tt; refused = λ u. refl; sound = λ u. u.is_sound };
   failures = omega arith;
-  device = λ is. let same : f ≡ fault.Device = cc is in absurd (subst IsPlain same plain);
+  device = λ is. absurd (plain_no_device f plain is);
   calm = λ less. absurd (omega arith);
-  halted = λ is. let same : f ≡ fault.Halted = cc is in absurd (subst IsPlain same plain);
+  halted = λ is. absurd (plain_no_halt f plain is);
   running = λ halted. inl halted;
   taken = tt;
   stays = λ halted. halted;

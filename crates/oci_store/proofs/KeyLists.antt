@@ -4,8 +4,9 @@ use Rattle.std.specs.BTreeMap.{BTreeMap, get, Updates}
 use Rattle.std.specs.List.{slice_get, IsDistinct}
 use Rattle.std.proofs.lemmas.Map.Keys.{IsDistinct-from_apart}
 use Rattle.std.proofs.lemmas.Option.{slice_get-get_or}
+use Rattle.std.proofs.lemmas.Bool.{cases_Bool}
 use Rattle.oci_manifest.specs.Descriptor.{Descriptor, same_key, key_cmp, is_among}
-use Rattle.oci_manifest.proofs.Keys.{Decides-same_key, cases}
+use Rattle.oci_manifest.proofs.Keys.{Decides-same_key}
 use Rattle.oci_store.proofs.KeyOrder.{is_eq-key_cmp}
 use Rattle.oci_store.specs.KeyList.{IsIndexOf}
 use Rattle.oci_store.specs.Visiting.{with_key}
@@ -19,7 +20,7 @@ with_key-there index ks k place h found =
 
 absent : (index : BTreeMap Descriptor ℕ) (ks : Keys) (k : Descriptor) → IsIndexOf index ks → get key_cmp index k ≡ None → is_among ks k ≡ false
 absent index ks k h none =
-    elim (cases (is_among ks k)) [
+    elim (cases_Bool (is_among ks k)) [
       | inr new ↦ new
       | inl there ↦
           let at = place_from_among ks k there in
@@ -42,7 +43,7 @@ IsIndexOf-push index after ks k h none updates = λ j place. (to j place, from j
 
     to : (j : Descriptor) (place : ℕ) → get key_cmp after j ≡ Some place → slice_get (ks ++ k ∷ []) place ≡ Some j
     to j place found =
-        elim (cases (same_key k j)) [
+        elim (cases_Bool (same_key k j)) [
           | inl same ↦
               let here : length ks ≡ place = cc (rw same at (sym (looks j) ∙ found)) in
               subst (λ (n : ℕ). slice_get (ks ++ k ∷ []) n ≡ Some j) here (slice_get-push ks k ∙ ap (λ (x : Descriptor). Some x) ((Decides-same_key k j).0 same))
@@ -57,7 +58,7 @@ IsIndexOf-push index after ks k h none updates = λ j place. (to j place, from j
               looks j ∙ rw same (ap (λ (n : ℕ). Some n) (sym last.0))
           | inl old ↦
               let found = (h j place).1 old in
-              elim (cases (same_key k j)) [
+              elim (cases_Bool (same_key k j)) [
                 | inr other ↦ looks j ∙ rw other found
                 | inl same ↦
                     let none' = subst (λ (x : Descriptor). get key_cmp index x ≡ None) ((Decides-same_key k j).0 same) none in
@@ -71,7 +72,7 @@ IsDistinct-from_index index ks h = IsDistinct-from_apart same_key ks apart
   where
     apart : (i j : ℕ) (d : Descriptor) → i < j → j < length ks → same_key (get_or ks i d) (get_or ks j d) ≡ false
     apart i j d lt within =
-        elim (cases (same_key (get_or ks i d) (get_or ks j d))) [
+        elim (cases_Bool (same_key (get_or ks i d) (get_or ks j d))) [
           | inr other ↦ other
           | inl same ↦
               let e = (Decides-same_key (get_or ks i d) (get_or ks j d)).0 same in

@@ -15,9 +15,9 @@ use Rattle.oci_store.specs.Push.{already_exists, closed_check, Answers, Refused,
 use Rattle.oci_store.specs.State.{State}
 use Rattle.oci_store.specs.declared.fault.PushFault.{PushFault}
 use Rattle.oci_store.specs.declared.fault.PushFault.TheVariants as fault
-use Rattle.oci_manifest.proofs.Keys.{cases}
 use Rattle.std.proofs.lemmas.List.Elements.{All-nil}
-use Rattle.oci_store.proofs.Checks.{closed_check-held, closed_check-fresh}
+use Rattle.std.proofs.lemmas.Bool.{cases_Bool}
+use Rattle.oci_store.proofs.Checks.{closed_check-held, closed_check-fresh, plain_no_device, plain_no_halt}
 
 pub succ_of-leaf : (k : Descriptor) (bytes : List ℕ) → IsLeaf k → succ_of k bytes ≡ Ok []
 unfolding successors_of
@@ -118,7 +118,7 @@ leaf_check-fresh graph k h = rw h refl
 -- the check of a leaf that matches is whether its key is held
 pub closed_check-leaf : (graph : List Node) (k : Descriptor) (bytes : List ℕ) → IsLeaf k → Matches k bytes → closed_check graph k bytes ≡ leaf_check graph k
 closed_check-leaf graph k bytes leaf m =
-    elim (cases (has_key graph k)) [
+    elim (cases_Bool (has_key graph k)) [
       | inl held ↦ closed_check-held graph k bytes held ∙ sym (leaf_check-held graph k held)
       | inr fresh ↦ closed_check-fresh graph k bytes [] fresh (IsChecked-leaf k bytes [] leaf m refl) ∙ sym (leaf_check-fresh graph k fresh)
     ]
@@ -152,9 +152,9 @@ IsLostPush-refused s k f plain refused = record {
   entries = λ sound calm. refl;
   sound = λ sound calm. sound;
   failures = omega arith;
-  device = λ is. let same : f ≡ fault.Device = cc is in absurd (subst IsPlain same plain);
+  device = λ is. absurd (plain_no_device f plain is);
   calm = λ less. absurd (omega arith);
-  halted = λ is. let same : f ≡ fault.Halted = cc is in absurd (subst IsPlain same plain);
+  halted = λ is. absurd (plain_no_halt f plain is);
   running = λ halted. inl halted;
   stays = λ halted. halted;
   tags = refl;

@@ -2,13 +2,13 @@
 use Rattle.std.proofs.Common.{◌≡◌, ℕ, zero, suc, ◌<◌, ◌≤◌, Bool, true, false, cond, not, ◌||◌, ◌⊎◌, inl, inr, List, [], ◌∷◌, ◌++◌, length, get_or, Some, None, refl, sym, ap, subst, ◌∙◌, append_assoc, append-nil, arith}
 use Rattle.std.specs.Prelude.{Contains, find}
 use Rattle.std.specs.List.{filter, flat_map, slice_get, All, IsDistinct}
-use Rattle.std.proofs.lemmas.Bool.{or_cases, or_left, or_right, false≢true, both_ways, cases_order}
+use Rattle.std.proofs.lemmas.Bool.{or_cases, or_left, or_right, false≢true, both_ways, cases_order, cases_Bool}
 use Rattle.std.proofs.lemmas.List.Elements.{All-nil, All-cons, All-contains}
 use Rattle.std.proofs.lemmas.Map.Keys.{apart_from_distinct}
 use Rattle.std.proofs.lemmas.Option.{slice_get_within, get_or_from_slice_get}
 use Rattle.oci_manifest.specs.Descriptor.{Descriptor, same_key, is_among}
 use Rattle.oci_manifest.specs.Manifest.{first_places}
-use Rattle.oci_manifest.proofs.Keys.{Decides-same_key, is_among-others, first_places-push, cases}
+use Rattle.oci_manifest.proofs.Keys.{Decides-same_key, is_among-others, first_places-push}
 use Rattle.oci_store.specs.Visiting.{with_key, with_keys}
 
 abbrev pub Keys : Type 0
@@ -62,7 +62,7 @@ among-append_cases (x ∷ xs) ys k h =
 pub among-filter : (p : Descriptor → Bool) (ks : Keys) (k : Descriptor) → is_among (filter p ks) k ≡ true → (p k ≡ true) × (is_among ks k ≡ true)
 among-filter p [] k h = cc h
 among-filter p (j ∷ ks) k h =
-    elim (cases (p j)) [
+    elim (cases_Bool (p j)) [
       | inr drops ↦
           let r = among-filter p ks k (rw drops at h) in
           (r.0, or_right (same_key j k) (is_among ks k) r.1)
@@ -117,7 +117,7 @@ among-flat_map f (i ∷ ks) k h =
 pub among-first_places : (ks : Keys) (k : Descriptor) → is_among (first_places ks) k ≡ is_among ks k
 among-first_places [] k = refl
 among-first_places (j ∷ ks) k =
-    elim (cases (same_key j k)) [
+    elim (cases_Bool (same_key j k)) [
       | inl same ↦ rw same refl
       | inr other ↦
           let rest : is_among (filter (λ o. not (same_key j o)) (first_places ks)) k ≡ is_among ks k = is_among-others j k (first_places ks) other ∙ among-first_places ks k in
@@ -140,7 +140,7 @@ pub with_keys-grows : (ks more : Keys) → (added : Keys) × (with_keys ks more 
 with_keys-grows ks [] = ([], sym (append-nil ks))
 with_keys-grows ks (k ∷ more) =
     let r = with_keys-grows (with_key ks k) more in
-    elim (cases (is_among ks k)) [
+    elim (cases_Bool (is_among ks k)) [
       | inl there ↦
           let e : with_key ks k ≡ ks = rw there refl in
           (r.0, r.1 ∙ ap (λ (t : Keys). t ++ r.0) e)
@@ -152,7 +152,7 @@ with_keys-grows ks (k ∷ more) =
 -- a key that was added is there, and so is each that was there before
 there-with_key : (ks : Keys) (k : Descriptor) → is_among (with_key ks k) k ≡ true
 there-with_key ks k =
-    elim (cases (is_among ks k)) [
+    elim (cases_Bool (is_among ks k)) [
       | inl there ↦
           let same : with_key ks k ≡ ks = rw there refl in
           subst (λ (t : Keys). is_among t k ≡ true) (sym same) there
@@ -179,7 +179,7 @@ there-with_keys ks (j ∷ more) k h =
 pub find-Some : (p : Descriptor → Bool) (ks : Keys) (k : Descriptor) → find p ks ≡ Some k → (p k ≡ true) × (is_among ks k ≡ true)
 find-Some p [] k h = cc h
 find-Some p (j ∷ ks) k h =
-    elim (cases (p j)) [
+    elim (cases_Bool (p j)) [
       | inl passes ↦
           let same : j ≡ k = cc (rw passes at h) in
           (subst (λ (x : Descriptor). p x ≡ true) same passes, or_left (same_key j k) (is_among ks k) ((Decides-same_key j k).1 same))
@@ -210,7 +210,7 @@ with_keys-append ks (x ∷ xs) ys = with_keys-append (with_key ks x) xs ys
 
 among-with_key : (ks : Keys) (k j : Descriptor) → is_among (with_key ks k) j ≡ true → (is_among ks j ≡ true) ⊎ (same_key k j ≡ true)
 among-with_key ks k j h =
-    elim (cases (is_among ks k)) [
+    elim (cases_Bool (is_among ks k)) [
       | inl there ↦ inl (rw there at h)
       | inr new ↦
           elim (among-append_cases ks (k ∷ []) j (rw new at h)) [
@@ -272,7 +272,7 @@ among_from_place (j ∷ ks) (suc i) k h = or_right (same_key j k) (is_among ks k
 pub place_from_among : (ks : Keys) (k : Descriptor) → is_among ks k ≡ true → (i : ℕ) × (slice_get ks i ≡ Some k)
 place_from_among [] k h = cc h
 place_from_among (j ∷ ks) k h =
-    elim (cases (same_key j k)) [
+    elim (cases_Bool (same_key j k)) [
       | inl same ↦ (zero, ap (λ (x : Descriptor). Some x) ((Decides-same_key j k).0 same))
       | inr other ↦
           let r = place_from_among ks k (rw other at h) in

@@ -11,13 +11,13 @@ use Rattle.std.specs.Ordering.{is_eq}
 use Rattle.std.proofs.lemmas.List.{take_more, take-append-drop}
 use Rattle.std.proofs.lemmas.List.Folds.{list_any-append}
 use Rattle.std.proofs.lemmas.Map.Views.{Contains-from_any, list_any-from_Contains, btree_set_contains_iff}
+use Rattle.std.proofs.lemmas.Bool.{cases_Bool}
 use Rattle.oci_manifest.specs.Descriptor.{Descriptor, same_key, key_cmp, is_among}
-use Rattle.oci_manifest.proofs.Keys.{cases}
 use Rattle.oci_store.specs.Graph.{Node, IsEdge}
 use Rattle.oci_store.specs.Before.{IsBefore}
 use Rattle.oci_store.specs.Predecessors.{lists_key, PredecessorLists, is_predecessor, ArePredecessors}
 use Rattle.oci_store.specs.Keyed.{value_at, has_key}
-use Rattle.oci_store.proofs.KeyOrder.{same_key_laws, key_cmp_total, is_eq-key_cmp, key_cmp_exact, tied, absent_parts, apart_too}
+use Rattle.oci_store.proofs.KeyOrder.{cond-or, same_key_laws, key_cmp_total, is_eq-key_cmp, key_cmp_exact, tied, absent_parts, apart_too}
 
 -- ---- truth values
 and_or-same : (b : Bool) → b ≡ (b || false)
@@ -43,7 +43,7 @@ in_more ks predecessor other = list_any-append (λ k. same_key k other) ks (pred
 in_less : (ks : List Descriptor) (predecessor other : Descriptor) → is_among (filter (λ k. not (same_key k predecessor)) ks) other ≡ (is_among ks other && not (same_key predecessor other))
 in_less [] predecessor other = refl
 in_less (k ∷ ks) predecessor other =
-    elim (cases (same_key k predecessor)) [
+    elim (cases_Bool (same_key k predecessor)) [
       | inl same ↦ rw same (in_less ks predecessor other ∙ gone (same_key k other) (same_key predecessor other) (is_among ks other) (ap (λ (d : Descriptor). same_key d other) (tied k predecessor same)))
       | inr apart ↦
           rw apart (ap (λ (b : Bool). same_key k other || b) (in_less ks predecessor other)
@@ -73,7 +73,7 @@ pub noted : (old new : PredecessorLists) (predecessor listed : Descriptor) (ks :
     → (other key : Descriptor) → is_predecessor new other key ≡ (is_predecessor old other key || (same_key predecessor other && same_key key listed))
 noted old new predecessor listed ks more updates was grown other key =
     ap (has_predecessor other) (updates.0 key) ∙ ap (λ (b : Bool). has_predecessor other (cond b (Some more) (get key_cmp old key))) (is_eq-key_cmp listed key ∙ same_key_laws.symm listed key)
-    ∙ elim (cases (same_key key listed)) [
+    ∙ elim (cases_Bool (same_key key listed)) [
       | inl same ↦
           let here : get key_cmp old key ≡ get key_cmp old listed = ap (get key_cmp old) (tied key listed same) in
           rw (same, here) (ap (λ (t : List Descriptor). is_among t other) grown ∙ in_more ks predecessor other ∙ ap (λ (b : Bool). b || same_key predecessor other) (sym (was other))
@@ -87,7 +87,7 @@ pub forgotten : (old new : PredecessorLists) (predecessor listed : Descriptor) (
     → (other key : Descriptor) → is_predecessor new other key ≡ (is_predecessor old other key && not (same_key predecessor other && same_key key listed))
 forgotten old new predecessor listed was less updates there shrunk other key =
     ap (has_predecessor other) (updates.0 key) ∙ ap (λ (b : Bool). has_predecessor other (cond b (Some less) (get key_cmp old key))) (is_eq-key_cmp listed key ∙ same_key_laws.symm listed key)
-    ∙ elim (cases (same_key key listed)) [
+    ∙ elim (cases_Bool (same_key key listed)) [
       | inl same ↦
           let here : get key_cmp old key ≡ Some was = ap (get key_cmp old) (tied key listed same) ∙ there in
           rw (same, here) (ap (λ (t : List Descriptor). is_among t other) shrunk ∙ in_less was.items predecessor other ∙ ap (λ (b : Bool). is_among was.items other && not b) (and_true (same_key predecessor other)))
@@ -99,7 +99,7 @@ pub unchanged : (old new : PredecessorLists) (listed : Descriptor) (was same : V
     → (other key : Descriptor) → is_predecessor new other key ≡ is_predecessor old other key
 unchanged old new listed was same updates there keys other key =
     ap (has_predecessor other) (updates.0 key) ∙ ap (λ (b : Bool). has_predecessor other (cond b (Some same) (get key_cmp old key))) (is_eq-key_cmp listed key ∙ same_key_laws.symm listed key)
-    ∙ elim (cases (same_key key listed)) [
+    ∙ elim (cases_Bool (same_key key listed)) [
       | inl here ↦
           let at : get key_cmp old key ≡ Some was = ap (get key_cmp old) (tied key listed here) ∙ there in
           rw (here, at) (ap (λ (t : List Descriptor). is_among t other) keys)
@@ -174,7 +174,8 @@ taken_back_at false true true false old more = cc (more refl)
 taken_back_at false true false b old more = refl
 taken_back_at false false a b old more = refl
 
--- some keys noted and then all of them forgotten is as it was, where the predecessor held nothing before
+-- some keys noted and then all of them forgotten is as it was, where the predecessor held nothing
+-- before
 pub taken_back : (old mid new : PredecessorLists) (predecessor : Descriptor) (listed : List Descriptor) (i : ℕ) → ((key : Descriptor) → is_predecessor old predecessor key ≡ false)
     → IsNotedAt old mid predecessor (take i listed) → IsForgottenAt mid new predecessor listed → (other key : Descriptor) → is_predecessor new other key ≡ is_predecessor old other key
 taken_back old mid new predecessor listed i fresh before after other key =
@@ -196,7 +197,7 @@ pub lists_key-push : (graph : List Node) (k : Descriptor) (ks : List Descriptor)
 lists_key-push [] k ks absent predecessor listed = elim (same_key k predecessor) as (λ b. option_map_or (λ keys. is_among keys listed) (cond b (Some ks) None) false ≡ (b && is_among ks listed)) [ true ↦ refl | false ↦ refl ]
 lists_key-push (n ∷ graph) k ks absent predecessor listed =
     let apart = absent_parts n graph k absent in
-    elim (cases (same_key n.0 predecessor)) [
+    elim (cases_Bool (same_key n.0 predecessor)) [
       | inl here ↦
           let other : same_key k predecessor ≡ false = apart_too n.0 k predecessor apart.0 here in
           rw (here, other) (and_or-same (is_among n.1 listed))
@@ -222,13 +223,7 @@ pub in_set-more : (ks : List Descriptor) (set more : BTreeSet Descriptor) (i : �
     → (other : Descriptor) → contains key_cmp more other ≡ is_among (take (i + 1) ks) other
 in_set-more ks set more i k lt is so_far grown other =
     grown other ∙ ap (λ (b : Bool). cond b true (contains key_cmp set other)) (is_eq-key_cmp k other ∙ same_key_laws.symm k other)
-    ∙ ap (λ (b : Bool). cond (same_key other k) true b) (so_far other) ∙ swap (same_key other k) (is_among (take i ks) other) ∙ sym (is_among-more ks i k other lt is)
-  where
-    swap : (a b : Bool) → cond a true b ≡ (b || a)
-    swap true true = refl
-    swap true false = refl
-    swap false true = refl
-    swap false false = refl
+    ∙ ap (λ (b : Bool). cond (same_key other k) true b) (so_far other) ∙ cond-or (same_key other k) (is_among (take i ks) other) ∙ sym (is_among-more ks i k other lt is)
 
 -- the keys of the set of a key's predecessors are its predecessors
 abbrev pub AreTold : PredecessorLists → Descriptor → List Descriptor → Type 0

@@ -3,9 +3,10 @@ use Rattle.std.proofs.Common.{◌≡◌, ℕ, zero, suc, Bool, true, false, cond
 use Rattle.std.specs.Prelude.{find}
 use Rattle.std.specs.List.{filter, flat_map, slice_get}
 use Rattle.std.proofs.lemmas.List.Concat.{flat_map-append}
+use Rattle.std.proofs.lemmas.Bool.{cases_Bool}
 use Rattle.oci_manifest.specs.Descriptor.{Descriptor, same_key, is_among}
 use Rattle.oci_manifest.specs.Manifest.{first_places}
-use Rattle.oci_manifest.proofs.Keys.{Decides-same_key, cases}
+use Rattle.oci_manifest.proofs.Keys.{Decides-same_key}
 use Rattle.oci_store.specs.Visiting.{candidates, next_visit}
 use Rattle.oci_store.proofs.Membership.{Keys, find_agree}
 
@@ -38,7 +39,7 @@ regrouped false b c = refl
 
 dropped : (p : Descriptor → Bool) (x : Descriptor) → p x ≡ false → (k : Descriptor) → (p k && not (same_key x k)) ≡ p k
 dropped p x drops k =
-    elim (cases (same_key x k)) [
+    elim (cases_Bool (same_key x k)) [
       | inl same ↦
           let e : p k ≡ false = subst (λ (y : Descriptor). p y ≡ false) ((Decides-same_key x k).0 same) drops in
           rw e refl
@@ -58,12 +59,13 @@ next_after p x ks ih (suc i) =
     let kept : Keys = filter (but p x) (first_places ks) in
     rw itself (find_agree (λ k. p k && not (same_key x k || is_among (take i kept) k)) (λ k. but p x k && not (is_among (take i kept) k)) (λ k. regrouped (p k) (same_key x k) (is_among (take i kept) k)) ks ∙ ih i)
 
--- The first key of a list that passes and is none of the first so many passing keys, each taken once, is the next of these.
+-- The first key of a list that passes and is none of the first so many passing keys, each taken
+-- once, is the next of these.
 next_place : (p : Descriptor → Bool) (ks : Keys) (i : ℕ) → find (λ k. p k && not (is_among (take i (filter p (first_places ks))) k)) ks ≡ slice_get (filter p (first_places ks)) i
 next_place p [] i = refl
 next_place p (x ∷ ks) i =
     let others = filter-filter p (λ o. not (same_key x o)) (first_places ks) in
-    elim (cases (p x)) [
+    elim (cases_Bool (p x)) [
       | inr drops ↦
           let same = others ∙ filter_same (but p x) p (dropped p x drops) (first_places ks) in
           let all : filter p (first_places (x ∷ ks)) ≡ filter p (first_places ks) = rw drops same in
@@ -77,8 +79,8 @@ pub first_places-all : (ks : Keys) → filter (λ _. true) ks ≡ ks
 first_places-all [] = refl
 first_places-all (k ∷ ks) = ap (λ (t : Keys). k ∷ t) (first_places-all ks)
 
--- Where the keys so far are the first places of the candidates that pass, what follows the first i of them is the next to
--- visit.
+-- Where the keys so far are the first places of the candidates that pass, what follows the first i
+-- of them is the next to visit.
 pub next_visit-at : (lists : Descriptor → Keys) (passes : Descriptor → Bool) (starts keys : Keys) (i : ℕ) → keys ≡ first_places (filter passes (candidates lists starts (take i keys)))
     → next_visit lists passes starts (take i keys) ≡ slice_get keys i
 next_visit-at lists passes starts keys i found =

@@ -8,8 +8,9 @@ use Rattle.std.specs.Cmp.Lexicographic.{slice_cmp}
 use Rattle.std.proofs.lemmas.List.{map-append}
 use Rattle.std.proofs.lemmas.Map.Text.{is_eq-slice_cmp}
 use Rattle.std.proofs.lemmas.Slice.Eq.{bytes_eq-Decides}
+use Rattle.std.proofs.lemmas.Bool.{cases_Bool}
 use Rattle.oci_manifest.specs.Descriptor.{Descriptor, same_key}
-use Rattle.oci_manifest.proofs.Keys.{Decides-same_key, cases}
+use Rattle.oci_manifest.proofs.Keys.{Decides-same_key}
 use Rattle.oci_store.specs.Content.{Entry}
 use Rattle.test_support.specs.Files.{Files, file_at, written, Changes}
 use Rattle.oci_store.specs.Keyed.{value_at, has_key}
@@ -27,7 +28,7 @@ has_key-written files (e ∷ graph) k = same_answer (same_key e.0 k) (file_at fi
 pub value_at-written : (files : Files) (graph : List Entry) (k : Descriptor) → has_key graph k ≡ true → value_at (written files graph) k ≡ Some (file_at files k.digest)
 value_at-written files [] k h = cc h
 value_at-written files (e ∷ graph) k h =
-    elim (cases (same_key e.0 k)) [
+    elim (cases_Bool (same_key e.0 k)) [
       | inl same ↦ rw same (ap (λ (other : Descriptor). Some (file_at files other.digest)) ((Decides-same_key e.0 k).0 same))
       | inr apart ↦ rw apart (value_at-written files graph k (rw apart at h))
     ]
@@ -42,7 +43,7 @@ value_at-from_file files graph k (Some x) e = λ h.
 
 stays : (old new : Files) (digest bytes q : List ℕ) → Changes old new digest bytes → (digest ≡ q → file_at old q ≡ bytes) → file_at new q ≡ file_at old q
 stays old new digest bytes q changes agrees =
-    elim (cases (is_eq (slice_cmp nat_cmp digest q))) [
+    elim (cases_Bool (is_eq (slice_cmp nat_cmp digest q))) [
       | inl same ↦
           let e : digest ≡ q = (bytes_eq-Decides digest q).0 (sym (is_eq-slice_cmp digest q) ∙ same) in
           ap (λ (o : Option (List ℕ)). unwrap_or o []) (rw same at (changes q)) ∙ sym (agrees e)
@@ -56,7 +57,7 @@ here old new digest bytes changes =
 
 has_key-more : (e : Entry) (graph : List Entry) (k : Descriptor) → has_key graph k ≡ true → has_key (e ∷ graph) k ≡ true
 has_key-more e graph k h =
-    elim (cases (same_key e.0 k)) [
+    elim (cases_Bool (same_key e.0 k)) [
       | inl same ↦ rw same refl
       | inr apart ↦ rw apart h
     ]
