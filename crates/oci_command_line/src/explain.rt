@@ -186,8 +186,8 @@ Memory ran out while workers ran.
 Give the process more memory, or use fewer workers.
 
 70 NoLayoutFile
-The folder is not an image layout: it does not exist, or has no file `oci-layout`.
-Check the path. Only `ocicp copy` creates a layout, and only as its destination.
+The folder or archive is not an image layout: it does not exist, or has no file `oci-layout`.
+Check the path. Only `ocicp copy` creates a layout, and only as its destination. `docker save` writes one since Docker 25.
 
 71 BadLayoutFile
 The file `oci-layout` is not a JSON object with a text `imageLayoutVersion`.
@@ -275,7 +275,39 @@ Check the path and the file's permissions.
 
 94 Output
 The output could not be written. If this was a copy, it is done and saved.
-Check where the output goes: the disk may be full, or the program that reads it may have ended.";
+Check where the output goes: the disk may be full, or the program that reads it may have ended.
+
+95 NotWritable
+The named path is a file, and `ocicp` writes only into folders. Nothing was changed.
+Copy into a folder. `tar -cf FILE -C FOLDER .` makes an archive of it.
+
+100 NotArchive
+The file does not begin as a tar archive.
+Give the folder of an image layout, or an uncompressed tar archive of one.
+
+101 Compressed
+The archive is compressed, in the named form.
+Decompress it first, for example with `gzip -d`, `zstd -d`, `xz -d` or `bzip2 -d`.
+
+102 BadHeader
+The header at this offset of the archive cannot be read: its checksum, a number or an extended header is wrong.
+The archive is damaged, or is not one from this offset on. Fetch it again from its origin.
+
+103 Truncated
+The member of the archive whose header is at this offset goes past the end of the file.
+The archive is cut off. Fetch it again from its origin.
+
+104 TooLong
+The extended header at this offset of the archive has more than 1048576 bytes.
+Write the archive again with another tool; no image needs such a header.
+
+105 Device
+The archive could not be read.
+Check the file and its permissions, and the disk.
+
+106 Memory
+Memory ran out while an archive was opened.
+Give the process more memory. `ocicp` itself prints `ocicp: memory` and ends with status 3.";
 
 /// Returns the explanation of a number, which begins with the number. `None` if no error has it.
 pub(crate) fn explanation(number: &str) -> Option<&'static str> {

@@ -18,6 +18,7 @@ mod selected;
 pub use between::copy_between;
 pub use copy::run_copy;
 pub use mem::run_mem;
+use oci_archive::ReadAt;
 use oci_layout::Lockable;
 pub use selected::Selected;
 use std::random::RandomSource;
@@ -26,10 +27,10 @@ use std::sync::Wait;
 use std::thread::Threads;
 use std::time::Clock;
 
-/// The runtime that the program needs: files that can be locked and that workers share, memory,
-/// random names for new files, a clock for the progress line, and threads. Each runtime that has
+/// The runtime that the program needs: files that can be locked, and read at positions by several
+/// workers, memory, random names for new files, a clock for the progress line, and threads. Each runtime that has
 /// these is a host.
-pub trait Host: Files<File: Lockable + Send, Dir: Send>
+pub trait Host: Files<File: Lockable + ReadAt + Send + Sync, Dir: Send>
     + AllocGlobal
     + RandomSource
     + Clock
@@ -39,6 +40,6 @@ pub trait Host: Files<File: Lockable + Send, Dir: Send>
 
 impl<R> Host for R
 where
-    R: Files<File: Lockable + Send, Dir: Send>,
+    R: Files<File: Lockable + ReadAt + Send + Sync, Dir: Send>,
     R: AllocGlobal + RandomSource + Clock + Threads + Wait + Sync,
 {}

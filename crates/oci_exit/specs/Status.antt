@@ -1,5 +1,8 @@
 -- The status that a run ends with, and the numbers of its fault.
 use Rattle.std.specs.Prelude.{ℕ, Bool, true, false, if◌then◌else◌, Option, Some, None}
+use Rattle.oci_archive.specs.Numbers.{archive_number}
+use Rattle.oci_archive.specs.declared.fault.ArchiveFault.{ArchiveFault}
+use Rattle.oci_archive.specs.declared.fault.ArchiveFault.TheVariants as archive
 use Rattle.oci_copy.specs.Fault.{number_of}
 use Rattle.oci_manifest.specs.Fault.{key_number_of}
 use Rattle.oci_manifest.specs.Fault.{number_of as manifest_number_of}
@@ -24,6 +27,11 @@ use Rattle.oci_exit.specs.declared.ending.Ending.{Ending}
 use Rattle.oci_exit.specs.declared.ending.Ending.TheVariants as ending
 use Rattle.oci_exit.specs.declared.fault.ProgramFault.{ProgramFault}
 use Rattle.oci_exit.specs.declared.fault.ProgramFault.TheVariants as fault
+
+-- whether the fault of an archive is a memory error
+abbrev pub is_archive_memory : ArchiveFault → Bool
+is_archive_memory archive.Memory = true
+is_archive_memory e = false
 
 -- whether the fault of a push is a memory error
 abbrev pub is_push_memory : PushFault → Bool
@@ -52,6 +60,7 @@ is_fetch_memory e = false
 
 -- whether a fault is a memory error, or has one in it
 abbrev pub is_memory : ProgramFault → Bool
+is_memory (fault.Archive e) = is_archive_memory e
 is_memory (fault.Push e) = is_push_memory e
 is_memory (fault.Copy e) = is_copy_memory e
 is_memory (fault.Layout e) = is_layout_memory e
@@ -82,6 +91,8 @@ abbrev pub program_number : ProgramFault → Option ℕ
 program_number (fault.BadItem item) = Some 92
 program_number (fault.File path) = Some 93
 program_number fault.Output = Some 94
+program_number (fault.NotWritable path) = Some 95
+program_number (fault.Archive e) = Some (archive_number e)
 program_number (fault.Key e) = Some (key_number_of e)
 program_number (fault.Push e) = Some (push_number e)
 program_number (fault.Copy e) = Some (number_of e)

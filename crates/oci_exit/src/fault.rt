@@ -3,6 +3,7 @@ ghost use Rattle.std.specs.IoError.{error_kind};
 ghost use Rattle.std.specs.declared.io.ErrorKind.TheVariants.{OutOfMemory};
 ghost use Rattle.oci_exit.specs.Status.{is_memory, program_number};
 
+use oci_archive::ArchiveFault;
 use oci_copy::CopyFault;
 use oci_digest::NoMemory;
 use oci_layout::LayoutFault;
@@ -24,6 +25,12 @@ pub enum ProgramFault {
     /// The output could not be written.
     #[error("94 Output")]
     Output,
+    /// The path of a layout to change is a file.
+    #[error("95 NotWritable {0}")]
+    NotWritable(String),
+    /// The file that a command reads is no archive, or could not be read.
+    #[error("{0}")]
+    Archive(#[from] ArchiveFault),
     /// The file is too long for a key.
     #[error("{0}")]
     Key(#[from] KeyFault),
@@ -62,11 +69,23 @@ impl ProgramFault {
         }
     }
 
+    /// Returns the fault of an archive that could not be opened with this error: `Memory` for
+    /// `OutOfMemory`, and otherwise `Device`.
+    pub fn of_archive(error: io::Error) -> ProgramFault
+        ensures { IsTrue (is_memory result) ↔ (error_kind error ≡ OutOfMemory) }
+    {
+        match error.kind() {
+            io::ErrorKind::OutOfMemory => ProgramFault::Archive(ArchiveFault::Memory),
+            _ => ProgramFault::Archive(ArchiveFault::Device),
+        }
+    }
+
     /// Whether memory ran out.
     pub fn is_memory(&self) -> bool
         ensures { result ≡ is_memory self.now }
     {
         match self {
+            ProgramFault::Archive(fault) => matches!(fault, ArchiveFault::Memory),
             ProgramFault::Push(fault) => matches!(fault, PushFault::Memory),
             ProgramFault::Copy(fault) => matches!(fault, CopyFault::Memory),
             ProgramFault::Layout(fault) => matches!(fault, LayoutFault::Memory),
@@ -86,6 +105,8 @@ impl ProgramFault {
             ProgramFault::BadItem(_) => Some(92),
             ProgramFault::File(_) => Some(93),
             ProgramFault::Output => Some(94),
+            ProgramFault::NotWritable(_) => Some(95),
+            ProgramFault::Archive(fault) => Some(fault.number()),
             ProgramFault::Key(fault) => Some(fault.number()),
             ProgramFault::Push(fault) => Some(fault.number()),
             ProgramFault::Copy(fault) => Some(fault.number()),

@@ -2,7 +2,7 @@
 //!
 //! | Type | What it is |
 //! |---|---|
-//! | [`ProgramFault`] | why a command is refused, by a fault from below or one of 92 to 94 |
+//! | [`ProgramFault`] | why a command is refused, by a fault from below or one of 92 to 95 |
 //! | [`Outcome`] | the result of a command that was not refused |
 //! | [`Ending`] | why a run ended early: an invalid command line, or a refused command |
 //! | [`Ended`] | how a run ended: its exit status, and its [`Refusal`] |

@@ -14,7 +14,7 @@ pub struct Refusal {
 pub enum Subject {
     /// The reference.
     Reference,
-    /// The folder of the layout that the command reads.
+    /// The folder or the archive of the layout that the command reads.
     Layout,
     /// The folder of a copy's destination.
     Destination,
@@ -39,7 +39,9 @@ impl ProgramFault {
 
     fn subject(&self) -> Subject {
         match self {
+            ProgramFault::Archive(_) => Subject::Layout,
             ProgramFault::Layout(_) => Subject::Layout,
+            ProgramFault::NotWritable(_) => Subject::Destination,
             ProgramFault::Destination(_) => Subject::Destination,
             ProgramFault::Reference(_) => Subject::Reference,
             _ => Subject::Unknown,

@@ -6,6 +6,7 @@
 #![tactic(auto)]
 
 mod meaning;
+mod place;
 mod process;
 mod run;
 

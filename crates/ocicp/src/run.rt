@@ -1,11 +1,11 @@
 ghost use Rattle.std.specs.Prelude.{◌≤◌};
 
 use crate::meaning::print_meaning;
+use crate::place::{Place, open_copy};
 use oci_command_line::{CommandLineFault, Request};
 use oci_copy_commands::{Host, run_copy, run_mem};
 use oci_exit::{Ended, Ending, Outcome, ProgramFault, finish_run, print_line};
 use oci_inspect::run_query;
-use oci_layout::FsDir;
 use oci_pool::MAX_WORKERS;
 use std::io::Write;
 
@@ -65,16 +65,19 @@ fn run_request<R: Host, W: Write, X: Write + Send>(
         Request::Text(text) => finish_run(print_text(text, out), out, err),
         Request::Explain(text) => finish_run(print_explanation(text, out), out, err),
         Request::Mem(words) => finish_run(run_mem(rt, words, out), out, err),
-        Request::Copy(words) => match (
-            FsDir::new(rt, words.source),
-            FsDir::new(rt, words.destination),
-        ) {
-            (Ok(source), Ok(destination)) => run_copy(rt, source, destination, words, out, err),
-            _ => finish_run(Err(ProgramFault::Memory), out, err),
+        Request::Copy(words) => match open_copy(rt, words) {
+            Ok((source, destination)) => match source {
+                Place::Folder(source) => run_copy(rt, source, destination, words, out, err),
+                Place::Archive(source) => run_copy(rt, source, destination, words, out, err),
+            },
+            Err(fault) => finish_run(Err(fault), out, err),
         },
-        Request::Query(folder, query) => match FsDir::new(rt, folder) {
-            Ok(dir) => run_query(rt.alloc(), dir, *query, out, err),
-            Err(_) => finish_run(Err(ProgramFault::Memory), out, err),
+        Request::Query(path, query) => match Place::open(rt, path) {
+            Ok(place) => match place {
+                Place::Folder(dir) => run_query(rt.alloc(), dir, *query, out, err),
+                Place::Archive(dir) => run_query(rt.alloc(), dir, *query, out, err),
+            },
+            Err(fault) => finish_run(Err(fault), out, err),
         },
     }
 }

@@ -10,7 +10,8 @@ Examples:
   ocicp copy --referrers build v1 mirror   copies also its signatures and SBOMs, and the indexes that list it
   ocicp copy --all --referrers build mirror    copies every tag, with the referrers of each
   ocicp copy --all --dry-run build mirror  prints the blobs that a copy of every tag would copy
-  ocicp copy --descend build v1 mirror     also restores blobs that `mirror` has lost";
+  ocicp copy --descend build v1 mirror     also restores blobs that `mirror` has lost
+  ocicp copy --all image.tar mirror        copies every tag of an archive, such as `docker save` writes";
 
 /// `copy [FLAGS] SRC SRCREF DST [DSTREF]` and `copy --all [FLAGS] SRC DST`
 pub(crate) fn copy_command<'w>(
@@ -65,7 +66,7 @@ fn with_folders<'w>(alloc: Global, command: Command<'w>) -> Result<Command<'w>, 
         alloc,
         "source",
         "SRC",
-        "The folder of the layout to copy from",
+        "The folder of the layout to copy from, or a tar archive of it",
     );
     let reference = required(
         alloc,

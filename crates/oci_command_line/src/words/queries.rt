@@ -4,7 +4,8 @@ use std::alloc::{AllocError, Global};
 
 /// `FOLDER`
 fn folder<'w>(alloc: Global) -> Arg<'w> {
-    required(alloc, "folder", "FOLDER", "The folder of an image layout")
+    let help = "The folder of an image layout, or a tar archive of one";
+    required(alloc, "folder", "FOLDER", help)
 }
 
 /// `REF`

@@ -38,7 +38,7 @@ fn meaning_of_a_refused_layout(rt: HostRuntime) -> Result<(), Fail> {
     let session = r"
 $ terminal copy @/N v1 @/L
 ocicp: 70 NoLayoutFile
-`@/N`: The folder is not an image layout: it does not exist, or has no file `oci-layout`. Run `ocicp explain 70` for what to do.
+`@/N`: The folder or archive is not an image layout: it does not exist, or has no file `oci-layout`. Run `ocicp explain 70` for what to do.
 
 $ ocicp copy @/L v1 @/R
 copied <M0>
@@ -67,6 +67,23 @@ ocicp: 73 BadIndex 10 NotJson
 
 ";
     assert_session_in(&rt, "meaning_of_a_refused_layout", IMAGE, session)
+}
+
+/// The line names the file that is refused: the source or the destination.
+#[test]
+fn meaning_of_a_refused_file(rt: HostRuntime) -> Result<(), Fail> {
+    let session = r"
+$ write @/file kept
+$ terminal tags @/file
+ocicp: 100 NotArchive
+`@/file`: The file does not begin as a tar archive. Run `ocicp explain 100` for what to do.
+
+$ terminal copy @/L v1 @/file
+ocicp: 95 NotWritable @/file
+`@/file`: The named path is a file, and `ocicp` writes only into folders. Run `ocicp explain 95` for what to do.
+
+";
+    assert_session_in(&rt, "meaning_of_a_refused_file", IMAGE, session)
 }
 
 /// The innermost number is explained. A run that was not refused has no such line.

@@ -46,19 +46,23 @@ no
     assert_session_in(&rt, "not_there", IMAGE, session)
 }
 
-/// A file in place of a folder, or in place of a folder above it, is unchanged.
+/// A file in place of a folder is read as an archive, and is not written. A file in place of a
+/// folder above is unchanged too.
 #[test]
 fn files_in_the_place_of_folders(rt: HostRuntime) -> Result<(), Fail> {
     let session = r"
 $ write @/file kept
 $ ocicp tags @/file
-! ocicp: 70 NoLayoutFile
+! ocicp: 100 NotArchive
 ? 1
 $ ocicp copy @/file v1 @/N
-! ocicp: 70 NoLayoutFile
+! ocicp: 100 NotArchive
 ? 1
-$ ocicp copy @/L v1 @/file
-! ocicp: 74 Device
+$ ocicp copy @/absent v1 @/file
+! ocicp: 95 NotWritable @/file
+? 1
+$ ocicp copy --dry-run @/L v1 @/file
+! ocicp: 95 NotWritable @/file
 ? 1
 $ ocicp copy @/L v1 @/file/N
 ! ocicp: 74 Device

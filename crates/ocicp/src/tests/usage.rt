@@ -37,7 +37,7 @@ verify L N
 
 #[test]
 fn version(rt: HostRuntime) -> Result<(), Fail> {
-    assert_runs(&rt, "", "$ ocicp --version\nocicp 0.4.0\n")
+    assert_runs(&rt, "", "$ ocicp --version\nocicp 0.5.0\n")
 }
 
 /// The output of `copy --help`, without the spaces at the ends of lines.
@@ -62,7 +62,7 @@ Usage: ocicp copy [OPTIONS] <SRC> <SRCREF> <DST> [DSTREF]
 
 Arguments:
   <SRC>
-          The folder of the layout to copy from
+          The folder of the layout to copy from, or a tar archive of it
 
   <SRCREF>
           A tag of SRC, or the digest of one of its blobs; left out with --all
@@ -112,7 +112,8 @@ Examples:
   ocicp copy --referrers build v1 mirror   copies also its signatures and SBOMs, and the indexes that list it
   ocicp copy --all --referrers build mirror    copies every tag, with the referrers of each
   ocicp copy --all --dry-run build mirror  prints the blobs that a copy of every tag would copy
-  ocicp copy --descend build v1 mirror     also restores blobs that `mirror` has lost";
+  ocicp copy --descend build v1 mirror     also restores blobs that `mirror` has lost
+  ocicp copy --all image.tar mirror        copies every tag of an archive, such as `docker save` writes";
 
 #[test]
 fn help_of_copy(rt: HostRuntime) -> Result<(), Fail> {

@@ -1,0 +1,62 @@
+use oci_archive::{ReadAt, TarDir};
+use oci_command_line::CopyWords;
+use oci_exit::ProgramFault;
+use oci_layout::FsDir;
+use std::fs;
+use std::rt::Files;
+
+/// The place of a layout that is read.
+#[derive(Drop)]
+pub(crate) enum Place<'r, R: Files + AllocGlobal> {
+    /// A folder, which need not exist.
+    Folder(FsDir<'r, R>),
+    /// A file, which is a tar archive.
+    Archive(TarDir<R::File>),
+}
+
+impl<'r, R: Files<File: ReadAt> + AllocGlobal> Place<'r, R> {
+    /// Opens the place at a path. A regular file, or a link to one, is opened as an archive.
+    /// Anything else is taken as a folder, and is not touched.
+    ///
+    /// # Errors
+    ///
+    /// - 100 to 105 if the file is not an archive or cannot be read.
+    /// - Out of memory, at any point.
+    pub(crate) fn open(rt: &'r R, path: &str) -> Result<Place<'r, R>, ProgramFault> {
+        if !is_file(rt, path) {
+            return Ok(Place::Folder(FsDir::new(rt, path)?));
+        }
+        match fs::File::open(rt, path) {
+            Ok(file) => Ok(Place::Archive(TarDir::open(rt.alloc(), file)?)),
+            Err(error) => Err(ProgramFault::of_archive(error)),
+        }
+    }
+}
+
+/// Opens the places of a copy: where it reads, and the folder into which it writes.
+///
+/// # Errors
+///
+/// - 95 `NotWritable` if the destination is a regular file, or a link to one. The source is not
+///   touched then.
+/// - 100 to 105 if the source is a file, and is not an archive or cannot be read.
+/// - Out of memory, at any point.
+pub(crate) fn open_copy<'r, R: Files<File: ReadAt> + AllocGlobal>(
+    rt: &'r R,
+    words: &CopyWords<'_>,
+) -> Result<(Place<'r, R>, FsDir<'r, R>), ProgramFault> {
+    if is_file(rt, words.destination) {
+        let path = String::from_str(rt.alloc(), words.destination)?;
+        return Err(ProgramFault::NotWritable(path));
+    }
+    let destination = FsDir::new(rt, words.destination)?;
+    Ok((Place::open(rt, words.source)?, destination))
+}
+
+/// Returns whether a path leads to a regular file.
+fn is_file<R: Files>(rt: &R, path: &str) -> bool {
+    match fs::metadata(rt, path) {
+        Ok(metadata) => metadata.is_file(),
+        Err(_) => false,
+    }
+}
