@@ -7,6 +7,7 @@ import functools
 import multiprocessing
 import os
 import shutil
+import tarfile
 from collections import namedtuple
 
 import refusals
@@ -27,6 +28,7 @@ CASES = {
     "copy by 3 workers": Case(["copy", "--workers", "3", *COPY], TWO_IMAGES, {"new": I1}, {"old": OLD}),
     "copy into a folder that is not there": Case(["copy", *COPY], TWO_IMAGES, {"new": I1}),
     "copy with referrers": Case(["copy", "--referrers", *COPY], REFERRERS, {"new": M2, "signature": S, "index": I4}, {"old": OLD}),
+    "copy from an archive": Case(["copy", "source.tar", "new", "copied"], TWO_IMAGES, {"new": I1}, {"old": OLD}),
     "verify": Case(["verify", "source"], TWO_IMAGES, {"new": I1}),
     "mem": Case(["mem", *["%s=source/%s" % (it.media_type, blob(it)) for it in TWO_IMAGES]], TWO_IMAGES, {"new": I1}),
 }
@@ -38,6 +40,9 @@ def fresh(folder, case):
     if not os.path.exists(folder):
         os.mkdir(folder)
         write_layout(folder + "/source", case.contents, case.names)
+        # (Python writes an extended header before each member, for its time)
+        with tarfile.open(folder + "/source.tar", "w", format=tarfile.PAX_FORMAT) as archive:
+            archive.add(folder + "/source", ".")
     if case.old:
         write_layout(folder + "/copied", case.old.values(), case.old)
 

@@ -1,0 +1,313 @@
+"""Tar archives in the place of folders: each command answers as it does of the folder, and what is damaged is refused."""
+import functools
+import hashlib
+import json
+import os
+import shutil
+import subprocess
+import tarfile
+
+from harmful_folders import CONTENTS, FROM, PLAIN, PLAIN_TAGS, answers_to, fresh, read, wrong_copy
+from layouts import BAR, E, FOO, I1, IMAGE, LAYER, M2, M3, NAME, S, Content, blob, descriptor, digits, image, index, write_layout
+from odd_archives import PLACES, allowed, damaged, each, headers_for_long_names
+from program import first, leftovers, run, told, wrong_layout
+from tar_files import BLOCK, END, base256, extended, header, member
+
+# `SRC` stands for the folder or the archive, and `DST` for the folder that is copied into.
+LOOKS = [
+    "tags SRC",
+    "verify SRC",
+    "resolve SRC one",
+    "resolve SRC sha256:" + digits(M3),
+    "predecessors SRC one",
+    "tree --referrers SRC new",
+]
+COPIES = [
+    "copy SRC new DST",
+    "copy --workers 3 SRC one DST other",
+    "copy --all SRC DST",
+    "copy --all --workers 3 SRC DST",
+    "copy --referrers SRC new DST",
+    "copy --referrers --workers 3 SRC new DST",
+]
+ALL = [*LOOKS, *COPIES, "copy --dry-run SRC new DST", "copy --all --referrers --dry-run SRC DST"]
+# For archives of which there are many. (By one worker, since a copy by more that is refused may leave one or another blob.)
+FEW = ["verify SRC", "copy --all --workers 1 SRC DST"]
+REFUSED = ["tags SRC", "copy --all SRC DST"]
+ONTO_FILES = [
+    *("copy %s%s DST" % (flags, source) for flags in ("", "--dry-run ", "--referrers ") for source in ("short new", "short lost", "lost new")),
+    "copy kept.tar new DST",
+    "copy broken.tar new DST",
+    "copy --all --workers 3 short DST",
+    "copy --all --dry-run short DST",
+    "copy --all lost DST",
+]
+
+# The formats of GNU tar and of Python, and which layout each can hold: names in `long` have over 100 characters.
+OF_TAR = {"v7": "short", "ustar": "short", "pax": "long", "gnu": "long", "oldgnu": "long"}
+OF_PYTHON = {"USTAR": "short", "GNU": "long", "PAX": "long"}
+LARGE = Content(LAYER, b"a layer of some blocks. " * 60)
+LARGER = image([LARGE])
+CONTENTS_OF_SHORT = [E, FOO, BAR, LARGE, M2, M3, I1, S, LARGER]
+HUGE = 1 << 40
+NOBODY = {"user": 65534, "group": 65534, "extra_groups": []}
+
+
+def write(path, written):
+    with open(path, "wb") as file:
+        file.write(written)
+
+
+def write_short(folder):
+    write_layout(folder, CONTENTS_OF_SHORT, {"new": I1, "one": M2, "sig": S, "large": LARGER})
+    write(folder + "/manifest.json", b'[{"Config":"of no matter here"}]')
+
+
+def write_long(folder):
+    """A layout that has also an image by digests of sha512."""
+    write_short(folder)
+    os.mkdir(folder + "/blobs/sha512")
+    layer = put_long(folder, Content(LAYER, b"long " * 20000))
+    text = '{"schemaVersion":2,"mediaType":"%s","config":%s,"layers":[%s]}' % (IMAGE, descriptor(E), layer)
+    entry = dict(json.loads(put_long(folder, Content(IMAGE, text.encode()))), annotations={NAME: "long"})
+    whole = json.loads(read(folder + "/index.json"))
+    whole["manifests"].append(entry)
+    write(folder + "/index.json", json.dumps(whole).encode())
+
+
+def put_long(folder, content):
+    """Writes a content into a layout by its digest of sha512, and gives its descriptor."""
+    name = hashlib.sha512(content.bytes).hexdigest()
+    write("%s/blobs/sha512/%s" % (folder, name), content.bytes)
+    return '{"mediaType":"%s","digest":"sha512:%s","size":%d}' % (content.media_type, name, len(content.bytes))
+
+
+def sums(folder):
+    """The files below a folder, each with the sum of its bytes, or none if there is no such folder."""
+    paths = [os.path.join(at, name) for at, _, names in os.walk(folder) for name in names]
+    return {os.path.relpath(it, folder): hashlib.sha256(read(it)).hexdigest() for it in paths} if os.path.isdir(folder) else None
+
+
+def files_of(folder):
+    """The files of a layout, each with its path in it: those at its root, and then the blobs."""
+    paths = sorted(sums(folder), key=lambda it: (it.startswith("blobs"), it))
+    return [(it.encode(), read("%s/%s" % (folder, it))) for it in paths]
+
+
+def answer(room, source, command):
+    """How a command with this source ended, and the files that it copied."""
+    shutil.rmtree(room + "/copied", ignore_errors=True)
+    named = {"SRC": source, "DST": "copied"}
+    ended = run([named.get(it, it) for it in command.split()], room)
+    return ended, sums(room + "/copied")
+
+
+# The folder of a name is the same each time.
+answer_of_folder = functools.lru_cache(maxsize=None)(answer)
+
+
+def wrong_command(room, archive, folder, command):
+    (ended, copied), (wanted, files) = answer(room, archive, command), answer_of_folder(room, folder, command)
+    if ended[:3] != wanted[:3]:
+        return "%s: %s; and of the folder: %s" % (command, told(ended), told(wanted))
+    if copied != files:
+        return "%s: the copy has other files than that of the folder" % command
+
+
+def wrong_archive(room, archive, folder, commands):
+    """What is wrong with an archive of which each command is to answer as of the folder. It stays as it was."""
+    before = read("%s/%s" % (room, archive))
+    return first([
+        first(wrong_command(room, archive, folder, it) for it in commands),
+        None if read("%s/%s" % (room, archive)) == before else "the archive is not as it was",
+    ])
+
+
+def wrong_by_hand(room, written, folder):
+    write(room + "/by-hand.tar", written)
+    return wrong_archive(room, "by-hand.tar", folder, FEW)
+
+
+def wrong_refusal(room, written, line, commands=REFUSED):
+    """What is wrong with how an archive is refused, which is to be with this line or with one of these, and to change nothing."""
+    write(room + "/by-hand.tar", written)
+    lines = [line] if isinstance(line, str) else line
+    for command in commands:
+        ended, copied = answer(room, "by-hand.tar", command)
+        if ended[:2] != (1, "") or ended.err not in ["ocicp: %s\n" % it for it in lines]:
+            return "%s: %s; and not %s" % (command, told(ended), " or ".join(lines))
+        if copied is not None:
+            return "%s: there is a folder for the copy" % command
+    return None if read(room + "/by-hand.tar") == written else "the archive is not as it was"
+
+
+def wrong_folder(room, folder):
+    """What is wrong with a folder of which each command is to succeed."""
+    for command in ALL:
+        ended, files = answer_of_folder(room, folder, command)
+        if ended.status or ended.err or not ended.out or bool(files) != (command in COPIES):
+            return "%s: %s" % (command, told(ended))
+
+
+def by_archivers(room):
+    """Archives of GNU tar and of Python, of the folder itself and of the names in it."""
+    is_gnu = shutil.which("tar") and b"GNU tar" in subprocess.run(["tar", "--version"], capture_output=True).stdout
+    if not is_gnu:
+        yield "archives of GNU tar are not looked at, since it is not here", None
+    made = [("tar", form, folder) for form, folder in OF_TAR.items() if is_gnu]
+    made += [("Python", form, folder) for form, folder in OF_PYTHON.items()]
+    for program, form, folder in made:
+        for names in ["."], sorted(os.listdir("%s/%s" % (room, folder))):
+            if program == "tar":
+                subprocess.run(["tar", "--format=" + form, "-cf", "made.tar", "-C", folder, *names], cwd=room, check=True)
+            else:
+                pack("%s/made.tar" % room, "%s/%s" % (room, folder), names, getattr(tarfile, form + "_FORMAT"))
+            yield "%s of %s, %s" % (form, program, " ".join(names)), wrong_archive(room, "made.tar", folder, ALL)
+    os.symlink("made.tar", room + "/link.tar")
+    yield "a link to an archive", wrong_archive(room, "link.tar", folder, ALL)
+
+
+def pack(path, folder, names, form):
+    with tarfile.open(path, "w", format=form) as archive:
+        for name in names:
+            archive.add("%s/%s" % (folder, name), name)
+
+
+def by_hand(room):
+    """Archives that no archiver makes, of a layout and of layouts that lack a file or have another one."""
+    files = files_of(room + "/short")
+    for label, written in allowed(files):
+        yield label, wrong_by_hand(room, written, "short")
+    for label, written in headers_for_long_names(files_of(room + "/long")):
+        yield label + " of over 100 characters", wrong_by_hand(room, written, "long")
+    for name in "oci-layout", "index.json", blob(FOO), blob(M2):
+        path = name.encode()
+        without = changed_folder(room, name, None)
+        for other in b"/" + path, b"../" + path, b"blobs/../" + path, b"././" + path:
+            written = each(files, lambda it, content: member(other if it == path else it, content))
+            yield "%s in the place of %s" % (other.decode(), name), wrong_by_hand(room, written, without)
+        for content in b"[", b"{}", b"bar":
+            written = each(files) + member(path, content)
+            yield "%r, and last, in the place of %s" % (content, name), wrong_by_hand(room, written, changed_folder(room, name, content))
+    nothing = {"no bytes": b"", "a block of zeros": bytes(BLOCK), "zeros and a text": bytes(BLOCK) + b"a text" * 99}
+    for label, written in {**nothing, "files behind the end": END + each(files)}.items():
+        yield label, wrong_refusal(room, written, "70 NoLayoutFile")
+
+
+def changed_folder(room, path, content):
+    """The name of a new folder of the short layout in which a file is gone or has this content."""
+    name = ("%s %s" % (path, content)).replace("/", " ")
+    write_short("%s/%s" % (room, name))
+    changed = "%s/%s/%s" % (room, name, path)
+    os.remove(changed)
+    if content is not None:
+        write(changed, content)
+    return name
+
+
+def wrong_place(room, file, make, harm="a folder", length=0):
+    """What is wrong with a copy from an archive in which something that `make` makes is last and in the place of a file, and is to act
+    as that harm does. So many zeros follow it."""
+    fresh(room, PLAIN, PLAIN_TAGS)
+    path = (blob(CONTENTS[file]) if file in CONTENTS else file).encode()
+    files = dict(files_of(room + "/source"))
+    written = member(b"other", files.pop(path)) + each(files.items()) + make(path)
+    shutil.rmtree(room + "/source")
+    write(room + "/source", written)
+    os.truncate(room + "/source", len(written) + length)
+    return first([
+        wrong_copy(room, answers_to(FROM, file, harm)),
+        wrong_layout(room, "copied", PLAIN, PLAIN_TAGS),
+        leftovers(room + "/copied", [*PLAIN, E, FOO]),
+    ])
+
+
+def places(room):
+    """Archives in which what is no file, or a huge one, is in the place of a file."""
+    for file in FROM:
+        for what, make in PLACES.items():
+            yield "%s in the place of %s" % (what, file), wrong_place(room + "/room", file, make)
+        huge = lambda path: header(path, base256(HUGE))
+        yield "1 TB in the place of %s" % file, wrong_place(room + "/room", file, huge, "a sparse file of 1 TB", HUGE)
+
+
+def huge(room):
+    """Archives that have a member of 1 TB before all others."""
+    files = each(files_of(room + "/short"))
+    sizes = {"base 256": header(b"other", base256(HUGE)), "pax": extended((b"size", b"%d" % HUGE)) + header(b"other")}
+    for label, start in sizes.items():
+        with open(room + "/huge.tar", "wb") as file:
+            file.write(start)
+            file.seek(HUGE, os.SEEK_CUR)
+            file.write(files)
+        wrong = first(wrong_command(room, "huge.tar", "short", it) for it in FEW)
+        yield "a member of 1 TB before the others, by %s" % label, wrong
+    os.truncate(room + "/huge.tar", 0)
+    os.truncate(room + "/huge.tar", HUGE)
+    ended = run(["tags", "huge.tar"], room)
+    yield "1 TB of zeros", None if ended[:3] == (1, "", "ocicp: 70 NoLayoutFile\n") else told(ended)
+
+
+def refused(room):
+    """Damaged archives, files that are none, and one that cannot be read. What is no file is a folder without a layout."""
+    for label, written, line in damaged(files_of(room + "/short")):
+        yield label, wrong_refusal(room, written, line)
+    yield "each command with a damaged archive", wrong_refusal(room, b"no archive", "100 NotArchive", ALL)
+    os.mkfifo(room + "/fifo")
+    for path in "fifo", "/dev/null", "/dev/zero":
+        ended = run(["tags", path], room)
+        yield "%s is no archive" % path, None if ended[:3] == (1, "", "ocicp: 70 NoLayoutFile\n") else told(ended)
+    yield unreadable(room)
+
+
+def unreadable(room):
+    """The check of a file that may not be read, as another user if this one may read each file."""
+    path = room + "/unreadable.tar"
+    write(path, END)
+    os.chmod(path, 0)
+    os.chmod(room, 0o711)
+    try:
+        ends = [run(words, room, **(NOBODY if os.access(path, os.R_OK) else {})) for words in (["tags", path], ["copy", "--all", path, "copied"])]
+    except OSError:
+        return "a file that may not be read is not looked at, since no other user can run the program here", None
+    return "a file that may not be read", first(None if it[:3] == (1, "", "ocicp: 105 Device\n") else told(it) for it in ends)
+
+
+def onto_files(room):
+    """Copies onto files, of which none is changed, whatever the source is."""
+    archive = each(files_of(room + "/short")) + END
+    for name, written in ("kept.tar", archive), ("kept", b"a text\n"), ("empty", b""), ("broken.tar", b"no archive"):
+        write("%s/%s" % (room, name), written)
+    os.symlink("kept.tar", room + "/kept.link")
+    for path in "kept.tar", "./kept", "empty", "kept.link", room + "/kept.tar":
+        yield "a copy onto %s" % path.replace(room, "ROOM"), first(wrong_onto(room, path, it) for it in ONTO_FILES)
+
+
+def wrong_onto(room, path, command):
+    whole = os.path.join(room, path)
+    before = read(whole), os.path.islink(whole), sorted(os.listdir(room))
+    ended = run([path if it == "DST" else it for it in command.split()], room)
+    if ended[:3] != (1, "", "ocicp: 95 NotWritable %s\n" % path):
+        return "%s: %s" % (command, told(ended))
+    if (read(whole), os.path.islink(whole), sorted(os.listdir(room))) != before:
+        return "%s: a file is not as it was" % command
+
+
+def by_workers(room):
+    """An archive of many layers that are read at once."""
+    layers = [Content(LAYER, os.urandom(300 << 10)) for _ in range(50)]
+    images = [image(layers[start:start + 10]) for start in range(0, 50, 10)]
+    write_layout(room + "/many", [E, *layers, *images, index(images)], {"new": index(images)})
+    pack(room + "/many.tar", room + "/many", ["."], tarfile.GNU_FORMAT)
+    for command in "copy --workers 8 SRC new DST", "copy --all --workers 64 SRC DST", "verify SRC":
+        yield "50 layers, %s" % command, wrong_command(room, "many.tar", "many", command)
+
+
+def checks(room):
+    write_short(room + "/short")
+    write_long(room + "/long")
+    for folder in "short", "long":
+        yield "the folder %s itself" % folder, wrong_folder(room, folder)
+    # (`places` before all that makes this process large: the memory of a run counts what its parent has)
+    for group in places, by_archivers, by_hand, huge, refused, onto_files, by_workers:
+        yield from group(room)
