@@ -22,14 +22,14 @@ use Rattle.oci_manifest.proofs.Members.{all_keys-sound, all_keys-complete, all_k
 
 -- ---- the bytes
 
-reading-sound : (bytes : List ℕ) (v : Data) → reading bytes ≡ Some v → HasReading bytes v
+pub reading-sound : (bytes : List ℕ) (v : Data) → reading bytes ≡ Some v → HasReading bytes v
 reading-sound bytes v h =
     elim (cases_Bool (is_utf8 bytes)) [
       | inl text ↦ (IsUtf8-from_is_utf8 bytes text, rw text at h)
       | inr garbled ↦ cc (rw garbled at h)
     ]
 
-reading-complete : (bytes : List ℕ) (v : Data) → HasReading bytes v → reading bytes ≡ Some v
+pub reading-complete : (bytes : List ℕ) (v : Data) → HasReading bytes v → reading bytes ≡ Some v
 reading-complete bytes v h =
     let text = is_utf8-from_IsUtf8 bytes h.0 in
     rw text h.1

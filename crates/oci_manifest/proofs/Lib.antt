@@ -5,3 +5,4 @@ pub mod Steps
 pub mod Descriptors
 pub mod Members
 pub mod Laws
+pub mod Subjects

@@ -19,7 +19,8 @@
 //! matched exactly. If a member is repeated, `serde_json` decides which value counts. Layers of the
 //! four types that are not distributed are not successors.
 //!
-//! [`artifact_type`] returns the type that a manifest declares.
+//! [`artifact_type`] returns the type that a manifest declares, and [`subject`] the key of the
+//! manifest that it refers to.
 //!
 //! Manifests come from untrusted sources, so every input has a defined result: the keys, or a
 //! [`ManifestFault`] that names the first broken rule. The time is linear in the length of the
@@ -43,5 +44,6 @@ pub use fault::{KeyFault, ManifestFault};
 pub use key::{Key, MAX_SIZE};
 pub use kind::Kind;
 pub use manifest::{
-    artifact_type, index_keys, read_json, successors, successors_are_what_is_listed,
+    artifact_type, index_keys, read_json, subject, subject_is_what_is_stated, successors,
+    successors_are_what_is_listed,
 };

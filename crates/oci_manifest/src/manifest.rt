@@ -12,6 +12,7 @@ mod artifact;
 mod descriptor;
 mod distinct;
 mod member;
+mod referrer;
 
 use crate::fault::ManifestFault;
 use crate::key::Key;
@@ -22,6 +23,7 @@ use member::{fields, push_fields, push_manifests};
 use oci_digest::NoMemory;
 use serde_json::Value;
 use std::alloc::Global;
+pub use referrer::{subject, subject_is_what_is_stated};
 
 /// Reads the bytes as JSON.
 ///

@@ -12,7 +12,7 @@ use std::alloc::Global;
 /// Returns the key of the descriptor in `value` (OCI image-spec 1.1, descriptor.md, "Properties"),
 /// or `None` if `value` is not a descriptor.
 #[tactic(auto, unfolding(crate::specs::Reading::descriptor_of))]
-fn key_of(alloc: Global, value: &Value) -> Result<Option<Key>, NoMemory>
+pub(crate) fn key_of(alloc: Global, value: &Value) -> Result<Option<Key>, NoMemory>
     ensures { IfOk result (λ found. found ≡ descriptor_of (view value.now)) }
 {
     let Some(media_type) = value.get("mediaType").and_then(Value::as_str) else {

@@ -46,7 +46,7 @@ pub(crate) fn fields(kind: Kind) -> &'static [Field]
 }
 
 /// Returns the member with this name, unless it is null.
-fn present<'v>(manifest: &'v Value, name: &str) -> Option<&'v Value>
+pub(crate) fn present<'v>(manifest: &'v Value, name: &str) -> Option<&'v Value>
     ensures { option_map (λ v. view v.now) result ≡ member_of (view manifest.now) name.now }
 {
     let value = manifest.get(name)?;
