@@ -14,7 +14,6 @@ use Rattle.oci_store.specs.Parts.{IsLeaf, IsPart, IsBeginning, IsReading, IsDraf
 use Rattle.oci_store.specs.Push.{already_exists, closed_check, Answers, Refused, IsPlain}
 use Rattle.oci_store.specs.State.{State}
 use Rattle.oci_store.specs.declared.fault.PushFault.{PushFault}
-use Rattle.oci_store.specs.declared.fault.PushFault.TheVariants as fault
 use Rattle.std.proofs.lemmas.List.Elements.{All-nil}
 use Rattle.std.proofs.lemmas.Bool.{cases_Bool}
 use Rattle.oci_store.proofs.Checks.{closed_check-held, closed_check-fresh, plain_no_device, plain_no_halt}

@@ -1,4 +1,4 @@
-ghost use Rattle.std.specs.Prelude.{◌≡◌, ◌≢◌, ◌↔◌, [], true, false, IfOk, OnOk, OnErr, IsErrOf, IfSome, MatchOption};
+ghost use Rattle.std.specs.Prelude.{◌≡◌, ◌≢◌, ◌↔◌, [], true, false, None, Some, IfOk, OnOk, OnErr, IsErrOf, IfNone, IfSome, MatchOption};
 ghost use Rattle.std.specs.Cmp.Lexicographic.{slice_cmp};
 ghost use Rattle.std.specs.List.Sorted.{IsStrictlySortedBy};
 ghost use Rattle.std.specs.Map.{keys_of};
@@ -7,7 +7,7 @@ ghost use Rattle.std.specs.Ordering.{nat_cmp};
 ghost use Rattle.oci_digest.specs.Digest.{is_digest};
 ghost use Rattle.oci_manifest.specs.Descriptor.{Descriptor};
 ghost use Rattle.oci_store.specs.Keyed.{has_key};
-ghost use Rattle.oci_store.specs.Tags.{by_bytes, set_tag, tag_at, AreNames, IsResolved, Resolves};
+ghost use Rattle.oci_store.specs.Tags.{by_bytes, set_tag, tag_at, without_tag, AreNames, IsResolved, Resolves};
 
 use crate::fault::RefFault;
 use crate::graph::Graph;
@@ -108,6 +108,43 @@ impl Tags {
             return Err(RefFault::NotHeld);
         }
         Ok(self.set(name, key)?)
+    }
+
+    /// Removes a tag, and returns the key that it named.
+    ///
+    /// # Errors
+    ///
+    /// - 35 `EmptyReference`: the name is empty. Checked first.
+    /// - 36 `UnknownReference`: there is no such tag. The text of a digest is not one.
+    ///
+    /// An error changes nothing. Does not allocate.
+    pub fn untag(&mut self, graph: &Graph, name: &str) -> Result<Key, RefFault>
+        requires names { AreNames graph.now self.old }
+        ensures named { IfOk result (λ key. tag_at self.old name.now ≡ Some key) }
+        ensures untagged { OnOk result (self.new ≡ without_tag self.old name.now) }
+        ensures refused { OnErr result (self.new ≡ self.old) }
+        ensures names { AreNames graph.now self.new }
+        ensures empty { IsErrOf result RefFault.EmptyReference ↔ (name.now ≡ []) }
+        ensures unknown { IsErrOf result RefFault.UnknownReference
+            ↔ ((name.now ≢ []) × (tag_at self.old name.now ≡ None)) }
+        ensures held { IsErrOf result RefFault.NotHeld → ⊥ }
+        ensures memory { IsErrOf result RefFault.Memory → ⊥ }
+    {
+        match name {
+            "" => Err(RefFault::EmptyReference),
+            name => self.remove(name).ok_or(RefFault::UnknownReference),
+        }
+    }
+
+    /// Removes a tag. Returns the key that it named.
+    fn remove(&mut self, name: &str) -> Option<Key>
+        ensures named { result ≡ tag_at self.old name.now }
+        ensures removed { self.new ≡ without_tag self.old name.now }
+        ensures unchanged { IfNone result (self.new ≡ self.old) }
+    {
+        // The contract of `len` states that the names are in order.
+        let _ = self.keys.len();
+        self.keys.remove(name)
     }
 
     /// Returns the key that a reference resolves to. A tag with that name has precedence.
