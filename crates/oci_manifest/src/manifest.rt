@@ -21,9 +21,9 @@ pub use artifact::artifact_type;
 use distinct::keep_distributed;
 use member::{fields, push_fields, push_manifests};
 use oci_digest::NoMemory;
+pub use referrer::{subject, subject_is_what_is_stated};
 use serde_json::Value;
 use std::alloc::Global;
-pub use referrer::{subject, subject_is_what_is_stated};
 
 /// Reads the bytes as JSON.
 ///
