@@ -1,8 +1,10 @@
-ghost use Rattle.std.specs.Prelude.{◌≡◌, ◌⊎◌, [], IfOk, IfErr};
+ghost use Rattle.std.specs.Prelude.{◌≡◌, ◌⊎◌, [], false, IfOk, IfErr};
+ghost use Rattle.std.specs.List.{All};
 ghost use Rattle.oci_layout.specs.Blobs.{HasMatchingFiles, IsSound};
 ghost use Rattle.oci_layout.specs.Created.{IsCreated, IsNotCreated};
 ghost use Rattle.oci_layout.specs.Opened.{IsOpened};
 ghost use Rattle.oci_layout.specs.Refusal.{IsOpenFault};
+ghost use Rattle.oci_store.specs.Keyed.{has_key};
 
 use crate::dir::Dir;
 use crate::fault::LayoutFault;
@@ -19,9 +21,11 @@ impl<D: Dir> Layout<D> {
     /// `create`: the directory is then as `create` left it.
     pub fn open_or_create(alloc: Global, dir: D) -> Result<Layout<D>, (D, LayoutFault)>
         ensures layout { IfOk result (λ layout. ((layout.0 ≡ dir)
-            × ((D.device dir).is_honest → IsOpened (D.device dir).file layout.1 layout.2))
+            × ((D.device dir).is_honest → IsOpened (D.device dir).file layout.1 layout.2
+            layout.3))
             ⊎ (IsCreated (D.device dir) (D.device layout.0)
-            × (layout.1 ≡ []) × (layout.2 ≡ []))) }
+            × (layout.1 ≡ []) × (layout.2 ≡ []) × (layout.3 ≡ []))) }
+        ensures absent { IfOk result (λ layout. All (λ k. has_key layout.1 k ≡ false) layout.3) }
         ensures sound { IfOk result (λ layout. (D.device dir).is_honest
             → HasMatchingFiles (D.device layout.0).file layout.1
             → IsSound (D.device layout.0).is_honest (D.device layout.0).file layout.1) }
