@@ -1,6 +1,7 @@
 use crate::fault::DirFault;
 use crate::fs_dir::files::{failed, is_absence};
 use crate::fs_dir::lock::Lockable;
+use std::fs::OpenFile;
 use std::io::ErrorKind;
 use std::rt::Files;
 use std::{fs, io};
@@ -75,13 +76,14 @@ where
     R::File: Lockable,
 {
     match leftovers(rt, folder, room) {
-        Ok(paths) => remove(rt, &paths),
+        Ok(paths) => remove(rt, folder, &paths),
         Err(error) if is_absence(&error) => Ok(()),
         Err(error) => Err(failed(&error)),
     }
 }
 
-/// Returns the paths of these files in one folder. Does not look for blobs through a link.
+/// Returns the paths of these files in one folder, from the folder of the layout. Does not look for
+/// blobs through a link.
 fn leftovers<R: Files + AllocGlobal>(rt: &R, folder: &str, room: Room) -> io::Result<Vec<String>> {
     let mut paths = Vec::new(rt.alloc());
     if is_linked(rt, folder, room)? {
@@ -90,7 +92,7 @@ fn leftovers<R: Files + AllocGlobal>(rt: &R, folder: &str, room: Room) -> io::Re
     for entry in fs::read_dir(&rt, path_below(rt, folder, room.path())?.as_str())? {
         match entry {
             Ok(entry) if room.is_leftover(entry.file_name()) => {
-                paths.push(String::from_str(rt.alloc(), entry.path().as_str())?)?;
+                paths.push(path_in(rt, room, entry.file_name())?)?;
             }
             Ok(_) => {}
             // Files that are written beside others have names in UTF-8.
@@ -109,6 +111,14 @@ fn is_linked<R: Files + AllocGlobal>(rt: &R, folder: &str, room: Room) -> io::Re
     }
 }
 
+/// Returns the path of a file in one folder, from the folder of the layout.
+fn path_in<R: AllocGlobal>(rt: &R, room: Room, name: &str) -> io::Result<String> {
+    match room {
+        Room::Top => Ok(String::from_str(rt.alloc(), name)?),
+        _ => path_below(rt, room.path(), name),
+    }
+}
+
 fn is_link<R: Files + AllocGlobal>(rt: &R, folder: &str, path: &str) -> io::Result<bool> {
     Ok(fs::symlink_metadata(rt, path_below(rt, folder, path)?.as_str())?.is_symlink())
 }
@@ -117,14 +127,14 @@ fn path_below<R: AllocGlobal>(rt: &R, folder: &str, path: &str) -> io::Result<St
     Ok(format!(in rt.alloc(); "{folder}/{path}")?)
 }
 
-/// Removes files. After one that cannot be removed, goes on with the others.
-fn remove<R: Files>(rt: &R, paths: &[String]) -> Result<(), DirFault>
+/// Removes files of a folder. After one that cannot be removed, goes on with the others.
+fn remove<R: Files + AllocGlobal>(rt: &R, folder: &str, paths: &[String]) -> Result<(), DirFault>
 where
     R::File: Lockable,
 {
     let mut answer = Ok(());
     for path in paths {
-        match remove_file(rt, path.as_str()) {
+        match remove_free(rt, folder, path.as_str()) {
             Err(error) if !is_absence(&error) => answer = Err(failed(&error)),
             _ => {}
         }
@@ -132,18 +142,102 @@ where
     answer
 }
 
-/// Removes a regular file, unless it is locked: then a process is still writing it. Anything else
-/// stays too.
-fn remove_file<R: Files>(rt: &R, path: &str) -> io::Result<()>
+/// Removes a file of a folder if it is free.
+fn remove_free<R: Files + AllocGlobal>(rt: &R, folder: &str, path: &str) -> io::Result<bool>
 where
     R::File: Lockable,
 {
-    if !fs::symlink_metadata(rt, path)?.is_file() {
-        return Ok(());
+    let place = path_below(rt, folder, path)?;
+    let Some(free) = taken(rt, place.as_str())? else {
+        return Ok(false);
+    };
+    fs::remove_file(rt, place.as_str())?;
+    drop(free);
+    Ok(true)
+}
+
+/// Opens and locks a regular file. Returns `None` if it is locked already: then a process is still
+/// writing it. Returns `None` for anything else too.
+fn taken<R: Files>(rt: &R, place: &str) -> io::Result<Option<R::File>>
+where
+    R::File: Lockable,
+{
+    if !fs::symlink_metadata(rt, place)?.is_file() {
+        return Ok(None);
     }
-    let file = fs::File::open(rt, path)?;
+    let file = fs::File::open(rt, place)?;
     if file.try_take()? {
-        fs::remove_file(rt, path)?;
+        Ok(Some(file))
+    } else {
+        Ok(None)
+    }
+}
+
+/// Returns the paths of the files that were written beside others and never renamed, each with its
+/// length. Leaves out files that are still being written.
+pub(crate) fn free_leftovers<R: Files + AllocGlobal>(
+    rt: &R,
+    folder: &str,
+) -> io::Result<Vec<(String, u64)>>
+where
+    R::File: Lockable,
+{
+    let mut drafts = Vec::new(rt.alloc());
+    for room in [Room::Top, Room::Sha256, Room::Sha512] {
+        note_free(rt, folder, room, &mut drafts)?;
+    }
+    Ok(drafts)
+}
+
+/// Adds those of one folder.
+fn note_free<R: Files + AllocGlobal>(
+    rt: &R,
+    folder: &str,
+    room: Room,
+    drafts: &mut Vec<(String, u64)>,
+) -> io::Result<()>
+where
+    R::File: Lockable,
+{
+    let paths = match leftovers(rt, folder, room) {
+        Ok(paths) => paths,
+        Err(error) if is_absence(&error) => return Ok(()),
+        Err(error) => return Err(error),
+    };
+    for path in paths {
+        if let Some(length) = free_length(rt, folder, path.as_str())? {
+            drafts.push((path, length))?;
+        }
     }
     Ok(())
+}
+
+/// Returns the length of a file of a folder, or `None` if it is not free or was removed.
+fn free_length<R: Files + AllocGlobal>(rt: &R, folder: &str, path: &str) -> io::Result<Option<u64>>
+where
+    R::File: Lockable,
+{
+    let place = path_below(rt, folder, path)?;
+    match taken(rt, place.as_str()) {
+        Ok(Some(file)) => Ok(Some(file.metadata()?.len())),
+        Ok(None) => Ok(None),
+        Err(error) if is_absence(&error) => Ok(None),
+        Err(error) => Err(error),
+    }
+}
+
+/// Returns the first of the folders of blobs that is a link.
+pub(crate) fn first_link<R: Files + AllocGlobal>(
+    rt: &R,
+    folder: &str,
+) -> io::Result<Option<&'static str>> {
+    for path in ["blobs", "blobs/sha256", "blobs/sha512"] {
+        match is_link(rt, folder, path) {
+            Ok(true) => return Ok(Some(path)),
+            Ok(false) => {}
+            Err(error) if is_absence(&error) => {}
+            Err(error) => return Err(error),
+        }
+    }
+    Ok(None)
 }

@@ -1,0 +1,120 @@
+use crate::fault::DirFault;
+use crate::fs_dir::files::{failed, is_absence, length_of};
+use crate::fs_dir::leftovers::{first_link, free_leftovers};
+use crate::fs_dir::lock::Lockable;
+use crate::fs_dir::{FsDir, path_of_folder};
+use crate::prunable_dir::PrunableDir;
+use std::fs::OpenFile;
+use std::io::ErrorKind;
+use std::random::RandomSource;
+use std::rt::Files;
+use std::{fs, io};
+
+impl<'r, R: Files + AllocGlobal + RandomSource> PrunableDir for FsDir<'r, R>
+where
+    R::File: Lockable,
+{
+    /// Leaves out all that is neither a regular file nor a link.
+    fn list(&self, folder: &str) -> Result<Vec<(String, u64)>, DirFault> {
+        let place = self.place(folder)?;
+        match files_in(self.rt, &place) {
+            Ok(files) => Ok(files),
+            Err(error) if is_absence(&error) => Ok(Vec::new(self.rt.alloc())),
+            Err(error) => Err(failed(&error)),
+        }
+    }
+
+    /// Finds the files that [`FolderLock::remove_leftovers`](crate::FolderLock::remove_leftovers)
+    /// removes.
+    fn leftovers(&self) -> Result<Vec<(String, u64)>, DirFault> {
+        match free_leftovers(self.rt, path_of_folder(self.folder.as_str())) {
+            Ok(drafts) => Ok(drafts),
+            Err(error) => Err(failed(&error)),
+        }
+    }
+
+    fn linked(&self) -> Result<Option<&'static str>, DirFault> {
+        match first_link(self.rt, path_of_folder(self.folder.as_str())) {
+            Ok(linked) => Ok(linked),
+            Err(error) => Err(failed(&error)),
+        }
+    }
+
+    /// Fails for anything that is neither a regular file nor a link.
+    fn remove(&mut self, path: &str) -> Result<bool, DirFault> {
+        let place = self.place(path)?;
+        match removed(self.rt, &place) {
+            Ok(found) => Ok(found),
+            Err(error) if is_absence(&error) => Ok(false),
+            Err(error) => Err(failed(&error)),
+        }
+    }
+
+    /// Syncs the file, and then the folder that has it.
+    fn sync(&self, path: &str) -> Result<(), DirFault> {
+        let place = self.place(path)?;
+        match synced(self.rt, &place) {
+            Ok(()) => Ok(()),
+            Err(error) => Err(failed(&error)),
+        }
+    }
+}
+
+/// Returns the names of the files and links in a folder, each with its own length.
+fn files_in<R: Files + AllocGlobal>(rt: &R, place: &str) -> io::Result<Vec<(String, u64)>> {
+    let mut files = Vec::new(rt.alloc());
+    for entry in fs::read_dir(&rt, place)? {
+        match entry {
+            Ok(entry) => {
+                if let Some(length) = own_length(rt, entry.path().as_str())? {
+                    files.push((String::from_str(rt.alloc(), entry.file_name())?, length))?;
+                }
+            }
+            Err(error) if error.kind() == ErrorKind::InvalidFilename => {}
+            Err(error) => return Err(error),
+        }
+    }
+    Ok(files)
+}
+
+/// Returns the length of a file or a link. Returns `None` for anything else, and if it was removed.
+fn own_length<R: Files>(rt: &R, place: &str) -> io::Result<Option<u64>> {
+    match fs::symlink_metadata(rt, place) {
+        Ok(found) if found.is_file() || found.is_symlink() => Ok(Some(found.len())),
+        Ok(_) => Ok(None),
+        Err(error) if is_absence(&error) => Ok(None),
+        Err(error) => Err(error),
+    }
+}
+
+/// Removes a file or a link. Returns false if it is a draft that is locked: then a process is still
+/// writing it.
+fn removed<R: Files>(rt: &R, place: &str) -> io::Result<bool>
+where
+    R::File: Lockable,
+{
+    let found = fs::symlink_metadata(rt, place)?;
+    if !found.is_file() && !found.is_symlink() {
+        return Err(io::Error::from(ErrorKind::InvalidInput));
+    }
+    if found.is_file() && place.ends_with(".new") {
+        let file = fs::File::open(rt, place)?;
+        if !file.try_take()? {
+            return Ok(false);
+        }
+        fs::remove_file(rt, place)?;
+        return Ok(true);
+    }
+    fs::remove_file(rt, place)?;
+    Ok(true)
+}
+
+/// Syncs a regular file, and then the folder that has it.
+fn synced<R: Files>(rt: &R, place: &str) -> io::Result<()> {
+    length_of(rt, place)?;
+    fs::File::open(rt, place)?.sync_all()?;
+    match place.rsplit_once('/') {
+        Some((folder, _)) => fs::File::open(rt, folder)?.sync_all(),
+        None => Ok(()),
+    }
+}

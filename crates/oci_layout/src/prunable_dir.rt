@@ -1,0 +1,68 @@
+ghost use Rattle.std.specs.Prelude.{◌≡◌, None, true, IfOk, IsErrOf};
+ghost use Rattle.std.specs.List.{All};
+ghost use Rattle.oci_layout.specs.Prunable.{by_name, IsRemoval, ListsFolder};
+
+use crate::dir::Dir;
+use crate::fault::DirFault;
+
+/// A directory whose files can be listed and removed.
+pub trait PrunableDir: Dir {
+    /// Returns the names of the files directly in a folder, each with its length in bytes, in no
+    /// order. Leaves out subfolders, and names that are not UTF-8. A link counts as a file of its
+    /// own length. A folder that does not exist has no files.
+    ///
+    /// # Errors
+    ///
+    /// - 90 `Failed` if the folder cannot be read.
+    /// - 91 `Memory` if memory runs out.
+    fn list(&self, folder: &str) -> Result<Vec<(String, u64)>, DirFault>
+        ensures listed { IfOk result (λ files. (Self.device self.now).is_honest
+            → ListsFolder (Self.device self.now).file folder.now (by_name files.items)) }
+        ensures failed { IsErrOf result DirFault.Failed → (Self.device self.now).fails_reads ≡ true };
+
+    /// Returns the paths of the drafts that killed processes left, each with its length in bytes.
+    /// Leaves out a draft that a process is still writing.
+    ///
+    /// # Errors
+    ///
+    /// - 90 `Failed` if a folder or a draft cannot be read.
+    /// - 91 `Memory` if memory runs out.
+    fn leftovers(&self) -> Result<Vec<(String, u64)>, DirFault>
+        ensures drafts { IfOk result (λ drafts. (Self.device self.now).is_honest
+            → All (λ draft. (Self.device self.now).file draft.0 ≡ None) (by_name drafts.items)) }
+        ensures failed { IsErrOf result DirFault.Failed → (Self.device self.now).fails_reads ≡ true };
+
+    /// Returns the first of `blobs`, `blobs/sha256` and `blobs/sha512` that is a link.
+    ///
+    /// # Errors
+    ///
+    /// - 90 `Failed` if that cannot be found out.
+    /// - 91 `Memory` if memory runs out.
+    fn linked(&self) -> Result<Option<&'static str>, DirFault>
+        ensures failed { IsErrOf result DirFault.Failed → (Self.device self.now).fails_reads ≡ true }
+    {
+        Ok(None)
+    }
+
+    /// Removes a file, or a link itself. Returns false if there is none, or if it is a draft that a
+    /// process is still writing.
+    ///
+    /// # Errors
+    ///
+    /// - 90 `Failed` if it cannot be removed.
+    /// - 91 `Memory` if memory runs out.
+    fn remove(&mut self, path: &str) -> Result<bool, DirFault>
+        ensures { IsRemoval (Self.device self.old) (Self.device self.new) path.now result };
+
+    /// Waits until a file and its name are on the disk. Changes nothing.
+    ///
+    /// # Errors
+    ///
+    /// - 90 `Failed` if that is not known, as when the disk failed.
+    /// - 91 `Memory` if memory runs out.
+    fn sync(&self, _path: &str) -> Result<(), DirFault>
+        ensures failed { IsErrOf result DirFault.Failed → (Self.device self.now).fails_reads ≡ true }
+    {
+        Ok(())
+    }
+}
