@@ -1,0 +1,78 @@
+use Rattle.std.proofs.Common.{◌≡◌, ◌≢◌, false, sym, subst, ◌∙◌}
+use Rattle.std.specs.List.{All}
+use Rattle.std.specs.Map.{keys_of}
+use Rattle.std.proofs.lemmas.List.Elements.{All-contains}
+use Rattle.oci_manifest.specs.Descriptor.{Descriptor}
+use Rattle.oci_store.proofs.Lookups.{Contains-from_has_key}
+use Rattle.oci_layout.specs.Blobs.{blob_path}
+use Rattle.oci_layout.specs.Prunable.{IsRemoval}
+use Rattle.oci_layout.proofs.Files.{blob_layout}
+use Rattle.oci_layout.proofs.Prunable.{Touches-removed, stored-apart, IsSound-apart, apart-unheld, IsLayout-removed}
+use Rattle.oci_layout.proofs.layout.Layout.remove_blob.Goals as goal
+
+pub invariant_of-self : goal.invariant_of-self
+invariant_of-self g c =
+    let s = c.self.inside in
+    let path = blob_path c.args.digest.now in
+    let old = g.D.Dir.device s.dir in
+    let new = g.D.Dir.device c.remove.new.self in
+    let removal : IsRemoval old new path c.remove.result = rw (c.deref.ensures, c.in_ok-path.ensures) at c.remove.ensures in
+    IsLayout-removed old new s.graph s.tags path c.remove.result (blob_layout c.args.digest.now) removal c.self.invariant
+
+pub returns-in-Ok-clause-held : goal.returns-in-Ok-clause-held
+returns-in-Ok-clause-held g c =
+    let graph = c.self.inside.graph in
+    let unheld = c.is_held.ensures.held.0 c.if-is_held.false in
+    rw (← c.self.view_is)
+    (λ k held same. absurd (All-contains (λ (k : Descriptor). k.digest ≢ c.args.digest.now) (keys_of graph) k unheld (Contains-from_has_key graph k held) same))
+
+pub returns-clause-held : goal.returns-clause-held
+returns-clause-held g c =
+    let graph = c.self.inside.graph in
+    let unheld = c.is_held.ensures.held.0 c.if-is_held.false in
+    rw (← c.self.view_is)
+    (λ k held same. absurd (All-contains (λ (k : Descriptor). k.digest ≢ c.args.digest.now) (keys_of graph) k unheld (Contains-from_has_key graph k held) same))
+
+pub returns-in-Ok-clause-contents : goal.returns-in-Ok-clause-contents
+returns-in-Ok-clause-contents g c =
+    let s = c.self.inside in
+    let path = blob_path c.args.digest.now in
+    let old = g.D.Dir.device s.dir in
+    let new = g.D.Dir.device c.remove.new.self in
+    let removal : IsRemoval old new path c.remove.result = rw (c.deref.ensures, c.in_ok-path.ensures) at c.remove.ensures in
+    let apart = apart-unheld c.args.digest.now s.graph c.is_held.ensures.digest c.is_held.ensures.keys (c.is_held.ensures.held.0 c.if-is_held.false) in
+    rw (← c.self.view_is)
+    (λ honest. stored-apart old.file new.file path s.graph apart (Touches-removed old new path c.remove.result removal honest))
+
+pub returns-clause-contents : goal.returns-clause-contents
+returns-clause-contents g c =
+    let s = c.self.inside in
+    let path = blob_path c.args.digest.now in
+    let old = g.D.Dir.device s.dir in
+    let new = g.D.Dir.device c.remove.new.self in
+    let removal : IsRemoval old new path c.remove.result = rw (c.deref.ensures, c.in_ok-path.ensures) at c.remove.ensures in
+    let apart = apart-unheld c.args.digest.now s.graph c.is_held.ensures.digest c.is_held.ensures.keys (c.is_held.ensures.held.0 c.if-is_held.false) in
+    rw (← c.self.view_is)
+    (λ honest. stored-apart old.file new.file path s.graph apart (Touches-removed old new path c.remove.result removal honest))
+
+pub returns-in-Ok-clause-sound : goal.returns-in-Ok-clause-sound
+returns-in-Ok-clause-sound g c =
+    let s = c.self.inside in
+    let path = blob_path c.args.digest.now in
+    let old = g.D.Dir.device s.dir in
+    let new = g.D.Dir.device c.remove.new.self in
+    let removal : IsRemoval old new path c.remove.result = rw (c.deref.ensures, c.in_ok-path.ensures) at c.remove.ensures in
+    let apart = apart-unheld c.args.digest.now s.graph c.is_held.ensures.digest c.is_held.ensures.keys (c.is_held.ensures.held.0 c.if-is_held.false) in
+    rw (← c.self.view_is)
+    (λ sound. IsSound-apart old.is_honest new.is_honest old.file new.file path s.graph c.remove.ensures.honest.0 apart (Touches-removed old new path c.remove.result removal sound.is_honest) sound)
+
+pub returns-clause-sound : goal.returns-clause-sound
+returns-clause-sound g c =
+    let s = c.self.inside in
+    let path = blob_path c.args.digest.now in
+    let old = g.D.Dir.device s.dir in
+    let new = g.D.Dir.device c.remove.new.self in
+    let removal : IsRemoval old new path c.remove.result = rw (c.deref.ensures, c.in_ok-path.ensures) at c.remove.ensures in
+    let apart = apart-unheld c.args.digest.now s.graph c.is_held.ensures.digest c.is_held.ensures.keys (c.is_held.ensures.held.0 c.if-is_held.false) in
+    rw (← c.self.view_is)
+    (λ sound. IsSound-apart old.is_honest new.is_honest old.file new.file path s.graph c.remove.ensures.honest.0 apart (Touches-removed old new path c.remove.result removal sound.is_honest) sound)

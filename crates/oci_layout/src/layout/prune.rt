@@ -1,0 +1,269 @@
+ghost use Rattle.std.specs.Prelude.{◌≡◌, ◌≢◌, ◌↔◌, ◌∷◌, ◌++◌, [], ℕ, List, true, false, is_some, Some, None, IfOk, OnOk, OnErr, IfErr, MatchOption};
+ghost use Rattle.std.specs.BTreeMap.{IsOrdered};
+ghost use Rattle.std.specs.Cmp.Lexicographic.{slice_cmp};
+ghost use Rattle.std.specs.List.{All};
+ghost use Rattle.std.specs.Map.{keys_of};
+ghost use Rattle.std.specs.Ordering.{nat_cmp};
+ghost use Rattle.oci_digest.specs.Digest.{IsDigest};
+ghost use Rattle.oci_manifest.specs.Descriptor.{Descriptor, IsKey};
+ghost use Rattle.oci_store.specs.Keyed.{has_key};
+ghost use Rattle.oci_layout.specs.Blobs.{blob_path, stored};
+ghost use Rattle.oci_layout.specs.Device.{Same, Touches};
+ghost use Rattle.oci_layout.specs.Index.{index_file, layout_file};
+ghost use Rattle.oci_layout.specs.Prunable.{by_name, AreBlobs, IsReadFault, IsRemovalFault, Notes, Removes};
+
+use crate::fault::LayoutFault;
+use crate::layout::Layout;
+use crate::layout::blob::path_of;
+use crate::prunable_dir::PrunableDir;
+use oci_digest::{Digest, NoMemory};
+use oci_store::{Graph, Store};
+use std::alloc::Global;
+use std::collections::BTreeMap;
+
+impl<D: PrunableDir> Layout<D> {
+    /// Returns the digests that files under `blobs` are named by, each with the length of its file
+    /// in bytes, in byte order of the paths. Leaves out files with other names.
+    ///
+    /// # Errors
+    ///
+    /// - 74 `Device` if a folder could not be read.
+    /// - 76 `Memory` if memory runs out.
+    pub fn blobs(&self) -> Result<Vec<(Digest, u64)>, LayoutFault>
+        ensures found { IfOk result (λ blobs. (D.device self.now.0).is_honest
+            → AreBlobs (D.device self.now.0).file blobs.items) }
+        ensures cause { IfErr result (IsReadFault (D.device self.now.0)) }
+    {
+        blobs_in(self.alloc, &self.dir)
+    }
+
+    /// Removes the file of a digest, unless a held key has the digest. Returns whether there was
+    /// one.
+    ///
+    /// # Errors
+    ///
+    /// - 74 `Device` if it could not be removed.
+    /// - 76 `Memory` if memory runs out.
+    ///
+    /// No file is then changed.
+    pub fn remove_blob(&mut self, digest: &Digest) -> Result<bool, LayoutFault>
+        ensures removed { OnOk result ((D.device self.old.0).is_honest
+            → All (λ k. k.digest ≢ digest.now) (keys_of self.old.1)
+            → Removes (D.device self.old.0).file (D.device self.new.0).file
+            (blob_path digest.now)) }
+        ensures found { IfOk result (λ found. (D.device self.old.0).is_honest
+            → All (λ k. k.digest ≢ digest.now) (keys_of self.old.1)
+            → found ≡ is_some ((D.device self.old.0).file (blob_path digest.now))) }
+        ensures held { (k : Descriptor) → has_key self.old.1 k ≡ true → k.digest ≡ digest.now
+            → self.new ≡ self.old }
+        ensures refused { OnErr result ((D.device self.old.0).is_honest
+            → Same (D.device self.old.0).file (D.device self.new.0).file) }
+        ensures other { (D.device self.old.0).is_honest
+            → Touches (D.device self.old.0).file (D.device self.new.0).file
+            (blob_path digest.now) }
+        ensures graph { self.new.1 ≡ self.old.1 }
+        ensures tags { self.new.2 ≡ self.old.2 }
+        ensures absent { self.new.3 ≡ self.old.3 }
+        ensures contents { (D.device self.old.0).is_honest
+            → stored (D.device self.new.0).file self.old.1
+            ≡ stored (D.device self.old.0).file self.old.1 }
+        ensures sound { (⟦<Self as Store>⟧.state self.old).is_sound
+            → (⟦<Self as Store>⟧.state self.new).is_sound }
+        ensures honest { (D.device self.old.0).is_honest ↔ (D.device self.new.0).is_honest }
+        ensures reads { (D.device self.new.0).fails_reads ≡ (D.device self.old.0).fails_reads }
+        ensures failures { (D.device self.new.0).failures ≡ (D.device self.old.0).failures }
+        ensures cause { IfErr result IsRemovalFault }
+    {
+        if is_held(&self.graph, digest) {
+            return Ok(false);
+        }
+        let path = path_of(self.alloc, digest)?;
+        match self.dir.remove(&path) {
+            Ok(found) => Ok(found),
+            Err(fault) => Err(LayoutFault::from(fault)),
+        }
+    }
+
+    /// Returns the paths of the drafts that killed processes left, each with its length in bytes.
+    /// Leaves out a draft that a process is still writing.
+    ///
+    /// # Errors
+    ///
+    /// - 74 `Device` if a folder or a draft could not be read.
+    /// - 76 `Memory` if memory runs out.
+    pub fn leftovers(&self) -> Result<Vec<(String, u64)>, LayoutFault>
+        ensures drafts { IfOk result (λ drafts. (D.device self.now.0).is_honest
+            → All (λ draft. (D.device self.now.0).file draft.0 ≡ None) (by_name drafts.items)) }
+        ensures cause { IfErr result (IsReadFault (D.device self.now.0)) }
+    {
+        match self.dir.leftovers() {
+            Ok(drafts) => Ok(drafts),
+            Err(fault) => Err(LayoutFault::from(fault)),
+        }
+    }
+
+    /// Removes a draft that a killed process left. Returns false if there is none at the path, if a
+    /// process is still writing it, or if the path does not end in `.new`, as that of each draft
+    /// does.
+    ///
+    /// # Errors
+    ///
+    /// - 74 `Device` if it could not be removed.
+    /// - 76 `Memory` if memory runs out.
+    ///
+    /// No file of the layout is changed, whatever the result.
+    pub fn remove_leftover(&mut self, path: &str) -> Result<bool, LayoutFault>
+        ensures other { (D.device self.old.0).is_honest
+            → Touches (D.device self.old.0).file (D.device self.new.0).file path.now }
+        ensures blobs { (D.device self.old.0).is_honest → (digest : List ℕ) → IsDigest digest
+            → (D.device self.new.0).file (blob_path digest)
+            ≡ (D.device self.old.0).file (blob_path digest) }
+        ensures index { (D.device self.old.0).is_honest
+            → (D.device self.new.0).file index_file ≡ (D.device self.old.0).file index_file }
+        ensures graph { self.new.1 ≡ self.old.1 }
+        ensures tags { self.new.2 ≡ self.old.2 }
+        ensures absent { self.new.3 ≡ self.old.3 }
+        ensures contents { (D.device self.old.0).is_honest
+            → stored (D.device self.new.0).file self.old.1
+            ≡ stored (D.device self.old.0).file self.old.1 }
+        ensures sound { (⟦<Self as Store>⟧.state self.old).is_sound
+            → (⟦<Self as Store>⟧.state self.new).is_sound }
+        ensures honest { (D.device self.old.0).is_honest ↔ (D.device self.new.0).is_honest }
+        ensures reads { (D.device self.new.0).fails_reads ≡ (D.device self.old.0).fails_reads }
+        ensures failures { (D.device self.new.0).failures ≡ (D.device self.old.0).failures }
+        ensures cause { IfErr result IsRemovalFault }
+    {
+        if !is_draft(path) {
+            return Ok(false);
+        }
+        // The contract of `len` states that the keys are valid, so their files are not drafts.
+        let _ = self.graph.len();
+        match self.dir.remove(path) {
+            Ok(found) => Ok(found),
+            Err(fault) => Err(LayoutFault::from(fault)),
+        }
+    }
+
+    /// Returns the first of `blobs`, `blobs/sha256` and `blobs/sha512` that is a link. Another
+    /// layout may need the files that such a link leads to.
+    ///
+    /// # Errors
+    ///
+    /// - 74 `Device` if that could not be found out.
+    /// - 76 `Memory` if memory runs out.
+    pub fn linked(&self) -> Result<Option<&'static str>, LayoutFault>
+        ensures cause { IfErr result (IsReadFault (D.device self.now.0)) }
+    {
+        match self.dir.linked() {
+            Ok(linked) => Ok(linked),
+            Err(fault) => Err(LayoutFault::from(fault)),
+        }
+    }
+
+    /// Waits until the saved `index.json` is on the disk.
+    ///
+    /// # Errors
+    ///
+    /// - 74 `Device` if that is not known, as when the disk failed.
+    /// - 76 `Memory` if memory runs out.
+    pub fn sync(&self) -> Result<(), LayoutFault>
+        ensures cause { IfErr result (IsReadFault (D.device self.now.0)) }
+    {
+        match self.dir.sync("index.json") {
+            Ok(()) => Ok(()),
+            Err(fault) => Err(LayoutFault::from(fault)),
+        }
+    }
+}
+
+/// Returns whether a key of a graph has a digest.
+fn is_held(graph: &Graph, digest: &Digest) -> bool
+    ensures held { result ≡ false ↔ All (λ k. k.digest ≢ digest.now) (keys_of graph.now) }
+    ensures keys { All IsKey (keys_of graph.now) }
+    ensures digest { IsDigest digest.now }
+{
+    // The contracts of `len` and `algorithm` state that the keys and the digest are valid.
+    let _ = graph.len();
+    let _ = digest.algorithm();
+    graph.least_with(digest).is_some()
+}
+
+/// Returns whether a path is that of a draft, which ends in `.new`.
+fn is_draft(path: &str) -> bool
+    ensures layout { path.now ≡ layout_file → result ≡ false }
+    ensures index { path.now ≡ index_file → result ≡ false }
+    ensures blobs { (digest : List ℕ) → IsDigest digest → path.now ≡ blob_path digest
+        → result ≡ false }
+{
+    path.as_bytes().ends_with(b".new")
+}
+
+/// Returns the digests that files are named by, each with the length of its file.
+fn blobs_in<D: PrunableDir>(alloc: Global, dir: &D) -> Result<Vec<(Digest, u64)>, LayoutFault>
+    ensures found { IfOk result (λ blobs. (D.device dir.now).is_honest
+        → AreBlobs (D.device dir.now).file blobs.items) }
+    ensures cause { IfErr result (IsReadFault (D.device dir.now)) }
+{
+    let mut sizes = BTreeMap::new(alloc);
+    let files = dir.list("blobs/sha256")?;
+    note_blobs(alloc, "sha256:", &files, &mut sizes)?;
+    let files = dir.list("blobs/sha512")?;
+    note_blobs(alloc, "sha512:", &files, &mut sizes)?;
+    let blobs = entries_of(alloc, &sizes)?;
+    Ok(blobs)
+}
+
+/// Notes the digests that these files are named by, each with the length of its file.
+fn note_blobs(
+    alloc: Global,
+    algorithm: &str,
+    files: &[(String, u64)],
+    sizes: &mut BTreeMap<Digest, u64>,
+) -> Result<(), NoMemory>
+    ensures { OnOk result (Notes algorithm.now (by_name files.now) sizes.old sizes.new) }
+{
+    for file in files {
+        note_blob(alloc, algorithm, file, sizes)?;
+    }
+    Ok(())
+}
+
+/// Notes the digest that a file is named by, if it is, with the length of the file.
+fn note_blob(
+    alloc: Global,
+    algorithm: &str,
+    file: &(String, u64),
+    sizes: &mut BTreeMap<Digest, u64>,
+) -> Result<(), NoMemory>
+    ensures { OnOk result (Notes algorithm.now (by_name (file.now ∷ [])) sizes.old sizes.new) }
+{
+    let Some(digest) = digest_named(alloc, algorithm, file.0.as_str())? else {
+        return Ok(());
+    };
+    sizes.insert(digest, file.1)?;
+    Ok(())
+}
+
+/// Returns the digest by an algorithm whose encoded part is the name of a file.
+fn digest_named(alloc: Global, algorithm: &str, name: &str) -> Result<Option<Digest>, NoMemory>
+    ensures { IfOk result (λ found. MatchOption found (IsDigest (algorithm.now ++ name.now) → ⊥)
+        (λ digest. IsDigest digest × (digest ≡ algorithm.now ++ name.now))) }
+{
+    let text = format!(in alloc; "{algorithm}{name}")?;
+    match Digest::parse(&text) {
+        Ok(digest) => Ok(Some(digest)),
+        Err(_) => Ok(None),
+    }
+}
+
+/// Returns the entries of a map, in key order.
+fn entries_of(alloc: Global, sizes: &BTreeMap<Digest, u64>) -> Result<Vec<(Digest, u64)>, NoMemory>
+    ensures exact { IfOk result (λ blobs. blobs.items ≡ sizes.now.entries) }
+    ensures order { IsOrdered (slice_cmp nat_cmp) sizes.now }
+{
+    let mut entries = Vec::new(alloc);
+    for (digest, size) in sizes.iter() {
+        entries.push((*digest, *size))?;
+    }
+    Ok(entries)
+}
