@@ -1,5 +1,5 @@
 -- What is opened after a save is what was saved.
-use Rattle.std.proofs.Common.{◌≡◌, List, ap, sym, subst, ◌∙◌}
+use Rattle.std.proofs.Common.{◌≡◌, List, [], ap, sym, subst, ◌∙◌}
 use Rattle.std.specs.Cmp.Lexicographic.{slice_cmp}
 use Rattle.std.specs.List.{All}
 use Rattle.std.specs.List.Sorted.{IsStrictlySortedBy}
@@ -23,10 +23,10 @@ pub reopened : OpensAsSaved → (H H' : Type 0) (old new : File) (graph after ag
     → All IsKey (keys_of graph) → AreNames graph tags → IsStrictlySortedBy (slice_cmp nat_cmp) (keys_of tags) → after ≡ graph
     → (IsSound H old graph → HasFiles new (stored old graph) graph tags) → (H → stored new graph ≡ stored old graph) → (IsSound H old graph → IsSound H' new after)
     → (H' → IsOpened new again tags_again absent) → IsClosed graph → IsSound H old graph
-    → ((k : Descriptor) → value_at (stored new again) k ≡ value_at (stored old graph) k) × (tags_again ≡ tags)
+    → ((k : Descriptor) → value_at (stored new again) k ≡ value_at (stored old graph) k) × (tags_again ≡ tags) × (absent ≡ [])
 reopened law H H' old new graph after again tags tags_again absent keys names order same files contents stays opened closed sound =
     let alike = contents sound.is_honest in
     let now = subst (λ (g : List Node). IsSound H' new g) same (stays sound) in
     let there = subst (λ (es : List Entry). HasFiles new es graph tags) (sym alike) (files sound) in
     let it = law new graph again tags tags_again absent keys names order closed (record { is_honest = tt; are_there = now.are_there; content = now.content; listed = now.listed }) there (opened now.is_honest) in
-    (λ k. it.0 k ∙ ap (λ (es : List Entry). value_at es k) alike, it.1)
+    (λ k. it.0 k ∙ ap (λ (es : List Entry). value_at es k) alike, it.1, it.2)

@@ -1,4 +1,4 @@
-ghost use Rattle.std.specs.Prelude.{◌≡◌, IfOk};
+ghost use Rattle.std.specs.Prelude.{◌≡◌, [], IfOk};
 ghost use Rattle.oci_manifest.specs.Descriptor.{Descriptor};
 ghost use Rattle.oci_store.specs.Closed.{IsClosed};
 ghost use Rattle.oci_store.specs.Keyed.{value_at};
@@ -9,8 +9,8 @@ use std::alloc::Global;
 
 /// Saves a layout, and opens its directory again.
 ///
-/// If the layout is closed and sound, the opened one has the same bytes under each key, and the
-/// same tags.
+/// If the layout is closed and sound, the opened one has the same bytes under each key, the same
+/// tags, and no absent keys.
 pub fn save_and_open<D: Dir + Drop>(
     alloc: Global,
     mut layout: Layout<D>,
@@ -22,6 +22,9 @@ pub fn save_and_open<D: Dir + Drop>(
     ensures tags { IfOk result (λ again. IsClosed layout.1
         → IsSound (D.device layout.0).is_honest (D.device layout.0).file layout.1
         → again.2 ≡ layout.2) }
+    ensures absent { IfOk result (λ again. IsClosed layout.1
+        → IsSound (D.device layout.0).is_honest (D.device layout.0).file layout.1
+        → again.3 ≡ []) }
 {
     // The contract of `tags` states the invariant of a layout, and so the premises of the law.
     let _tags = layout.tags()?;

@@ -17,3 +17,10 @@ returns-in-Ok-clause-tags g c closed sound =
     let saved = c.in_ok-save.ensures in
     (reopened c.opens_as_saved.ensures _ _ (g.D.Dir.device c.args.layout.0).file (g.D.Dir.device c.save.new.self.0).file c.args.layout.1 c.save.new.self.1 c.in-Ok.again.1 c.args.layout.2 c.in-Ok.again.2 c.in-Ok.again.3
     tags.keys tags.names (rw tags.exact at tags.order) saved.graph saved.files saved.contents saved.sound (rw c.into_dir.ensures at c.in-Ok.ensures.opened) closed sound).1
+
+pub returns-in-Ok-clause-absent : goal.returns-in-Ok-clause-absent
+returns-in-Ok-clause-absent g c closed sound =
+    let tags = c.in_ok-_tags.ensures in
+    let saved = c.in_ok-save.ensures in
+    (reopened c.opens_as_saved.ensures _ _ (g.D.Dir.device c.args.layout.0).file (g.D.Dir.device c.save.new.self.0).file c.args.layout.1 c.save.new.self.1 c.in-Ok.again.1 c.args.layout.2 c.in-Ok.again.2 c.in-Ok.again.3
+    tags.keys tags.names (rw tags.exact at tags.order) saved.graph saved.files saved.contents saved.sound (rw c.into_dir.ensures at c.in-Ok.ensures.opened) closed sound).2

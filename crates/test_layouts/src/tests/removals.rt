@@ -1,0 +1,166 @@
+//! Tags, keys, blobs and drafts that are removed, in memory and in a folder.
+
+use crate::tests::host::Host;
+use crate::tests::layouts::{created, listed, opened, push_samples, save_named, summary};
+use crate::tests::texts::{assert_told, blob};
+use oci_layout::{Dir, FsDir, Layout, MemDir, PrunableDir};
+use oci_manifest::Key;
+use oci_store::{Tagger, Untagger};
+use std::alloc::Global;
+use std::collections::BTreeSet;
+use std::process::Abort;
+use std::test::Fail;
+use std::{fs, rt};
+use test_support::Sample::{self, Empty, Foo, FooBySha512, Image0};
+
+/// Returns the keys of these samples.
+fn keys_of(alloc: Global, samples: &[Sample]) -> Result<BTreeSet<Key>, Fail> {
+    let mut keys = BTreeSet::new(alloc);
+    for sample in samples {
+        keys.insert(sample.key(alloc)?)?;
+    }
+    Ok(keys)
+}
+
+/// Drops all keys but these from a layout, which must have no tags.
+fn retain<D: Dir>(layout: &mut Layout<D>, kept: &BTreeSet<Key>) -> Result<(), Fail> {
+    let tags = layout.tags()?;
+    if !tags.is_empty() {
+        return Err(Fail::from("there is a tag"));
+    }
+    layout.retain(kept)?;
+    Ok(())
+}
+
+/// Returns the files of contents as text: each digest with the length of its file, followed by `;`.
+fn blobs_of<D: PrunableDir>(alloc: Global, layout: &Layout<D>) -> Result<String, Fail> {
+    let mut told = String::new(alloc);
+    for (digest, length) in layout.blobs()? {
+        told.push_str(format!(in alloc; "{digest} {length};")?.as_str())?;
+    }
+    Ok(told)
+}
+
+/// Returns the drafts as text: each path with the length of its file, followed by `;`.
+fn leftovers_of<D: PrunableDir>(alloc: Global, layout: &Layout<D>) -> Result<String, Fail> {
+    let mut told = String::new(alloc);
+    for (path, length) in layout.leftovers()? {
+        told.push_str(format!(in alloc; "{path} {length};")?.as_str())?;
+    }
+    Ok(told)
+}
+
+fn removed<D: PrunableDir>(
+    alloc: Global,
+    layout: &mut Layout<D>,
+    sample: Sample,
+) -> Result<bool, Fail> {
+    let key = sample.key(alloc)?;
+    Ok(layout.remove_blob(key.digest())?)
+}
+
+/// Tags `foo` and removes the tag. Drops `foo` and its SHA-512 twin from the layout. Saves it and
+/// removes the file of `foo`.
+fn pruned<D: PrunableDir + Drop>(alloc: Global, dir: D) -> Result<String, Fail> {
+    let mut layout = created(alloc, dir)?;
+    push_samples(alloc, &mut layout, &[Empty, Image0, Foo, FooBySha512])?;
+    layout.tag(&Foo.key(alloc)?, "foo")?;
+    let untagged = layout.untag("foo")?;
+    retain(&mut layout, &keys_of(alloc, &[Empty, Image0])?)?;
+    layout.save()?;
+    layout.sync()?;
+    let held = removed(alloc, &mut layout, Empty)?;
+    let found = removed(alloc, &mut layout, Foo)?;
+    let again = removed(alloc, &mut layout, Foo)?;
+    let (summary, blobs) = (summary(alloc, &layout)?, blobs_of(alloc, &layout)?);
+    Ok(format!(in alloc; "{untagged} {summary} {held} {found} {again} {blobs}")?)
+}
+
+const PRUNED: &str =
+    "<key Foo> held 2 false true false <digest Empty> 2;<digest Image0> 241;sha512:f7fbba6e0636f890e56fbbf3283e524c6fa3204ae298382d624741d0dc6638326e282c41be5e4254d8820772c5518a2c5a8c0c7f7eda19594a7eb539453e1ed7 3;";
+
+#[test]
+fn pruned_layout(rt: HostRuntime) -> Result<(), Fail> {
+    let told = pruned(rt.alloc(), MemDir::new(rt.alloc()))?;
+    assert_told(&rt, &"in memory", told.as_str(), PRUNED)?;
+    let _ = fs::remove_dir_all(&rt, "pruned");
+    let told = pruned(rt.alloc(), FsDir::new(&rt, "pruned")?)?;
+    assert_told(&rt, &"in a folder", told.as_str(), PRUNED)?;
+    Ok(fs::remove_dir_all(&rt, "pruned")?)
+}
+
+/// Removes the file of a tagged key and opens the layout again.
+fn absent<D: PrunableDir + Drop>(alloc: Global, dir: D) -> Result<String, Fail> {
+    let mut layout = created(alloc, dir)?;
+    push_samples(alloc, &mut layout, &[Empty, Image0])?;
+    save_named(&mut layout, &Image0.key(alloc)?, "v1")?;
+    let mut dir = layout.into_dir();
+    let path = blob(alloc, &Image0.key(alloc)?)?;
+    let found = dir.remove(path.as_str())?;
+    let layout = opened(alloc, dir)?;
+    let (summary, absent) = (summary(alloc, &layout)?, listed(alloc, layout.absent())?);
+    Ok(format!(in alloc; "{found} {summary} {absent}")?)
+}
+
+#[test]
+fn absent_entry(rt: HostRuntime) -> Result<(), Fail> {
+    let told = absent(rt.alloc(), MemDir::new(rt.alloc()))?;
+    assert_told(
+        &rt,
+        &"in memory",
+        told.as_str(),
+        "true held 0 <key Image0>;",
+    )?;
+    let _ = fs::remove_dir_all(&rt, "absent");
+    let told = absent(rt.alloc(), FsDir::new(&rt, "absent")?)?;
+    assert_told(
+        &rt,
+        &"in a folder",
+        told.as_str(),
+        "true held 0 <key Image0>;",
+    )?;
+    Ok(fs::remove_dir_all(&rt, "absent")?)
+}
+
+/// Lists and removes the draft at a path. Tries to remove the index as one.
+fn cleaned<D: PrunableDir + Drop>(alloc: Global, mut dir: D, path: &str) -> Result<String, Fail> {
+    dir.put(path, b"abc")?;
+    let mut layout = created(alloc, dir)?;
+    let drafts = leftovers_of(alloc, &layout)?;
+    let found = layout.remove_leftover(path)?;
+    let again = layout.remove_leftover(path)?;
+    let index = layout.remove_leftover("index.json")?;
+    let linked = layout.linked()?.unwrap_or("none");
+    Ok(format!(in alloc; "{drafts} {found} {again} {index} {linked}")?)
+}
+
+const DRAFT: &str = "index.json.0123456789abcdef.new";
+
+fn assert_cleaned<R: Host + Abort>(rt: &R) -> Result<(), Fail> {
+    let told = cleaned(rt.alloc(), FsDir::new(rt, "cleaned")?, DRAFT)?;
+    assert_told(
+        rt,
+        &"a folder",
+        told.as_str(),
+        "index.json.0123456789abcdef.new 3; true false false none",
+    )?;
+    rt::Files::symlink(rt, "..", "cleaned/blobs")?;
+    let told = unlinked(rt.alloc(), FsDir::new(rt, "cleaned")?)?;
+    assert_told(rt, &"a link", told.as_str(), "blobs true none")
+}
+
+/// Removes the link in the place of `blobs`.
+fn unlinked<D: PrunableDir>(alloc: Global, mut dir: D) -> Result<String, Fail> {
+    let before = dir.linked()?.unwrap_or("none");
+    let found = dir.remove("blobs")?;
+    let after = dir.linked()?.unwrap_or("none");
+    Ok(format!(in alloc; "{before} {found} {after}")?)
+}
+
+/// A draft is listed and removed, and the index is not. A link is found and itself removed.
+#[test]
+fn cleaned_folder(rt: HostRuntime) -> Result<(), Fail> {
+    let _ = fs::remove_dir_all(&rt, "cleaned");
+    assert_cleaned(&rt)?;
+    Ok(fs::remove_dir_all(&rt, "cleaned")?)
+}
