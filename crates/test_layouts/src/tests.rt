@@ -17,6 +17,7 @@ mod openings;
 mod parts;
 mod pushes;
 mod referrers;
+mod removals;
 mod round_trips;
 mod steps;
 mod texts;

@@ -74,7 +74,12 @@ pub(crate) fn opened<D: Dir + Drop>(alloc: Global, dir: D) -> Result<Layout<D>, 
     made(Layout::open(alloc, dir))
 }
 
-fn push_samples<D: Dest>(alloc: Global, layout: &mut D, samples: &[Sample]) -> Result<(), Fail> {
+/// Pushes samples into a layout.
+pub(crate) fn push_samples<D: Dest>(
+    alloc: Global,
+    layout: &mut D,
+    samples: &[Sample],
+) -> Result<(), Fail> {
     for sample in samples {
         push_sample(alloc, layout, *sample)?;
     }
@@ -192,7 +197,7 @@ fn resolve<T: Tagger>(alloc: Global, layout: &T, reference: &str) -> Result<Stri
 }
 
 /// Returns the keys, each followed by `;`.
-fn listed(alloc: Global, keys: &[Key]) -> Result<String, Fail> {
+pub(crate) fn listed(alloc: Global, keys: &[Key]) -> Result<String, Fail> {
     let mut told = String::new(alloc);
     for key in keys {
         told.push_str(format!(in alloc; "{key};")?.as_str())?;
