@@ -1,7 +1,8 @@
 -- The files of a directory, and the removal of one.
-use Rattle.std.specs.Prelude.{◌≡◌, ◌≢◌, ◌↔◌, ◌⊎◌, ◌++◌, ℕ, Bool, true, List, [], map, codes, Option, Some, None, Result, length, is_some, IsSome, if◌then◌else◌, IfOk, OnOk, OnErr, Contains, String, string_bytes}
+use Rattle.std.specs.Prelude.{◌≡◌, ◌≢◌, ◌↔◌, ◌⊎◌, ◌++◌, ℕ, nat_eq, Bool, true, List, [], map, codes, Option, Some, None, Result, length, is_some, IsSome, if◌then◌else◌, IfOk, OnOk, OnErr, IsErrOf, Contains, String, string_bytes}
 use Rattle.std.specs.declared.alloc.Global.{Global}
 use Rattle.std.specs.BTreeMap.{BTreeMap, get}
+use Rattle.std.specs.List.{ends_with}
 use Rattle.std.specs.Cmp.Lexicographic.{slice_cmp}
 use Rattle.std.specs.List.Sorted.{IsStrictlySortedBy}
 use Rattle.std.specs.Map.{keys_of}
@@ -11,6 +12,7 @@ use Rattle.oci_digest.specs.Digest.{IsDigest}
 use Rattle.oci_layout.specs.Blobs.{blob_path}
 use Rattle.oci_layout.specs.Device.{Device, File, Same}
 use Rattle.oci_layout.specs.declared.fault.DirFault.{DirFault}
+use Rattle.oci_layout.specs.declared.fault.DirFault.TheVariants as dir
 use Rattle.oci_layout.specs.declared.fault.LayoutFault.{LayoutFault}
 use Rattle.oci_layout.specs.declared.fault.LayoutFault.TheVariants as fault
 
@@ -28,10 +30,16 @@ pub record IsRemoval (old new : Device) (path : List ℕ) (answer : Result Bool 
   pub found : IfOk answer (λ found. old.is_honest → found ≡ is_some (old.file path))
   -- after a fault no file changed
   pub refused : OnErr answer (old.is_honest → Same old.file new.file)
+  -- a removal fails only if reads may fail too
+  pub failed : IsErrOf answer dir.Failed → old.fails_reads ≡ true
   -- besides its files nothing changed
   pub honest : old.is_honest ↔ new.is_honest
   pub reads : new.fails_reads ≡ old.fails_reads
   pub failures : new.failures ≡ old.failures
+
+-- whether a path is that of a draft: it ends in `.new`
+abbrev pub is_draft_path : List ℕ → Bool
+is_draft_path path = ends_with nat_eq path (codes ".new")
 
 -- ---- the files of a folder
 
@@ -63,17 +71,11 @@ pub record AreBlobs (file : File) (blobs : List (List ℕ × ℕ)) : Type 0 wher
 
 -- ---- the faults of public calls
 
--- why the files of a directory could not be read
+-- why the files of a directory could not be read, or one of them not removed
 abbrev pub IsReadFault : Device → LayoutFault → Type 0
 IsReadFault dir fault.Device = dir.fails_reads ≡ true
 IsReadFault dir fault.Memory = Unit {0}
 IsReadFault dir other = ⊥
-
--- why a file could not be removed
-abbrev pub IsRemovalFault : LayoutFault → Type 0
-IsRemovalFault fault.Device = Unit {0}
-IsRemovalFault fault.Memory = Unit {0}
-IsRemovalFault other = ⊥
 
 -- ---- parts of the code
 

@@ -134,7 +134,7 @@ where
 {
     let mut answer = Ok(());
     for path in paths {
-        match remove_free(rt, folder, path.as_str()) {
+        match remove_below(rt, folder, path.as_str()) {
             Err(error) if !is_absence(&error) => answer = Err(failed(&error)),
             _ => {}
         }
@@ -142,16 +142,23 @@ where
     answer
 }
 
-/// Removes a file of a folder if it is free.
-fn remove_free<R: Files + AllocGlobal>(rt: &R, folder: &str, path: &str) -> io::Result<bool>
+/// Removes a file of a folder if it is free. Returns whether it was removed.
+fn remove_below<R: Files + AllocGlobal>(rt: &R, folder: &str, path: &str) -> io::Result<bool>
 where
     R::File: Lockable,
 {
-    let place = path_below(rt, folder, path)?;
-    let Some(free) = taken(rt, place.as_str())? else {
+    remove_free(rt, path_below(rt, folder, path)?.as_str())
+}
+
+/// Removes a file if it is free. Returns whether it was removed.
+pub(crate) fn remove_free<R: Files>(rt: &R, place: &str) -> io::Result<bool>
+where
+    R::File: Lockable,
+{
+    let Some(free) = taken(rt, place)? else {
         return Ok(false);
     };
-    fs::remove_file(rt, place.as_str())?;
+    fs::remove_file(rt, place)?;
     drop(free);
     Ok(true)
 }
@@ -174,7 +181,7 @@ where
 }
 
 /// Returns the paths of the files that were written beside others and never renamed, each with its
-/// length. Leaves out files that are still being written.
+/// length. Leaves out files that are still being written, and those that may not be read.
 pub(crate) fn free_leftovers<R: Files + AllocGlobal>(
     rt: &R,
     folder: &str,
@@ -212,7 +219,8 @@ where
     Ok(())
 }
 
-/// Returns the length of a file of a folder, or `None` if it is not free or was removed.
+/// Returns the length of a file of a folder, or `None` if it is not free, was removed, or may not
+/// be read.
 fn free_length<R: Files + AllocGlobal>(rt: &R, folder: &str, path: &str) -> io::Result<Option<u64>>
 where
     R::File: Lockable,
@@ -221,7 +229,7 @@ where
     match taken(rt, place.as_str()) {
         Ok(Some(file)) => Ok(Some(file.metadata()?.len())),
         Ok(None) => Ok(None),
-        Err(error) if is_absence(&error) => Ok(None),
+        Err(error) if is_absence(&error) || error.kind() == ErrorKind::PermissionDenied => Ok(None),
         Err(error) => Err(error),
     }
 }

@@ -1,6 +1,6 @@
 use crate::fault::DirFault;
 use crate::fs_dir::files::{failed, is_absence, length_of};
-use crate::fs_dir::leftovers::{first_link, free_leftovers};
+use crate::fs_dir::leftovers::{first_link, free_leftovers, remove_free};
 use crate::fs_dir::lock::Lockable;
 use crate::fs_dir::{FsDir, path_of_folder};
 use crate::prunable_dir::PrunableDir;
@@ -98,12 +98,7 @@ where
         return Err(io::Error::from(ErrorKind::InvalidInput));
     }
     if found.is_file() && place.ends_with(".new") {
-        let file = fs::File::open(rt, place)?;
-        if !file.try_take()? {
-            return Ok(false);
-        }
-        fs::remove_file(rt, place)?;
-        return Ok(true);
+        return remove_free(rt, place);
     }
     fs::remove_file(rt, place)?;
     Ok(true)

@@ -10,7 +10,7 @@ ghost use Rattle.oci_store.specs.Keyed.{has_key};
 ghost use Rattle.oci_layout.specs.Blobs.{blob_path, stored};
 ghost use Rattle.oci_layout.specs.Device.{Same, Touches};
 ghost use Rattle.oci_layout.specs.Index.{index_file, layout_file};
-ghost use Rattle.oci_layout.specs.Prunable.{by_name, AreBlobs, IsReadFault, IsRemovalFault, Notes, Removes};
+ghost use Rattle.oci_layout.specs.Prunable.{by_name, AreBlobs, IsReadFault, Notes, Removes, is_draft_path};
 
 use crate::fault::LayoutFault;
 use crate::layout::Layout;
@@ -54,6 +54,8 @@ impl<D: PrunableDir> Layout<D> {
         ensures found { IfOk result (λ found. (D.device self.old.0).is_honest
             → All (λ k. k.digest ≢ digest.now) (keys_of self.old.1)
             → found ≡ is_some ((D.device self.old.0).file (blob_path digest.now))) }
+        ensures kept { IfOk result (λ found. found ≡ true
+            → All (λ k. k.digest ≢ digest.now) (keys_of self.old.1)) }
         ensures held { (k : Descriptor) → has_key self.old.1 k ≡ true → k.digest ≡ digest.now
             → self.new ≡ self.old }
         ensures refused { OnErr result ((D.device self.old.0).is_honest
@@ -72,7 +74,7 @@ impl<D: PrunableDir> Layout<D> {
         ensures honest { (D.device self.old.0).is_honest ↔ (D.device self.new.0).is_honest }
         ensures reads { (D.device self.new.0).fails_reads ≡ (D.device self.old.0).fails_reads }
         ensures failures { (D.device self.new.0).failures ≡ (D.device self.old.0).failures }
-        ensures cause { IfErr result IsRemovalFault }
+        ensures cause { IfErr result (IsReadFault (D.device self.old.0)) }
     {
         if is_held(&self.graph, digest) {
             return Ok(false);
@@ -113,6 +115,13 @@ impl<D: PrunableDir> Layout<D> {
     ///
     /// No file of the layout is changed, whatever the result.
     pub fn remove_leftover(&mut self, path: &str) -> Result<bool, LayoutFault>
+        ensures removed { OnOk result ((D.device self.old.0).is_honest
+            → is_draft_path path.now ≡ true
+            → Removes (D.device self.old.0).file (D.device self.new.0).file path.now) }
+        ensures found { IfOk result (λ found. (D.device self.old.0).is_honest → found ≡ true
+            → is_some ((D.device self.old.0).file path.now) ≡ true) }
+        ensures refused { OnErr result ((D.device self.old.0).is_honest
+            → Same (D.device self.old.0).file (D.device self.new.0).file) }
         ensures other { (D.device self.old.0).is_honest
             → Touches (D.device self.old.0).file (D.device self.new.0).file path.now }
         ensures blobs { (D.device self.old.0).is_honest → (digest : List ℕ) → IsDigest digest
@@ -131,7 +140,7 @@ impl<D: PrunableDir> Layout<D> {
         ensures honest { (D.device self.old.0).is_honest ↔ (D.device self.new.0).is_honest }
         ensures reads { (D.device self.new.0).fails_reads ≡ (D.device self.old.0).fails_reads }
         ensures failures { (D.device self.new.0).failures ≡ (D.device self.old.0).failures }
-        ensures cause { IfErr result IsRemovalFault }
+        ensures cause { IfErr result (IsReadFault (D.device self.old.0)) }
     {
         if !is_draft(path) {
             return Ok(false);
@@ -190,6 +199,7 @@ fn is_held(graph: &Graph, digest: &Digest) -> bool
 
 /// Returns whether a path is that of a draft, which ends in `.new`.
 fn is_draft(path: &str) -> bool
+    ensures exact { result ≡ is_draft_path path.now }
     ensures layout { path.now ≡ layout_file → result ≡ false }
     ensures index { path.now ≡ index_file → result ≡ false }
     ensures blobs { (digest : List ℕ) → IsDigest digest → path.now ≡ blob_path digest

@@ -7,8 +7,8 @@ use oci_manifest::Key;
 use oci_store::{RefFault, Untagger};
 
 impl<D: Dir> Untagger for Layout<D> {
-    /// Removes a tag, and returns the key that it named. Does not change the directory: `save`
-    /// writes the names, and an entry without one for a key that is then at the top.
+    /// Removes a tag, and returns the key that it named. Does not allocate, and does not change the
+    /// directory: `save` writes the names.
     fn untag(&mut self, name: &str) -> Result<Key, RefFault>
         ensures named { IfOk result (λ key. tag_at self.old.2 name.now ≡ Some key) }
         ensures untagged { OnOk result (self.new.2 ≡ without_tag self.old.2 name.now) }
@@ -18,6 +18,7 @@ impl<D: Dir> Untagger for Layout<D> {
         ensures unknown { IsErrOf result RefFault.UnknownReference
             ↔ ((name.now ≢ []) × (tag_at self.old.2 name.now ≡ None)) }
         ensures held { IsErrOf result RefFault.NotHeld → ⊥ }
+        ensures memory { IsErrOf result RefFault.Memory → ⊥ }
         ensures dir { self.new.0 ≡ self.old.0 }
         ensures graph { self.new.1 ≡ self.old.1 }
         ensures absent { self.new.3 ≡ self.old.3 }

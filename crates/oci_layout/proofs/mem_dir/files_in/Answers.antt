@@ -1,4 +1,4 @@
-use Rattle.std.proofs.Common.{◌≡◌, List, [], ◌∷◌, String, Global, subst}
+use Rattle.std.proofs.Common.{◌≡◌, ◌∷◌, subst}
 use Rattle.oci_layout.specs.Prunable.{by_name}
 use Rattle.oci_layout.proofs.Listed.{AreFound, AreFound-next, ListsFolder-found}
 use Rattle.oci_layout.proofs.mem_dir.files_in.Goals as goal

@@ -1,4 +1,4 @@
-use Rattle.std.proofs.Common.{◌≡◌, ◌++◌, codes, true, false, sym, subst, ◌∙◌}
+use Rattle.std.proofs.Common.{codes, sym, subst, ◌∙◌}
 use Rattle.oci_layout.specs.Prunable.{IsName}
 use Rattle.oci_layout.proofs.Listed.{path-none, path-rest, path-name, name-same, stripped}
 use Rattle.oci_layout.proofs.mem_dir.name_in.Goals as goal

@@ -1,6 +1,6 @@
-use Rattle.std.proofs.Common.{◌≡◌, codes, sym, subst}
+use Rattle.std.proofs.Common.{sym, subst}
 use Rattle.oci_layout.specs.Device.{File}
-use Rattle.oci_layout.specs.Prunable.{by_name, AreBlobs, ListsFolder, Notes}
+use Rattle.oci_layout.specs.Prunable.{by_name, AreBlobs}
 use Rattle.oci_layout.proofs.Noted.{AreBlobs-noted}
 use Rattle.oci_layout.proofs.layout.prune.blobs_in.Goals as goal
 

@@ -1,4 +1,3 @@
-use Rattle.std.proofs.Common.{rules}
 use Rattle.oci_layout.proofs.Noted.{not_draft, not_index, not_layout}
 use Rattle.oci_layout.proofs.layout.prune.is_draft.Goals as goal
 

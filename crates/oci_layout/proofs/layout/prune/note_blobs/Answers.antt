@@ -1,4 +1,4 @@
-use Rattle.std.proofs.Common.{◌+◌, take, sym, subst}
+use Rattle.std.proofs.Common.{take, sym, subst}
 use Rattle.oci_layout.specs.Prunable.{by_name, Notes}
 use Rattle.oci_layout.proofs.Noted.{Notes-append, by_name-more}
 use Rattle.oci_layout.proofs.layout.prune.note_blobs.Goals as goal
