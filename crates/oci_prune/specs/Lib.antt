@@ -1,0 +1,4 @@
+pub mod Numbers
+pub mod Kept
+pub mod Subjects
+pub mod Walk

@@ -1,0 +1,59 @@
+ghost use Rattle.std.specs.Prelude.{◌≡◌};
+ghost use Rattle.oci_prune.specs.Numbers.{prune_number};
+
+use oci_digest::NoMemory;
+use oci_manifest::Key;
+use oci_store::FetchFault;
+use thiserror::Error;
+
+/// Why a prune failed.
+///
+/// Every memory error is `Memory`, and no other variant contains one.
+#[derive(Debug, Drop, Error)]
+pub enum PruneFault {
+    /// The file at this path could not be removed.
+    #[error("79 NotRemoved {0}")]
+    NotRemoved(String),
+    /// This manifest could not be read.
+    #[error("88 Fetch {0} {1}")]
+    Fetch(Key, FetchFault),
+    /// Out of memory.
+    #[error("89 Memory")]
+    Memory,
+    /// This key is needed, is of a manifest kind and is not held, so it is not known what it lists.
+    #[error("96 Unknown {0}")]
+    Unknown(Key),
+    /// The layout has no tag.
+    #[error("97 NoTags")]
+    NoTags,
+    /// This folder of blobs is a link.
+    #[error("98 LinkedBlobs {0}")]
+    LinkedBlobs(&'static str),
+}
+
+impl From<NoMemory> for PruneFault {
+    ghost use Rattle.std.specs.Prelude.{◌≡◌};
+    ghost use Rattle.oci_prune.specs.declared.fault.PruneFault.TheVariants.{Memory};
+
+    ghost from_gives = { λ _ e. e ≡ Memory };
+
+    fn from(_refused: NoMemory) -> PruneFault {
+        PruneFault::Memory
+    }
+}
+
+impl PruneFault {
+    /// Returns the number of the fault.
+    pub fn number(&self) -> u8
+        ensures { result ≡ prune_number self.now }
+    {
+        match self {
+            PruneFault::NotRemoved(_) => 79,
+            PruneFault::Fetch(_, _) => 88,
+            PruneFault::Memory => 89,
+            PruneFault::Unknown(_) => 96,
+            PruneFault::NoTags => 97,
+            PruneFault::LinkedBlobs(_) => 98,
+        }
+    }
+}

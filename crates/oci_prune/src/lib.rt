@@ -1,0 +1,8 @@
+//! Removes what no tag of an image layout needs.
+#![tactic(auto)]
+
+mod fault;
+mod kept;
+
+pub use fault::PruneFault;
+pub use kept::kept_keys;
