@@ -1,4 +1,4 @@
-pub mod Numbers
+pub mod Fault
 pub mod Kept
 pub mod Subjects
 pub mod Walk

@@ -1,8 +1,8 @@
 ghost use Rattle.std.specs.Prelude.{◌≡◌};
-ghost use Rattle.oci_prune.specs.Numbers.{prune_number};
+ghost use Rattle.oci_prune.specs.Fault.{number_of, of_fetch, of_manifest};
 
 use oci_digest::NoMemory;
-use oci_manifest::Key;
+use oci_manifest::{Key, ManifestFault};
 use oci_store::FetchFault;
 use thiserror::Error;
 
@@ -11,10 +11,13 @@ use thiserror::Error;
 /// Every memory error is `Memory`, and no other variant contains one.
 #[derive(Debug, Drop, Error)]
 pub enum PruneFault {
+    /// The bytes of this held manifest cannot be read as one, for this reason.
+    #[error("77 BadManifest {0} {1}")]
+    BadManifest(Key, ManifestFault),
     /// The file at this path could not be removed.
     #[error("79 NotRemoved {0}")]
     NotRemoved(String),
-    /// This manifest could not be read.
+    /// The bytes of this held manifest could not be fetched, for this reason.
     #[error("88 Fetch {0} {1}")]
     Fetch(Key, FetchFault),
     /// Out of memory.
@@ -45,9 +48,10 @@ impl From<NoMemory> for PruneFault {
 impl PruneFault {
     /// Returns the number of the fault.
     pub fn number(&self) -> u8
-        ensures { result ≡ prune_number self.now }
+        ensures { result ≡ number_of self.now }
     {
         match self {
+            PruneFault::BadManifest(_, _) => 77,
             PruneFault::NotRemoved(_) => 79,
             PruneFault::Fetch(_, _) => 88,
             PruneFault::Memory => 89,
@@ -55,5 +59,26 @@ impl PruneFault {
             PruneFault::NoTags => 97,
             PruneFault::LinkedBlobs(_) => 98,
         }
+    }
+}
+
+/// Returns the fault of a prune for a refused fetch of a key. A memory error becomes `Memory`.
+pub(crate) fn of_fetch(key: Key, fault: FetchFault) -> PruneFault
+    ensures { result ≡ of_fetch key fault }
+{
+    match fault {
+        FetchFault::Memory => PruneFault::Memory,
+        _ => PruneFault::Fetch(key, fault),
+    }
+}
+
+/// Returns the fault of a prune for a manifest that cannot be read. A memory error becomes
+/// `Memory`.
+pub(crate) fn of_manifest(key: Key, fault: ManifestFault) -> PruneFault
+    ensures { result ≡ of_manifest key fault }
+{
+    match fault {
+        ManifestFault::Memory => PruneFault::Memory,
+        _ => PruneFault::BadManifest(key, fault),
     }
 }

@@ -3,6 +3,8 @@
 
 mod fault;
 mod kept;
+mod subjects;
 
 pub use fault::PruneFault;
 pub use kept::kept_keys;
+pub use subjects::subjects_of;
