@@ -205,7 +205,7 @@ walk_fault graph roots refers found set place key (fault.Unknown k) w at h =
     record { needed = subst (IsNeeded graph roots refers) (sym h.0) (w.needed key (Contains-from_among found key (among_from_place found place key at))); absent = h.1; is_manifest = h.2 }
 walk_fault graph roots refers found set place key fault.Memory w at h = tt
 walk_fault graph roots refers found set place key (fault.NotRemoved path) w at h = absurd h
-walk_fault graph roots refers found set place key (fault.BadManifest k e) w at h = absurd h
+walk_fault graph roots refers found set place key (fault.Layout e) w at h = absurd h
 walk_fault graph roots refers found set place key (fault.Fetch k e) w at h = absurd h
 walk_fault graph roots refers found set place key fault.NoTags w at h = absurd h
 walk_fault graph roots refers found set place key (fault.LinkedBlobs path) w at h = absurd h

@@ -17,8 +17,9 @@ use Rattle.oci_store.specs.Content.{Entry}
 use Rattle.oci_store.specs.Keyed.{value_at}
 use Rattle.oci_store.specs.State.{State}
 use Rattle.oci_store.proofs.KeyOrder.{is_eq-key_cmp}
-use Rattle.oci_prune.specs.Fault.{of_manifest}
+use Rattle.oci_prune.specs.Faults.{of_manifest}
 use Rattle.oci_prune.specs.Subjects.{States, Subjects, AreSubjects, IsNoted, IsSubjectFault}
+use Rattle.oci_layout.specs.declared.fault.LayoutFault.TheVariants as layout
 use Rattle.oci_prune.specs.declared.fault.PruneFault.{PruneFault}
 use Rattle.oci_prune.specs.declared.fault.PruneFault.TheVariants as fault
 
@@ -102,7 +103,15 @@ subjects_more entries keys i k found old new lt is are exact noted =
 -- the fault of one key is one of the keys
 pub one_of : (store : State) (k : Descriptor) (P : Descriptor → Type 0) (e : PruneFault) → P k → IsSubjectFault store (λ other. other ≡ k) e → IsSubjectFault store P e
 one_of store k P (fault.Fetch j e) one h = (subst P (sym h.0) one, h.1)
-one_of store k P (fault.BadManifest j e) one h = (subst P (sym h.0) one, h.1)
+one_of store k P (fault.Layout (layout.BadManifest j e)) one h = (subst P (sym h.0) one, h.1)
+one_of store k P (fault.Layout layout.NoLayoutFile) one h = absurd h
+one_of store k P (fault.Layout layout.BadLayoutFile) one h = absurd h
+one_of store k P (fault.Layout layout.BadVersion) one h = absurd h
+one_of store k P (fault.Layout (layout.BadIndex e)) one h = absurd h
+one_of store k P (fault.Layout layout.Device) one h = absurd h
+one_of store k P (fault.Layout (layout.Corrupt j)) one h = absurd h
+one_of store k P (fault.Layout layout.Memory) one h = absurd h
+one_of store k P (fault.Layout layout.AlreadyLayout) one h = absurd h
 one_of store k P fault.Memory one h = tt
 one_of store k P (fault.NotRemoved path) one h = absurd h
 one_of store k P (fault.Unknown j) one h = absurd h

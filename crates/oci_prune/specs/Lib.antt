@@ -1,4 +1,5 @@
-pub mod Fault
+pub mod Numbers
+pub mod Faults
 pub mod Kept
 pub mod Subjects
 pub mod Walk

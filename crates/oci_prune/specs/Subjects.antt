@@ -13,6 +13,7 @@ use Rattle.oci_store.specs.Keyed.{value_at, has_key}
 use Rattle.oci_store.specs.State.{State}
 use Rattle.oci_store.specs.declared.fault.FetchFault.{FetchFault}
 use Rattle.oci_store.specs.declared.fault.FetchFault.TheVariants as fetch
+use Rattle.oci_layout.specs.declared.fault.LayoutFault.TheVariants as layout
 use Rattle.oci_prune.specs.declared.fault.PruneFault.{PruneFault}
 use Rattle.oci_prune.specs.declared.fault.PruneFault.TheVariants as fault
 
@@ -58,6 +59,6 @@ IsUnread store k e = (bytes : List ℕ) × (cause : Fault) × Matches k bytes ×
 -- why the subject of one of these keys was not read
 abbrev pub IsSubjectFault : State → (Descriptor → Type 0) → PruneFault → Type 0
 IsSubjectFault store is_one (fault.Fetch k e) = is_one k × IsRefusedFetch store k e
-IsSubjectFault store is_one (fault.BadManifest k e) = is_one k × IsUnread store k e
+IsSubjectFault store is_one (fault.Layout (layout.BadManifest k e)) = is_one k × IsUnread store k e
 IsSubjectFault store is_one fault.Memory = Unit {0}
 IsSubjectFault store is_one other = ⊥

@@ -1,7 +1,9 @@
 ghost use Rattle.std.specs.Prelude.{◌≡◌};
-ghost use Rattle.oci_prune.specs.Fault.{number_of, of_fetch, of_manifest};
+ghost use Rattle.oci_prune.specs.Faults.{of_fetch, of_manifest};
+ghost use Rattle.oci_prune.specs.Numbers.{prune_number};
 
 use oci_digest::NoMemory;
+use oci_layout::LayoutFault;
 use oci_manifest::{Key, ManifestFault};
 use oci_store::FetchFault;
 use thiserror::Error;
@@ -11,15 +13,15 @@ use thiserror::Error;
 /// Every memory error is `Memory`, and no other variant contains one.
 #[derive(Debug, Drop, Error)]
 pub enum PruneFault {
-    /// The bytes of this held manifest cannot be read as one, for this reason.
-    #[error("77 BadManifest {0} {1}")]
-    BadManifest(Key, ManifestFault),
     /// The file at this path could not be removed.
     #[error("79 NotRemoved {0}")]
     NotRemoved(String),
     /// The bytes of this held manifest could not be fetched, for this reason.
     #[error("88 Fetch {0} {1}")]
     Fetch(Key, FetchFault),
+    /// The layout could not be read or saved, or a held manifest cannot be read as one (77).
+    #[error("{0}")]
+    Layout(LayoutFault),
     /// Out of memory.
     #[error("89 Memory")]
     Memory,
@@ -45,15 +47,30 @@ impl From<NoMemory> for PruneFault {
     }
 }
 
+/// A memory error becomes `Memory`.
+impl From<LayoutFault> for PruneFault {
+    ghost use Rattle.std.specs.Prelude.{◌≡◌};
+    ghost use Rattle.oci_prune.specs.Faults.{of_layout};
+
+    ghost from_gives = { λ refused fault. fault ≡ of_layout refused };
+
+    fn from(fault: LayoutFault) -> PruneFault {
+        match fault {
+            LayoutFault::Memory => PruneFault::Memory,
+            _ => PruneFault::Layout(fault),
+        }
+    }
+}
+
 impl PruneFault {
     /// Returns the number of the fault.
     pub fn number(&self) -> u8
-        ensures { result ≡ number_of self.now }
+        ensures { result ≡ prune_number self.now }
     {
         match self {
-            PruneFault::BadManifest(_, _) => 77,
             PruneFault::NotRemoved(_) => 79,
             PruneFault::Fetch(_, _) => 88,
+            PruneFault::Layout(fault) => fault.number(),
             PruneFault::Memory => 89,
             PruneFault::Unknown(_) => 96,
             PruneFault::NoTags => 97,
@@ -79,6 +96,6 @@ pub(crate) fn of_manifest(key: Key, fault: ManifestFault) -> PruneFault
 {
     match fault {
         ManifestFault::Memory => PruneFault::Memory,
-        _ => PruneFault::BadManifest(key, fault),
+        _ => PruneFault::Layout(LayoutFault::BadManifest(key, fault)),
     }
 }
