@@ -1,2 +1,4 @@
 pub mod Keeping
 pub mod Stating
+pub mod Filing
+pub mod Plans

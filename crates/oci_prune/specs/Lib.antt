@@ -3,3 +3,6 @@ pub mod Faults
 pub mod Kept
 pub mod Subjects
 pub mod Walk
+pub mod Plan
+pub mod Files
+pub mod Refusal

@@ -1,0 +1,122 @@
+-- What is planned, from its parts.
+use Rattle.std.proofs.Common.{◌≡◌, ℕ, Bool, true, false, not, inl, inr, List, [], ◌∷◌, filter, None, is_some, Result, Ok, Err, refl, sym, ap, subst, ◌∙◌}
+use Rattle.std.specs.Prelude.{◌↔◌, Contains, IfOk, OnOk, IfErr}
+use Rattle.std.specs.BTreeMap.{get}
+use Rattle.std.specs.BTreeSet.{BTreeSet, contains}
+use Rattle.std.specs.List.Sorted.{IsStrictlySortedBy}
+use Rattle.std.specs.Map.{keys_of, values_of}
+use Rattle.std.proofs.lemmas.List.Kept.{IsStrictlySortedBy-filter}
+use Rattle.std.proofs.lemmas.Map.Views.{btree_set_contains_iff}
+use Rattle.oci_manifest.specs.Descriptor.{Descriptor, key_cmp}
+use Rattle.oci_store.specs.Graph.{Node, Reaches, root as start, along}
+use Rattle.oci_store.specs.Keyed.{has_key, HasAll}
+use Rattle.oci_store.specs.State.{State}
+use Rattle.oci_store.proofs.KeyOrder.{key_cmp_total, key_cmp_exact}
+use Rattle.oci_store.proofs.Lookups.{has_key-from_Contains, Contains-from_has_key}
+use Rattle.oci_layout.proofs.Loose.{HasKeys}
+use Rattle.oci_prune.specs.Kept.{Needs, IsKept, root, needed, IsNeeded, IsUnknown, AreKept, AllKnown}
+use Rattle.oci_prune.specs.Plan.{AreHeld, RefersIf, IsSafe}
+use Rattle.oci_prune.specs.Refusal.{IsKeyFault}
+use Rattle.oci_prune.specs.Subjects.{Subjects, AreSubjects, Refers, RefersBy, IsSubjectFault}
+use Rattle.oci_prune.specs.Walk.{IsWalkFault}
+use Rattle.oci_prune.specs.declared.fault.PruneFault.{PruneFault}
+use Rattle.oci_prune.specs.declared.fault.PruneFault.TheVariants as fault
+use Rattle.oci_prune.proofs.Keeping.{held_from_kept}
+
+-- ---- results
+
+pub if_ok_weaker : {X E : Type 0} {P Q : X → Type 0} (r : Result X E) → ((x : X) → P x → Q x) → IfOk r P → IfOk r Q
+if_ok_weaker (Ok x) to h = to x h
+if_ok_weaker (Err e) to h = tt
+
+pub on_ok_weaker : {X E P Q : Type 0} (r : Result X E) → (P → Q) → OnOk r P → OnOk r Q
+on_ok_weaker (Ok x) to h = to h
+on_ok_weaker (Err e) to h = tt
+
+pub if_err_weaker : {X E : Type 0} {P Q : E → Type 0} (r : Result X E) → ((e : E) → P e → Q e) → IfErr r P → IfErr r Q
+if_err_weaker (Ok x) to h = tt
+if_err_weaker (Err e) to h = to e h
+
+-- ---- the held keys
+
+-- the keys of a set that has the keys of a graph
+pub held_from_set : (graph : List Node) (set : BTreeSet Descriptor) (keys : List Descriptor) → HasKeys set (keys_of graph) → keys ≡ set.keys → IsStrictlySortedBy key_cmp keys → AreHeld graph keys
+held_from_set graph set keys h e order = record {
+  each = λ k.
+      let iff = btree_set_contains_iff key_cmp_total key_cmp_exact set k in (
+        λ c. has_key-from_Contains graph k ((h k).0 (iff.1 (subst (λ (ks : List Descriptor). Contains ks k) e c))),
+        λ held. subst (λ (ks : List Descriptor). Contains ks k) (sym e) (iff.0 ((h k).1 (Contains-from_has_key graph k held))),
+      );
+  order = order;
+}
+
+-- ---- other relations that hold of the same keys
+
+needs_same : (graph : List Node) (R Q : Descriptor → Descriptor → Type 0) → ((referrer subject : Descriptor) → R referrer subject → Q referrer subject) → (k other : Descriptor) → Needs graph R k other → Needs graph Q k other
+needs_same graph R Q to k other (inl edge) = inl edge
+needs_same graph R Q to k other (inr refers) = inr (to other k refers)
+
+pub kept_same : (graph : List Node) (roots : List Descriptor) (R Q : Descriptor → Descriptor → Type 0) → ((referrer subject : Descriptor) → R referrer subject → Q referrer subject) → (k : Descriptor) → IsKept graph roots R k → IsKept graph roots Q k
+kept_same graph roots R Q to k (root named held) = root named held
+kept_same graph roots R Q to k (needed {from} kept needs held) = needed (kept_same graph roots R Q to from kept) (needs_same graph R Q to from k needs) held
+
+unknown_same : (graph : List Node) (roots : List Descriptor) (R Q : Descriptor → Descriptor → Type 0) → ((referrer subject : Descriptor) → R referrer subject → Q referrer subject) → (k : Descriptor) → IsUnknown graph roots R k → IsUnknown graph roots Q k
+unknown_same graph roots R Q to k u = record { needed = now u.needed; absent = u.absent; is_manifest = u.is_manifest }
+  where
+    now : IsNeeded graph roots R k → IsNeeded graph roots Q k
+    now (inl named) = inl named
+    now (inr p) = inr (p.0, kept_same graph roots R Q to p.0 p.1, needs_same graph R Q to p.0 k p.2)
+
+abbrev Same : (R Q : Descriptor → Descriptor → Type 0) → Type 0
+Same R Q = (referrer subject : Descriptor) → R referrer subject ↔ Q referrer subject
+
+pub are_kept_same : (graph : List Node) (roots : List Descriptor) (R Q : Descriptor → Descriptor → Type 0) (set : BTreeSet Descriptor) → Same R Q → AreKept graph roots R set → AreKept graph roots Q set
+are_kept_same graph roots R Q set same are k = (
+  λ h. kept_same graph roots R Q (λ r s. (same r s).0) k ((are k).0 h),
+  λ kept. (are k).1 (kept_same graph roots Q R (λ r s. (same r s).1) k kept),
+)
+
+pub all_known_same : (graph : List Node) (roots : List Descriptor) (R Q : Descriptor → Descriptor → Type 0) → Same R Q → AllKnown graph roots R → AllKnown graph roots Q
+all_known_same graph roots R Q same known k unknown = known k (unknown_same graph roots Q R (λ r s. (same r s).1) k unknown)
+
+pub walk_key_fault : (store : State) (roots : List Descriptor) (keeps : Bool) (R : Descriptor → Descriptor → Type 0) (e : PruneFault) → (store.is_honest → Same R (RefersIf keeps store)) → IsWalkFault store.nodes roots R e → IsKeyFault store roots keeps e
+walk_key_fault store roots keeps R (fault.Unknown k) same h = λ honest. unknown_same store.nodes roots R (RefersIf keeps store) (λ r s. (same honest r s).0) k h
+walk_key_fault store roots keeps R fault.Memory same h = tt
+walk_key_fault store roots keeps R (fault.NotRemoved path) same h = absurd h
+walk_key_fault store roots keeps R (fault.Fetch k e) same h = absurd h
+walk_key_fault store roots keeps R (fault.Layout e) same h = absurd h
+walk_key_fault store roots keeps R fault.NoTags same h = absurd h
+walk_key_fault store roots keeps R (fault.LinkedBlobs path) same h = absurd h
+
+pub subject_key_fault : (store : State) (roots : List Descriptor) (keeps : Bool) (e : PruneFault) → IsSubjectFault store (λ (k : Descriptor). (keeps ≡ true) × (has_key store.nodes k ≡ true)) e → IsKeyFault store roots keeps e
+subject_key_fault store roots keeps (fault.Unknown k) h = absurd h
+subject_key_fault store roots keeps fault.Memory h = tt
+subject_key_fault store roots keeps (fault.NotRemoved path) h = absurd h
+subject_key_fault store roots keeps (fault.Fetch k e) h = h
+subject_key_fault store roots keeps (fault.Layout e) h = h
+subject_key_fault store roots keeps fault.NoTags h = absurd h
+subject_key_fault store roots keeps (fault.LinkedBlobs path) h = absurd h
+
+-- ---- the subjects of the held keys
+
+pub refers_by_held : (store : State) (keys : List Descriptor) (subjects : Subjects) → AreHeld store.nodes keys → AreSubjects store.entries keys subjects → Same (RefersBy store.nodes subjects) (Refers store)
+refers_by_held store keys subjects held are referrer subject = (
+  λ refers. (refers.0, ((are referrer subject).0 refers.1).1),
+  λ refers. (refers.0, (are referrer subject).1 ((held.each referrer).1 (ap is_some refers.0.1), refers.1)),
+)
+
+pub refers_by_none : (store : State) (subjects : Subjects) → ((k : Descriptor) → get key_cmp subjects k ≡ None) → Same (RefersBy store.nodes subjects) (RefersIf false store)
+refers_by_none store subjects none referrer subject = (λ refers. cc (sym (none referrer) ∙ refers.1), λ never. absurd never)
+
+-- ---- safety
+
+pub safe_from_kept : (graph : List Node) (roots : List Descriptor) (R : Descriptor → Descriptor → Type 0) (set : BTreeSet Descriptor) → AreKept graph roots R set → HasAll graph roots → IsSafe graph roots set
+safe_from_kept graph roots R set are all = record {
+  held = λ k h. held_from_kept graph roots R k ((are k).0 h);
+  reached = λ k reaches held. (are k).1 (reached k reaches held);
+  closed = λ from to kept edge held. (are to).1 (needed ((are from).0 kept) (inl edge) held);
+}
+  where
+    reached : (k : Descriptor) → Reaches graph roots k → has_key graph k ≡ true → IsKept graph roots R k
+    reached k (start named) held = root named held
+    reached k (along {from} path edge) held = needed (reached from path (ap is_some edge.1)) (inl edge) held

@@ -1,0 +1,19 @@
+-- The files that no kept key needs, computed from the digests of the kept and of the held keys.
+use Rattle.std.specs.Prelude.{◌≡◌, ◌↔◌, ℕ, true, not, List, map, filter, Contains}
+use Rattle.std.specs.BTreeSet.{BTreeSet, contains}
+use Rattle.std.specs.Cmp.Lexicographic.{slice_cmp}
+use Rattle.std.specs.Ordering.{nat_cmp}
+use Rattle.oci_manifest.specs.Descriptor.{Descriptor}
+use Rattle.oci_prune.specs.declared.pruning.PrunedFile.{PrunedFile}
+
+-- the set has the digests of these keys, and no other
+abbrev pub HasDigests : List Descriptor → BTreeSet (List ℕ) → Type 0
+HasDigests keys digests = (digest : List ℕ) → (contains (slice_cmp nat_cmp) digests digest ≡ true) ↔ ((k : Descriptor) × Contains keys k × (k.digest ≡ digest))
+
+-- the file of a digest with this length
+abbrev pub pruned_file : BTreeSet (List ℕ) → List ℕ × ℕ → PrunedFile
+pruned_file held blob = record { digest = blob.0; length = blob.1; is_held = contains (slice_cmp nat_cmp) held blob.0 }
+
+-- the files of the digests that are not needed
+abbrev pub unneeded_in : BTreeSet (List ℕ) → BTreeSet (List ℕ) → List (List ℕ × ℕ) → List PrunedFile
+unneeded_in needed held blobs = map (pruned_file held) (filter (λ (blob : List ℕ × ℕ). not (contains (slice_cmp nat_cmp) needed blob.0)) blobs)

@@ -1,0 +1,56 @@
+-- What a prune keeps and removes.
+use Rattle.std.specs.Prelude.{◌≡◌, ◌≢◌, ◌↔◌, ◌⊎◌, ℕ, Bool, true, false, List, map, Contains, IsTrue}
+use Rattle.std.specs.BTreeSet.{BTreeSet, contains}
+use Rattle.std.specs.Cmp.Lexicographic.{slice_cmp}
+use Rattle.std.specs.List.Sorted.{IsStrictlySortedBy}
+use Rattle.std.specs.Map.{values_of}
+use Rattle.std.specs.Ordering.{nat_cmp}
+use Rattle.oci_digest.specs.Digest.{IsDigest}
+use Rattle.oci_manifest.specs.Descriptor.{Descriptor, key_cmp}
+use Rattle.oci_store.specs.Graph.{Node, IsEdge, Reaches}
+use Rattle.oci_store.specs.Keyed.{has_key}
+use Rattle.oci_store.specs.State.{State}
+use Rattle.oci_store.specs.Tags.{Tags}
+use Rattle.oci_layout.specs.Blobs.{blob_path, meaning}
+use Rattle.oci_layout.specs.Device.{Device, File}
+use Rattle.oci_layout.specs.Prunable.{HasLength}
+use Rattle.oci_prune.specs.Kept.{AreKept, AllKnown}
+use Rattle.oci_prune.specs.Subjects.{Refers}
+use Rattle.oci_prune.specs.declared.pruning.PrunedFile.{PrunedFile}
+
+-- the keys of a graph, in key order
+pub record AreHeld (graph : List Node) (keys : List Descriptor) : Type 0 where
+  pub each : (k : Descriptor) → Contains keys k ↔ (has_key graph k ≡ true)
+  pub order : IsStrictlySortedBy key_cmp keys
+
+-- the referrers of a store; none, if they are left out
+abbrev pub RefersIf : Bool → State → Descriptor → Descriptor → Type 0
+RefersIf true store referrer subject = Refers store referrer subject
+RefersIf false store referrer subject = ⊥
+
+-- the kept keys are held; each held key is kept that a root reaches or that a kept key lists
+pub record IsSafe (graph : List Node) (roots : List Descriptor) (kept : BTreeSet Descriptor) : Type 0 where
+  pub held : (k : Descriptor) → contains key_cmp kept k ≡ true → has_key graph k ≡ true
+  pub reached : (k : Descriptor) → Reaches graph roots k → has_key graph k ≡ true → contains key_cmp kept k ≡ true
+  pub closed : (from to : Descriptor) → contains key_cmp kept from ≡ true → IsEdge graph from to → has_key graph to ≡ true → contains key_cmp kept to ≡ true
+
+-- the held keys that are not kept, in key order
+pub record AreRemoved (graph : List Node) (kept : BTreeSet Descriptor) (removed : List Descriptor) : Type 0 where
+  pub each : (k : Descriptor) → Contains removed k ↔ ((has_key graph k ≡ true) × (contains key_cmp kept k ≡ false))
+  pub order : IsStrictlySortedBy key_cmp removed
+
+-- a key of the set has the digest
+abbrev pub HasDigestIn : (Descriptor → Type 0) → List ℕ → Type 0
+HasDigestIn is_one digest = (k : Descriptor) × is_one k × (k.digest ≡ digest)
+
+-- a digest's file that no kept key needs, with its length, and whether a held key has the digest
+pub record IsUnneeded (file : File) (graph : List Node) (kept : BTreeSet Descriptor) (f : PrunedFile) : Type 0 where
+  pub is_digest : IsDigest f.digest
+  pub there : HasLength file (blob_path f.digest) f.length
+  pub unneeded : HasDigestIn (λ k. contains key_cmp kept k ≡ true) f.digest → ⊥
+  pub held : IsTrue f.is_held ↔ HasDigestIn (λ k. has_key graph k ≡ true) f.digest
+
+-- the files of digests that no kept key needs, in byte order of their paths
+pub record AreUnneeded (file : File) (graph : List Node) (kept : BTreeSet Descriptor) (files : List PrunedFile) : Type 0 where
+  pub each : (f : PrunedFile) → Contains files f ↔ IsUnneeded file graph kept f
+  pub order : IsStrictlySortedBy (slice_cmp nat_cmp) (map (λ (f : PrunedFile). f.digest) files)

@@ -1,0 +1,53 @@
+ghost use Rattle.std.specs.Prelude.{◌≡◌, ◌↔◌, ℕ, List, true, map, filter, not, Contains, IfOk, OnOk, IsErrOf};
+ghost use Rattle.std.specs.BTreeSet.{contains};
+ghost use Rattle.std.specs.Cmp.Lexicographic.{slice_cmp};
+ghost use Rattle.std.specs.Ordering.{nat_cmp};
+ghost use Rattle.oci_manifest.specs.Descriptor.{Descriptor};
+ghost use Rattle.oci_prune.specs.Files.{HasDigests, unneeded_in};
+
+use crate::pruning::PrunedFile;
+use oci_digest::{Digest, NoMemory};
+use oci_manifest::Key;
+use std::alloc::Global;
+use std::collections::BTreeSet;
+
+/// Returns the digests of these keys.
+pub(crate) fn digests_of(alloc: Global, keys: &[Key]) -> Result<BTreeSet<Digest>, NoMemory>
+    ensures { IfOk result (λ digests. HasDigests keys.now digests) }
+{
+    let mut digests = BTreeSet::new(alloc);
+    for key in keys {
+        digests.insert(*key.digest())?;
+    }
+    Ok(digests)
+}
+
+/// Returns the files of the digests that are not needed. `held` has the digests of the held keys.
+pub(crate) fn unneeded_files(
+    alloc: Global,
+    blobs: &[(Digest, u64)],
+    needed: &BTreeSet<Digest>,
+    held: &BTreeSet<Digest>,
+) -> Result<Vec<PrunedFile>, NoMemory>
+    ensures { IfOk result (λ files. files.items ≡ unneeded_in needed.now held.now blobs.now) }
+{
+    let mut files = Vec::new(alloc);
+    for blob in blobs {
+        if needed.contains(&blob.0) {
+            continue;
+        }
+        files.push(pruned_file(blob.0, blob.1, held.contains(&blob.0)))?;
+    }
+    Ok(files)
+}
+
+/// Returns a file that is not needed.
+fn pruned_file(digest: Digest, length: u64, is_held: bool) -> PrunedFile
+    ensures { result ≡ record { digest = digest; length = length; is_held = is_held } }
+{
+    PrunedFile {
+        digest,
+        length,
+        is_held,
+    }
+}

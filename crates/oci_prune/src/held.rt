@@ -1,0 +1,82 @@
+ghost use Rattle.std.specs.Prelude.{◌≡◌, ◌≢◌, [], not, filter, IfOk, IfErr, OnOk, IsErrOf};
+ghost use Rattle.std.specs.BTreeSet.{contains};
+ghost use Rattle.std.specs.Map.{values_of};
+ghost use Rattle.oci_manifest.specs.Descriptor.{key_cmp};
+ghost use Rattle.oci_store.specs.Tags.{by_bytes, AreNames};
+ghost use Rattle.oci_prune.specs.Plan.{AreHeld};
+
+use crate::fault::PruneFault;
+use oci_digest::NoMemory;
+use oci_layout::{Dir, Layout};
+use oci_manifest::Key;
+use oci_store::{Dest, keys_of_set};
+use std::alloc::Global;
+use std::collections::BTreeSet;
+
+/// Returns the held keys of a layout, in key order.
+pub(crate) fn held_keys<D: Dir>(alloc: Global, layout: &Layout<D>) -> Result<Vec<Key>, NoMemory>
+    ensures { IfOk result (λ keys. AreHeld layout.now.1 keys.items) }
+{
+    let mut held = BTreeSet::new(alloc);
+    for place in 0..layout.count() {
+        let Some(key) = layout.key(place) else {
+            unreachable!();
+        };
+        held.insert(key.try_clone()?)?;
+    }
+    let keys = keys_of_set(alloc, &held)?;
+    Ok(keys)
+}
+
+/// Returns the keys that the tags of a layout name.
+///
+/// # Errors
+///
+/// - 97 `NoTags` if there is no tag.
+/// - 89 `Memory` if memory runs out.
+pub(crate) fn tagged_keys<D: Dir>(
+    alloc: Global,
+    layout: &Layout<D>,
+) -> Result<Vec<Key>, PruneFault>
+    ensures tagged { IfOk result (λ keys. keys.items ≡ values_of layout.now.2) }
+    ensures names { OnOk result (AreNames layout.now.1 layout.now.2) }
+    ensures some { OnOk result (layout.now.2 ≢ []) }
+    ensures none { IsErrOf result PruneFault.NoTags → layout.now.2 ≡ [] }
+{
+    let tags = layout.tags()?;
+    if tags.is_empty() {
+        return Err(PruneFault::NoTags);
+    }
+    let keys = named_keys(alloc, &tags)?;
+    Ok(keys)
+}
+
+/// Returns the keys of tags.
+fn named_keys(alloc: Global, tags: &[(String, Key)]) -> Result<Vec<Key>, NoMemory>
+    ensures { IfOk result (λ keys. keys.items ≡ values_of (by_bytes tags.now)) }
+{
+    let mut keys = Vec::new(alloc);
+    for tag in tags {
+        keys.push(tag.1.try_clone()?)?;
+    }
+    Ok(keys)
+}
+
+/// Returns the keys that are not in a set.
+pub(crate) fn keys_without(
+    alloc: Global,
+    keys: &[Key],
+    set: &BTreeSet<Key>,
+) -> Result<Vec<Key>, NoMemory>
+    ensures { IfOk result (λ rest. rest.items
+        ≡ filter (λ k. not (contains key_cmp set.now k)) keys.now) }
+{
+    let mut rest = Vec::new(alloc);
+    for key in keys {
+        if set.contains(key) {
+            continue;
+        }
+        rest.push(key.try_clone()?)?;
+    }
+    Ok(rest)
+}
