@@ -3,25 +3,31 @@ use Rattle.std.proofs.Common.{◌≡◌, ℕ, ◌+◌, ◌<◌, Bool, true, fals
 use Rattle.std.specs.Prelude.{◌↔◌, Contains}
 use Rattle.std.specs.BTreeSet.{BTreeSet, contains}
 use Rattle.std.specs.Cmp.Lexicographic.{slice_cmp}
+use Rattle.std.specs.List.Sorted.{IsStrictlySortedBy}
+use Rattle.std.specs.Map.{keys_of}
 use Rattle.std.specs.Ordering.{nat_cmp, is_eq}
 use Rattle.std.specs.Str.{bytes_eq}
 use Rattle.std.proofs.lemmas.Bool.{cases_Bool}
 use Rattle.std.proofs.lemmas.Cmp.{nat_list_cmp_total}
-use Rattle.std.proofs.lemmas.List.{take_more, map-append}
-use Rattle.std.proofs.lemmas.List.Elements.{Contains-push, Contains-push_cases, Contains-append_left, filter_more}
+use Rattle.std.proofs.lemmas.List.Elements.{Contains-push, Contains-push_cases, Contains-append_left}
+use Rattle.std.proofs.lemmas.List.Kept.{IsStrictlySortedBy-filter}
 use Rattle.std.proofs.lemmas.Map.Lookups.{exact_bytes}
 use Rattle.std.proofs.lemmas.Map.Text.{is_eq-slice_cmp}
 use Rattle.std.proofs.lemmas.Map.Views.{btree_set_contains_iff}
 use Rattle.std.proofs.lemmas.Slice.Eq.{bytes_eq-Decides}
-use Rattle.oci_manifest.specs.Descriptor.{Descriptor}
+use Rattle.oci_manifest.specs.Descriptor.{Descriptor, key_cmp}
+use Rattle.oci_store.specs.Graph.{Node}
+use Rattle.oci_store.specs.Keyed.{has_key}
+use Rattle.oci_store.proofs.KeyOrder.{key_cmp_total, key_cmp_exact}
+use Rattle.oci_layout.specs.Device.{File}
+use Rattle.oci_layout.specs.Prunable.{AreBlobs}
+use Rattle.oci_prune.proofs.Elements.{no_element, next_element, in_map_filter, map_filter_in}
 use Rattle.oci_prune.specs.Files.{HasDigests, pruned_file, unneeded_in}
+use Rattle.oci_prune.specs.Plan.{AreHeld, AreUnneeded, IsUnneeded, HasDigestIn}
 use Rattle.oci_prune.specs.declared.pruning.PrunedFile.{PrunedFile}
 
 abbrev Digests : Type 0
 Digests = BTreeSet (List ℕ)
-
-no_element : {X : Type 0} (x : X) → Contains [] x → ⊥
-no_element x h = omega (arith, h.1)
 
 pub digests_none : (digests : Digests) → digests.keys ≡ [] → HasDigests [] digests
 digests_none digests none digest = (
@@ -58,20 +64,63 @@ digests_push keys key old new h grown digest =
       ]),
     )
 
-pub next_element : {X : Type 0} (xs : List X) (i : ℕ) (x : X) → i < length xs → x ≡ get_or xs i x → take (i + 1) xs ≡ take i xs ++ x ∷ []
-next_element {X} xs i x lt is = take_more xs i x lt ∙ ap (λ (y : X). take i xs ++ y ∷ []) (sym is)
-
 pub digests_more : (keys : List Descriptor) (i : ℕ) (key : Descriptor) (old new : Digests) → i < length keys → key ≡ get_or keys i key → HasDigests (take i keys) old
     → ((other : List ℕ) → contains (slice_cmp nat_cmp) new other ≡ cond (is_eq (slice_cmp nat_cmp key.digest other)) true (contains (slice_cmp nat_cmp) old other)) → HasDigests (take (i + 1) keys) new
 digests_more keys i key old new lt is h grown =
     subst (λ (ks : List Descriptor). HasDigests ks new) (sym (next_element keys i key lt is)) (digests_push (take i keys) key old new h grown)
 
--- ---- one element more of a list that is filtered
+-- ---- the files that are not needed
 
-pub filter_passes : {X : Type 0} (p : X → Bool) (xs : List X) (i : ℕ) (x : X) → i < length xs → x ≡ get_or xs i x → p x ≡ true → filter p (take (i + 1) xs) ≡ filter p (take i xs) ++ x ∷ []
-filter_passes {X} p xs i x lt is passes =
-    filter_more p xs i x lt ∙ ap (λ (y : X). filter p (take i xs) ++ cond (p y) (y ∷ []) []) (sym is) ∙ ap (λ (b : Bool). filter p (take i xs) ++ cond b (x ∷ []) []) passes
+digests_in_order : (needed held : Digests) (blobs : List (List ℕ × ℕ)) → map (λ (f : PrunedFile). f.digest) (unneeded_in needed held blobs) ≡ filter (λ (digest : List ℕ). not (contains (slice_cmp nat_cmp) needed digest)) (keys_of blobs)
+digests_in_order needed held [] = refl
+digests_in_order needed held (blob ∷ blobs) =
+    elim (contains (slice_cmp nat_cmp) needed blob.0) as (λ b. map (λ (f : PrunedFile). f.digest) (map (pruned_file held) (cond (not b) (blob ∷ filter (λ (o : List ℕ × ℕ). not (contains (slice_cmp nat_cmp) needed o.0)) blobs) (filter (λ (o : List ℕ × ℕ). not (contains (slice_cmp nat_cmp) needed o.0)) blobs)))
+    ≡ cond (not b) (blob.0 ∷ filter (λ (digest : List ℕ). not (contains (slice_cmp nat_cmp) needed digest)) (keys_of blobs)) (filter (λ (digest : List ℕ). not (contains (slice_cmp nat_cmp) needed digest)) (keys_of blobs))) [
+      | true ↦ digests_in_order needed held blobs
+      | false ↦ ap (λ (ds : List (List ℕ)). blob.0 ∷ ds) (digests_in_order needed held blobs)
+    ]
 
-pub map_filter_passes : {X Y : Type 0} (f : X → Y) (p : X → Bool) (xs : List X) (i : ℕ) (x : X) → i < length xs → x ≡ get_or xs i x → p x ≡ true
-    → map f (filter p (take (i + 1) xs)) ≡ map f (filter p (take i xs)) ++ f x ∷ []
-map_filter_passes {X} f p xs i x lt is passes = ap (map f) (filter_passes p xs i x lt is passes) ∙ map-append f (filter p (take i xs)) (x ∷ [])
+both : (a b : Bool) → (a ≡ true → b ≡ true) → (b ≡ true → a ≡ true) → a ≡ b
+both true true to back = refl
+both true false to back = sym (to refl)
+both false true to back = back refl
+both false false to back = refl
+
+pub are_unneeded : (file : File) (graph : List Node) (kept : BTreeSet Descriptor) (kept_keys held_keys : List Descriptor) (needed held : Digests) (blobs : List (List ℕ × ℕ)) → AreBlobs file blobs → kept_keys ≡ kept.keys → HasDigests kept_keys needed
+    → AreHeld graph held_keys → HasDigests held_keys held → AreUnneeded file graph kept (unneeded_in needed held blobs)
+are_unneeded file graph kept kept_keys held_keys needed held blobs are same has_needed are_held has_held = record {
+  each = λ f. (to f, back f);
+  order = subst (λ (ds : List (List ℕ)). IsStrictlySortedBy (slice_cmp nat_cmp) ds) (sym (digests_in_order needed held blobs)) (IsStrictlySortedBy-filter (slice_cmp nat_cmp) (λ (digest : List ℕ). not (contains (slice_cmp nat_cmp) needed digest)) (keys_of blobs) are.order);
+}
+  where
+    needed_from_kept : (digest : List ℕ) → HasDigestIn (λ (k : Descriptor). contains key_cmp kept k ≡ true) digest → contains (slice_cmp nat_cmp) needed digest ≡ true
+    needed_from_kept digest p =
+        (has_needed digest).1 (p.0, subst (λ (ks : List Descriptor). Contains ks p.0) (sym same) ((btree_set_contains_iff key_cmp_total key_cmp_exact kept p.0).0 p.1), p.2)
+
+    kept_from_needed : (digest : List ℕ) → contains (slice_cmp nat_cmp) needed digest ≡ true → HasDigestIn (λ (k : Descriptor). contains key_cmp kept k ≡ true) digest
+    kept_from_needed digest h =
+        let p = (has_needed digest).0 h in
+        (p.0, (btree_set_contains_iff key_cmp_total key_cmp_exact kept p.0).1 (subst (λ (ks : List Descriptor). Contains ks p.0) same p.1), p.2)
+
+    held_iff : (digest : List ℕ) → (contains (slice_cmp nat_cmp) held digest ≡ true) ↔ HasDigestIn (λ (k : Descriptor). has_key graph k ≡ true) digest
+    held_iff digest = (
+      λ h. (let p = (has_held digest).0 h in (p.0, (are_held.each p.0).0 p.1, p.2)),
+      λ p. (has_held digest).1 (p.0, (are_held.each p.0).1 p.1, p.2),
+    )
+
+    to : (f : PrunedFile) → Contains (unneeded_in needed held blobs) f → IsUnneeded file graph kept f
+    to f h =
+        let r = in_map_filter (pruned_file held) (λ (blob : List ℕ × ℕ). not (contains (slice_cmp nat_cmp) needed blob.0)) blobs f h in
+        let blob = (are.each r.0.0 r.0.1).0 r.1 in
+        subst (IsUnneeded file graph kept) r.3
+        (record { is_digest = blob.0; there = blob.1; unneeded = λ p. cc (sym r.2 ∙ ap not (needed_from_kept r.0.0 p)); held = held_iff r.0.0 })
+
+    free : (digest : List ℕ) → (HasDigestIn (λ (k : Descriptor). contains key_cmp kept k ≡ true) digest → ⊥) → not (contains (slice_cmp nat_cmp) needed digest) ≡ true
+    free digest never = elim (cases_Bool (contains (slice_cmp nat_cmp) needed digest)) [ inl there ↦ absurd (never (kept_from_needed digest there)) | inr gone ↦ ap not gone ]
+
+    back : (f : PrunedFile) → IsUnneeded file graph kept f → Contains (unneeded_in needed held blobs) f
+    back f u =
+        let there : Contains blobs (f.digest, f.length) = (are.each f.digest f.length).1 (u.is_digest, u.there) in
+        let flag : contains (slice_cmp nat_cmp) held f.digest ≡ f.is_held = both (contains (slice_cmp nat_cmp) held f.digest) f.is_held (λ h. u.held.1 ((held_iff f.digest).0 h)) (λ h. (held_iff f.digest).1 (u.held.0 h)) in
+        subst (λ (b : Bool). Contains (unneeded_in needed held blobs) (record { digest = f.digest; length = f.length; is_held = b })) flag
+        (map_filter_in (pruned_file held) (λ (blob : List ℕ × ℕ). not (contains (slice_cmp nat_cmp) needed blob.0)) blobs (f.digest, f.length) there (free f.digest u.unneeded))

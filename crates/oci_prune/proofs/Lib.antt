@@ -1,4 +1,5 @@
 pub mod Keeping
 pub mod Stating
+pub mod Elements
 pub mod Filing
 pub mod Plans

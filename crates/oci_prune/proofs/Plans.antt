@@ -1,22 +1,26 @@
 -- What is planned, from its parts.
-use Rattle.std.proofs.Common.{◌≡◌, ℕ, Bool, true, false, not, inl, inr, List, [], ◌∷◌, filter, None, is_some, Result, Ok, Err, refl, sym, ap, subst, ◌∙◌}
+use Rattle.std.proofs.Common.{◌≡◌, ℕ, Bool, true, false, not, ◌⊎◌, inl, inr, List, [], ◌∷◌, filter, None, is_some, Result, Ok, Err, refl, sym, ap, subst, ◌∙◌}
 use Rattle.std.specs.Prelude.{◌↔◌, Contains, IfOk, OnOk, IfErr}
 use Rattle.std.specs.BTreeMap.{get}
 use Rattle.std.specs.BTreeSet.{BTreeSet, contains}
 use Rattle.std.specs.List.Sorted.{IsStrictlySortedBy}
 use Rattle.std.specs.Map.{keys_of, values_of}
+use Rattle.std.proofs.lemmas.Bool.{not-true}
 use Rattle.std.proofs.lemmas.List.Kept.{IsStrictlySortedBy-filter}
 use Rattle.std.proofs.lemmas.Map.Views.{btree_set_contains_iff}
-use Rattle.oci_manifest.specs.Descriptor.{Descriptor, key_cmp}
+use Rattle.oci_manifest.specs.Descriptor.{Descriptor, key_cmp, is_among}
 use Rattle.oci_store.specs.Graph.{Node, Reaches, root as start, along}
 use Rattle.oci_store.specs.Keyed.{has_key, HasAll}
 use Rattle.oci_store.specs.State.{State}
+use Rattle.oci_store.specs.Tags.{Tags}
+use Rattle.oci_layout.specs.Device.{Device}
 use Rattle.oci_store.proofs.KeyOrder.{key_cmp_total, key_cmp_exact}
+use Rattle.oci_store.proofs.Membership.{Contains-from_among, among_from_Contains, among-filter, among_filter_from}
 use Rattle.oci_store.proofs.Lookups.{has_key-from_Contains, Contains-from_has_key}
 use Rattle.oci_layout.proofs.Loose.{HasKeys}
 use Rattle.oci_prune.specs.Kept.{Needs, IsKept, root, needed, IsNeeded, IsUnknown, AreKept, AllKnown}
-use Rattle.oci_prune.specs.Plan.{AreHeld, RefersIf, IsSafe}
-use Rattle.oci_prune.specs.Refusal.{IsKeyFault}
+use Rattle.oci_prune.specs.Plan.{AreHeld, AreRemoved, RefersIf, IsSafe}
+use Rattle.oci_prune.specs.Refusal.{IsKeyFault, IsPlanFault}
 use Rattle.oci_prune.specs.Subjects.{Subjects, AreSubjects, Refers, RefersBy, IsSubjectFault}
 use Rattle.oci_prune.specs.Walk.{IsWalkFault}
 use Rattle.oci_prune.specs.declared.fault.PruneFault.{PruneFault}
@@ -120,3 +124,23 @@ safe_from_kept graph roots R set are all = record {
     reached : (k : Descriptor) → Reaches graph roots k → has_key graph k ≡ true → IsKept graph roots R k
     reached k (start named) held = root named held
     reached k (along {from} path edge) held = needed (reached from path (ap is_some edge.1)) (inl edge) held
+
+-- ---- the plan
+
+pub tags_fault : (dir : Device) (graph : List Node) (tags : Tags) (absent : List Descriptor) (keeps : Bool) (e : PruneFault) → (e ≡ fault.Memory) ⊎ ((e ≡ fault.NoTags) × (tags ≡ [])) → IsPlanFault dir graph tags absent keeps e
+tags_fault dir graph tags absent keeps e (inl memory) = rw memory tt
+tags_fault dir graph tags absent keeps e (inr none) = rw none.0 none.1
+
+pub are_removed : (graph : List Node) (kept : BTreeSet Descriptor) (held removed : List Descriptor) → AreHeld graph held → removed ≡ filter (λ (k : Descriptor). not (contains key_cmp kept k)) held → AreRemoved graph kept removed
+are_removed graph kept held removed are e = record {
+  each = λ k. (
+    λ h.
+        let p = among-filter is_gone held k (subst (λ (ks : List Descriptor). is_among ks k ≡ true) e (among_from_Contains removed k h)) in
+        ((are.each k).0 (Contains-from_among held k p.1), not-true (contains key_cmp kept k) p.0),
+    λ h. Contains-from_among removed k (subst (λ (ks : List Descriptor). is_among ks k ≡ true) (sym e) (among_filter_from is_gone held k (ap not h.1) (among_from_Contains held k ((are.each k).1 h.0)))),
+  );
+  order = subst (λ (ks : List Descriptor). IsStrictlySortedBy key_cmp ks) (sym e) (IsStrictlySortedBy-filter key_cmp is_gone held are.order);
+}
+  where
+    is_gone : Descriptor → Bool
+    is_gone k = not (contains key_cmp kept k)

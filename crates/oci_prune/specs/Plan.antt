@@ -1,7 +1,8 @@
 -- What a prune keeps and removes.
-use Rattle.std.specs.Prelude.{◌≡◌, ◌≢◌, ◌↔◌, ◌⊎◌, ℕ, Bool, true, false, List, map, Contains, IsTrue}
+use Rattle.std.specs.Prelude.{◌≡◌, ◌≢◌, ◌↔◌, ◌⊎◌, ℕ, Bool, true, false, List, map, None, Contains, IsTrue}
 use Rattle.std.specs.BTreeSet.{BTreeSet, contains}
 use Rattle.std.specs.Cmp.Lexicographic.{slice_cmp}
+use Rattle.std.specs.List.{All}
 use Rattle.std.specs.List.Sorted.{IsStrictlySortedBy}
 use Rattle.std.specs.Map.{values_of}
 use Rattle.std.specs.Ordering.{nat_cmp}
@@ -11,12 +12,12 @@ use Rattle.oci_store.specs.Graph.{Node, IsEdge, Reaches}
 use Rattle.oci_store.specs.Keyed.{has_key}
 use Rattle.oci_store.specs.State.{State}
 use Rattle.oci_store.specs.Tags.{Tags}
-use Rattle.oci_layout.specs.Blobs.{blob_path, meaning}
+use Rattle.oci_layout.specs.Blobs.{blob_path}
 use Rattle.oci_layout.specs.Device.{Device, File}
-use Rattle.oci_layout.specs.Prunable.{HasLength}
-use Rattle.oci_prune.specs.Kept.{AreKept, AllKnown}
+use Rattle.oci_layout.specs.Prunable.{HasLength, by_name}
 use Rattle.oci_prune.specs.Subjects.{Refers}
 use Rattle.oci_prune.specs.declared.pruning.PrunedFile.{PrunedFile}
+use Rattle.oci_prune.specs.declared.pruning.Pruning.{Pruning}
 
 -- the keys of a graph, in key order
 pub record AreHeld (graph : List Node) (keys : List Descriptor) : Type 0 where
@@ -54,3 +55,12 @@ pub record IsUnneeded (file : File) (graph : List Node) (kept : BTreeSet Descrip
 pub record AreUnneeded (file : File) (graph : List Node) (kept : BTreeSet Descriptor) (files : List PrunedFile) : Type 0 where
   pub each : (f : PrunedFile) → Contains files f ↔ IsUnneeded file graph kept f
   pub order : IsStrictlySortedBy (slice_cmp nat_cmp) (map (λ (f : PrunedFile). f.digest) files)
+
+-- a plan for a layout in a directory: it keeps what is reached from the tags, and removes the other
+-- keys and the files that nothing kept needs
+pub record IsPruning (dir : Device) (graph : List Node) (tags : Tags) (plan : Pruning) : Type 0 where
+  pub safe : IsSafe graph (values_of tags) plan.kept
+  pub removed : AreRemoved graph plan.kept plan.removed.items
+  pub files : dir.is_honest → AreUnneeded dir.file graph plan.kept plan.files.items
+  -- no file of the layout is a draft
+  pub drafts : dir.is_honest → All (λ (draft : List ℕ × ℕ). dir.file draft.0 ≡ None) (by_name plan.drafts.items)

@@ -1,15 +1,45 @@
-ghost use Rattle.std.specs.Prelude.{◌≡◌, ◌↔◌, ℕ, List, true, map, filter, not, Contains, IfOk, OnOk, IsErrOf};
+ghost use Rattle.std.specs.Prelude.{◌≡◌, ◌↔◌, ℕ, List, true, map, filter, not, Contains, IfOk, IfErr};
 ghost use Rattle.std.specs.BTreeSet.{contains};
 ghost use Rattle.std.specs.Cmp.Lexicographic.{slice_cmp};
 ghost use Rattle.std.specs.Ordering.{nat_cmp};
 ghost use Rattle.oci_manifest.specs.Descriptor.{Descriptor};
 ghost use Rattle.oci_prune.specs.Files.{HasDigests, unneeded_in};
+ghost use Rattle.oci_prune.specs.Plan.{AreHeld, AreUnneeded};
+ghost use Rattle.oci_prune.specs.Refusal.{IsLayoutFault};
 
+use crate::fault::PruneFault;
 use crate::pruning::PrunedFile;
 use oci_digest::{Digest, NoMemory};
+use oci_layout::{Layout, PrunableDir};
 use oci_manifest::Key;
+use oci_store::keys_of_set;
 use std::alloc::Global;
 use std::collections::BTreeSet;
+
+/// Returns the files of a layout that no kept key needs. `held` has the held keys.
+///
+/// # Errors
+///
+/// - 74 `Device` if a folder of blobs cannot be read.
+/// - 89 `Memory` if memory runs out.
+pub(crate) fn plan_files<D: PrunableDir>(
+    alloc: Global,
+    layout: &Layout<D>,
+    held: &[Key],
+    kept: &BTreeSet<Key>,
+) -> Result<Vec<PrunedFile>, PruneFault>
+    requires { AreHeld layout.now.1 held.now }
+    ensures files { IfOk result (λ files. (D.device layout.now.0).is_honest
+        → AreUnneeded (D.device layout.now.0).file layout.now.1 kept.now files.items) }
+    ensures cause { IfErr result (IsLayoutFault (D.device layout.now.0)) }
+{
+    let blobs = layout.blobs()?;
+    let kept = keys_of_set(alloc, kept)?;
+    let needed = digests_of(alloc, &kept)?;
+    let held = digests_of(alloc, held)?;
+    let files = unneeded_files(alloc, &blobs, &needed, &held)?;
+    Ok(files)
+}
 
 /// Returns the digests of these keys.
 pub(crate) fn digests_of(alloc: Global, keys: &[Key]) -> Result<BTreeSet<Digest>, NoMemory>

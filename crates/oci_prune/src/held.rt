@@ -1,4 +1,4 @@
-ghost use Rattle.std.specs.Prelude.{◌≡◌, ◌≢◌, [], not, filter, IfOk, IfErr, OnOk, IsErrOf};
+ghost use Rattle.std.specs.Prelude.{◌≡◌, ◌≢◌, ◌⊎◌, [], not, filter, IfOk, IfErr, OnOk};
 ghost use Rattle.std.specs.BTreeSet.{contains};
 ghost use Rattle.std.specs.Map.{values_of};
 ghost use Rattle.oci_manifest.specs.Descriptor.{key_cmp};
@@ -41,7 +41,8 @@ pub(crate) fn tagged_keys<D: Dir>(
     ensures tagged { IfOk result (λ keys. keys.items ≡ values_of layout.now.2) }
     ensures names { OnOk result (AreNames layout.now.1 layout.now.2) }
     ensures some { OnOk result (layout.now.2 ≢ []) }
-    ensures none { IsErrOf result PruneFault.NoTags → layout.now.2 ≡ [] }
+    ensures cause { IfErr result (λ e. (e ≡ PruneFault.Memory)
+        ⊎ ((e ≡ PruneFault.NoTags) × (layout.now.2 ≡ []))) }
 {
     let tags = layout.tags()?;
     if tags.is_empty() {

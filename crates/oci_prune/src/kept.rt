@@ -23,7 +23,7 @@ use std::collections::{BTreeMap, BTreeSet};
 ///
 /// - 96 `Unknown` if a key of a manifest kind is needed and not held: the first one of the walk.
 /// - 89 `Memory` if memory runs out.
-pub fn kept_keys<S: GraphSource>(
+pub(crate) fn kept_keys<S: GraphSource>(
     alloc: Global,
     source: &S,
     roots: &[Key],

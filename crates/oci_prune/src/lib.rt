@@ -5,11 +5,11 @@ mod fault;
 mod files;
 mod held;
 mod kept;
+mod plan;
 mod planning;
 mod pruning;
 mod subjects;
 
 pub use fault::PruneFault;
-pub use kept::kept_keys;
+pub use plan::plan_prune;
 pub use pruning::{PrunedFile, Pruning};
-pub use subjects::subjects_of;

@@ -16,7 +16,7 @@ use std::collections::BTreeMap;
 /// - 77 `BadManifest` if a manifest cannot be read.
 /// - 88 `Fetch` if the bytes of a manifest cannot be fetched.
 /// - 89 `Memory` if memory runs out.
-pub fn subjects_of<S: Source>(
+pub(crate) fn subjects_of<S: Source>(
     alloc: Global,
     source: &S,
     keys: &[Key],

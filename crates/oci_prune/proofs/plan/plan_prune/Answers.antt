@@ -1,0 +1,25 @@
+use Rattle.std.proofs.Common.{◌≡◌, List, not, filter, sym, subst, ◌∙◌}
+use Rattle.std.specs.Map.{values_of}
+use Rattle.std.proofs.lemmas.Result.{err_from_is_err_and}
+use Rattle.oci_manifest.specs.Descriptor.{Descriptor}
+use Rattle.oci_prune.specs.Plan.{AreHeld, IsSafe, AreUnneeded}
+use Rattle.oci_prune.proofs.Plans.{tags_fault, are_removed}
+use Rattle.oci_prune.proofs.plan.plan_prune.Goals as goal
+
+pub returns-in_err-roots-clause-cause : goal.returns-in_err-roots-clause-cause
+returns-in_err-roots-clause-cause g c =
+    let p = err_from_is_err_and c.from_residual.result c.from_residual.ensures.1 in
+    rw (p.1, p.2)
+    (tags_fault (g.D.Dir.device c.args.layout.now.0) c.args.layout.now.1 c.args.layout.now.2 c.args.layout.now.3 c.args.keeps_referrers c.in_err-roots.field-0.0 c.in_err-roots.ensures.cause)
+
+pub returns-clause-planned : goal.returns-clause-planned
+returns-clause-planned g c =
+    let dir = g.D.Dir.device c.args.layout.now.0 in
+    let graph = c.args.layout.now.1 in
+    let roots = c.deref.ensures.value ∙ c.in_ok-roots.ensures.tagged in
+    record {
+      safe = subst (λ (ks : List Descriptor). IsSafe graph ks c.in_ok-kept.kept) roots c.in_ok-kept.ensures.safe;
+      removed = are_removed graph c.in_ok-kept.kept c.in_ok-held.held.items c.in_ok-removed.removed.items c.in_ok-held.ensures (rw c.deref-3.ensures.value at c.in_ok-removed.ensures);
+      files = λ honest. c.in_ok-files.ensures.files honest;
+      drafts = λ honest. c.in_ok-drafts.ensures.drafts honest;
+    }

@@ -1,0 +1,80 @@
+ghost use Rattle.std.specs.Prelude.{◌≡◌, ◌≢◌, [], IfOk, IfErr, OnOk};
+ghost use Rattle.std.specs.Map.{values_of};
+ghost use Rattle.oci_layout.specs.Blobs.{meaning};
+ghost use Rattle.oci_prune.specs.Kept.{AreKept, AllKnown};
+ghost use Rattle.oci_prune.specs.Plan.{IsPruning, RefersIf};
+ghost use Rattle.oci_prune.specs.Refusal.{IsCheckFault, IsPlanFault};
+
+use crate::fault::PruneFault;
+use crate::files::plan_files;
+use crate::held::{held_keys, keys_without, tagged_keys};
+use crate::planning::plan_keys;
+use crate::pruning::Pruning;
+use oci_layout::{Layout, PrunableDir};
+use std::alloc::Global;
+
+/// Plans a prune of a layout: what no tag needs is to be removed. Changes nothing.
+///
+/// The kept keys are the tagged ones, with each kept key the held keys that it lists, and, if
+/// `keeps_referrers`, the held manifests that have it as their subject. All other held keys are
+/// removed, and the files under `blobs` that are named by a digest that no kept key has.
+///
+/// Each held manifest is read once, if `keeps_referrers`. The time grows with the held keys, the
+/// keys that they list and the files, times a logarithm.
+///
+/// # Errors
+///
+/// - 97 `NoTags` if the layout has no tag. Checked first.
+/// - 96 `Unknown` if an entry of the opened index has no file: the first one. Checked second.
+/// - 98 `LinkedBlobs` if `blobs`, `blobs/sha256` or `blobs/sha512` is a link. Checked third.
+/// - 77 `BadManifest` if a held manifest cannot be read, and 88 `Fetch` if its bytes cannot be
+///   fetched; only if `keeps_referrers`.
+/// - 96 `Unknown` if a kept key lists a key of a manifest kind that is not held.
+/// - 74 `Device` if a folder cannot be read.
+/// - 89 `Memory` if memory runs out.
+pub fn plan_prune<D: PrunableDir>(
+    alloc: Global,
+    layout: &Layout<D>,
+    keeps_referrers: bool,
+) -> Result<Pruning, PruneFault>
+    ensures kept { IfOk result (λ plan. (D.device layout.now.0).is_honest
+        → AreKept layout.now.1 (values_of layout.now.2) (RefersIf keeps_referrers
+        (meaning (D.device layout.now.0) layout.now.1 layout.now.2)) plan.kept) }
+    ensures planned { IfOk result (λ plan. IsPruning (D.device layout.now.0) layout.now.1
+        layout.now.2 plan) }
+    ensures known { OnOk result ((D.device layout.now.0).is_honest
+        → AllKnown layout.now.1 (values_of layout.now.2) (RefersIf keeps_referrers
+        (meaning (D.device layout.now.0) layout.now.1 layout.now.2))) }
+    ensures tagged { OnOk result (layout.now.2 ≢ []) }
+    ensures whole { OnOk result (layout.now.3 ≡ []) }
+    ensures cause { IfErr result (IsPlanFault (D.device layout.now.0) layout.now.1 layout.now.2
+        layout.now.3 keeps_referrers) }
+{
+    let roots = tagged_keys(alloc, layout)?;
+    check_whole(layout)?;
+    let held = held_keys(alloc, layout)?;
+    let kept = plan_keys(alloc, layout, &roots, &held, keeps_referrers)?;
+    let removed = keys_without(alloc, &held, &kept)?;
+    let files = plan_files(alloc, layout, &held, &kept)?;
+    let drafts = layout.leftovers()?;
+    Ok(Pruning {
+        kept,
+        removed,
+        files,
+        drafts,
+    })
+}
+
+/// Refuses a layout with an absent entry, and one whose folders of blobs are links.
+fn check_whole<D: PrunableDir>(layout: &Layout<D>) -> Result<(), PruneFault>
+    ensures whole { OnOk result (layout.now.3 ≡ []) }
+    ensures cause { IfErr result (IsCheckFault (D.device layout.now.0) layout.now.3) }
+{
+    if let Some(key) = layout.absent().first() {
+        return Err(PruneFault::Unknown(key.try_clone()?));
+    }
+    match layout.linked()? {
+        Some(path) => Err(PruneFault::LinkedBlobs(path)),
+        None => Ok(()),
+    }
+}
