@@ -2,4 +2,5 @@ pub mod Keeping
 pub mod Stating
 pub mod Elements
 pub mod Filing
+pub mod Sparing
 pub mod Plans

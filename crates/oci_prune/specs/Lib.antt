@@ -6,3 +6,4 @@ pub mod Walk
 pub mod Plan
 pub mod Files
 pub mod Refusal
+pub mod Pruned

@@ -8,8 +8,9 @@ mod kept;
 mod plan;
 mod planning;
 mod pruning;
+mod removal;
 mod subjects;
 
 pub use fault::PruneFault;
 pub use plan::plan_prune;
-pub use pruning::{PrunedFile, Pruning};
+pub use pruning::{Pruned, PrunedFile, Pruning};

@@ -1,0 +1,88 @@
+-- What several removals spare.
+use Rattle.std.proofs.Common.{◌≡◌, ℕ, ◌+◌, ◌<◌, Bool, true, false, ◌⊎◌, inl, inr, List, [], ◌∷◌, ◌++◌, length, take, get_or, None, String, Global, string_bytes, refl, sym, ap, subst, ◌∙◌}
+use Rattle.std.specs.Prelude.{Contains}
+use Rattle.std.specs.List.{All}
+use Rattle.std.specs.Str.{bytes_eq}
+use Rattle.std.proofs.lemmas.Bool.{cases_Bool}
+use Rattle.std.proofs.lemmas.List.{map-append}
+use Rattle.std.proofs.lemmas.List.Elements.{All-push, All-weaker, Contains-push, Contains-append_left}
+use Rattle.std.proofs.lemmas.Slice.Eq.{bytes_eq-Decides}
+use Rattle.oci_store.specs.Graph.{Node}
+use Rattle.oci_layout.specs.Blobs.{blob_path, stored, IsSound}
+use Rattle.oci_layout.specs.Device.{Device, File}
+use Rattle.oci_layout.specs.Prunable.{by_name}
+use Rattle.oci_prune.specs.Pruned.{IsPathOf, IsDraftIn, Spares, AreSameBlobs}
+use Rattle.oci_prune.specs.declared.pruning.PrunedFile.{PrunedFile}
+use Rattle.oci_prune.proofs.Elements.{no_element, next_element}
+
+abbrev Paths : Type 1
+Paths = List ℕ → Type 0
+
+pub spares_same : (dir : Device) (graph : List Node) (P : Paths) → Spares dir dir graph P
+spares_same dir graph P = record { other = λ honest path free. refl; contents = λ honest. refl; sound = λ h. h; honest = (λ h. h, λ h. h) }
+
+-- of two changes one after the other
+pub spares_both : (a b c : Device) (graph : List Node) (P Q T : Paths) → Spares a b graph P → Spares b c graph Q → ((path : List ℕ) → P path → T path) → ((path : List ℕ) → Q path → T path) → Spares a c graph T
+spares_both a b c graph P Q T first second p q = record {
+  other = λ honest path free. second.other (first.honest.0 honest) path (λ h. free (q path h)) ∙ first.other honest path (λ h. free (p path h));
+  contents = λ honest. second.contents (first.honest.0 honest) ∙ first.contents honest;
+  sound = λ h. second.sound (first.sound h);
+  honest = (λ h. second.honest.0 (first.honest.0 h), λ h. first.honest.1 (second.honest.1 h));
+}
+
+-- ---- files
+
+pub path_later : (files : List PrunedFile) (f : PrunedFile) (path : List ℕ) → IsPathOf files path → IsPathOf (files ++ f ∷ []) path
+path_later files f path h = (h.0, Contains-append_left files (f ∷ []) h.0 h.1, h.2)
+
+pub path_here : (files : List PrunedFile) (f : PrunedFile) (path : List ℕ) → blob_path f.digest ≡ path → IsPathOf (files ++ f ∷ []) path
+path_here files f path is = (f, Contains-push files f, is)
+
+pub spares_file : (a b c : Device) (graph now : List Node) (files : List PrunedFile) (i : ℕ) (f : PrunedFile) → i < length files → f ≡ get_or files i f → Spares a b graph (IsPathOf (take i files)) → now ≡ graph
+    → Spares b c now (λ (path : List ℕ). blob_path f.digest ≡ path) → Spares a c graph (IsPathOf (take (i + 1) files))
+spares_file a b c graph now files i f lt is first same second =
+    subst (λ (fs : List PrunedFile). Spares a c graph (IsPathOf fs)) (sym (next_element files i f lt is))
+    (spares_both a b c graph (IsPathOf (take i files)) (λ (path : List ℕ). blob_path f.digest ≡ path) (IsPathOf (take i files ++ f ∷ [])) first
+    (subst (λ (g : List Node). Spares b c g (λ (path : List ℕ). blob_path f.digest ≡ path)) same second) (path_later (take i files) f) (path_here (take i files) f))
+
+abbrev IsGone : Device → PrunedFile → Type 0
+IsGone dir f = dir.file (blob_path f.digest) ≡ None
+
+-- what was removed stays removed
+stays_gone : (b c : Device) (graph : List Node) (f other : PrunedFile) → b.is_honest → Spares b c graph (λ (path : List ℕ). blob_path f.digest ≡ path) → IsGone c f → IsGone b other → IsGone c other
+stays_gone b c graph f other honest spares here was =
+    elim (cases_Bool (bytes_eq (blob_path f.digest) (blob_path other.digest))) [
+      | inl same ↦ subst (λ (path : List ℕ). c.file path ≡ None) ((bytes_eq-Decides (blob_path f.digest) (blob_path other.digest)).0 same) here
+      | inr apart ↦ spares.other honest (blob_path other.digest) (λ is. cc (sym apart ∙ (bytes_eq-Decides (blob_path f.digest) (blob_path other.digest)).1 is)) ∙ was
+    ]
+
+pub all_gone : (b c : Device) (graph : List Node) (files : List PrunedFile) (i : ℕ) (f : PrunedFile) → i < length files → f ≡ get_or files i f → b.is_honest → Spares b c graph (λ (path : List ℕ). blob_path f.digest ≡ path) → IsGone c f
+    → All (IsGone b) (take i files) → All (IsGone c) (take (i + 1) files)
+all_gone b c graph files i f lt is honest spares here before =
+    subst (λ (fs : List PrunedFile). All (IsGone c) fs) (sym (next_element files i f lt is))
+    (All-push (IsGone c) (take i files) f (All-weaker (IsGone b) (IsGone c) (λ other was. stays_gone b c graph f other honest spares here was) (take i files) before) here)
+
+-- ---- drafts
+
+abbrev Drafts : Type 0
+Drafts = List (String Global × ℕ)
+
+pub draft_later : (drafts : List (List ℕ × ℕ)) (d : List ℕ × ℕ) (path : List ℕ) → IsDraftIn drafts path → IsDraftIn (drafts ++ d ∷ []) path
+draft_later drafts d path h = (h.0, Contains-append_left drafts (d ∷ []) h.0 h.1, h.2)
+
+pub draft_here : (drafts : List (List ℕ × ℕ)) (d : List ℕ × ℕ) (path : List ℕ) → d.0 ≡ path → IsDraftIn (drafts ++ d ∷ []) path
+draft_here drafts d path is = (d, Contains-push drafts d, is)
+
+pub spares_draft : (a b c : Device) (graph now : List Node) (drafts : Drafts) (i : ℕ) (d : String Global × ℕ) → i < length drafts → d ≡ get_or drafts i d → Spares a b graph (IsDraftIn (by_name (take i drafts))) → now ≡ graph
+    → Spares b c now (λ (path : List ℕ). string_bytes d.0 ≡ path) → Spares a c graph (IsDraftIn (by_name (take (i + 1) drafts)))
+spares_draft a b c graph now drafts i d lt is first same second =
+    let more : by_name (take (i + 1) drafts) ≡ by_name (take i drafts) ++ (string_bytes d.0, d.1) ∷ [] = ap by_name (next_element drafts i d lt is) ∙ map-append (λ (f : String Global × ℕ). (string_bytes f.0, f.1)) (take i drafts) (d ∷ []) in
+    subst (λ (ds : List (List ℕ × ℕ)). Spares a c graph (IsDraftIn ds)) (sym more)
+    (spares_both a b c graph (IsDraftIn (by_name (take i drafts))) (λ (path : List ℕ). string_bytes d.0 ≡ path) (IsDraftIn (by_name (take i drafts) ++ (string_bytes d.0, d.1) ∷ [])) first
+    (subst (λ (g : List Node). Spares b c g (λ (path : List ℕ). string_bytes d.0 ≡ path)) same second) (draft_later (by_name (take i drafts)) (string_bytes d.0, d.1)) (draft_here (by_name (take i drafts)) (string_bytes d.0, d.1)))
+
+pub same_blobs_both : (a b c : Device) → (a.is_honest → b.is_honest) → AreSameBlobs a b → AreSameBlobs b c → AreSameBlobs a c
+same_blobs_both a b c honest first second = record {
+  blobs = λ h digest is. second.blobs (honest h) digest is ∙ first.blobs h digest is;
+  index = λ h. second.index (honest h) ∙ first.index h;
+}

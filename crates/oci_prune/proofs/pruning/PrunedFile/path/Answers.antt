@@ -1,0 +1,7 @@
+use Rattle.std.proofs.Common.{◌≡◌, rules}
+use Rattle.oci_layout.specs.Blobs.{blob_path}
+use Rattle.oci_prune.proofs.pruning.PrunedFile.path.Goals as goal
+
+pub returns : goal.returns
+unfolding blob_path
+returns c = search rules

@@ -1,0 +1,22 @@
+use Rattle.std.proofs.Common.{◌≡◌, ◌∙◌, ℕ, List, String, Global, string_bytes, sym, ap, subst}
+use Rattle.std.proofs.lemmas.List.{length-set}
+use Rattle.oci_prune.specs.Pruned.{Spares}
+use Rattle.oci_prune.proofs.Sparing.{spares_draft, same_blobs_both}
+use Rattle.oci_prune.proofs.removal.remove_drafts.Goals as goal
+
+pub loop-place-preserved : goal.loop-place-preserved
+loop-place-preserved g c =
+    let w = c.loop-place.invariant in
+    let a = g.D.Dir.device c.args.layout.now.0 in
+    let b = g.D.Dir.device c.loop-place.layout.0 in
+    let d = g.D.Dir.device c.remove_draft.new.layout.0 in
+    let spared = subst (λ (text : List ℕ). Spares b d c.loop-place.layout.1 (λ (path : List ℕ). text ≡ path)) (c.as_str.ensures.value ∙ ap (λ (d : String Global × ℕ). string_bytes d.0) (sym c.index-drafts-place.is)) c.remove_draft.ensures.spared in
+    record {
+      graph = c.remove_draft.ensures.graph ∙ w.graph;
+      tags = c.remove_draft.ensures.tags ∙ w.tags;
+      absent = c.remove_draft.ensures.absent ∙ w.absent;
+      spared = spares_draft a b d c.args.layout.now.1 c.loop-place.layout.1 c.args.drafts.now c.loop-place.place c.index-drafts-place.result c.loop-place-test.true c.index-drafts-place.is w.spared w.graph spared;
+      files = same_blobs_both a b d w.spared.honest.0 w.files c.remove_draft.ensures.files;
+      fault = λ none. w.fault (c.remove_draft.ensures.fault none);
+      noted = length-set c.loop-place.gone.items c.loop-place.place c.remove_draft.result ∙ w.noted;
+    }

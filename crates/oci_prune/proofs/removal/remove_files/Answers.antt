@@ -1,0 +1,22 @@
+use Rattle.std.proofs.Common.{◌∙◌}
+use Rattle.std.proofs.lemmas.List.{length-set}
+use Rattle.oci_prune.proofs.Sparing.{spares_file, all_gone}
+use Rattle.oci_prune.proofs.removal.remove_files.Goals as goal
+
+pub loop-place-preserved : goal.loop-place-preserved
+loop-place-preserved g c =
+    let w = c.loop-place.invariant in
+    let a = g.D.Dir.device c.args.layout.now.0 in
+    let b = g.D.Dir.device c.loop-place.layout.0 in
+    let d = g.D.Dir.device c.remove_file.new.layout.0 in
+    record {
+      graph = c.remove_file.ensures.graph ∙ w.graph;
+      tags = c.remove_file.ensures.tags ∙ w.tags;
+      absent = c.remove_file.ensures.absent ∙ w.absent;
+      spared = spares_file a b d c.args.layout.now.1 c.loop-place.layout.1 c.args.files.now c.loop-place.place c.index-files-place.result c.loop-place-test.true c.index-files-place.is w.spared w.graph c.remove_file.ensures.spared;
+      removed = λ none honest.
+          all_gone b d c.loop-place.layout.1 c.args.files.now c.loop-place.place c.index-files-place.result c.loop-place-test.true c.index-files-place.is (w.spared.honest.0 honest) c.remove_file.ensures.spared
+          (c.remove_file.ensures.removed none (w.spared.honest.0 honest)) (w.removed (c.remove_file.ensures.fault none) honest);
+      fault = λ none. w.fault (c.remove_file.ensures.fault none);
+      noted = length-set c.loop-place.gone.items c.loop-place.place c.remove_file.result ∙ w.noted;
+    }

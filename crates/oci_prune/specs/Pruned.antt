@@ -1,0 +1,50 @@
+-- What a prune leaves of a layout.
+use Rattle.std.specs.Prelude.{◌≡◌, ◌↔◌, ◌⊎◌, ℕ, true, List, filter, None, Contains}
+use Rattle.std.specs.BTreeSet.{BTreeSet, contains}
+use Rattle.oci_digest.specs.Digest.{IsDigest}
+use Rattle.oci_manifest.specs.Descriptor.{Descriptor, key_cmp}
+use Rattle.oci_store.specs.Graph.{Node, Reaches}
+use Rattle.oci_store.specs.Keyed.{value_at, has_key}
+use Rattle.oci_layout.specs.Blobs.{blob_path, stored, IsSound}
+use Rattle.oci_layout.specs.Device.{Device, File}
+use Rattle.oci_layout.specs.Index.{index_file}
+use Rattle.oci_layout.specs.Prunable.{by_name}
+use Rattle.oci_prune.specs.Plan.{HasDigestIn}
+use Rattle.oci_prune.specs.declared.pruning.PrunedFile.{PrunedFile}
+use Rattle.oci_prune.specs.declared.pruning.Pruning.{Pruning}
+
+-- the kept keys of a graph, each with the keys that it lists
+abbrev pub kept_of : BTreeSet Descriptor → List Node → List Node
+kept_of kept graph = filter (λ (n : Node). contains key_cmp kept n.0) graph
+
+-- what was reached from the roots is held as before, and lists what it listed
+abbrev pub KeepsReached : List Node → List Node → List Descriptor → Type 0
+KeepsReached old new roots = (k : Descriptor) → Reaches old roots k → value_at new k ≡ value_at old k
+
+-- the path is that of one of these files
+abbrev pub IsPathOf : List PrunedFile → List ℕ → Type 0
+IsPathOf files path = (f : PrunedFile) × Contains files f × (blob_path f.digest ≡ path)
+
+-- the path is that of one of these drafts
+abbrev pub IsDraftIn : List (List ℕ × ℕ) → List ℕ → Type 0
+IsDraftIn drafts path = (draft : List ℕ × ℕ) × Contains drafts draft × (draft.0 ≡ path)
+
+-- no digest has a file unless a key of the graph has it
+abbrev pub HasOnlyNeeded : File → List Node → Type 0
+HasOnlyNeeded file graph = (digest : List ℕ) → IsDigest digest → (HasDigestIn (λ k. has_key graph k ≡ true) digest → ⊥) → file (blob_path digest) ≡ None
+
+-- a directory lost or got no file but at touched paths, and a graph in it kept its contents
+pub record Spares (old new : Device) (graph : List Node) (touched : List ℕ → Type 0) : Type 0 where
+  pub other : old.is_honest → (path : List ℕ) → (touched path → ⊥) → new.file path ≡ old.file path
+  pub contents : old.is_honest → stored new.file graph ≡ stored old.file graph
+  pub sound : IsSound old.is_honest old.file graph → IsSound new.is_honest new.file graph
+  pub honest : old.is_honest ↔ new.is_honest
+
+-- the path is that of the index, or of a file or a draft that a plan removes
+abbrev pub IsTouchedBy : Pruning → List ℕ → Type 0
+IsTouchedBy plan path = (index_file ≡ path) ⊎ (IsPathOf plan.files.items path ⊎ IsDraftIn (by_name plan.drafts.items) path)
+
+-- the files of digests and the index are unchanged
+pub record AreSameBlobs (old new : Device) : Type 0 where
+  pub blobs : old.is_honest → (digest : List ℕ) → IsDigest digest → new.file (blob_path digest) ≡ old.file (blob_path digest)
+  pub index : old.is_honest → new.file index_file ≡ old.file index_file

@@ -1,0 +1,140 @@
+ghost use Rattle.std.specs.Prelude.{◌≡◌, ◌≢◌, None, length};
+ghost use Rattle.std.specs.List.{All};
+ghost use Rattle.std.specs.Map.{keys_of};
+ghost use Rattle.oci_layout.specs.Blobs.{blob_path};
+ghost use Rattle.oci_layout.specs.Prunable.{by_name};
+ghost use Rattle.oci_prune.specs.Pruned.{IsPathOf, IsDraftIn, Spares, AreSameBlobs};
+
+use crate::fault::PruneFault;
+use crate::pruning::PrunedFile;
+use oci_digest::NoMemory;
+use oci_layout::{Layout, LayoutFault, PrunableDir};
+use std::alloc::Global;
+
+/// Removes files that no held key needs, and notes which of them were removed, and the first fault.
+pub(crate) fn remove_files<D: PrunableDir>(
+    alloc: Global,
+    layout: &mut Layout<D>,
+    files: &[PrunedFile],
+    gone: &mut Vec<bool>,
+    fault: &mut Option<PruneFault>,
+)
+    requires unneeded { (D.device layout.old.0).is_honest → All (λ f. All
+        (λ k. k.digest ≢ f.digest) (keys_of layout.old.1)) files.now }
+    requires noted { length gone.old.items ≡ length files.now }
+    ensures graph { layout.new.1 ≡ layout.old.1 }
+    ensures tags { layout.new.2 ≡ layout.old.2 }
+    ensures absent { layout.new.3 ≡ layout.old.3 }
+    ensures spared { Spares (D.device layout.old.0) (D.device layout.new.0) layout.old.1
+        (IsPathOf files.now) }
+    ensures fault { fault.new ≡ None → fault.old ≡ None }
+    ensures removed { fault.new ≡ None → (D.device layout.old.0).is_honest → All
+        (λ f. (D.device layout.new.0).file (blob_path f.digest) ≡ None) files.now }
+    ensures noted { length gone.new.items ≡ length files.now }
+{
+    for place in 0..files.len() {
+        gone[place] = remove_file(alloc, layout, &files[place], fault);
+    }
+}
+
+/// Removes a file that no held key needs, and notes the fault if it is the first one. Returns
+/// whether the file was removed.
+fn remove_file<D: PrunableDir>(
+    alloc: Global,
+    layout: &mut Layout<D>,
+    file: &PrunedFile,
+    fault: &mut Option<PruneFault>,
+) -> bool
+    requires unneeded { (D.device layout.old.0).is_honest → All
+        (λ k. k.digest ≢ file.now.digest) (keys_of layout.old.1) }
+    ensures graph { layout.new.1 ≡ layout.old.1 }
+    ensures tags { layout.new.2 ≡ layout.old.2 }
+    ensures absent { layout.new.3 ≡ layout.old.3 }
+    ensures spared { Spares (D.device layout.old.0) (D.device layout.new.0) layout.old.1
+        (λ path. blob_path file.now.digest ≡ path) }
+    ensures removed { fault.new ≡ None → (D.device layout.old.0).is_honest
+        → (D.device layout.new.0).file (blob_path file.now.digest) ≡ None }
+    ensures fault { fault.new ≡ None → fault.old ≡ None }
+{
+    match layout.remove_blob(&file.digest) {
+        Ok(found) => found,
+        Err(refused) => {
+            note(fault, not_removed(file.path(alloc), refused));
+            false
+        }
+    }
+}
+
+/// Removes drafts that killed processes left, and notes which of them were removed, and the first
+/// fault.
+pub(crate) fn remove_drafts<D: PrunableDir>(
+    alloc: Global,
+    layout: &mut Layout<D>,
+    drafts: &[(String, u64)],
+    gone: &mut Vec<bool>,
+    fault: &mut Option<PruneFault>,
+)
+    requires noted { length gone.old.items ≡ length drafts.now }
+    ensures graph { layout.new.1 ≡ layout.old.1 }
+    ensures tags { layout.new.2 ≡ layout.old.2 }
+    ensures absent { layout.new.3 ≡ layout.old.3 }
+    ensures spared { Spares (D.device layout.old.0) (D.device layout.new.0) layout.old.1
+        (IsDraftIn (by_name drafts.now)) }
+    ensures files { AreSameBlobs (D.device layout.old.0) (D.device layout.new.0) }
+    ensures fault { fault.new ≡ None → fault.old ≡ None }
+    ensures noted { length gone.new.items ≡ length drafts.now }
+{
+    for place in 0..drafts.len() {
+        gone[place] = remove_draft(alloc, layout, drafts[place].0.as_str(), fault);
+    }
+}
+
+/// Removes a draft, unless a process is writing it, and notes the fault if it is the first one.
+/// Returns whether the draft was removed.
+fn remove_draft<D: PrunableDir>(
+    alloc: Global,
+    layout: &mut Layout<D>,
+    path: &str,
+    fault: &mut Option<PruneFault>,
+) -> bool
+    ensures graph { layout.new.1 ≡ layout.old.1 }
+    ensures tags { layout.new.2 ≡ layout.old.2 }
+    ensures absent { layout.new.3 ≡ layout.old.3 }
+    ensures spared { Spares (D.device layout.old.0) (D.device layout.new.0) layout.old.1
+        (λ touched. path.now ≡ touched) }
+    ensures files { AreSameBlobs (D.device layout.old.0) (D.device layout.new.0) }
+    ensures fault { fault.new ≡ None → fault.old ≡ None }
+{
+    match layout.remove_leftover(path) {
+        Ok(found) => found,
+        Err(refused) => {
+            note(fault, not_removed(copied(alloc, path), refused));
+            false
+        }
+    }
+}
+
+/// Returns a copy of a path.
+fn copied(alloc: Global, path: &str) -> Result<String, NoMemory> {
+    Ok(String::from_str(alloc, path)?)
+}
+
+/// Returns the fault of a prune for a file that was not removed.
+fn not_removed(path: Result<String, NoMemory>, fault: LayoutFault) -> PruneFault {
+    match fault {
+        LayoutFault::Memory => PruneFault::Memory,
+        _ => match path {
+            Ok(path) => PruneFault::NotRemoved(path),
+            Err(_) => PruneFault::Memory,
+        },
+    }
+}
+
+/// Notes a fault if it is the first one.
+fn note(first: &mut Option<PruneFault>, fault: PruneFault)
+    ensures some { first.new ≡ None → ⊥ }
+{
+    if first.is_none() {
+        *first = Some(fault);
+    }
+}
