@@ -1,11 +1,12 @@
 -- What is planned, from its parts.
-use Rattle.std.proofs.Common.{◌≡◌, ℕ, Bool, true, false, not, ◌⊎◌, inl, inr, List, [], ◌∷◌, filter, None, is_some, Result, Ok, Err, refl, sym, ap, subst, ◌∙◌}
+use Rattle.std.proofs.Common.{◌≡◌, Bool, true, false, not, ◌⊎◌, inl, inr, List, [], filter, get_or, None, is_some, Result, Ok, Err, sym, ap, subst, ◌∙◌}
 use Rattle.std.specs.Prelude.{◌↔◌, Contains, IfOk, OnOk, IfErr}
 use Rattle.std.specs.BTreeMap.{get}
 use Rattle.std.specs.BTreeSet.{BTreeSet, contains}
 use Rattle.std.specs.List.Sorted.{IsStrictlySortedBy}
-use Rattle.std.specs.Map.{keys_of, values_of}
+use Rattle.std.specs.Map.{keys_of}
 use Rattle.std.proofs.lemmas.Bool.{not-true}
+use Rattle.std.proofs.lemmas.List.Elements.{Contains-get_or}
 use Rattle.std.proofs.lemmas.List.Kept.{IsStrictlySortedBy-filter}
 use Rattle.std.proofs.lemmas.Map.Views.{btree_set_contains_iff}
 use Rattle.oci_manifest.specs.Descriptor.{Descriptor, key_cmp, is_among}
@@ -117,6 +118,7 @@ refers_by_none store subjects none referrer subject = (λ refers. cc (sym (none 
 pub safe_from_kept : (graph : List Node) (roots : List Descriptor) (R : Descriptor → Descriptor → Type 0) (set : BTreeSet Descriptor) → AreKept graph roots R set → HasAll graph roots → IsSafe graph roots set
 safe_from_kept graph roots R set are all = record {
   held = λ k h. held_from_kept graph roots R k ((are k).0 h);
+  rooted = λ place d lt. (are (get_or roots place d)).1 (root (Contains-get_or roots place d lt) (all place d lt));
   reached = λ k reaches held. (are k).1 (reached k reaches held);
   closed = λ from to kept edge held. (are to).1 (needed ((are from).0 kept) (inl edge) held);
 }

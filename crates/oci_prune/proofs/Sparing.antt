@@ -1,6 +1,6 @@
 -- What several removals spare.
-use Rattle.std.proofs.Common.{◌≡◌, ℕ, ◌+◌, ◌<◌, Bool, true, false, ◌⊎◌, inl, inr, List, [], ◌∷◌, ◌++◌, length, take, get_or, None, String, Global, string_bytes, refl, sym, ap, subst, ◌∙◌}
-use Rattle.std.specs.Prelude.{Contains}
+use Rattle.std.proofs.Common.{◌≡◌, ℕ, ◌+◌, ◌<◌, false, inl, inr, List, [], ◌∷◌, ◌++◌, length, take, get_or, None, String, Global, string_bytes, refl, sym, ap, subst, ◌∙◌}
+use Rattle.std.specs.Prelude.{◌↔◌}
 use Rattle.std.specs.List.{All}
 use Rattle.std.specs.Str.{bytes_eq}
 use Rattle.std.proofs.lemmas.Bool.{cases_Bool}
@@ -9,11 +9,12 @@ use Rattle.std.proofs.lemmas.List.Elements.{All-push, All-weaker, Contains-push,
 use Rattle.std.proofs.lemmas.Slice.Eq.{bytes_eq-Decides}
 use Rattle.oci_store.specs.Graph.{Node}
 use Rattle.oci_layout.specs.Blobs.{blob_path, stored, IsSound}
-use Rattle.oci_layout.specs.Device.{Device, File}
+use Rattle.oci_layout.specs.Device.{Device, Touches}
+use Rattle.oci_layout.specs.Index.{index_file}
 use Rattle.oci_layout.specs.Prunable.{by_name}
 use Rattle.oci_prune.specs.Pruned.{IsPathOf, IsDraftIn, Spares, AreSameBlobs}
 use Rattle.oci_prune.specs.declared.pruning.PrunedFile.{PrunedFile}
-use Rattle.oci_prune.proofs.Elements.{no_element, next_element}
+use Rattle.oci_prune.proofs.Elements.{next_element}
 
 abbrev Paths : Type 1
 Paths = List ℕ → Type 0
@@ -29,6 +30,19 @@ spares_both a b c graph P Q T first second p q = record {
   sound = λ h. second.sound (first.sound h);
   honest = (λ h. second.honest.0 (first.honest.0 h), λ h. first.honest.1 (second.honest.1 h));
 }
+
+-- a save touches the index alone
+pub spares_index : (a b : Device) (graph : List Node) → (a.is_honest → Touches a.file b.file index_file) → (a.is_honest → stored b.file graph ≡ stored a.file graph) → (IsSound a.is_honest a.file graph → IsSound b.is_honest b.file graph)
+    → (a.is_honest ↔ b.is_honest) → Spares a b graph (λ (path : List ℕ). index_file ≡ path)
+spares_index a b graph touches contents sound honest = record {
+  other = λ h path free. touches h path (apart path free);
+  contents = contents;
+  sound = sound;
+  honest = honest;
+}
+  where
+    apart : (path : List ℕ) → (index_file ≡ path → ⊥) → bytes_eq index_file path ≡ false
+    apart path free = elim (cases_Bool (bytes_eq index_file path)) [ inl same ↦ absurd (free ((bytes_eq-Decides index_file path).0 same)) | inr other ↦ other ]
 
 -- ---- files
 

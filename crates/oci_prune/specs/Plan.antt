@@ -1,5 +1,5 @@
 -- What a prune keeps and removes.
-use Rattle.std.specs.Prelude.{◌≡◌, ◌≢◌, ◌↔◌, ◌⊎◌, ℕ, Bool, true, false, List, map, None, Contains, IsTrue}
+use Rattle.std.specs.Prelude.{◌≡◌, ◌↔◌, ℕ, Bool, true, false, List, map, None, Contains, IsTrue}
 use Rattle.std.specs.BTreeSet.{BTreeSet, contains}
 use Rattle.std.specs.Cmp.Lexicographic.{slice_cmp}
 use Rattle.std.specs.List.{All}
@@ -29,9 +29,11 @@ abbrev pub RefersIf : Bool → State → Descriptor → Descriptor → Type 0
 RefersIf true store referrer subject = Refers store referrer subject
 RefersIf false store referrer subject = ⊥
 
--- the kept keys are held; each held key is kept that a root reaches or that a kept key lists
+-- the kept keys are held; each root is kept, and each held key that a root reaches or that a kept
+-- key lists
 pub record IsSafe (graph : List Node) (roots : List Descriptor) (kept : BTreeSet Descriptor) : Type 0 where
   pub held : (k : Descriptor) → contains key_cmp kept k ≡ true → has_key graph k ≡ true
+  pub rooted : All (λ k. contains key_cmp kept k ≡ true) roots
   pub reached : (k : Descriptor) → Reaches graph roots k → has_key graph k ≡ true → contains key_cmp kept k ≡ true
   pub closed : (from to : Descriptor) → contains key_cmp kept from ≡ true → IsEdge graph from to → has_key graph to ≡ true → contains key_cmp kept to ≡ true
 

@@ -1,5 +1,5 @@
 -- Why there is no plan of a prune.
-use Rattle.std.specs.Prelude.{◌≡◌, ◌⊎◌, Bool, true, List, [], Some, slice_get}
+use Rattle.std.specs.Prelude.{◌≡◌, ◌⊎◌, Bool, true, List, [], Option, Some, MatchOption, ⊤, slice_get}
 use Rattle.std.specs.Map.{values_of}
 use Rattle.oci_manifest.specs.Descriptor.{Descriptor}
 use Rattle.oci_store.specs.Graph.{Node}
@@ -42,3 +42,19 @@ IsPlanFault dir graph tags absent keeps (fault.Unknown k) =
 IsPlanFault dir graph tags absent keeps (fault.LinkedBlobs path) = Unit {0}
 IsPlanFault dir graph tags absent keeps (fault.Layout layout.Device) = dir.fails_reads ≡ true
 IsPlanFault dir graph tags absent keeps e = IsSubjectFault (meaning dir graph tags) (λ k. (keeps ≡ true) × (has_key graph k ≡ true)) e
+
+-- why the index was not saved: the directory failed, or memory ran out
+abbrev pub IsSaveFault : PruneFault → Type 0
+IsSaveFault (fault.Layout layout.Device) = Unit {0}
+IsSaveFault fault.Memory = Unit {0}
+IsSaveFault other = ⊥
+
+-- why a file was not removed: the directory failed, or memory ran out
+abbrev pub IsRemovalFault : PruneFault → Type 0
+IsRemovalFault (fault.NotRemoved path) = Unit {0}
+IsRemovalFault fault.Memory = Unit {0}
+IsRemovalFault other = ⊥
+
+-- there is no fault, or a file was not removed
+abbrev pub HasRemovalFault : Option PruneFault → Type 0
+HasRemovalFault found = MatchOption found ⊤ IsRemovalFault

@@ -34,10 +34,7 @@ pub(crate) fn held_keys<D: Dir>(alloc: Global, layout: &Layout<D>) -> Result<Vec
 ///
 /// - 97 `NoTags` if there is no tag.
 /// - 89 `Memory` if memory runs out.
-pub(crate) fn tagged_keys<D: Dir>(
-    alloc: Global,
-    layout: &Layout<D>,
-) -> Result<Vec<Key>, PruneFault>
+pub(crate) fn tagged_keys<D: Dir>(alloc: Global, layout: &Layout<D>) -> Result<Vec<Key>, PruneFault>
     ensures tagged { IfOk result (λ keys. keys.items ≡ values_of layout.now.2) }
     ensures names { OnOk result (AreNames layout.now.1 layout.now.2) }
     ensures some { OnOk result (layout.now.2 ≢ []) }

@@ -9,8 +9,10 @@ mod plan;
 mod planning;
 mod pruning;
 mod removal;
+mod run;
 mod subjects;
 
 pub use fault::PruneFault;
 pub use plan::plan_prune;
 pub use pruning::{Pruned, PrunedFile, Pruning};
+pub use run::prune;

@@ -4,6 +4,7 @@ ghost use Rattle.std.specs.Map.{keys_of};
 ghost use Rattle.oci_layout.specs.Blobs.{blob_path};
 ghost use Rattle.oci_layout.specs.Prunable.{by_name};
 ghost use Rattle.oci_prune.specs.Pruned.{IsPathOf, IsDraftIn, Spares, AreSameBlobs};
+ghost use Rattle.oci_prune.specs.Refusal.{HasRemovalFault, IsRemovalFault};
 
 use crate::fault::PruneFault;
 use crate::pruning::PrunedFile;
@@ -30,6 +31,7 @@ pub(crate) fn remove_files<D: PrunableDir>(
     ensures fault { fault.new ≡ None → fault.old ≡ None }
     ensures removed { fault.new ≡ None → (D.device layout.old.0).is_honest → All
         (λ f. (D.device layout.new.0).file (blob_path f.digest) ≡ None) files.now }
+    ensures cause { HasRemovalFault fault.old → HasRemovalFault fault.new }
     ensures noted { length gone.new.items ≡ length files.now }
 {
     for place in 0..files.len() {
@@ -55,6 +57,7 @@ fn remove_file<D: PrunableDir>(
     ensures removed { fault.new ≡ None → (D.device layout.old.0).is_honest
         → (D.device layout.new.0).file (blob_path file.now.digest) ≡ None }
     ensures fault { fault.new ≡ None → fault.old ≡ None }
+    ensures cause { HasRemovalFault fault.old → HasRemovalFault fault.new }
 {
     match layout.remove_blob(&file.digest) {
         Ok(found) => found,
@@ -82,6 +85,7 @@ pub(crate) fn remove_drafts<D: PrunableDir>(
         (IsDraftIn (by_name drafts.now)) }
     ensures files { AreSameBlobs (D.device layout.old.0) (D.device layout.new.0) }
     ensures fault { fault.new ≡ None → fault.old ≡ None }
+    ensures cause { HasRemovalFault fault.old → HasRemovalFault fault.new }
     ensures noted { length gone.new.items ≡ length drafts.now }
 {
     for place in 0..drafts.len() {
@@ -104,6 +108,7 @@ fn remove_draft<D: PrunableDir>(
         (λ touched. path.now ≡ touched) }
     ensures files { AreSameBlobs (D.device layout.old.0) (D.device layout.new.0) }
     ensures fault { fault.new ≡ None → fault.old ≡ None }
+    ensures cause { HasRemovalFault fault.old → HasRemovalFault fault.new }
 {
     match layout.remove_leftover(path) {
         Ok(found) => found,
@@ -120,7 +125,9 @@ fn copied(alloc: Global, path: &str) -> Result<String, NoMemory> {
 }
 
 /// Returns the fault of a prune for a file that was not removed.
-fn not_removed(path: Result<String, NoMemory>, fault: LayoutFault) -> PruneFault {
+fn not_removed(path: Result<String, NoMemory>, fault: LayoutFault) -> PruneFault
+    ensures { IsRemovalFault result }
+{
     match fault {
         LayoutFault::Memory => PruneFault::Memory,
         _ => match path {
@@ -132,7 +139,9 @@ fn not_removed(path: Result<String, NoMemory>, fault: LayoutFault) -> PruneFault
 
 /// Notes a fault if it is the first one.
 fn note(first: &mut Option<PruneFault>, fault: PruneFault)
+    requires { IsRemovalFault fault }
     ensures some { first.new ≡ None → ⊥ }
+    ensures cause { HasRemovalFault first.old → HasRemovalFault first.new }
 {
     if first.is_none() {
         *first = Some(fault);

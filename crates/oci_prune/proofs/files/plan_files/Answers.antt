@@ -1,7 +1,6 @@
 use Rattle.std.proofs.Common.{List, subst}
 use Rattle.oci_manifest.specs.Descriptor.{Descriptor}
 use Rattle.oci_prune.specs.Files.{HasDigests}
-use Rattle.oci_prune.specs.Plan.{AreUnneeded}
 use Rattle.oci_prune.proofs.Filing.{are_unneeded}
 use Rattle.oci_prune.proofs.files.plan_files.Goals as goal
 

@@ -1,8 +1,7 @@
-use Rattle.std.proofs.Common.{◌≡◌, List, not, filter, sym, subst, ◌∙◌}
-use Rattle.std.specs.Map.{values_of}
+use Rattle.std.proofs.Common.{List, subst, ◌∙◌}
 use Rattle.std.proofs.lemmas.Result.{err_from_is_err_and}
 use Rattle.oci_manifest.specs.Descriptor.{Descriptor}
-use Rattle.oci_prune.specs.Plan.{AreHeld, IsSafe, AreUnneeded}
+use Rattle.oci_prune.specs.Plan.{IsSafe}
 use Rattle.oci_prune.proofs.Plans.{tags_fault, are_removed}
 use Rattle.oci_prune.proofs.plan.plan_prune.Goals as goal
 

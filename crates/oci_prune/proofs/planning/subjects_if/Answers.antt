@@ -1,6 +1,5 @@
-use Rattle.std.proofs.Common.{◌≡◌, Bool, true, sym, subst}
+use Rattle.std.proofs.Common.{Bool, sym, subst}
 use Rattle.std.specs.Prelude.{◌↔◌}
-use Rattle.oci_manifest.specs.Descriptor.{Descriptor}
 use Rattle.oci_prune.specs.Plan.{RefersIf}
 use Rattle.oci_prune.specs.Subjects.{RefersBy}
 use Rattle.oci_prune.proofs.Plans.{if_ok_weaker, refers_by_held}
@@ -10,5 +9,5 @@ pub returns-then-keeps_referrers-clause-exact : goal.returns-then-keeps_referrer
 returns-then-keeps_referrers-clause-exact g c =
     let store = g.S.Store.state c.args.source.now in
     if_ok_weaker c.subjects_of.result (λ subjects are honest referrer subject.
-        subst (λ (keeps : Bool). RefersBy store.nodes subjects referrer subject ↔ RefersIf keeps store referrer subject) (sym c.if-keeps_referrers.true)
-        (refers_by_held store c.args.held.now subjects c.requires (are honest) referrer subject)) c.subjects_of.ensures.exact
+    subst (λ (keeps : Bool). RefersBy store.nodes subjects referrer subject ↔ RefersIf keeps store referrer subject) (sym c.if-keeps_referrers.true)
+    (refers_by_held store c.args.held.now subjects c.requires (are honest) referrer subject)) c.subjects_of.ensures.exact

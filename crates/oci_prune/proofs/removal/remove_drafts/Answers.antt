@@ -18,5 +18,6 @@ loop-place-preserved g c =
       spared = spares_draft a b d c.args.layout.now.1 c.loop-place.layout.1 c.args.drafts.now c.loop-place.place c.index-drafts-place.result c.loop-place-test.true c.index-drafts-place.is w.spared w.graph spared;
       files = same_blobs_both a b d w.spared.honest.0 w.files c.remove_draft.ensures.files;
       fault = λ none. w.fault (c.remove_draft.ensures.fault none);
+      cause = λ h. c.remove_draft.ensures.cause (w.cause h);
       noted = length-set c.loop-place.gone.items c.loop-place.place c.remove_draft.result ∙ w.noted;
     }

@@ -18,5 +18,6 @@ loop-place-preserved g c =
           all_gone b d c.loop-place.layout.1 c.args.files.now c.loop-place.place c.index-files-place.result c.loop-place-test.true c.index-files-place.is (w.spared.honest.0 honest) c.remove_file.ensures.spared
           (c.remove_file.ensures.removed none (w.spared.honest.0 honest)) (w.removed (c.remove_file.ensures.fault none) honest);
       fault = λ none. w.fault (c.remove_file.ensures.fault none);
+      cause = λ h. c.remove_file.ensures.cause (w.cause h);
       noted = length-set c.loop-place.gone.items c.loop-place.place c.remove_file.result ∙ w.noted;
     }

@@ -3,6 +3,7 @@ use Rattle.std.specs.List.{All}
 use Rattle.oci_layout.specs.Blobs.{blob_path}
 use Rattle.oci_prune.specs.Pruned.{IsPathOf, Spares}
 use Rattle.oci_prune.specs.declared.pruning.PrunedFile.{PrunedFile}
+use Rattle.oci_prune.specs.Refusal.{HasRemovalFault}
 use Rattle.oci_prune.proofs.removal.remove_files.Given as goal
 
 -- as far as the loop has come
@@ -14,5 +15,6 @@ invariant-loop-place g l = record {
   spared : Spares (g.D.Dir.device l.initial.layout.0) (g.D.Dir.device l.layout.0) l.initial.layout.1 (IsPathOf (take l.place l.files));
   removed : l.fault ≡ None → (g.D.Dir.device l.initial.layout.0).is_honest → All (λ (f : PrunedFile). (g.D.Dir.device l.layout.0).file (blob_path f.digest) ≡ None) (take l.place l.files);
   fault : l.fault ≡ None → l.initial.fault ≡ None;
+  cause : HasRemovalFault l.initial.fault → HasRemovalFault l.fault;
   noted : length l.gone.items ≡ length l.files;
 }

@@ -1,4 +1,4 @@
-use Rattle.std.proofs.Common.{◌≡◌, rules}
+use Rattle.std.proofs.Common.{rules}
 use Rattle.oci_layout.specs.Blobs.{blob_path}
 use Rattle.oci_prune.proofs.pruning.PrunedFile.path.Goals as goal
 

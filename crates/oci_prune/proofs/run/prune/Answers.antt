@@ -1,0 +1,80 @@
+use Rattle.std.proofs.Common.{◌≡◌, List, None, inr, sym, ap, subst, ◌∙◌}
+use Rattle.std.specs.List.{All}
+use Rattle.std.specs.Map.{keys_of, values_of}
+use Rattle.oci_manifest.specs.Descriptor.{Descriptor}
+use Rattle.oci_store.specs.Graph.{Node}
+use Rattle.oci_store.specs.Tags.{Tags}
+use Rattle.oci_layout.specs.Blobs.{blob_path}
+use Rattle.oci_layout.specs.Index.{index_file}
+use Rattle.oci_prune.specs.Pruned.{IsPathOf, Spares}
+use Rattle.oci_prune.specs.declared.pruning.PrunedFile.{PrunedFile}
+use Rattle.oci_prune.proofs.Leaving.{reached_either, closed_either}
+use Rattle.oci_prune.proofs.Results.{unneeded_left, contents_left, only_needed, index_stays, has_index-stays}
+use Rattle.oci_prune.proofs.run.prune.Goals as goal
+
+pub returns-in_err-save_kept-clause-reached : goal.returns-in_err-save_kept-clause-reached
+returns-in_err-save_kept-clause-reached g c =
+    reached_either c.args.layout.now.1 c.save_kept.new.layout.1 (values_of c.args.layout.now.2) c.args.plan.now.kept c.requires.safe c.in_err-save_kept.ensures.either
+
+pub returns-in_err-save_kept-clause-closed : goal.returns-in_err-save_kept-clause-closed
+returns-in_err-save_kept-clause-closed g c =
+    closed_either c.args.layout.now.1 c.save_kept.new.layout.1 (values_of c.args.layout.now.2) c.args.plan.now.kept c.count.ensures.distinct c.requires.safe c.in_err-save_kept.ensures.either
+
+pub remove_files-requires-clause-unneeded : goal.remove_files-requires-clause-unneeded
+remove_files-requires-clause-unneeded g c = λ honest.
+    let old = g.D.Dir.device c.args.layout.now.0 in
+    let graph = c.save_kept.new.layout.1 in
+    subst (λ (fs : List PrunedFile). All (λ (f : PrunedFile). All (λ (k : Descriptor). k.digest ≡ f.digest → ⊥) (keys_of graph)) fs) (sym c.deref.ensures.value)
+    (unneeded_left old.file c.args.layout.now.1 graph c.args.plan.now.kept c.args.plan.now.files.items (c.requires.files (c.in_ok-save_kept.ensures.spared.honest.1 honest)) c.in_ok-save_kept.ensures.kept)
+
+pub returns-clause-reached : goal.returns-clause-reached
+returns-clause-reached g c =
+    reached_either c.args.layout.now.1 c.remove_drafts.new.layout.1 (values_of c.args.layout.now.2) c.args.plan.now.kept c.requires.safe
+    (inr (c.remove_drafts.ensures.graph ∙ c.remove_files.ensures.graph ∙ c.in_ok-save_kept.ensures.kept))
+
+pub returns-clause-closed : goal.returns-clause-closed
+returns-clause-closed g c =
+    closed_either c.args.layout.now.1 c.remove_drafts.new.layout.1 (values_of c.args.layout.now.2) c.args.plan.now.kept c.count.ensures.distinct c.requires.safe
+    (inr (c.remove_drafts.ensures.graph ∙ c.remove_files.ensures.graph ∙ c.in_ok-save_kept.ensures.kept))
+
+pub returns-clause-contents : goal.returns-clause-contents
+returns-clause-contents g c = λ honest.
+    let old = g.D.Dir.device c.args.layout.now.0 in
+    let mid = g.D.Dir.device c.save_kept.new.layout.0 in
+    let last = g.D.Dir.device c.remove_files.new.layout.0 in
+    let new = g.D.Dir.device c.remove_drafts.new.layout.0 in
+    let first = c.in_ok-save_kept.ensures.spared in
+    let second = c.remove_files.ensures.spared in
+    let saved = first.honest.0 honest in
+    contents_left old.file mid.file last.file new.file c.args.layout.now.1 c.save_kept.new.layout.1 c.remove_files.new.layout.1 c.remove_drafts.new.layout.1 c.args.plan.now.kept c.remove_drafts.ensures.graph c.remove_files.ensures.graph
+    c.in_ok-save_kept.ensures.kept (c.remove_drafts.ensures.spared.contents (second.honest.0 saved)) (second.contents saved) (first.contents honest)
+
+pub returns-clause-files : goal.returns-clause-files
+returns-clause-files g c = λ none honest.
+    let old = g.D.Dir.device c.args.layout.now.0 in
+    let mid = g.D.Dir.device c.save_kept.new.layout.0 in
+    let last = g.D.Dir.device c.remove_files.new.layout.0 in
+    let new = g.D.Dir.device c.remove_drafts.new.layout.0 in
+    let files = c.args.plan.now.files.items in
+    let second = subst (λ (fs : List PrunedFile). Spares mid last c.save_kept.new.layout.1 (IsPathOf fs)) c.deref.ensures.value c.remove_files.ensures.spared in
+    let gone = c.remove_files.ensures.removed (c.remove_drafts.ensures.fault none) (c.in_ok-save_kept.ensures.spared.honest.0 honest) in
+    only_needed old mid last new c.args.layout.now.1 c.save_kept.new.layout.1 c.save_kept.new.layout.1 c.remove_drafts.new.layout.1 (values_of c.args.layout.now.2) c.args.plan.now.kept files honest c.requires.safe (c.requires.files honest)
+    (c.remove_drafts.ensures.graph ∙ c.remove_files.ensures.graph ∙ c.in_ok-save_kept.ensures.kept) c.in_ok-save_kept.ensures.spared second
+    (subst (λ (fs : List PrunedFile). All (λ (f : PrunedFile). last.file (blob_path f.digest) ≡ None) fs) c.deref.ensures.value gone) c.remove_drafts.ensures.files
+
+pub returns-clause-index : goal.returns-clause-index
+returns-clause-index g c = λ some honest.
+    let mid = g.D.Dir.device c.save_kept.new.layout.0 in
+    let last = g.D.Dir.device c.remove_files.new.layout.0 in
+    let new = g.D.Dir.device c.remove_drafts.new.layout.0 in
+    let stays = index_stays mid last new c.save_kept.new.layout.1 c.deref.result.now (c.in_ok-save_kept.ensures.spared.honest.0 honest) c.remove_files.ensures.spared c.remove_drafts.ensures.files in
+    has_index-stays mid.file new.file c.save_kept.new.layout.1 c.remove_drafts.new.layout.1 c.save_kept.new.layout.2 c.remove_drafts.new.layout.2 stays (c.remove_drafts.ensures.graph ∙ c.remove_files.ensures.graph)
+    (c.remove_drafts.ensures.tags ∙ c.remove_files.ensures.tags) (c.in_ok-save_kept.ensures.index some honest)
+
+pub returns-clause-unwritten : goal.returns-clause-unwritten
+returns-clause-unwritten g c = λ none honest.
+    let mid = g.D.Dir.device c.save_kept.new.layout.0 in
+    let last = g.D.Dir.device c.remove_files.new.layout.0 in
+    let new = g.D.Dir.device c.remove_drafts.new.layout.0 in
+    let stays = index_stays mid last new c.save_kept.new.layout.1 c.deref.result.now (c.in_ok-save_kept.ensures.spared.honest.0 honest) c.remove_files.ensures.spared c.remove_drafts.ensures.files in
+    stays ∙ ap (λ (dir : g.row.D.Denot). (g.D.Dir.device dir).file index_file) (ap (λ (l : g.row.D.Denot × List Node × Tags × List Descriptor). l.0) (c.in_ok-save_kept.ensures.unwritten none))
