@@ -43,4 +43,6 @@ pub struct CopyWords<'w> {
     pub is_dry: bool,
     /// Whether the copy also looks below the blobs that the destination has.
     pub descends: bool,
+    /// Whether the copy waits while another process has the lock of the destination's folder.
+    pub waits: bool,
 }

@@ -221,6 +221,10 @@ Look up the next number. The image has to be built again, since a copy has the s
 The folder already is a layout, and cannot be made one again. Nothing was changed.
 Open the layout, or choose another folder.
 
+79 NotRemoved
+The named file could not be removed. `index.json` is saved, the other files are removed, and no tag has lost anything.
+Check the permissions of the folder that has the file, and run the same `ocicp prune` again.
+
 80 DestinationOpen
 The destination is damaged: the manifest of the first KEY lists the blob of the second, which is missing there. Nothing was copied.
 Copy the image that needs the missing blob with `ocicp copy --descend`, from a layout that has that blob.
@@ -279,7 +283,23 @@ Check where the output goes: the disk may be full, or the program that reads it 
 
 95 NotWritable
 The named path is a file, and `ocicp` writes only into folders. Nothing was changed.
-Copy into a folder. `tar -cf FILE -C FOLDER .` makes an archive of it.
+Copy into a folder. To change an archive, unpack it into a folder, and change the layout there. `tar -cf FILE -C FOLDER .` makes an archive of a folder.
+
+96 Unknown
+The layout does not have the named blob, so it is not known what that blob needs. It is an entry of `index.json`, or a manifest that a kept manifest lists. Nothing was removed.
+Restore the blob with `ocicp copy --descend` from a layout that has it. If it is an entry of `index.json` that is no longer needed, delete that entry.
+
+97 NoTags
+The layout has no tag, so no blob would be kept. Nothing was removed.
+Check the path. `ocicp copy FOLDER DIGEST FOLDER TAG` tags a blob that is to be kept. If nothing is to be kept, delete the folder.
+
+98 LinkedBlobs
+The named folder of the layout is a symbolic link, so another layout may need the blobs behind it. Nothing was removed.
+Replace the link by a folder with copies of these blobs, and run the same `ocicp prune` again.
+
+99 Locked
+Another process has the lock of the named folder, and `--no-wait` was given. Nothing was changed.
+Run the same command later, or without `--no-wait`, so that it waits.
 
 100 NotArchive
 The file does not begin as a tar archive.

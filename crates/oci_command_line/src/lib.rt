@@ -5,6 +5,8 @@
 //! |---|---|
 //! | [`Request`] | a valid command line; [`Request::parse`] reads it |
 //! | [`CopyWords`] | the words of `copy` |
+//! | [`UntagWords`] | the words of `untag` |
+//! | [`PruneWords`] | the words of `prune` |
 //! | [`MemWords`] | the words of `mem` |
 //! | [`Query`] | a command that reads one layout |
 //! | [`CommandLineFault`] | why parsing failed |
@@ -15,10 +17,12 @@
 mod copying;
 mod explain;
 mod memory;
+mod pruning;
 mod request;
 mod words;
 
 pub use copying::{CopyWords, Selection, Shown};
 pub use explain::first_sentence;
 pub use memory::{Algorithm, MemWords};
+pub use pruning::{PruneWords, UntagWords};
 pub use request::{CommandLineFault, Query, Request};

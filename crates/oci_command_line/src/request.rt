@@ -1,6 +1,7 @@
 use crate::copying::{CopyWords, Selection, Shown};
 use crate::explain::explanation;
 use crate::memory::{Algorithm, MemWords};
+use crate::pruning::{PruneWords, UntagWords};
 use crate::words::command;
 use clap::error::ErrorKind;
 use clap::{ArgMatches, Error};
@@ -17,6 +18,10 @@ pub enum Request<'w> {
     Mem(MemWords<'w>),
     /// `copy`, with its folders, references and flags.
     Copy(CopyWords<'w>),
+    /// `untag`, with its folder, tag and flag.
+    Untag(UntagWords<'w>),
+    /// `prune`, with its folder and flags.
+    Prune(PruneWords<'w>),
     /// A command that reads the layout in a folder.
     Query(&'w str, Query<'w>),
 }
@@ -107,6 +112,8 @@ fn request_of<'w>(
 ) -> Result<Request<'w>, CommandLineFault> {
     match name {
         "copy" => Ok(Request::Copy(copy_words(matches, on_terminal))),
+        "untag" => Ok(Request::Untag(untag_words(matches))),
+        "prune" => Ok(Request::Prune(prune_words(matches))),
         "tags" => Ok(of_folder(matches, Query::Tags)),
         "resolve" => Ok(of_folder(matches, Query::Resolve(word(matches, "reference")))),
         "predecessors" => Ok(of_folder(matches, Query::Predecessors(word(matches, "reference")))),
@@ -188,7 +195,30 @@ fn copy_words<'w>(matches: &ArgMatches<'w>, on_terminal: bool) -> CopyWords<'w> 
         shown: shown(matches, on_terminal),
         is_dry: matches.get_flag("dry-run"),
         descends: matches.get_flag("descend"),
+        waits: waits(matches),
     }
+}
+
+fn untag_words<'w>(matches: &ArgMatches<'w>) -> UntagWords<'w> {
+    UntagWords {
+        folder: word(matches, "folder"),
+        tag: word(matches, "tag"),
+        waits: waits(matches),
+    }
+}
+
+fn prune_words<'w>(matches: &ArgMatches<'w>) -> PruneWords<'w> {
+    PruneWords {
+        folder: word(matches, "folder"),
+        keeps_referrers: !matches.get_flag("no-referrers"),
+        is_dry: matches.get_flag("dry-run"),
+        waits: waits(matches),
+    }
+}
+
+/// Whether a command waits for the lock of a folder.
+fn waits(matches: &ArgMatches<'_>) -> bool {
+    !matches.get_flag("no-wait")
 }
 
 /// The progress to show. `--progress` decides first.

@@ -1,9 +1,11 @@
 mod copying;
 mod memory;
+mod pruning;
 mod queries;
 
 use crate::words::copying::copy_command;
 use crate::words::memory::mem_command;
+use crate::words::pruning::{prune_command, untag_command};
 use crate::words::queries::{
     explain_command, predecessors_command, resolve_command, tags_command, tree_command,
     verify_command,
@@ -26,6 +28,8 @@ pub(crate) fn command<'w>(alloc: Global, most_workers: u32) -> Result<Command<'w
         .disable_help_subcommand(true)
         .subcommand_required(true);
     let program = program.subcommand(copy_command(alloc, most_workers)?)?;
+    let program = program.subcommand(untag_command(alloc)?)?;
+    let program = program.subcommand(prune_command(alloc)?)?;
     with_queries(alloc, program)?
         .subcommand(mem_command(alloc, most_workers)?)?
         .subcommand(explain_command(alloc)?)
@@ -54,4 +58,13 @@ fn flag<'w>(alloc: Global, name: &'w str, help: &'w str) -> Arg<'w> {
         .long(name)
         .help(help)
         .action(clap::ArgAction::SetTrue)
+}
+
+/// `--no-wait`
+fn no_wait<'w>(alloc: Global) -> Arg<'w> {
+    flag(
+        alloc,
+        "no-wait",
+        "If another process has the lock of the folder, ends with 99 and does not wait",
+    )
 }

@@ -1,4 +1,4 @@
-use crate::words::{flag, required};
+use crate::words::{flag, no_wait, required};
 use clap::builder::ValueParser;
 use clap::{Arg, Command};
 use std::alloc::{AllocError, Global};
@@ -33,7 +33,7 @@ pub(crate) fn copy_command<'w>(
              Every blob is checked against its digest. A copy that is refused sets no tag in DST, and DST \
              keeps its blobs. The exception is 94: only the output could not be written, and the copy is done \
              and saved.\n\n\
-             A copy locks DST. Another copy into it on the same machine waits.",
+             A copy locks DST. Another copy into it on the same machine waits, unless it has --no-wait.",
         )
         .override_usage(
             "ocicp copy [OPTIONS] <SRC> <SRCREF> <DST> [DSTREF]\n       \
@@ -56,7 +56,8 @@ fn with_flags<'w>(
         .arg(descend(alloc))?
         .arg(workers(alloc, most_workers))?
         .arg(progress(alloc))?
-        .arg(dry_run(alloc))
+        .arg(dry_run(alloc))?
+        .arg(no_wait(alloc))
 }
 
 /// Adds the words, which say what to copy, and where to. With `--all` the second word is the

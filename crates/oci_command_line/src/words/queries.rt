@@ -90,12 +90,13 @@ pub(crate) fn verify_command<'w>(alloc: Global) -> Result<Command<'w>, AllocErro
         )
         .long_about(
             "Checks each blob of a layout against its digest, and that no listed blob is missing. It reads \
-             the blobs that an entry of `index.json` reaches. An entry whose own blob is missing is left out, \
-             with its tag. A damaged manifest is an error (75), since its list is not known.\n\n\
-             Prints `corrupt` with the digest, the size and the media type of each blob whose file does not \
-             match. If a listed blob is missing, prints `open` with the first manifest that lists one, and \
-             with the missing blob. Then prints `held` and the number of blobs. The status is 1 if it finds \
-             a problem.",
+             the blobs that an entry of `index.json` reaches. A damaged manifest is an error (75), since its \
+             list is not known.\n\n\
+             Prints `absent` with the digest, the size and the media type of each entry of `index.json` whose \
+             own blob is missing. Then prints `corrupt` with those of each blob whose file does not match. If \
+             a listed blob is missing, prints `open` with the first manifest that lists one, and with the \
+             missing blob. Then prints `held` and the number of blobs. The status is 1 if it finds a \
+             problem.",
         )
         .override_usage("ocicp verify <FOLDER>")
         .after_help("Example:\n  ocicp verify mirror")
