@@ -9,6 +9,9 @@ use Rattle.oci_manifest.specs.Fault.{number_of as manifest_number_of}
 use Rattle.oci_plan.specs.Fault.{plan_number_of}
 use Rattle.oci_plan.specs.declared.fault.PlanFault.{PlanFault}
 use Rattle.oci_plan.specs.declared.fault.PlanFault.TheVariants as plan
+use Rattle.oci_prune.specs.Numbers.{prune_number}
+use Rattle.oci_prune.specs.declared.fault.PruneFault.{PruneFault}
+use Rattle.oci_prune.specs.declared.fault.PruneFault.TheVariants as prune
 use Rattle.oci_store.specs.Numbers.{fetch_number, push_number, reference_number}
 use Rattle.oci_layout.specs.Numbers.{layout_number}
 use Rattle.oci_copy.specs.declared.fault.CopyFault.{CopyFault}
@@ -58,6 +61,12 @@ abbrev pub is_fetch_memory : FetchFault → Bool
 is_fetch_memory fetch.Memory = true
 is_fetch_memory e = false
 
+-- whether the fault of a prune is a memory error
+abbrev pub is_prune_memory : PruneFault → Bool
+is_prune_memory (prune.Layout e) = is_layout_memory e
+is_prune_memory prune.Memory = true
+is_prune_memory e = false
+
 -- whether a fault is a memory error, or has one in it
 abbrev pub is_memory : ProgramFault → Bool
 is_memory (fault.Archive e) = is_archive_memory e
@@ -65,6 +74,7 @@ is_memory (fault.Push e) = is_push_memory e
 is_memory (fault.Copy e) = is_copy_memory e
 is_memory (fault.Layout e) = is_layout_memory e
 is_memory (fault.Destination e) = is_layout_memory e
+is_memory (fault.Prune e) = is_prune_memory e
 is_memory (fault.Reference e) = is_reference_memory e
 is_memory (fault.Fetch e) = is_fetch_memory e
 is_memory fault.Memory = true
@@ -92,12 +102,14 @@ program_number (fault.BadItem item) = Some 92
 program_number (fault.File path) = Some 93
 program_number fault.Output = Some 94
 program_number (fault.NotWritable path) = Some 95
+program_number (fault.Locked folder) = Some 99
 program_number (fault.Archive e) = Some (archive_number e)
 program_number (fault.Key e) = Some (key_number_of e)
 program_number (fault.Push e) = Some (push_number e)
 program_number (fault.Copy e) = Some (number_of e)
 program_number (fault.Layout e) = Some (layout_number e)
 program_number (fault.Destination e) = Some (layout_number e)
+program_number (fault.Prune e) = Some (prune_number e)
 program_number (fault.Reference e) = Some (reference_number e)
 program_number (fault.Fetch e) = Some (fetch_number e)
 program_number fault.Memory = None
@@ -127,10 +139,17 @@ last_layout_number (layout.BadIndex e) = manifest_number_of e
 last_layout_number (layout.BadManifest k e) = manifest_number_of e
 last_layout_number e = layout_number e
 
+-- the last number of a refused prune: that of the fault in it, if there is one
+abbrev pub last_prune_number : PruneFault → ℕ
+last_prune_number (prune.Fetch k e) = fetch_number e
+last_prune_number (prune.Layout e) = last_layout_number e
+last_prune_number e = prune_number e
+
 -- the last number of a fault's text, which is that of its innermost fault
 abbrev pub last_number : ProgramFault → Option ℕ
 last_number (fault.Push e) = Some (last_push_number e)
 last_number (fault.Copy e) = Some (last_copy_number e)
 last_number (fault.Layout e) = Some (last_layout_number e)
 last_number (fault.Destination e) = Some (last_layout_number e)
+last_number (fault.Prune e) = Some (last_prune_number e)
 last_number e = program_number e

@@ -1,13 +1,14 @@
 ghost use Rattle.std.specs.Prelude.{◌≡◌, ◌↔◌, IsTrue};
 ghost use Rattle.std.specs.IoError.{error_kind};
 ghost use Rattle.std.specs.declared.io.ErrorKind.TheVariants.{OutOfMemory};
-ghost use Rattle.oci_exit.specs.Status.{is_memory, program_number};
+ghost use Rattle.oci_exit.specs.Status.{is_memory, is_prune_memory, program_number};
 
 use oci_archive::ArchiveFault;
 use oci_copy::CopyFault;
 use oci_digest::NoMemory;
 use oci_layout::LayoutFault;
 use oci_manifest::KeyFault;
+use oci_prune::PruneFault;
 use oci_store::{FetchFault, PushFault, RefFault};
 use std::alloc::{AllocError, AllocFailed};
 use std::io;
@@ -28,6 +29,9 @@ pub enum ProgramFault {
     /// The path of a layout to change is a file.
     #[error("95 NotWritable {0}")]
     NotWritable(String),
+    /// Another process has the lock of the folder, and the command does not wait.
+    #[error("99 Locked {0}")]
+    Locked(String),
     /// The file that a command reads is no archive, or could not be read.
     #[error("{0}")]
     Archive(#[from] ArchiveFault),
@@ -43,9 +47,12 @@ pub enum ProgramFault {
     /// The layout that a command reads is no layout, or could not be read.
     #[error("{0}")]
     Layout(#[from] LayoutFault),
-    /// The destination of a copy is no layout, or could not be read or written.
+    /// The folder that a command writes into has no layout, or could not be locked, read or written.
     #[error("{0}")]
     Destination(LayoutFault),
+    /// The prune was refused, or a file could not be removed.
+    #[error("{0}")]
+    Prune(#[from] PruneFault),
     /// The layout does not have the reference.
     #[error("{0}")]
     Reference(#[from] RefFault),
@@ -90,6 +97,7 @@ impl ProgramFault {
             ProgramFault::Copy(fault) => matches!(fault, CopyFault::Memory),
             ProgramFault::Layout(fault) => matches!(fault, LayoutFault::Memory),
             ProgramFault::Destination(fault) => matches!(fault, LayoutFault::Memory),
+            ProgramFault::Prune(fault) => is_prune_memory(fault),
             ProgramFault::Reference(fault) => matches!(fault, RefFault::Memory),
             ProgramFault::Fetch(fault) => matches!(fault, FetchFault::Memory),
             ProgramFault::Memory => true,
@@ -106,16 +114,29 @@ impl ProgramFault {
             ProgramFault::File(_) => Some(93),
             ProgramFault::Output => Some(94),
             ProgramFault::NotWritable(_) => Some(95),
+            ProgramFault::Locked(_) => Some(99),
             ProgramFault::Archive(fault) => Some(fault.number()),
             ProgramFault::Key(fault) => Some(fault.number()),
             ProgramFault::Push(fault) => Some(fault.number()),
             ProgramFault::Copy(fault) => Some(fault.number()),
             ProgramFault::Layout(fault) => Some(fault.number()),
             ProgramFault::Destination(fault) => Some(fault.number()),
+            ProgramFault::Prune(fault) => Some(fault.number()),
             ProgramFault::Reference(fault) => Some(fault.number()),
             ProgramFault::Fetch(fault) => Some(fault.number()),
             ProgramFault::Memory => None,
         }
+    }
+}
+
+/// Whether memory ran out in a prune.
+fn is_prune_memory(fault: &PruneFault) -> bool
+    ensures { result ≡ is_prune_memory fault.now }
+{
+    match fault {
+        PruneFault::Layout(inner) => matches!(inner, LayoutFault::Memory),
+        PruneFault::Memory => true,
+        _ => false,
     }
 }
 

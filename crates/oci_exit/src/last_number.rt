@@ -1,10 +1,11 @@
 ghost use Rattle.std.specs.Prelude.{◌≡◌};
-ghost use Rattle.oci_exit.specs.Status.{last_copy_number, last_layout_number, last_number, last_plan_number, last_push_number};
+ghost use Rattle.oci_exit.specs.Status.{last_copy_number, last_layout_number, last_number, last_plan_number, last_prune_number, last_push_number};
 
 use crate::fault::ProgramFault;
 use oci_copy::CopyFault;
 use oci_layout::LayoutFault;
 use oci_plan::PlanFault;
+use oci_prune::PruneFault;
 use oci_store::PushFault;
 
 impl ProgramFault {
@@ -17,6 +18,7 @@ impl ProgramFault {
             ProgramFault::Copy(fault) => Some(of_copy(fault)),
             ProgramFault::Layout(fault) => Some(of_layout(fault)),
             ProgramFault::Destination(fault) => Some(of_layout(fault)),
+            ProgramFault::Prune(fault) => Some(of_prune(fault)),
             _ => self.number(),
         }
     }
@@ -59,6 +61,16 @@ fn of_layout(fault: &LayoutFault) -> u8
     match fault {
         LayoutFault::BadIndex(inner) => inner.number(),
         LayoutFault::BadManifest(_, inner) => inner.number(),
+        _ => fault.number(),
+    }
+}
+
+fn of_prune(fault: &PruneFault) -> u8
+    ensures { result ≡ last_prune_number fault.now }
+{
+    match fault {
+        PruneFault::Fetch(_, inner) => inner.number(),
+        PruneFault::Layout(inner) => of_layout(inner),
         _ => fault.number(),
     }
 }

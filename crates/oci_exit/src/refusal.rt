@@ -16,7 +16,7 @@ pub enum Subject {
     Reference,
     /// The folder or the archive of the layout that the command reads.
     Layout,
-    /// The folder of a copy's destination.
+    /// The folder that the command writes into.
     Destination,
     /// No word that is known.
     Unknown,
@@ -41,7 +41,9 @@ impl ProgramFault {
         match self {
             ProgramFault::Archive(_) => Subject::Layout,
             ProgramFault::Layout(_) => Subject::Layout,
+            ProgramFault::Prune(_) => Subject::Layout,
             ProgramFault::NotWritable(_) => Subject::Destination,
+            ProgramFault::Locked(_) => Subject::Destination,
             ProgramFault::Destination(_) => Subject::Destination,
             ProgramFault::Reference(_) => Subject::Reference,
             _ => Subject::Unknown,

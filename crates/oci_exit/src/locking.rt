@@ -1,0 +1,65 @@
+use crate::fault::ProgramFault;
+use oci_layout::{DirFault, FolderLock, LayoutFault, Lockable};
+use std::io::Write;
+use std::rt::Files;
+
+/// Locks the folder that a command writes into. If another process has the lock, prints this on
+/// `err` and waits, or refuses the command unless it `waits`.
+///
+/// # Errors
+///
+/// - 74 `Device` if the folder cannot be opened or locked.
+/// - 99 `Locked` if another process has the lock, and the command does not wait.
+/// - Out of memory, at any point.
+pub fn lock_folder<R: Files<File: Lockable> + AllocGlobal, X: Write>(
+    rt: &R,
+    folder: &str,
+    waits: bool,
+    err: &mut X,
+) -> Result<FolderLock<R>, ProgramFault> {
+    match FolderLock::try_lock(rt, folder).map_err(fault_of)? {
+        Some(lock) => Ok(lock),
+        None => wait_for(rt, folder, waits, err),
+    }
+}
+
+/// Locks a folder as [`lock_folder`] does. Creates it, and the folders above it, if it is missing.
+///
+/// # Errors
+///
+/// - 74 `Device` if the folder cannot be created, opened or locked.
+/// - 99 `Locked` if another process has the lock, and the command does not wait.
+/// - Out of memory, at any point.
+pub fn make_and_lock_folder<R: Files<File: Lockable> + AllocGlobal, X: Write>(
+    rt: &R,
+    folder: &str,
+    waits: bool,
+    err: &mut X,
+) -> Result<FolderLock<R>, ProgramFault> {
+    match FolderLock::make_and_try_lock(rt, folder).map_err(fault_of)? {
+        Some(lock) => Ok(lock),
+        None => wait_for(rt, folder, waits, err),
+    }
+}
+
+/// Waits for the lock of a folder, or refuses the command unless it `waits`.
+fn wait_for<R: Files<File: Lockable> + AllocGlobal, X: Write>(
+    rt: &R,
+    folder: &str,
+    waits: bool,
+    err: &mut X,
+) -> Result<FolderLock<R>, ProgramFault> {
+    let place = if folder.is_empty() { "." } else { folder };
+    if !waits {
+        return Err(ProgramFault::Locked(String::from_str(rt.alloc(), place)?));
+    }
+    let _ = writeln!(
+        err,
+        "ocicp: waiting for another process that writes into {place}"
+    );
+    FolderLock::lock(rt, folder).map_err(fault_of)
+}
+
+fn fault_of(fault: DirFault) -> ProgramFault {
+    ProgramFault::Destination(LayoutFault::from(fault))
+}
