@@ -43,6 +43,9 @@ pub struct CopyWords<'w> {
     pub is_dry: bool,
     /// Whether the copy also looks below the blobs that the destination has.
     pub descends: bool,
+    /// Whether the tags that the source does not have are removed afterwards, with what no tag of
+    /// the destination then needs. Only with `Selection::AllTags`.
+    pub prunes: bool,
     /// Whether the copy waits while another process has the lock of the destination's folder.
     pub waits: bool,
 }

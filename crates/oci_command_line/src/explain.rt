@@ -261,6 +261,10 @@ Look up the next number.
 The named blob could not be read from the source. The next error says why. No tag was set, and the destination keeps its blobs.
 Look up the next number, repair the source, and run the same copy again.
 
+89 Memory
+Memory ran out during a prune. No tag has lost anything.
+Give the process more memory, and run the same prune again. `ocicp` itself prints `ocicp: memory` and ends with status 3.
+
 90 Failed
 A file of a layout could not be read or written.
 Check the permissions and the free space of the disk.
@@ -278,7 +282,7 @@ The named file of `ocicp mem` could not be read.
 Check the path and the file's permissions.
 
 94 Output
-The output could not be written. If this was a copy, it is done and saved.
+The output could not be written. If the command changes a layout, that is done and saved.
 Check where the output goes: the disk may be full, or the program that reads it may have ended.
 
 95 NotWritable

@@ -195,6 +195,7 @@ fn copy_words<'w>(matches: &ArgMatches<'w>, on_terminal: bool) -> CopyWords<'w> 
         shown: shown(matches, on_terminal),
         is_dry: matches.get_flag("dry-run"),
         descends: matches.get_flag("descend"),
+        prunes: matches.get_flag("prune"),
         waits: waits(matches),
     }
 }

@@ -9,6 +9,7 @@ Examples:
   ocicp copy build v1 mirror stable        copies it too, and tags it `stable`
   ocicp copy --referrers build v1 mirror   copies also its signatures and SBOMs, and the indexes that list it
   ocicp copy --all --referrers build mirror    copies every tag, with the referrers of each
+  ocicp copy --all --prune build mirror    makes the tags of `mirror` those of `build`, and frees the space
   ocicp copy --all --dry-run build mirror  prints the blobs that a copy of every tag would copy
   ocicp copy --descend build v1 mirror     also restores blobs that `mirror` has lost
   ocicp copy --all image.tar mirror        copies every tag of an archive, such as `docker save` writes";
@@ -54,6 +55,7 @@ fn with_flags<'w>(
         .arg(referrers(alloc))?
         .arg(depth(alloc))?
         .arg(descend(alloc))?
+        .arg(prune(alloc)?)?
         .arg(workers(alloc, most_workers))?
         .arg(progress(alloc))?
         .arg(dry_run(alloc))?
@@ -125,6 +127,15 @@ fn descend<'w>(alloc: Global) -> Arg<'w> {
         "descend",
         "Also looks below the blobs that DST has, and copies missing ones; without it, a DST with a missing blob is an error",
     )
+}
+
+/// `--prune`
+fn prune<'w>(alloc: Global) -> Result<Arg<'w>, AllocError> {
+    let help =
+        "With --all: afterwards removes from DST the tags that SRC does not have, and what no tag then needs, as the command \
+                `prune` does. Refused, before anything is copied, if SRC has no tag (97), or lacks the blob of an entry of \
+                its `index.json` (96)";
+    flag(alloc, "prune", help).requires_arg("all")
 }
 
 /// `--workers N`
