@@ -47,12 +47,14 @@ def used():
 
 
 def wrong_list(faults, rows):
-    """What is wrong with the rows of docs/refusals.md, which are to be the faults of the crates, each once."""
-    twice = [number for number, *_ in rows if [it[0] for it in rows].count(number) > 1]
+    """What is wrong with the rows of docs/refusals.md, which are to be the faults of the crates, each once. A number that two
+    types have is to have one name."""
+    names = {number: name for number, _, name in rows}
+    twice = [it for it in rows if rows.count(it) > 1 or names[it[0]] != it[2]]
     missing, extra = sorted(set(faults) - set(rows)), sorted(set(rows) - set(faults))
     return first([
         "no fault is declared" if not faults else None,
-        "docs/refusals.md has %d twice" % twice[0] if twice else None,
+        "docs/refusals.md has %d %s %s twice, or under two names" % twice[0] if twice else None,
         "docs/refusals.md does not have %d %s %s" % missing[0] if missing else None,
         "docs/refusals.md has %d %s %s, the crates do not" % extra[0] if extra else None,
     ])
