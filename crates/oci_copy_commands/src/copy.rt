@@ -2,13 +2,13 @@ ghost use Rattle.std.specs.Prelude.{◌≤◌};
 
 use crate::Host;
 use crate::between::copy_between;
-use crate::destination::{lock_folder, open_or_create, remove_leftovers};
+use crate::destination::{open_or_create, remove_leftovers};
 use crate::dry_run::show_plan;
 use crate::progress::Progress;
 use crate::selected::Selected;
 use oci_command_line::CopyWords;
 use oci_copy::{Options, Report, plan_copy};
-use oci_exit::{Ended, Outcome, ProgramFault, finish_run, print_line};
+use oci_exit::{Ended, Outcome, ProgramFault, finish_run, make_and_lock_folder, print_line};
 use oci_layout::{Dir, FolderLock, Layout};
 use oci_plan::Existing;
 use std::io::Write;
@@ -24,12 +24,13 @@ use std::io::Write;
 ///
 /// # Errors
 ///
-/// The run ends with one of these faults. With 80, 81 and the faults before them, no blob, tag or
-/// entry of DST is changed.
+/// The run ends with one of these faults. With 80, 81, 99 and the faults before them, no blob, tag
+/// or entry of DST is changed.
 ///
 /// - 70 to 75 and 77 if SRC or DST is not a layout or cannot be read; 74 also if DST cannot be
 ///   created or locked.
 /// - 35 `EmptyReference` and 36 `UnknownReference` for the reference.
+/// - 99 `Locked` if another process has the lock of DST, and the words say not to wait.
 /// - 80 `DestinationOpen` and 81 `Plan` if there is no plan.
 /// - 82 `Push` and 88 `Fetch` if a blob cannot be copied, and 74 `Device` if the index cannot be
 ///   written. Blobs that arrived stay.
@@ -92,7 +93,7 @@ where
     S::Draft: Send,
     D::Draft: Send,
 {
-    let lock = lock_folder(rt, words.destination, err)?;
+    let lock = make_and_lock_folder(rt, words.destination, words.waits, err)?;
     let destination = open_or_create(rt.alloc(), destination)?;
     copy_under_lock(rt, source, destination, selected, words, &lock, err)
 }

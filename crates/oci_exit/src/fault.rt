@@ -47,7 +47,7 @@ pub enum ProgramFault {
     /// The layout that a command reads is no layout, or could not be read.
     #[error("{0}")]
     Layout(#[from] LayoutFault),
-    /// The folder that a command writes into has no layout, or could not be locked, read or written.
+    /// The folder that a command writes into is no layout, or could not be locked, read or written.
     #[error("{0}")]
     Destination(LayoutFault),
     /// The prune was refused, or a file could not be removed.
