@@ -134,8 +134,10 @@ fn prune<'w>(alloc: Global) -> Result<Arg<'w>, AllocError> {
     let help =
         "With --all: afterwards removes from DST the tags that SRC does not have, and what no tag then needs, as the command \
                 `prune` does. Refused, before anything is copied, if SRC has no tag (97), or lacks the blob of an entry of \
-                its `index.json` (96)";
-    flag(alloc, "prune", help).requires_arg("all")
+                its `index.json` (96). Not with --dry-run, since what is removed is known only after the copy";
+    flag(alloc, "prune", help)
+        .requires_arg("all")?
+        .conflicts_with("dry-run")
 }
 
 /// `--workers N`

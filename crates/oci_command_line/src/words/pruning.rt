@@ -40,7 +40,8 @@ pub(crate) fn prune_command<'w>(alloc: Global) -> Result<Command<'w>, AllocError
              Every tagged blob is kept, with everything that it reaches: the config and the layers of an \
              image, the images of an index, the subject of a referrer. With each kept blob its referrers are \
              kept too, such as signatures and SBOMs, with everything that these reach: they are the manifests \
-             of the layout whose `subject` is that blob. An index is not kept because it lists a kept blob.\n\n\
+             of the layout whose `subject` is that blob. An index is not kept because it lists a kept blob. \
+             Layers that are not to be distributed are not kept, as `copy` does not copy them.\n\n\
              All other blobs are removed, with their entries in `index.json`. Of the files in `blobs/sha256` \
              and `blobs/sha512` whose name is a digest, those stay that a kept blob has. Files that a \
              killed copy left are removed, and all other files stay.\n\n\
