@@ -1,0 +1,77 @@
+ghost use Rattle.std.specs.Prelude.{◌≤◌};
+
+use crate::lines::{print_planned, print_pruned};
+use crate::place::check_is_layout;
+use oci_command_line::PruneWords;
+use oci_exit::{Ended, Outcome, ProgramFault, finish_run, lock_folder};
+use oci_layout::{Layout, Lockable, PrunableDir};
+use oci_prune::{Pruned, Pruning, plan_prune, prune};
+use std::alloc::Global;
+use std::io::Write;
+use std::rt::Files;
+
+/// `prune FOLDER`: removes from the layout in a directory what no tag needs, prints what was
+/// removed, and returns how the run ended. The directory is the words' folder, which is locked from
+/// before the layout is opened until after the last file is removed. With `--dry-run` nothing is
+/// locked or changed, and the same lines are printed.
+///
+/// # Errors
+///
+/// The run ends with one of these faults. With all but 74, 79 and 94 nothing is changed.
+///
+/// - 70 to 75 and 77 if the directory has no layout, or it cannot be read; 74 also if the folder
+///   cannot be locked or `index.json` cannot be written.
+/// - 99 `Locked` if another process has the lock, and the words say not to wait.
+/// - 97 `NoTags` if the layout has no tag.
+/// - 96 `Unknown` if it is not known what a blob needs, since it is missing.
+/// - 98 `LinkedBlobs` if a folder of blobs is a link.
+/// - 88 `Fetch` if a held manifest cannot be read.
+/// - 79 `NotRemoved` if a file cannot be removed. The others are removed and printed.
+/// - 94 `Output` if `out` cannot be written. The prune is done.
+/// - Out of memory, at any point.
+pub fn run_prune<R: Files<File: Lockable> + AllocGlobal, D: PrunableDir + Drop, W: Write, X: Write>(
+    rt: &R,
+    dir: D,
+    words: &PruneWords<'_>,
+    out: &mut W,
+    err: &mut X,
+) -> Ended
+    ensures { result.status ≤ 3 }
+{
+    let done = if words.is_dry {
+        show_plan(rt.alloc(), dir, words, out)
+    } else {
+        match prune_folder(rt, dir, words, err) {
+            Ok((plan, pruned)) => print_pruned(rt.alloc(), &plan, pruned, out),
+            Err(fault) => Err(fault),
+        }
+    };
+    finish_run(done, out, err)
+}
+
+/// `prune --dry-run`: prints what a prune would remove.
+fn show_plan<D: PrunableDir + Drop, W: Write>(
+    alloc: Global,
+    dir: D,
+    words: &PruneWords<'_>,
+    out: &mut W,
+) -> Result<Outcome, ProgramFault> {
+    let layout = Layout::open(alloc, dir)?;
+    let plan = plan_prune(alloc, &layout, words.keeps_referrers)?;
+    print_planned(alloc, &plan, out)
+}
+
+/// Locks the folder of a layout, and prunes the layout.
+fn prune_folder<R: Files<File: Lockable> + AllocGlobal, D: PrunableDir + Drop, X: Write>(
+    rt: &R,
+    dir: D,
+    words: &PruneWords<'_>,
+    err: &mut X,
+) -> Result<(Pruning, Pruned), ProgramFault> {
+    check_is_layout(&dir)?;
+    let _lock = lock_folder(rt, words.folder, words.waits, err)?;
+    let mut layout = Layout::open(rt.alloc(), dir)?;
+    let plan = plan_prune(rt.alloc(), &layout, words.keeps_referrers)?;
+    let pruned = prune(rt.alloc(), &mut layout, &plan)?;
+    Ok((plan, pruned))
+}

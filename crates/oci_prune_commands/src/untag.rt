@@ -1,0 +1,94 @@
+ghost use Rattle.std.specs.Prelude.{◌≡◌, ◌≤◌, Some, IfOk, IfErr, OnOk};
+ghost use Rattle.oci_layout.specs.Device.{Touches};
+ghost use Rattle.oci_layout.specs.Index.{index_file, HasIndex};
+ghost use Rattle.oci_layout.specs.Refusal.{IsPutFault};
+ghost use Rattle.oci_store.specs.Tags.{tag_at, without_tag};
+ghost use Rattle.oci_prune_commands.specs.Refusal.{IsRefusedUntag};
+
+use crate::place::check_is_layout;
+use oci_command_line::UntagWords;
+use oci_exit::{Ended, Outcome, ProgramFault, finish_run, lock_folder};
+use oci_layout::{Dir, Layout, Lockable};
+use oci_manifest::Key;
+use oci_store::Untagger;
+use std::io::Write;
+use std::rt::Files;
+
+/// `untag FOLDER TAG`: removes a tag from the layout in a directory, and saves it. The directory is
+/// the words' folder, which is locked from before the layout is opened until after it is saved.
+/// Prints the key that the tag named, and returns how the run ended.
+///
+/// # Errors
+///
+/// The run ends with one of these faults. With all but 74 and 94 nothing is changed.
+///
+/// - 70 to 75 and 77 if the directory has no layout, or it cannot be read; 74 also if the folder
+///   cannot be locked or `index.json` cannot be written.
+/// - 99 `Locked` if another process has the lock, and the words say not to wait.
+/// - 35 `EmptyReference` if the tag is empty, and 36 `UnknownReference` if the layout lacks it.
+/// - 94 `Output` if `out` cannot be written. The tag is removed.
+/// - Out of memory, at any point.
+pub fn run_untag<R: Files<File: Lockable> + AllocGlobal, D: Dir + Drop, W: Write, X: Write>(
+    rt: &R,
+    dir: D,
+    words: &UntagWords<'_>,
+    out: &mut W,
+    err: &mut X,
+) -> Ended
+    ensures { result.status ≤ 3 }
+{
+    let done = match untag_folder(rt, dir, words, err) {
+        Ok(key) => print_untagged(&key, out),
+        Err(fault) => Err(fault),
+    };
+    finish_run(done, out, err)
+}
+
+/// Locks the folder of a layout, and removes a tag from the layout. Returns the key that it named.
+fn untag_folder<R: Files<File: Lockable> + AllocGlobal, D: Dir + Drop, X: Write>(
+    rt: &R,
+    dir: D,
+    words: &UntagWords<'_>,
+    err: &mut X,
+) -> Result<Key, ProgramFault> {
+    check_is_layout(&dir)?;
+    let _lock = lock_folder(rt, words.folder, words.waits, err)?;
+    let mut layout = Layout::open(rt.alloc(), dir)?;
+    untag_and_save(&mut layout, words.tag)
+}
+
+/// Removes a tag from a layout, and saves the layout. Returns the key that the tag named, which is
+/// still held. If the tag cannot be removed, nothing is changed and nothing is saved.
+///
+/// # Errors
+///
+/// - 35 `EmptyReference` if the tag is empty, and 36 `UnknownReference` if there is no such tag.
+/// - 74 `Device` if `index.json` could not be written. The tag is removed from the layout in memory.
+/// - Out of memory, at any point.
+pub fn untag_and_save<D: Dir>(layout: &mut Layout<D>, tag: &str) -> Result<Key, ProgramFault>
+    ensures named { IfOk result (λ key. tag_at layout.old.2 tag.now ≡ Some key) }
+    ensures untagged { OnOk result (layout.new.2 ≡ without_tag layout.old.2 tag.now) }
+    ensures saved { OnOk result ((D.device layout.old.0).is_honest
+        → HasIndex (D.device layout.new.0).file layout.old.1 (without_tag layout.old.2 tag.now)) }
+    ensures graph { layout.new.1 ≡ layout.old.1 }
+    ensures other { (D.device layout.old.0).is_honest
+        → Touches (D.device layout.old.0).file (D.device layout.new.0).file index_file }
+    ensures refused { IfErr result (IsRefusedUntag layout.old.2 tag.now
+        (layout.new ≡ layout.old)
+        (IsPutFault (D.device layout.old.0).failures (D.device layout.new.0).failures)) }
+{
+    let key = match layout.untag(tag) {
+        Ok(key) => key,
+        Err(fault) => return Err(ProgramFault::Reference(fault)),
+    };
+    match layout.save() {
+        Ok(()) => Ok(key),
+        Err(fault) => Err(ProgramFault::Layout(fault)),
+    }
+}
+
+/// Prints the key of a removed tag.
+fn print_untagged<W: Write>(key: &Key, out: &mut W) -> Result<Outcome, ProgramFault> {
+    writeln!(out, "untagged {key}").map_err(ProgramFault::of_output)?;
+    Ok(Outcome::Good)
+}
