@@ -1,10 +1,10 @@
 -- The roots of a copy, and the tags that it sets.
-use Rattle.std.specs.Prelude.{◌≡◌, ◌≢◌, ◌↔◌, ℕ, List, [], ◌∷◌, Option, None, Some, Contains}
+use Rattle.std.specs.Prelude.{◌≡◌, ◌≢◌, ◌↔◌, ℕ, not, List, [], ◌∷◌, filter, Option, None, Some, is_some, Contains}
 use Rattle.std.specs.List.{All, IsDistinct}
 use Rattle.std.specs.Map.{keys_of, values_of}
 use Rattle.oci_manifest.specs.Descriptor.{Descriptor, same_key}
 use Rattle.oci_store.specs.Graph.{Node}
-use Rattle.oci_store.specs.Tags.{Tags, set_tag}
+use Rattle.oci_store.specs.Tags.{Tags, set_tag, tag_at, without_tag}
 use Rattle.oci_plan.specs.Up.{HasPath, IsUp, IsWithinDepth}
 
 -- no tag is empty, and each tags a root
@@ -37,3 +37,12 @@ pub record AreRootsOfTags (graph : List Node) (referrers : Option ℕ) (tags : T
 abbrev pub set_tags : Tags → Tags → Tags
 set_tags tags [] = tags
 set_tags tags (t ∷ more) = set_tags (set_tag tags t.0 t.1) more
+
+-- the tags, without each of these
+abbrev pub without_tags : Tags → Tags → Tags
+without_tags tags [] = tags
+without_tags tags (t ∷ more) = without_tags (without_tag tags t.0) more
+
+-- the tags that do not have the name of a kept one
+abbrev pub other_tags : Tags → Tags → Tags
+other_tags tags kept = filter (λ t. not (is_some (tag_at (set_tags [] kept) t.0))) tags

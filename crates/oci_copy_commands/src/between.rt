@@ -162,7 +162,10 @@ fn tag_and_save<D: Dir>(
 
 /// Sets tags of held keys in their order. Only a memory error is possible, and then some of them
 /// may be set.
-fn tag_all<D: Dir>(destination: &mut Layout<D>, tags: &[(String, Key)]) -> Result<(), RefFault>
+pub(crate) fn tag_all<D: Dir>(
+    destination: &mut Layout<D>,
+    tags: &[(String, Key)],
+) -> Result<(), RefFault>
     requires named { All (λ (name : List ℕ). name ≢ []) (keys_of (by_bytes tags.now)) }
     requires held { HasAll destination.old.1 (values_of (by_bytes tags.now)) }
     ensures tagged { OnOk result (destination.new.2 ≡ set_tags destination.old.2

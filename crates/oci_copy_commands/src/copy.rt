@@ -4,19 +4,24 @@ use crate::Host;
 use crate::between::copy_between;
 use crate::destination::{open_or_create, remove_leftovers};
 use crate::dry_run::show_plan;
+use crate::mirror::{CleanUp, check_destination, check_source, mirror};
 use crate::progress::Progress;
 use crate::selected::Selected;
 use oci_command_line::CopyWords;
 use oci_copy::{Options, Report, plan_copy};
 use oci_exit::{Ended, Outcome, ProgramFault, finish_run, make_and_lock_folder, print_line};
-use oci_layout::{Dir, FolderLock, Layout};
+use oci_layout::{Dir, FolderLock, Layout, PrunableDir};
 use oci_plan::Existing;
+use oci_prune_commands::print_pruned;
+use std::alloc::Global;
 use std::io::Write;
 
 /// `copy SRC SRCREF DST [DSTREF]` and `copy --all SRC DST`: copies the selected blobs, tags them in
 /// the destination, and saves it. Prints the key of each tag and the report, and returns how the
 /// run ended. With `--progress` each blob is printed on `err` when it arrives. Without it, on a
-/// terminal, one line shows how much has arrived. With `--dry-run` only the plan is printed.
+/// terminal, one line shows how much has arrived. With `--dry-run` only the plan is printed. With
+/// `--all --prune` the tags that the source does not have are removed too, and what no tag then
+/// needs; the tags and what was removed are printed.
 ///
 /// Otherwise a destination without `oci-layout` becomes a layout, once the source is open and its
 /// reference is resolved. The destination's folder is locked from before the destination is opened
@@ -31,20 +36,22 @@ use std::io::Write;
 ///   created or locked.
 /// - 35 `EmptyReference` and 36 `UnknownReference` for the reference.
 /// - 99 `Locked` if another process has the lock of DST, and the words say not to wait.
+/// - 97 `NoTags`, 96 `Unknown` and 98 `LinkedBlobs` with `--prune`, if SRC has no tag, SRC or DST
+///   lacks the blob of an entry of its index, or DST has a link to a folder of blobs.
 /// - 80 `DestinationOpen` and 81 `Plan` if there is no plan.
 /// - 82 `Push` and 88 `Fetch` if a blob cannot be copied, and 74 `Device` if the index cannot be
 ///   written. Blobs that arrived stay.
 /// - 85 `BadWorkers` if there are more than 64 workers. Nothing is copied.
+/// - 79 `NotRemoved` with `--prune`, if a file cannot be removed. The copy is done and saved.
 /// - 94 `Output` if `out` cannot be written. The copy is done and saved.
 /// - Out of memory, at any point.
-pub fn run_copy<R: Host, S: Dir + Drop + Sync, D: Dir + Drop + Send, W: Write, X: Write + Send>(
-    rt: &R,
-    source: S,
-    destination: D,
-    words: &CopyWords<'_>,
-    out: &mut W,
-    err: &mut X,
-) -> Ended
+pub fn run_copy<
+    R: Host,
+    S: Dir + Drop + Sync,
+    D: PrunableDir + Drop + Send,
+    W: Write,
+    X: Write + Send,
+>(rt: &R, source: S, destination: D, words: &CopyWords<'_>, out: &mut W, err: &mut X) -> Ended
 where
     S::Draft: Send,
     D::Draft: Send,
@@ -54,41 +61,53 @@ where
         show_plan(rt.alloc(), source, destination, words, out)
     } else {
         match copy_layout(rt, source, destination, words, err) {
-            Ok((selected, report)) => print_copied(&selected, &report, out),
+            Ok((selected, copied)) => print_copied(rt.alloc(), &selected, copied, out),
             Err(fault) => Err(fault),
         }
     };
     finish_run(done, out, err)
 }
 
+/// What a copy did.
+#[derive(Drop)]
+struct Copied {
+    /// The report of the copy.
+    report: Report,
+    /// What was removed, with `--prune`.
+    removed: Option<CleanUp>,
+}
+
 /// Copies from one directory into another, whose folder is locked during the copy.
-fn copy_layout<R: Host, S: Dir + Drop + Sync, D: Dir + Drop + Send, X: Write + Send>(
+fn copy_layout<R: Host, S: Dir + Drop + Sync, D: PrunableDir + Drop + Send, X: Write + Send>(
     rt: &R,
     source: S,
     destination: D,
     words: &CopyWords<'_>,
     err: &mut X,
-) -> Result<(Selected, Report), ProgramFault>
+) -> Result<(Selected, Copied), ProgramFault>
 where
     S::Draft: Send,
     D::Draft: Send,
 {
     let source = Layout::open(rt.alloc(), source)?;
     let selected = Selected::of(rt.alloc(), &source, words)?;
-    let report = copy_selected(rt, &source, destination, &selected, words, err)?;
-    Ok((selected, report))
+    if words.prunes {
+        check_source(&source)?;
+    }
+    let copied = copy_selected(rt, &source, destination, &selected, words, err)?;
+    Ok((selected, copied))
 }
 
 /// Copies the selected blobs of an open layout into a folder. The folder is locked from before it
 /// is opened until after it is saved.
-fn copy_selected<R: Host, S: Dir + Sync, D: Dir + Drop + Send, X: Write + Send>(
+fn copy_selected<R: Host, S: Dir + Sync, D: PrunableDir + Drop + Send, X: Write + Send>(
     rt: &R,
     source: &Layout<S>,
     destination: D,
     selected: &Selected,
     words: &CopyWords<'_>,
     err: &mut X,
-) -> Result<Report, ProgramFault>
+) -> Result<Copied, ProgramFault>
 where
     S::Draft: Send,
     D::Draft: Send,
@@ -99,7 +118,7 @@ where
 }
 
 /// Plans a copy into an open layout, removes files left by killed copies, and copies.
-fn copy_under_lock<R: Host, S: Dir + Sync, D: Dir + Drop + Send, X: Write + Send>(
+fn copy_under_lock<R: Host, S: Dir + Sync, D: PrunableDir + Drop + Send, X: Write + Send>(
     rt: &R,
     source: &Layout<S>,
     destination: Layout<D>,
@@ -107,26 +126,60 @@ fn copy_under_lock<R: Host, S: Dir + Sync, D: Dir + Drop + Send, X: Write + Send
     words: &CopyWords<'_>,
     lock: &FolderLock<R>,
     err: &mut X,
-) -> Result<Report, ProgramFault>
+) -> Result<Copied, ProgramFault>
 where
     S::Draft: Send,
     D::Draft: Send,
 {
     let options = options_of(words);
+    if words.prunes {
+        check_destination(rt.alloc(), &destination)?;
+    }
     let plan = plan_copy(rt.alloc(), source, &destination, selected.roots(), &options)?;
     remove_leftovers(rt, lock)?;
     let progress = Progress::new(rt, err, words.shown, &plan);
-    let (_saved, copied) = copy_between(
-        rt,
-        source,
-        destination,
-        &plan,
-        selected,
-        &options,
-        &progress,
-    );
+    let copied = if words.prunes {
+        removing(mirror(
+            rt,
+            source,
+            destination,
+            &plan,
+            selected,
+            &options,
+            &progress,
+        ))
+    } else {
+        let (_saved, copied) = copy_between(
+            rt,
+            source,
+            destination,
+            &plan,
+            selected,
+            &options,
+            &progress,
+        );
+        only_copying(copied)
+    };
     progress.end();
     copied
+}
+
+/// The result of a copy that removed something.
+fn removing(done: Result<(Report, CleanUp), ProgramFault>) -> Result<Copied, ProgramFault> {
+    let (report, removed) = done?;
+    Ok(Copied {
+        report,
+        removed: Some(removed),
+    })
+}
+
+/// The result of a copy that removed nothing.
+fn only_copying(done: Result<Report, ProgramFault>) -> Result<Copied, ProgramFault> {
+    let report = done?;
+    Ok(Copied {
+        report,
+        removed: None,
+    })
 }
 
 /// The options of a copy that its words name.
@@ -143,15 +196,37 @@ pub(crate) fn options_of(words: &CopyWords<'_>) -> Options {
     }
 }
 
-/// Prints the key of each tag of a copy, and the report.
+/// Prints the key of each tag of a copy, the report, and what was removed.
 fn print_copied<W: Write>(
+    alloc: Global,
     selected: &Selected,
-    report: &Report,
+    copied: Copied,
     out: &mut W,
 ) -> Result<Outcome, ProgramFault> {
     for (_, key) in selected.tags() {
         writeln!(out, "copied {key}").map_err(ProgramFault::of_output)?;
     }
-    print_line(report, out)?;
-    Ok(Outcome::Good)
+    let Copied { report, removed } = copied;
+    print_line(&report, out)?;
+    match removed {
+        Some(removed) => print_removed(alloc, removed, out),
+        None => Ok(Outcome::Good),
+    }
+}
+
+/// Prints the tags that were removed with the keys that they named, and what the prune removed.
+fn print_removed<W: Write>(
+    alloc: Global,
+    removed: CleanUp,
+    out: &mut W,
+) -> Result<Outcome, ProgramFault> {
+    let CleanUp {
+        untagged,
+        plan,
+        pruned,
+    } = removed;
+    for (name, key) in &untagged {
+        writeln!(out, "untagged {name} {key}").map_err(ProgramFault::of_output)?;
+    }
+    print_pruned(alloc, &plan, pruned, out)
 }

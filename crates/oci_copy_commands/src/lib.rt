@@ -11,8 +11,10 @@ mod destination;
 mod dry_run;
 mod item;
 mod mem;
+mod mirror;
 mod progress;
 mod progress_line;
+mod retag;
 mod selected;
 
 pub use between::copy_between;
@@ -28,8 +30,8 @@ use std::thread::Threads;
 use std::time::Clock;
 
 /// The runtime that the program needs: files that can be locked, and read at positions by several
-/// workers, memory, random names for new files, a clock for the progress line, and threads. Each runtime that has
-/// these is a host.
+/// workers, memory, random names for new files, a clock for the progress line, and threads. Each
+/// runtime that has these is a host.
 pub trait Host: Files<File: Lockable + ReadAt + Send + Sync, Dir: Send>
     + AllocGlobal
     + RandomSource

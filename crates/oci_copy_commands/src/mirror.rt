@@ -1,0 +1,186 @@
+ghost use Rattle.std.specs.Prelude.{◌≡◌, ◌≢◌, [], OnOk};
+ghost use Rattle.oci_copy.specs.Destination.{IsClosedWhenSkipping};
+ghost use Rattle.oci_copy.specs.Planned.{IsPlanOf};
+ghost use Rattle.oci_store.specs.Keyed.{HasAll};
+ghost use Rattle.oci_copy_commands.specs.Selected.{other_tags, set_tags, without_tags};
+
+use crate::retag::retag;
+use crate::selected::Selected;
+use oci_copy::{Options, Report, copy_plan};
+use oci_exit::ProgramFault;
+use oci_layout::{Dir, Layout, PrunableDir};
+use oci_manifest::Key;
+use oci_plan::Plan;
+use oci_pool::Hooks;
+use oci_prune::{PruneFault, Pruned, Pruning, plan_prune, prune};
+use oci_store::Store;
+use std::alloc::Global;
+use std::sync::Wait;
+use std::thread::Threads;
+
+/// What `copy --all --prune` removed from the destination.
+#[derive(Drop)]
+pub(crate) struct CleanUp {
+    /// The removed tags, in byte order, each with the key that it named.
+    pub(crate) untagged: Vec<(String, Key)>,
+    /// The plan of the prune.
+    pub(crate) plan: Pruning,
+    /// The files that went.
+    pub(crate) pruned: Pruned,
+}
+
+/// Refuses a source that a mirror must not follow: a prune of the mirror would remove what the
+/// source is not seen to have.
+///
+/// # Errors
+///
+/// - 97 `NoTags` if it has no tag.
+/// - 96 `Unknown` if an entry of its index has no file. The first one is reported.
+/// - Out of memory.
+pub(crate) fn check_source<S: Dir>(source: &Layout<S>) -> Result<(), ProgramFault>
+    ensures tags { OnOk result (source.now.2 ≢ []) }
+    ensures absent { OnOk result (source.now.3 ≡ []) }
+{
+    if source.tags()?.is_empty() {
+        return Err(ProgramFault::Prune(PruneFault::NoTags));
+    }
+    check_entries(source)
+}
+
+/// Refuses a layout with an entry of its index that has no file.
+fn check_entries<D: Dir>(layout: &Layout<D>) -> Result<(), ProgramFault>
+    ensures absent { OnOk result (layout.now.3 ≡ []) }
+{
+    match layout.absent().first() {
+        Some(key) => Err(ProgramFault::Prune(PruneFault::Unknown(key.try_clone()?))),
+        None => Ok(()),
+    }
+}
+
+/// Refuses a destination that cannot be pruned as it is. One without tags can.
+///
+/// # Errors
+///
+/// - 96 `Unknown` if an entry of its index has no file, or a kept manifest lists a missing one.
+/// - 98 `LinkedBlobs` if a folder of blobs is a link.
+/// - 88 `Fetch` and 77 `BadManifest` if a held manifest cannot be read.
+/// - 74 `Device` if the directory cannot be read.
+/// - Out of memory, at any point.
+pub(crate) fn check_destination<D: PrunableDir>(
+    alloc: Global,
+    destination: &Layout<D>,
+) -> Result<(), ProgramFault>
+    ensures absent { OnOk result (destination.now.3 ≡ []) }
+{
+    check_entries(destination)?;
+    match destination.linked() {
+        Ok(Some(folder)) => Err(ProgramFault::Prune(PruneFault::LinkedBlobs(folder))),
+        Ok(None) => check_plan(alloc, destination),
+        Err(fault) => Err(ProgramFault::Destination(fault)),
+    }
+}
+
+/// Refuses a layout whose prune is refused, unless that is because it has no tags.
+fn check_plan<D: PrunableDir>(alloc: Global, layout: &Layout<D>) -> Result<(), ProgramFault> {
+    match plan_prune(alloc, layout, true) {
+        Ok(_) => Ok(()),
+        Err(PruneFault::NoTags) => Ok(()),
+        Err(fault) => Err(fault_of(fault)),
+    }
+}
+
+/// Copies the planned blobs into a layout, sets the selected tags there and removes all others,
+/// saves it, and removes what no tag needs. The layout is saved once, before the first file is
+/// removed.
+///
+/// The plan is one that `plan_copy` made of these two layouts, the selected roots and these
+/// options. If the copy is refused, no tag and no file is removed, and the index is not written.
+///
+/// # Errors
+///
+/// - 82 `Push` if the destination refuses a blob, and 88 `Fetch` if the source does.
+/// - 85 `BadWorkers` if there are more than 64 workers. Nothing is copied.
+/// - 96 `Unknown`, 88 `Fetch` and 77 `BadManifest` if the destination cannot be pruned after all. The
+///   copied blobs stay, and the index is not written.
+/// - 74 `Device` if `index.json` could not be written.
+/// - Out of memory, at any point.
+pub(crate) fn mirror<
+    R: AllocGlobal + Threads + Wait + Sync,
+    S: Dir + Sync,
+    D: PrunableDir + Drop + Send,
+    H: Hooks + Sync,
+>(
+    rt: &R,
+    source: &Layout<S>,
+    destination: Layout<D>,
+    plan: &Plan,
+    selected: &Selected,
+    options: &Options,
+    hooks: &H,
+) -> Result<(Report, CleanUp), ProgramFault>
+where
+    S::Draft: Send,
+    D::Draft: Send,
+    requires closed { IsClosedWhenSkipping options.now.existing destination.1 }
+    requires plan { IsPlanOf (⟦<Layout<S> as Store>⟧.state source.now) options.now
+        (⟦<Layout<D> as Store>⟧.state destination) selected.now.0 plan.now }
+{
+    let roots = selected.roots();
+    let (mut destination, copied) = copy_plan(
+        rt,
+        rt.alloc(),
+        source,
+        destination,
+        plan,
+        roots,
+        options,
+        hooks,
+    );
+    match copied {
+        Ok(report) => match clean_up(rt.alloc(), &mut destination, selected) {
+            Ok(done) => Ok((report, done)),
+            Err(fault) => Err(fault),
+        },
+        Err(fault) => Err(ProgramFault::Copy(fault)),
+    }
+}
+
+/// Sets the selected tags in a layout that holds their keys, removes all others, saves it, and
+/// removes what no tag needs.
+///
+/// # Errors
+///
+/// As of [`mirror`], after the copy.
+fn clean_up<D: PrunableDir>(
+    alloc: Global,
+    destination: &mut Layout<D>,
+    selected: &Selected,
+) -> Result<CleanUp, ProgramFault>
+    requires held { HasAll destination.old.1 selected.now.0 }
+    ensures tags { OnOk result (destination.new.2
+        ≡ without_tags (set_tags destination.old.2 selected.now.1)
+        (other_tags destination.old.2 selected.now.1)) }
+{
+    let untagged = retag(alloc, destination, selected)?;
+    let plan = plan_prune(alloc, destination, true).map_err(fault_of)?;
+    // A prune saves the layout only if it removes a key.
+    if plan.removed.is_empty()
+        && let Err(fault) = destination.save()
+    {
+        return Err(ProgramFault::Destination(fault));
+    }
+    let pruned = prune(alloc, destination, &plan).map_err(fault_of)?;
+    Ok(CleanUp {
+        untagged,
+        plan,
+        pruned,
+    })
+}
+
+/// Returns the fault of a command that prunes its destination.
+fn fault_of(fault: PruneFault) -> ProgramFault {
+    match fault {
+        PruneFault::Layout(fault) => ProgramFault::Destination(fault),
+        _ => ProgramFault::Prune(fault),
+    }
+}

@@ -1,0 +1,97 @@
+ghost use Rattle.std.specs.Prelude.{◌≡◌, [], is_some, IfOk, OnOk};
+ghost use Rattle.oci_store.specs.Keyed.{HasAll};
+ghost use Rattle.oci_store.specs.Tags.{by_bytes, tag_at};
+ghost use Rattle.oci_copy_commands.specs.Selected.{other_tags, set_tags, without_tags};
+
+use crate::between::tag_all;
+use crate::selected::Selected;
+use oci_copy::CopyFault;
+use oci_digest::NoMemory;
+use oci_exit::ProgramFault;
+use oci_layout::{Dir, Layout};
+use oci_manifest::Key;
+use oci_store::{RefFault, Tags, Untagger};
+use std::alloc::Global;
+
+/// Sets the selected tags in a layout that holds their keys, and removes its other tags. Returns
+/// those, in byte order of the names.
+///
+/// # Errors
+///
+/// Out of memory. Some of the tags may be set or removed.
+pub(crate) fn retag<D: Dir>(
+    alloc: Global,
+    layout: &mut Layout<D>,
+    selected: &Selected,
+) -> Result<Vec<(String, Key)>, ProgramFault>
+    requires held { HasAll layout.old.1 selected.now.0 }
+    ensures tags { OnOk result (layout.new.2
+        ≡ without_tags (set_tags layout.old.2 selected.now.1)
+        (other_tags layout.old.2 selected.now.1)) }
+    ensures removed { IfOk result (λ others. by_bytes others.items
+        ≡ other_tags layout.old.2 selected.now.1) }
+    ensures graph { layout.new.1 ≡ layout.old.1 }
+{
+    let others = other_tags(alloc, &layout.tags()?, selected.tags())?;
+    if let Err(fault) = tag_all(layout, selected.tags()) {
+        return Err(ProgramFault::Copy(CopyFault::from(fault)));
+    }
+    if let Err(fault) = untag_all(layout, &others) {
+        return Err(ProgramFault::Reference(fault));
+    }
+    Ok(others)
+}
+
+/// Removes these tags, in their order.
+///
+/// # Errors
+///
+/// The first refusal of a tag. The tags before it are removed.
+fn untag_all<T: Untagger>(store: &mut T, tags: &[(String, Key)]) -> Result<(), RefFault>
+    ensures untagged { OnOk result ((T.state store.new).tags ≡ without_tags
+        (T.state store.old).tags (by_bytes tags.now)) }
+    ensures nodes { (T.state store.new).nodes ≡ (T.state store.old).nodes }
+{
+    for (name, _) in tags {
+        store.untag(name)?;
+    }
+    Ok(())
+}
+
+/// Returns the tags that do not have the name of a kept one, in their order.
+fn other_tags(
+    alloc: Global,
+    tags: &[(String, Key)],
+    kept: &[(String, Key)],
+) -> Result<Vec<(String, Key)>, NoMemory>
+    ensures { IfOk result (λ others. by_bytes others.items ≡ other_tags (by_bytes tags.now)
+        (by_bytes kept.now)) }
+{
+    let kept = set_of(alloc, kept)?;
+    let mut others = Vec::new(alloc);
+    for (name, key) in tags {
+        if has_tag(&kept, name) {
+            continue;
+        }
+        others.push((name.clone()?, key.try_clone()?))?;
+    }
+    Ok(others)
+}
+
+/// Returns whether there is a tag with this name.
+fn has_tag(tags: &Tags, name: &str) -> bool
+    ensures { result ≡ is_some (tag_at tags.now name.now) }
+{
+    tags.get(name).is_some()
+}
+
+/// Returns a set of these tags.
+fn set_of(alloc: Global, tags: &[(String, Key)]) -> Result<Tags, NoMemory>
+    ensures { IfOk result (λ set. set ≡ set_tags [] (by_bytes tags.now)) }
+{
+    let mut set = Tags::new(alloc);
+    for (name, key) in tags {
+        set.set(name, key)?;
+    }
+    Ok(set)
+}
