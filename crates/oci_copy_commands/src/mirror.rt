@@ -90,8 +90,8 @@ fn check_plan<D: PrunableDir>(alloc: Global, layout: &Layout<D>) -> Result<(), P
 }
 
 /// Copies the planned blobs into a layout, sets the selected tags there and removes all others,
-/// saves it, and removes what no tag needs. The layout is saved once, before the first file is
-/// removed.
+/// saves it, and removes what no tag needs. The layout is saved once, before a file is removed that
+/// the old index needs.
 ///
 /// The plan is one that `plan_copy` made of these two layouts, the selected roots and these
 /// options. If the copy is refused, no tag and no file is removed, and the index is not written.
@@ -163,13 +163,14 @@ fn clean_up<D: PrunableDir>(
 {
     let untagged = retag(alloc, destination, selected)?;
     let plan = plan_prune(alloc, destination, true).map_err(fault_of)?;
-    // A prune saves the layout only if it removes a key.
+    let pruned = prune(alloc, destination, &plan).map_err(fault_of)?;
+    // A prune saves the layout, before it removes a file, only if it drops a key. If it does not,
+    // it removes only files that the old index does not need either.
     if plan.removed.is_empty()
         && let Err(fault) = destination.save()
     {
         return Err(ProgramFault::Destination(fault));
     }
-    let pruned = prune(alloc, destination, &plan).map_err(fault_of)?;
     Ok(CleanUp {
         untagged,
         plan,

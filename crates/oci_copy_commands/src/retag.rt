@@ -32,8 +32,9 @@ pub(crate) fn retag<D: Dir>(
         ≡ other_tags layout.old.2 selected.now.1) }
     ensures graph { layout.new.1 ≡ layout.old.1 }
 {
-    let others = other_tags(alloc, &layout.tags()?, selected.tags())?;
-    if let Err(fault) = tag_all(layout, selected.tags()) {
+    let tags = selected.tags();
+    let others = other_tags(alloc, &layout.tags()?, tags)?;
+    if let Err(fault) = tag_all(layout, tags) {
         return Err(ProgramFault::Copy(CopyFault::from(fault)));
     }
     if let Err(fault) = untag_all(layout, &others) {
