@@ -2,6 +2,7 @@
 use Rattle.std.proofs.Common.{◌≡◌, ℕ, ◌+◌, ◌<◌, ◌≤◌, Bool, true, false, cond, ◌⊎◌, inl, inr, List, [], ◌∷◌, length, get_or, take, ◌++◌, filter, Option, Some, None, is_some, refl, sym, ap, subst, ◌∙◌, arith}
 use Rattle.std.specs.Prelude.{Contains}
 use Rattle.std.specs.BTreeMap.{get}
+use Rattle.std.specs.Global.{Vec}
 use Rattle.std.specs.BTreeSet.{BTreeSet, contains}
 use Rattle.std.specs.List.{slice_get}
 use Rattle.std.specs.Option.{option_map_or}
@@ -18,11 +19,12 @@ use Rattle.oci_manifest.proofs.Keys.{Decides-same_key}
 use Rattle.oci_store.specs.Before.{IsBefore}
 use Rattle.oci_store.specs.Graph.{Node}
 use Rattle.oci_store.specs.Keyed.{value_at, has_key}
+use Rattle.oci_store.specs.Predecessors.{is_predecessor}
 use Rattle.oci_store.specs.Visiting.{with_keys}
 use Rattle.oci_store.proofs.KeyOrder.{is_eq-key_cmp, key_cmp_total, key_cmp_exact}
 use Rattle.oci_store.proofs.Membership.{Keys, Contains-from_among, among_from_Contains, among-with_keys, among_from_place, place_from_among, among-filter, among_filter_from, slice_get-with_keys, stays-with_keys, there-with_keys}
 use Rattle.oci_prune.specs.Kept.{Needs, IsKept, root, needed, IsNeeded, AreKept, AllKnown}
-use Rattle.oci_prune.specs.Subjects.{Subjects, RefersBy, has_subject}
+use Rattle.oci_prune.specs.Subjects.{Referrers, RefersBy, referrers_in}
 use Rattle.oci_prune.specs.Walk.{IsVisit, IsNoted, HasOneMore, IsWalking, IsVisitFault, IsWalkFault}
 use Rattle.oci_prune.specs.declared.fault.PruneFault.{PruneFault}
 use Rattle.oci_prune.specs.declared.fault.PruneFault.TheVariants as fault
@@ -51,58 +53,44 @@ no_element x h = omega (arith, h.1)
 pub none_kept : (set : BTreeSet Descriptor) → set.keys ≡ [] → (k : Descriptor) → contains key_cmp set k ≡ true → ⊥
 none_kept set none k h = no_element k (subst (λ (ks : Keys). Contains ks k) none ((btree_set_contains_iff key_cmp_total key_cmp_exact set k).0 h))
 
--- one key more of a list passes
-pub filter_next : (p : Descriptor → Bool) (ks : Keys) (i : ℕ) (k : Descriptor) → i < length ks → k ≡ get_or ks i k → p k ≡ true → filter p (take (i + 1) ks) ≡ filter p (take i ks) ++ k ∷ []
-filter_next p ks i k lt is passes =
-    ap (filter p) (take_more ks i k lt) ∙ filter-append p (take i ks) (get_or ks i k ∷ []) ∙ ap (λ (x : Descriptor). filter p (take i ks) ++ filter p (x ∷ [])) (sym is)
-    ∙ ap (λ (b : Bool). filter p (take i ks) ++ cond b (k ∷ []) []) passes
-
 -- ---- a visit
 
-has_subject_of : (found : Option Descriptor) (subject : Descriptor) → option_map_or (λ (s : Descriptor). same_key s subject) found false ≡ true → found ≡ Some subject
-has_subject_of None subject h = cc h
-has_subject_of (Some s) subject h = ap (λ (x : Descriptor). Some x) ((Decides-same_key s subject).0 h)
-
-subject_has : (found : Option Descriptor) (subject : Descriptor) → found ≡ Some subject → option_map_or (λ (s : Descriptor). same_key s subject) found false ≡ true
-subject_has found subject h = rw h ((Decides-same_key subject subject).1 refl)
+-- the keys that refer to a key by the map
+refers_from : (referrers : Referrers) (k other : Descriptor) → is_among (referrers_in referrers k) other ≡ is_predecessor referrers other k
+refers_from referrers k other = elim (get key_cmp referrers k) as (λ found. is_among (option_map_or (λ (keys : Vec Descriptor). keys.items) found []) other ≡ option_map_or (λ (keys : Vec Descriptor). is_among keys.items other) found false) [
+  | Some keys ↦ refl
+  | None ↦ refl
+]
 
 -- a visit of a held key
-pub visit_held : (graph : List Node) (subjects : Subjects) (k : Descriptor) (old new successors predecessors : Keys) → value_at graph k ≡ Some successors → IsBefore graph k predecessors
-    → new ≡ with_keys (with_keys old successors) (filter (has_subject subjects k) predecessors) → IsVisit graph (RefersBy graph subjects) k old new
-visit_held graph subjects k old new successors predecessors listed before e = record {
-  stays = λ i j h.
-      subst (λ (t : Keys). slice_get t i ≡ Some j) (sym e)
-      (slice_get-with_keys (with_keys old successors) (filter (has_subject subjects k) predecessors) i j (slice_get-with_keys old successors i j h));
+pub visit_held : (graph : List Node) (referrers : Referrers) (k : Descriptor) (old new successors : Keys) → value_at graph k ≡ Some successors → new ≡ with_keys (with_keys old successors) (referrers_in referrers k) → IsVisit graph (RefersBy referrers) k old new
+visit_held graph referrers k old new successors listed e = record {
+  stays = λ i j h. subst (λ (t : Keys). slice_get t i ≡ Some j) (sym e) (slice_get-with_keys (with_keys old successors) (referrers_in referrers k) i j (slice_get-with_keys old successors i j h));
   each = λ j. (λ h. to j (subst (λ (t : Keys). is_among t j ≡ true) e (among_from_Contains new j h)), λ h. Contains-from_among new j (subst (λ (t : Keys). is_among t j ≡ true) (sym e) (back j h)));
 }
   where
-    to : (j : Descriptor) → is_among (with_keys (with_keys old successors) (filter (has_subject subjects k) predecessors)) j ≡ true → Contains old j ⊎ ((has_key graph k ≡ true) × Needs graph (RefersBy graph subjects) k j)
+    to : (j : Descriptor) → is_among (with_keys (with_keys old successors) (referrers_in referrers k)) j ≡ true → Contains old j ⊎ ((has_key graph k ≡ true) × Needs graph (RefersBy referrers) k j)
     to j h =
         let held : has_key graph k ≡ true = ap is_some listed in
-        elim (among-with_keys (with_keys old successors) (filter (has_subject subjects k) predecessors) j h) [
+        elim (among-with_keys (with_keys old successors) (referrers_in referrers k) j h) [
           | inl first ↦
               elim (among-with_keys old successors j first) [
                 | inl was ↦ inl (Contains-from_among old j was)
                 | inr lists ↦ inr (held, inl (successors, listed, Contains-from_among successors j lists))
               ]
-          | inr refers ↦
-              let p = among-filter (has_subject subjects k) predecessors j refers in
-              inr (held, inr ((before.each j).0 (Contains-from_among predecessors j p.1), has_subject_of (get key_cmp subjects j) k p.0))
+          | inr refers ↦ inr (held, inr (sym (refers_from referrers k j) ∙ refers))
         ]
 
-    back : (j : Descriptor) → Contains old j ⊎ ((has_key graph k ≡ true) × Needs graph (RefersBy graph subjects) k j) → is_among (with_keys (with_keys old successors) (filter (has_subject subjects k) predecessors)) j ≡ true
+    back : (j : Descriptor) → Contains old j ⊎ ((has_key graph k ≡ true) × Needs graph (RefersBy referrers) k j) → is_among (with_keys (with_keys old successors) (referrers_in referrers k)) j ≡ true
     back j h =
         elim h [
-          | inl was ↦ stays-with_keys (with_keys old successors) (filter (has_subject subjects k) predecessors) j (stays-with_keys old successors j (among_from_Contains old j was))
+          | inl was ↦ stays-with_keys (with_keys old successors) (referrers_in referrers k) j (stays-with_keys old successors j (among_from_Contains old j was))
           | inr needs ↦
               elim needs.1 [
                 | inl edge ↦
                     let same : edge.0 ≡ successors = cc (sym edge.1 ∙ listed) in
-                    stays-with_keys (with_keys old successors) (filter (has_subject subjects k) predecessors) j
-                    (there-with_keys old successors j (among_from_Contains successors j (subst (λ (t : Keys). Contains t j) same edge.2)))
-                | inr refers ↦
-                    there-with_keys (with_keys old successors) (filter (has_subject subjects k) predecessors) j
-                    (among_filter_from (has_subject subjects k) predecessors j (subject_has (get key_cmp subjects j) k refers.1) (among_from_Contains predecessors j ((before.each j).1 refers.0)))
+                    stays-with_keys (with_keys old successors) (referrers_in referrers k) j (there-with_keys old successors j (among_from_Contains successors j (subst (λ (t : Keys). Contains t j) same edge.2)))
+                | inr refers ↦ there-with_keys (with_keys old successors) (referrers_in referrers k) j (refers_from referrers k j ∙ refers)
               ]
         ]
 

@@ -1,9 +1,11 @@
 -- What is planned, from its parts.
-use Rattle.std.proofs.Common.{◌≡◌, Bool, true, false, not, ◌⊎◌, inl, inr, List, [], filter, get_or, None, is_some, Result, Ok, Err, sym, ap, subst, ◌∙◌}
+use Rattle.std.proofs.Common.{◌≡◌, Bool, true, false, not, ◌⊎◌, inl, inr, List, [], filter, get_or, None, is_some, Result, Ok, Err, sym, ap, subst, ◌∙◌, Option}
 use Rattle.std.specs.Prelude.{◌↔◌, Contains, IfOk, OnOk, IfErr}
 use Rattle.std.specs.BTreeMap.{get}
 use Rattle.std.specs.BTreeSet.{BTreeSet, contains}
+use Rattle.std.specs.Global.{Vec}
 use Rattle.std.specs.List.Sorted.{IsStrictlySortedBy}
+use Rattle.std.specs.Option.{option_map_or}
 use Rattle.std.specs.Map.{keys_of}
 use Rattle.std.proofs.lemmas.Bool.{not-true}
 use Rattle.std.proofs.lemmas.List.Elements.{Contains-get_or}
@@ -17,12 +19,12 @@ use Rattle.oci_store.specs.Tags.{Tags}
 use Rattle.oci_layout.specs.Device.{Device}
 use Rattle.oci_store.proofs.KeyOrder.{key_cmp_total, key_cmp_exact}
 use Rattle.oci_store.proofs.Membership.{Contains-from_among, among_from_Contains, among-filter, among_filter_from}
-use Rattle.oci_store.proofs.Lookups.{has_key-from_Contains, Contains-from_has_key}
+use Rattle.oci_store.proofs.Lookups.{has_key-from_Contains, Contains-from_has_key, has_key-same_keys}
 use Rattle.oci_layout.proofs.Loose.{HasKeys}
 use Rattle.oci_prune.specs.Kept.{Needs, IsKept, root, needed, IsNeeded, IsUnknown, AreKept, AllKnown}
 use Rattle.oci_prune.specs.Plan.{AreHeld, AreRemoved, RefersIf, IsSafe}
 use Rattle.oci_prune.specs.Refusal.{IsKeyFault, IsPlanFault}
-use Rattle.oci_prune.specs.Subjects.{Subjects, AreSubjects, Refers, RefersBy, IsSubjectFault}
+use Rattle.oci_prune.specs.Subjects.{Referrers, AreReferrers, RefersBy, IsSubjectFault}
 use Rattle.oci_prune.specs.Walk.{IsWalkFault}
 use Rattle.oci_prune.specs.declared.fault.PruneFault.{PruneFault}
 use Rattle.oci_prune.specs.declared.fault.PruneFault.TheVariants as fault
@@ -104,14 +106,17 @@ subject_key_fault store roots keeps (fault.LinkedBlobs path) h = absurd h
 
 -- ---- the subjects of the held keys
 
-pub refers_by_held : (store : State) (keys : List Descriptor) (subjects : Subjects) → AreHeld store.nodes keys → AreSubjects store.entries keys subjects → Same (RefersBy store.nodes subjects) (Refers store)
-refers_by_held store keys subjects held are referrer subject = (
-  λ refers. (refers.0, ((are referrer subject).0 refers.1).1),
-  λ refers. (refers.0, (are referrer subject).1 ((held.each referrer).1 (ap is_some refers.0.1), refers.1)),
+pub refers_by_held : (store : State) (keys : List Descriptor) (referrers : Referrers) → keys_of store.nodes ≡ keys_of store.entries → AreHeld store.nodes keys → AreReferrers store.entries keys referrers → Same (RefersBy referrers) (RefersIf true store)
+refers_by_held store keys referrers same held are referrer subject = (
+  λ refers. ((are referrer subject).0 refers).1,
+  λ states. (are referrer subject).1 ((held.each referrer).1 (has_key-same_keys store.entries store.nodes referrer (sym same) (ap is_some states.1)), states),
 )
 
-pub refers_by_none : (store : State) (subjects : Subjects) → ((k : Descriptor) → get key_cmp subjects k ≡ None) → Same (RefersBy store.nodes subjects) (RefersIf false store)
-refers_by_none store subjects none referrer subject = (λ refers. cc (sym (none referrer) ∙ refers.1), λ never. absurd never)
+pub refers_by_none : (store : State) (referrers : Referrers) → ((k : Descriptor) → get key_cmp referrers k ≡ None) → Same (RefersBy referrers) (RefersIf false store)
+refers_by_none store referrers none referrer subject = (
+  λ refers. cc (sym (ap (λ (o : Option (Vec Descriptor)). option_map_or (λ (keys : Vec Descriptor). is_among keys.items referrer) o false) (none subject)) ∙ refers),
+  λ never. absurd never,
+)
 
 -- ---- safety
 

@@ -1,11 +1,10 @@
 -- The subjects that keys state.
-use Rattle.std.proofs.Common.{◌≡◌, ℕ, ◌+◌, ◌<◌, Bool, cond, inl, inr, List, [], ◌∷◌, ◌++◌, length, get_or, take, Option, Some, None, Ok, refl, sym, ap, subst, ◌∙◌, arith}
+use Rattle.std.proofs.Common.{◌≡◌, ℕ, ◌+◌, ◌<◌, Bool, true, false, inl, inr, List, [], ◌∷◌, ◌++◌, length, get_or, take, Option, Some, None, Ok, refl, sym, ap, subst, ◌∙◌, arith, ◌&&◌, ◌||◌, ◌⊎◌}
 use Rattle.std.specs.Prelude.{◌↔◌, Contains}
-use Rattle.std.specs.BTreeMap.{get, Updates}
-use Rattle.std.proofs.lemmas.Bool.{cases_Bool}
+use Rattle.std.proofs.lemmas.Bool.{or_left, or_right}
 use Rattle.std.proofs.lemmas.List.{take_more}
 use Rattle.std.proofs.lemmas.List.Elements.{Contains-push, Contains-push_cases, Contains-append_left}
-use Rattle.oci_manifest.specs.Descriptor.{Descriptor, same_key, key_cmp, Matches}
+use Rattle.oci_manifest.specs.Descriptor.{Descriptor, same_key, key_cmp, is_among, Matches}
 use Rattle.oci_manifest.specs.Fault.{Fails, not_json, not_object, no_config, bad_list, bad_descriptor}
 use Rattle.oci_manifest.specs.MediaTypes.{kind_of}
 use Rattle.oci_manifest.specs.Subject.{subject_of}
@@ -15,10 +14,10 @@ use Rattle.oci_manifest.proofs.Keys.{Decides-same_key}
 use Rattle.oci_manifest.proofs.Subjects.{subject_of-sound, subject_of-complete}
 use Rattle.oci_store.specs.Content.{Entry}
 use Rattle.oci_store.specs.Keyed.{value_at}
+use Rattle.oci_store.specs.Predecessors.{is_predecessor}
 use Rattle.oci_store.specs.State.{State}
-use Rattle.oci_store.proofs.KeyOrder.{is_eq-key_cmp}
 use Rattle.oci_prune.specs.Faults.{of_manifest}
-use Rattle.oci_prune.specs.Subjects.{States, Subjects, AreSubjects, IsNoted, IsSubjectFault}
+use Rattle.oci_prune.specs.Subjects.{States, Referrers, AreReferrers, IsNoted, IsSubjectFault}
 use Rattle.oci_layout.specs.declared.fault.LayoutFault.TheVariants as layout
 use Rattle.oci_prune.specs.declared.fault.PruneFault.{PruneFault}
 use Rattle.oci_prune.specs.declared.fault.PruneFault.TheVariants as fault
@@ -51,19 +50,16 @@ unread_fault store k bytes manifest.Memory m own h = tt
 
 -- ---- the map
 
-pub noted_insert : (old new : Subjects) (k subject : Descriptor) → Updates key_cmp old new k (Some subject) → IsNoted k (Some subject) old new
-noted_insert old new k subject updates other = updates.0 other ∙ ap (λ (b : Bool). cond b (Some subject) (get key_cmp old other)) (is_eq-key_cmp k other)
+added : (a b c : Bool) → (a || (b && c)) ≡ true → (a ≡ true) ⊎ ((b ≡ true) × (c ≡ true))
+added true b c h = inl refl
+added false true true h = inr (refl, refl)
+added false true false h = cc h
+added false false c h = cc h
 
-no_key : (k : Descriptor) → Contains [] k → ⊥
-no_key k h = omega (arith, h.1)
-
-pub subjects_none : (entries : List Entry) (subjects : Subjects) → ((k : Descriptor) → get key_cmp subjects k ≡ None) → AreSubjects entries [] subjects
-subjects_none entries subjects none k subject = (λ h. cc (sym (none k) ∙ h), λ p. absurd (no_key k p.0))
-
-subjects_push : (entries : List Entry) (keys : Keys) (key : Descriptor) (found : Option Descriptor) (old new : Subjects) → AreSubjects entries keys old → ((subject : Descriptor) → (found ≡ Some subject) ↔ States entries key subject)
-    → IsNoted key found old new → AreSubjects entries (keys ++ key ∷ []) new
-subjects_push entries keys key None old new are exact noted k subject =
-    let same = ap (λ (m : Subjects). get key_cmp m k) noted in (
+referrers_push : (entries : List Entry) (keys : Keys) (key : Descriptor) (found : Option Descriptor) (old new : Referrers) → AreReferrers entries keys old → ((subject : Descriptor) → (found ≡ Some subject) ↔ States entries key subject)
+    → IsNoted key found old new → AreReferrers entries (keys ++ key ∷ []) new
+referrers_push entries keys key None old new are exact noted k subject =
+    let same = ap (λ (m : Referrers). is_predecessor m k subject) noted in (
       λ h.
           let p = (are k subject).0 (sym same ∙ h) in
           (Contains-append_left keys (key ∷ []) k p.0, p.1),
@@ -72,33 +68,35 @@ subjects_push entries keys key None old new are exact noted k subject =
         | inr is ↦ cc ((exact subject).1 (subst (λ (x : Descriptor). States entries x subject) (sym is) p.1))
       ],
     )
-subjects_push entries keys key (Some found) old new are exact noted k subject =
-    elim (cases_Bool (same_key key k)) [
-      | inl same ↦
-          let is : key ≡ k = (Decides-same_key key k).0 same in
-          let now : get key_cmp new k ≡ Some found = noted k ∙ ap (λ (b : Bool). cond b (Some found) (get key_cmp old k)) same in (
-            λ h. (subst (Contains (keys ++ key ∷ [])) is (Contains-push keys key), subst (λ (x : Descriptor). States entries x subject) is ((exact subject).0 (sym now ∙ h))),
-            λ p. now ∙ (exact subject).1 (subst (λ (x : Descriptor). States entries x subject) (sym is) p.1),
-          )
-      | inr apart ↦
-          let now : get key_cmp new k ≡ get key_cmp old k = noted k ∙ ap (λ (b : Bool). cond b (Some found) (get key_cmp old k)) apart in (
-            λ h.
-                let p = (are k subject).0 (sym now ∙ h) in
-                (Contains-append_left keys (key ∷ []) k p.0, p.1),
-            λ p. now ∙ (are k subject).1 (elim (Contains-push_cases keys key k p.0) [
-              | inl was ↦ (was, p.1)
-              | inr is ↦ cc (sym apart ∙ (Decides-same_key key k).1 is)
-            ]),
-          )
-    ]
+referrers_push entries keys key (Some found) old new are exact noted k subject = (
+  λ h. elim (added (is_predecessor old k subject) (same_key key k) (same_key subject found) (sym (noted k subject) ∙ h)) [
+    | inl was ↦
+        let p = (are k subject).0 was in
+        (Contains-append_left keys (key ∷ []) k p.0, p.1)
+    | inr both ↦
+        let is : key ≡ k = (Decides-same_key key k).0 both.0 in
+        let states : found ≡ subject = sym ((Decides-same_key subject found).0 both.1) in
+        (subst (Contains (keys ++ key ∷ [])) is (Contains-push keys key), subst (λ (x : Descriptor). States entries x subject) is ((exact subject).0 (ap (λ (s : Descriptor). Some s) states)))
+  ],
+  λ p. noted k subject ∙ elim (Contains-push_cases keys key k p.0) [
+    | inl was ↦
+        let there = (are k subject).1 (was, p.1) in
+        or_left (is_predecessor old k subject) (same_key key k && same_key subject found) there
+    | inr is ↦
+        let states : Some found ≡ Some subject = (exact subject).1 (subst (λ (x : Descriptor). States entries x subject) (sym is) p.1) in
+        let one : same_key key k ≡ true = (Decides-same_key key k).1 is in
+        let two : same_key subject found ≡ true = (Decides-same_key subject found).1 (cc states) in
+        or_right (is_predecessor old k subject) (same_key key k && same_key subject found) (rw one two)
+  ],
+)
 
 next_key : (keys : Keys) (i : ℕ) (k : Descriptor) → i < length keys → k ≡ get_or keys i k → take (i + 1) keys ≡ take i keys ++ k ∷ []
 next_key keys i k lt is = take_more keys i k lt ∙ ap (λ (x : Descriptor). take i keys ++ x ∷ []) (sym is)
 
-pub subjects_more : (entries : List Entry) (keys : Keys) (i : ℕ) (k : Descriptor) (found : Option Descriptor) (old new : Subjects) → i < length keys → k ≡ get_or keys i k → AreSubjects entries (take i keys) old
-    → ((subject : Descriptor) → (found ≡ Some subject) ↔ States entries k subject) → IsNoted k found old new → AreSubjects entries (take (i + 1) keys) new
-subjects_more entries keys i k found old new lt is are exact noted =
-    subst (λ (ks : Keys). AreSubjects entries ks new) (sym (next_key keys i k lt is)) (subjects_push entries (take i keys) k found old new are exact noted)
+pub referrers_more : (entries : List Entry) (keys : Keys) (i : ℕ) (k : Descriptor) (found : Option Descriptor) (old new : Referrers) → i < length keys → k ≡ get_or keys i k → AreReferrers entries (take i keys) old
+    → ((subject : Descriptor) → (found ≡ Some subject) ↔ States entries k subject) → IsNoted k found old new → AreReferrers entries (take (i + 1) keys) new
+referrers_more entries keys i k found old new lt is are exact noted =
+    subst (λ (ks : Keys). AreReferrers entries ks new) (sym (next_key keys i k lt is)) (referrers_push entries (take i keys) k found old new are exact noted)
 
 -- the fault of one key is one of the keys
 pub one_of : (store : State) (k : Descriptor) (P : Descriptor → Type 0) (e : PruneFault) → P k → IsSubjectFault store (λ other. other ≡ k) e → IsSubjectFault store P e

@@ -15,7 +15,7 @@ use Rattle.oci_store.specs.Tags.{Tags}
 use Rattle.oci_layout.specs.Blobs.{blob_path}
 use Rattle.oci_layout.specs.Device.{Device, File}
 use Rattle.oci_layout.specs.Prunable.{HasLength, by_name}
-use Rattle.oci_prune.specs.Subjects.{Refers}
+use Rattle.oci_prune.specs.Subjects.{States}
 use Rattle.oci_prune.specs.declared.pruning.PrunedFile.{PrunedFile}
 use Rattle.oci_prune.specs.declared.pruning.Pruning.{Pruning}
 
@@ -24,9 +24,9 @@ pub record AreHeld (graph : List Node) (keys : List Descriptor) : Type 0 where
   pub each : (k : Descriptor) → Contains keys k ↔ (has_key graph k ≡ true)
   pub order : IsStrictlySortedBy key_cmp keys
 
--- the referrers of a store; none, if they are left out
+-- the first key is held and states the second as its subject; never, if referrers are left out
 abbrev pub RefersIf : Bool → State → Descriptor → Descriptor → Type 0
-RefersIf true store referrer subject = Refers store referrer subject
+RefersIf true store referrer subject = States store.entries referrer subject
 RefersIf false store referrer subject = ⊥
 
 -- the kept keys are held; each root is kept, and each held key that a root reaches or that a kept

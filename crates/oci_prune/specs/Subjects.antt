@@ -1,5 +1,6 @@
 -- The subjects of manifests.
-use Rattle.std.specs.Prelude.{◌≡◌, ◌↔◌, ℕ, Bool, true, false, List, Option, Some, None, Err, Contains, if◌then◌else◌}
+use Rattle.std.specs.Prelude.{◌≡◌, ◌↔◌, ℕ, ◌||◌, ◌&&◌, true, false, List, [], Option, Some, None, Err, Contains}
+use Rattle.std.specs.Global.{Vec}
 use Rattle.std.specs.BTreeMap.{BTreeMap, get}
 use Rattle.std.specs.Option.{option_map_or}
 use Rattle.oci_manifest.specs.Descriptor.{Descriptor, key_cmp, same_key}
@@ -8,8 +9,8 @@ use Rattle.oci_manifest.specs.MediaTypes.{kind_of}
 use Rattle.oci_manifest.specs.Subject.{HasSubject, subject_of}
 use Rattle.oci_manifest.specs.declared.fault.ManifestFault.{ManifestFault}
 use Rattle.oci_store.specs.Content.{Entry, Matches}
-use Rattle.oci_store.specs.Graph.{Node, IsEdge}
 use Rattle.oci_store.specs.Keyed.{value_at, has_key}
+use Rattle.oci_store.specs.Predecessors.{is_predecessor}
 use Rattle.oci_store.specs.State.{State}
 use Rattle.oci_store.specs.declared.fault.FetchFault.{FetchFault}
 use Rattle.oci_store.specs.declared.fault.FetchFault.TheVariants as fetch
@@ -17,34 +18,30 @@ use Rattle.oci_layout.specs.declared.fault.LayoutFault.TheVariants as layout
 use Rattle.oci_prune.specs.declared.fault.PruneFault.{PruneFault}
 use Rattle.oci_prune.specs.declared.fault.PruneFault.TheVariants as fault
 
--- the bytes of the first key state the second as their subject
+-- the bytes of the first key, which is held, state the second as their subject
 abbrev pub States : List Entry → Descriptor → Descriptor → Type 0
 States entries k subject = (bytes : List ℕ) × (value_at entries k ≡ Some bytes) × HasSubject (kind_of k.media_type) bytes subject
 
--- the first key lists the second, and its bytes state it as their subject
-abbrev pub Refers : State → Descriptor → Descriptor → Type 0
-Refers store referrer subject = IsEdge store.nodes referrer subject × States store.entries referrer subject
+-- the keys that refer to each key
+abbrev pub Referrers : Type 0
+Referrers = BTreeMap Descriptor (Vec Descriptor)
 
--- the subject of each key that has one
-abbrev pub Subjects : Type 0
-Subjects = BTreeMap Descriptor Descriptor
+-- the keys that refer to a key by the map
+abbrev pub referrers_in : Referrers → Descriptor → List Descriptor
+referrers_in referrers k = option_map_or (λ keys. keys.items) (get key_cmp referrers k) []
 
--- the map has the subject of each of these keys that states one, and no other entry
-abbrev pub AreSubjects : List Entry → List Descriptor → Subjects → Type 0
-AreSubjects entries keys subjects = (k subject : Descriptor) → (get key_cmp subjects k ≡ Some subject) ↔ (Contains keys k × States entries k subject)
+-- the first key refers to the second by the map
+abbrev pub RefersBy : Referrers → Descriptor → Descriptor → Type 0
+RefersBy referrers referrer subject = is_predecessor referrers referrer subject ≡ true
 
--- the subject of a key was added to the map, if it has one
-abbrev pub IsNoted : Descriptor → Option Descriptor → Subjects → Subjects → Type 0
+-- the map has those of these keys that state a subject, under their subjects
+abbrev pub AreReferrers : List Entry → List Descriptor → Referrers → Type 0
+AreReferrers entries keys referrers = (k subject : Descriptor) → RefersBy referrers k subject ↔ (Contains keys k × States entries k subject)
+
+-- a key was added to the map under its subject, if it has one
+abbrev pub IsNoted : Descriptor → Option Descriptor → Referrers → Referrers → Type 0
 IsNoted k None old new = new ≡ old
-IsNoted k (Some subject) old new = (other : Descriptor) → get key_cmp new other ≡ (if same_key k other then Some subject else get key_cmp old other)
-
--- the first key lists the second, which is its subject by the map
-abbrev pub RefersBy : List Node → Subjects → Descriptor → Descriptor → Type 0
-RefersBy graph subjects referrer subject = IsEdge graph referrer subject × (get key_cmp subjects referrer ≡ Some subject)
-
--- whether a key has this subject by the map
-abbrev pub has_subject : Subjects → Descriptor → Descriptor → Bool
-has_subject subjects subject k = option_map_or (λ found. same_key found subject) (get key_cmp subjects k) false
+IsNoted k (Some subject) old new = (other key : Descriptor) → is_predecessor new other key ≡ (is_predecessor old other key || (same_key k other && same_key key subject))
 
 -- a fetch of the key is refused: it is not held, or its bytes could not be read
 abbrev pub IsRefusedFetch : State → Descriptor → FetchFault → Type 0

@@ -1,10 +1,10 @@
-ghost use Rattle.std.specs.Prelude.{◌≡◌, [], false, IfOk, IfErr, OnOk, filter};
+ghost use Rattle.std.specs.Prelude.{◌≡◌, [], false, IfOk, IfErr, OnOk};
 ghost use Rattle.oci_manifest.specs.MediaTypes.{kind_of};
 ghost use Rattle.oci_manifest.specs.declared.kind.Kind.TheVariants.{Leaf};
 ghost use Rattle.oci_store.specs.Keyed.{has_key};
 ghost use Rattle.oci_store.specs.Visiting.{with_keys};
 ghost use Rattle.oci_prune.specs.Kept.{AreKept, AllKnown};
-ghost use Rattle.oci_prune.specs.Subjects.{RefersBy, has_subject};
+ghost use Rattle.oci_prune.specs.Subjects.{RefersBy, referrers_in};
 ghost use Rattle.oci_prune.specs.Walk.{IsVisit, IsNoted, HasOneMore, IsVisitFault, IsWalkFault};
 
 use crate::fault::PruneFault;
@@ -15,7 +15,7 @@ use std::alloc::Global;
 use std::collections::{BTreeMap, BTreeSet};
 
 /// Returns the held keys that are needed: the held roots, with each key all that it lists and all
-/// that refers to it. `subjects` has the subject of each key that refers to one.
+/// that refers to it. `referrers` has the keys that refer to each key.
 ///
 /// The walk does not recurse. Keys that were found wait in a list, and each is visited once.
 ///
@@ -27,14 +27,14 @@ pub(crate) fn kept_keys<S: GraphSource>(
     alloc: Global,
     source: &S,
     roots: &[Key],
-    subjects: &BTreeMap<Key, Key>,
+    referrers: &BTreeMap<Key, Vec<Key>>,
 ) -> Result<BTreeSet<Key>, PruneFault>
     ensures kept { IfOk result (AreKept (S.state source.now).nodes roots.now
-        (RefersBy (S.state source.now).nodes subjects.now)) }
+        (RefersBy referrers.now)) }
     ensures known { OnOk result (AllKnown (S.state source.now).nodes roots.now
-        (RefersBy (S.state source.now).nodes subjects.now)) }
+        (RefersBy referrers.now)) }
     ensures cause { IfErr result (IsWalkFault (S.state source.now).nodes roots.now
-        (RefersBy (S.state source.now).nodes subjects.now)) }
+        (RefersBy referrers.now)) }
 {
     let mut found = KeyList::new(alloc);
     let mut kept = BTreeSet::new(alloc);
@@ -45,7 +45,7 @@ pub(crate) fn kept_keys<S: GraphSource>(
             unreachable!();
         };
         let key = key.try_clone()?;
-        match visit(source, subjects, &key, &mut found, &mut kept) {
+        match visit(source, referrers, &key, &mut found, &mut kept) {
             Ok(()) => place += 1,
             Err(fault) => return Err(fault),
         }
@@ -56,13 +56,13 @@ pub(crate) fn kept_keys<S: GraphSource>(
 /// Visits a key. If it is held, keeps it and adds the keys that it needs.
 fn visit<S: GraphSource>(
     source: &S,
-    subjects: &BTreeMap<Key, Key>,
+    referrers: &BTreeMap<Key, Vec<Key>>,
     key: &Key,
     found: &mut KeyList,
     kept: &mut BTreeSet<Key>,
 ) -> Result<(), PruneFault>
     ensures found { OnOk result (IsVisit (S.state source.now).nodes
-        (RefersBy (S.state source.now).nodes subjects.now) key.now found.old found.new) }
+        (RefersBy referrers.now) key.now found.old found.new) }
     ensures kept { OnOk result (IsNoted (S.state source.now).nodes key.now kept.old kept.new) }
     ensures known { OnOk result (has_key (S.state source.now).nodes key.now ≡ false
         → kind_of key.now.media_type ≡ Leaf) }
@@ -71,9 +71,8 @@ fn visit<S: GraphSource>(
     let Some(successors) = source.successors(key)? else {
         return check_absent(key);
     };
-    let predecessors = source.predecessors(key)?;
     found.place_all(&successors)?;
-    place_referrers(subjects, key, &predecessors, found)?;
+    place_referrers(referrers, key, found)?;
     keep(kept, key)?;
     Ok(())
 }
@@ -97,31 +96,17 @@ fn check_absent(key: &Key) -> Result<(), PruneFault>
     }
 }
 
-/// Adds the predecessors of a key that have it as their subject.
+/// Adds the keys that refer to a key.
 fn place_referrers(
-    subjects: &BTreeMap<Key, Key>,
+    referrers: &BTreeMap<Key, Vec<Key>>,
     subject: &Key,
-    predecessors: &[Key],
     found: &mut KeyList,
 ) -> Result<(), NoMemory>
-    ensures { OnOk result (found.new ≡ with_keys found.old
-        (filter (has_subject subjects.now subject.now) predecessors.now)) }
+    ensures { OnOk result (found.new
+        ≡ with_keys found.old (referrers_in referrers.now subject.now)) }
 {
-    for key in predecessors {
-        if !refers(subjects, key, subject) {
-            continue;
-        }
-        found.place(key)?;
-    }
-    Ok(())
-}
-
-/// Returns whether a key has this subject.
-fn refers(subjects: &BTreeMap<Key, Key>, key: &Key, subject: &Key) -> bool
-    ensures { result ≡ has_subject subjects.now subject.now key.now }
-{
-    match subjects.get(key) {
-        Some(found) => *found == *subject,
-        None => false,
+    match referrers.get(subject) {
+        Some(keys) => found.place_all(keys),
+        None => Ok(()),
     }
 }

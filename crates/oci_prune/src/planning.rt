@@ -8,7 +8,7 @@ ghost use Rattle.oci_prune.specs.Subjects.{RefersBy, IsSubjectFault};
 
 use crate::fault::PruneFault;
 use crate::kept::kept_keys;
-use crate::subjects::subjects_of;
+use crate::subjects::referrers_of;
 use oci_manifest::Key;
 use oci_store::{GraphSource, Source};
 use std::alloc::Global;
@@ -41,27 +41,27 @@ pub(crate) fn plan_keys<S: GraphSource>(
         (RefersIf keeps_referrers (S.state source.now))) }
     ensures cause { IfErr result (IsKeyFault (S.state source.now) roots.now keeps_referrers) }
 {
-    let subjects = subjects_if(alloc, source, held, keeps_referrers)?;
-    kept_keys(alloc, source, roots, &subjects)
+    let referrers = referrers_if(alloc, source, held, keeps_referrers)?;
+    kept_keys(alloc, source, roots, &referrers)
 }
 
-/// Returns the subjects of the held keys; none, if referrers are left out.
-fn subjects_if<S: Source>(
+/// Returns the held keys that state a subject, under their subjects; none, if referrers are left out.
+fn referrers_if<S: Source>(
     alloc: Global,
     source: &S,
     held: &[Key],
     keeps_referrers: bool,
-) -> Result<BTreeMap<Key, Key>, PruneFault>
+) -> Result<BTreeMap<Key, Vec<Key>>, PruneFault>
     requires { AreHeld (S.state source.now).nodes held.now }
-    ensures exact { IfOk result (λ subjects. (S.state source.now).is_honest
+    ensures exact { IfOk result (λ referrers. (S.state source.now).is_honest
         → (referrer subject : Descriptor)
-        → RefersBy (S.state source.now).nodes subjects referrer subject
+        → RefersBy referrers referrer subject
         ↔ RefersIf keeps_referrers (S.state source.now) referrer subject) }
     ensures cause { IfErr result (IsSubjectFault (S.state source.now)
         (λ k. (keeps_referrers ≡ true) × (has_key (S.state source.now).nodes k ≡ true))) }
 {
     if keeps_referrers {
-        subjects_of(alloc, source, held)
+        referrers_of(alloc, source, held)
     } else {
         Ok(BTreeMap::new(alloc))
     }

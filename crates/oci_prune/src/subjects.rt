@@ -1,6 +1,6 @@
-ghost use Rattle.std.specs.Prelude.{◌≡◌, ◌↔◌, Some, Contains, IfOk, IfErr, OnOk};
+ghost use Rattle.std.specs.Prelude.{◌≡◌, ◌↔◌, ◌++◌, ◌∷◌, [], Some, Contains, IfOk, IfErr, OnOk};
 ghost use Rattle.oci_manifest.specs.Descriptor.{Descriptor};
-ghost use Rattle.oci_prune.specs.Subjects.{States, AreSubjects, IsNoted, IsSubjectFault};
+ghost use Rattle.oci_prune.specs.Subjects.{States, AreReferrers, IsNoted, IsSubjectFault};
 
 use crate::fault::{PruneFault, of_fetch, of_manifest};
 use oci_digest::NoMemory;
@@ -9,37 +9,70 @@ use oci_store::Source;
 use std::alloc::Global;
 use std::collections::BTreeMap;
 
-/// Returns the subject of each of these keys that states one. Reads each manifest once.
+/// Returns those of these keys that state a subject, under their subjects. Reads each manifest once.
 ///
 /// # Errors
 ///
 /// - 77 `BadManifest` if a manifest cannot be read.
 /// - 88 `Fetch` if the bytes of a manifest cannot be fetched.
 /// - 89 `Memory` if memory runs out.
-pub(crate) fn subjects_of<S: Source>(
+pub(crate) fn referrers_of<S: Source>(
     alloc: Global,
     source: &S,
     keys: &[Key],
-) -> Result<BTreeMap<Key, Key>, PruneFault>
-    ensures exact { IfOk result (λ subjects. (S.state source.now).is_honest
-        → AreSubjects (S.state source.now).entries keys.now subjects) }
+) -> Result<BTreeMap<Key, Vec<Key>>, PruneFault>
+    ensures exact { IfOk result (λ referrers. (S.state source.now).is_honest
+        → AreReferrers (S.state source.now).entries keys.now referrers) }
     ensures cause { IfErr result (IsSubjectFault (S.state source.now) (Contains keys.now)) }
 {
-    let mut subjects = BTreeMap::new(alloc);
+    let mut referrers = BTreeMap::new(alloc);
     for key in keys {
         let found = subject_at(alloc, source, key)?;
-        note(&mut subjects, key, found)?;
+        note(alloc, &mut referrers, key, found)?;
     }
-    Ok(subjects)
+    Ok(referrers)
 }
 
-/// Adds the subject of a key, if it has one.
-fn note(subjects: &mut BTreeMap<Key, Key>, key: &Key, subject: Option<Key>) -> Result<(), NoMemory>
-    ensures { OnOk result (IsNoted key.now subject subjects.old subjects.new) }
+/// Adds a key under its subject, if it has one.
+fn note(
+    alloc: Global,
+    referrers: &mut BTreeMap<Key, Vec<Key>>,
+    key: &Key,
+    subject: Option<Key>,
+) -> Result<(), NoMemory>
+    ensures { OnOk result (IsNoted key.now subject referrers.old referrers.new) }
 {
-    if let Some(subject) = subject {
-        subjects.insert(key.try_clone()?, subject)?;
+    match subject {
+        Some(subject) => add(alloc, referrers, key, subject),
+        None => Ok(()),
     }
+}
+
+/// Adds a key under its subject.
+fn add(
+    alloc: Global,
+    referrers: &mut BTreeMap<Key, Vec<Key>>,
+    key: &Key,
+    subject: Key,
+) -> Result<(), NoMemory>
+    ensures { OnOk result (IsNoted key.now (Some subject) referrers.old referrers.new) }
+{
+    let key = key.try_clone()?;
+    if let Some(keys) = referrers.get_mut(&subject) {
+        put(keys, key)?;
+        return Ok(());
+    }
+    let mut keys = Vec::new(alloc);
+    put(&mut keys, key)?;
+    referrers.insert(subject, keys)?;
+    Ok(())
+}
+
+/// Appends a key.
+fn put(keys: &mut Vec<Key>, key: Key) -> Result<(), NoMemory>
+    ensures { OnOk result (keys.new.items ≡ keys.old.items ++ key ∷ []) }
+{
+    keys.push(key)?;
     Ok(())
 }
 

@@ -11,7 +11,7 @@ pub loop-place-init : goal.loop-place-init
 loop-place-init g c =
     let graph = (g.S.Store.state c.args.source.now).nodes in
     record {
-      walking = walking_start graph c.args.roots.now c.place_all.new.self (RefersBy graph c.args.subjects.now) c.new-kept.result (rw c.new-found.ensures at c.in_ok-place_all.ensures) c.new-kept.ensures.empty;
+      walking = walking_start graph c.args.roots.now c.place_all.new.self (RefersBy c.args.referrers.now) c.new-kept.result (rw c.new-found.ensures at c.in_ok-place_all.ensures) c.new-kept.ensures.empty;
       inside = omega arith;
     }
 
@@ -25,7 +25,7 @@ returns-in-Err-clause-cause g c =
     let graph = (g.S.Store.state c.args.source.now).nodes in
     let k = c.in_ok-key.key in
     let at : slice_get c.loop-place.found c.loop-place.place ≡ Some k = sym c.get.ensures ∙ ap option_copied c.in-Some.is ∙ ap Some (sym c.in_ok-key.ensures) in
-    walk_fault graph c.args.roots.now (RefersBy graph c.args.subjects.now) c.loop-place.found c.loop-place.kept c.loop-place.place k c.in-Err.fault c.loop-place.invariant.walking at c.in-Err.ensures.cause
+    walk_fault graph c.args.roots.now (RefersBy c.args.referrers.now) c.loop-place.found c.loop-place.kept c.loop-place.place k c.in-Err.fault c.loop-place.invariant.walking at c.in-Err.ensures.cause
 
 pub loop-place-preserved : goal.loop-place-preserved
 loop-place-preserved g c =
@@ -33,7 +33,7 @@ loop-place-preserved g c =
     let k = c.in_ok-key.key in
     let at : slice_get c.loop-place.found c.loop-place.place ≡ Some k = sym c.get.ensures ∙ ap option_copied c.in-Some.is ∙ ap Some (sym c.in_ok-key.ensures) in
     record {
-      walking = walking_step graph c.args.roots.now (RefersBy graph c.args.subjects.now) c.loop-place.found c.visit.new.found c.loop-place.kept c.visit.new.kept c.loop-place.place k c.loop-place.invariant.walking at
+      walking = walking_step graph c.args.roots.now (RefersBy c.args.referrers.now) c.loop-place.found c.visit.new.found c.loop-place.kept c.visit.new.kept c.loop-place.place k c.loop-place.invariant.walking at
           c.in-Ok.ensures.found c.in-Ok.ensures.kept c.in-Ok.ensures.known;
       inside = inside_step c.visit.new.found c.loop-place.place k (c.in-Ok.ensures.found.stays c.loop-place.place k at);
     }
@@ -42,12 +42,12 @@ pub returns-clause-kept : goal.returns-clause-kept
 returns-clause-kept g c =
     let graph = (g.S.Store.state c.args.source.now).nodes in
     let ended : c.loop-place.place ≡ length c.loop-place.found = omega (arith, c.loop-place-test.false, c.len.ensures, c.loop-place.invariant.inside) in
-    walked_kept graph c.args.roots.now (RefersBy graph c.args.subjects.now) c.loop-place.found c.loop-place.kept
-    (subst (λ (n : ℕ). IsWalking graph c.args.roots.now (RefersBy graph c.args.subjects.now) c.loop-place.found c.loop-place.kept n) ended c.loop-place.invariant.walking)
+    walked_kept graph c.args.roots.now (RefersBy c.args.referrers.now) c.loop-place.found c.loop-place.kept
+    (subst (λ (n : ℕ). IsWalking graph c.args.roots.now (RefersBy c.args.referrers.now) c.loop-place.found c.loop-place.kept n) ended c.loop-place.invariant.walking)
 
 pub returns-clause-known : goal.returns-clause-known
 returns-clause-known g c =
     let graph = (g.S.Store.state c.args.source.now).nodes in
     let ended : c.loop-place.place ≡ length c.loop-place.found = omega (arith, c.loop-place-test.false, c.len.ensures, c.loop-place.invariant.inside) in
-    walked_known graph c.args.roots.now (RefersBy graph c.args.subjects.now) c.loop-place.found c.loop-place.kept
-    (subst (λ (n : ℕ). IsWalking graph c.args.roots.now (RefersBy graph c.args.subjects.now) c.loop-place.found c.loop-place.kept n) ended c.loop-place.invariant.walking)
+    walked_known graph c.args.roots.now (RefersBy c.args.referrers.now) c.loop-place.found c.loop-place.kept
+    (subst (λ (n : ℕ). IsWalking graph c.args.roots.now (RefersBy c.args.referrers.now) c.loop-place.found c.loop-place.kept n) ended c.loop-place.invariant.walking)

@@ -5,7 +5,7 @@ use Rattle.oci_prune.proofs.kept.kept_keys.Given as goal
 
 abbrev pub invariant-loop-place : goal.invariant-loop-place
 invariant-loop-place g l = record {
-  walking : IsWalking (g.S.Store.state l.source).nodes l.roots (RefersBy (g.S.Store.state l.source).nodes l.subjects) l.found l.kept l.place;
+  walking : IsWalking (g.S.Store.state l.source).nodes l.roots (RefersBy l.referrers) l.found l.kept l.place;
   inside : l.place ≤ length l.found;
 }
 

@@ -10,5 +10,4 @@ returns-clause-found g c =
     let graph = (g.S.Store.state c.args.source.now).nodes in
     let k = c.args.key.now in
     let listed : value_at graph k ≡ Some c.in-Some.successors.items = sym c.in_ok-successors.ensures ∙ ap (option_map (λ (keys : Vec Descriptor). keys.items)) c.in-Some.is in
-    visit_held graph c.args.subjects.now k c.args.found.now c.place_referrers.new.found c.in-Some.successors.items c.in_ok-predecessors.predecessors.items listed c.in_ok-predecessors.ensures
-    (rw (c.in_ok-place_all.ensures, c.deref.ensures.value, c.deref-2.ensures.value) at c.in_ok-place_referrers.ensures)
+    visit_held graph c.args.referrers.now k c.args.found.now c.place_referrers.new.found c.in-Some.successors.items listed (rw (c.in_ok-place_all.ensures, c.deref.ensures.value) at c.in_ok-place_referrers.ensures)

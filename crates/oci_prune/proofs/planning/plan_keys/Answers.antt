@@ -7,21 +7,21 @@ pub returns-clause-kept : goal.returns-clause-kept
 returns-clause-kept g c =
     let store = g.S.Store.state c.args.source.now in
     if_ok_weaker c.kept_keys.result
-    (λ kept are honest. are_kept_same store.nodes c.args.roots.now (RefersBy store.nodes c.in_ok-subjects.subjects) (RefersIf c.args.keeps_referrers store) kept (c.in_ok-subjects.ensures.exact honest) are) c.kept_keys.ensures.kept
+    (λ kept are honest. are_kept_same store.nodes c.args.roots.now (RefersBy c.in_ok-referrers.referrers) (RefersIf c.args.keeps_referrers store) kept (c.in_ok-referrers.ensures.exact honest) are) c.kept_keys.ensures.kept
 
 pub returns-clause-safe : goal.returns-clause-safe
 returns-clause-safe g c =
     let store = g.S.Store.state c.args.source.now in
-    if_ok_weaker c.kept_keys.result (λ kept are. safe_from_kept store.nodes c.args.roots.now (RefersBy store.nodes c.in_ok-subjects.subjects) kept are c.requires.roots) c.kept_keys.ensures.kept
+    if_ok_weaker c.kept_keys.result (λ kept are. safe_from_kept store.nodes c.args.roots.now (RefersBy c.in_ok-referrers.referrers) kept are c.requires.roots) c.kept_keys.ensures.kept
 
 pub returns-clause-known : goal.returns-clause-known
 returns-clause-known g c =
     let store = g.S.Store.state c.args.source.now in
-    on_ok_weaker c.kept_keys.result (λ known honest. all_known_same store.nodes c.args.roots.now (RefersBy store.nodes c.in_ok-subjects.subjects) (RefersIf c.args.keeps_referrers store) (c.in_ok-subjects.ensures.exact honest) known)
+    on_ok_weaker c.kept_keys.result (λ known honest. all_known_same store.nodes c.args.roots.now (RefersBy c.in_ok-referrers.referrers) (RefersIf c.args.keeps_referrers store) (c.in_ok-referrers.ensures.exact honest) known)
     c.kept_keys.ensures.known
 
 pub returns-clause-cause : goal.returns-clause-cause
 returns-clause-cause g c =
     let store = g.S.Store.state c.args.source.now in
     if_err_weaker c.kept_keys.result
-    (λ e h. walk_key_fault store c.args.roots.now c.args.keeps_referrers (RefersBy store.nodes c.in_ok-subjects.subjects) e c.in_ok-subjects.ensures.exact h) c.kept_keys.ensures.cause
+    (λ e h. walk_key_fault store c.args.roots.now c.args.keeps_referrers (RefersBy c.in_ok-referrers.referrers) e c.in_ok-referrers.ensures.exact h) c.kept_keys.ensures.cause

@@ -1,0 +1,7 @@
+use Rattle.std.proofs.Common.{take}
+use Rattle.oci_prune.specs.Subjects.{AreReferrers}
+use Rattle.oci_prune.proofs.subjects.referrers_of.Given as goal
+
+-- as far as the loop has come
+abbrev pub invariant-loop-key : goal.invariant-loop-key
+invariant-loop-key g l = (g.S.Store.state l.source).is_honest → AreReferrers (g.S.Store.state l.source).entries (take l.key-index l.keys) l.referrers

@@ -1,7 +1,0 @@
-use Rattle.std.proofs.Common.{take}
-use Rattle.oci_prune.specs.Subjects.{AreSubjects}
-use Rattle.oci_prune.proofs.subjects.subjects_of.Given as goal
-
--- as far as the loop has come
-abbrev pub invariant-loop-key : goal.invariant-loop-key
-invariant-loop-key g l = (g.S.Store.state l.source).is_honest → AreSubjects (g.S.Store.state l.source).entries (take l.key-index l.keys) l.subjects
