@@ -1,5 +1,5 @@
 -- How far the walk to the kept keys is.
-use Rattle.std.proofs.Common.{◌≡◌, ℕ, ◌+◌, ◌<◌, ◌≤◌, Bool, true, false, cond, ◌⊎◌, inl, inr, List, [], ◌∷◌, length, get_or, take, ◌++◌, filter, Option, Some, None, is_some, refl, sym, ap, subst, ◌∙◌, arith}
+use Rattle.std.proofs.Common.{◌≡◌, ℕ, ◌+◌, ◌<◌, ◌≤◌, Bool, true, false, cond, ◌⊎◌, inl, inr, List, [], length, get_or, Some, None, is_some, refl, sym, ap, subst, ◌∙◌, arith}
 use Rattle.std.specs.Prelude.{Contains}
 use Rattle.std.specs.BTreeMap.{get}
 use Rattle.std.specs.Global.{Vec}
@@ -7,8 +7,6 @@ use Rattle.std.specs.BTreeSet.{BTreeSet, contains}
 use Rattle.std.specs.List.{slice_get}
 use Rattle.std.specs.Option.{option_map_or}
 use Rattle.std.specs.Ordering.{is_eq}
-use Rattle.std.proofs.lemmas.List.{take_more}
-use Rattle.std.proofs.lemmas.List.Elements.{filter-append}
 use Rattle.std.proofs.lemmas.Bool.{cases_Bool, cases_order}
 use Rattle.std.proofs.lemmas.Map.Views.{btree_set_contains_iff}
 use Rattle.std.proofs.lemmas.Option.{slice_get_within, slice_get-get_or}
@@ -16,13 +14,12 @@ use Rattle.oci_manifest.specs.Descriptor.{Descriptor, same_key, key_cmp, is_amon
 use Rattle.oci_manifest.specs.MediaTypes.{kind_of}
 use Rattle.oci_manifest.specs.declared.kind.Kind.TheVariants.{Leaf}
 use Rattle.oci_manifest.proofs.Keys.{Decides-same_key}
-use Rattle.oci_store.specs.Before.{IsBefore}
 use Rattle.oci_store.specs.Graph.{Node}
 use Rattle.oci_store.specs.Keyed.{value_at, has_key}
 use Rattle.oci_store.specs.Predecessors.{is_predecessor}
 use Rattle.oci_store.specs.Visiting.{with_keys}
 use Rattle.oci_store.proofs.KeyOrder.{is_eq-key_cmp, key_cmp_total, key_cmp_exact}
-use Rattle.oci_store.proofs.Membership.{Keys, Contains-from_among, among_from_Contains, among-with_keys, among_from_place, place_from_among, among-filter, among_filter_from, slice_get-with_keys, stays-with_keys, there-with_keys}
+use Rattle.oci_store.proofs.Membership.{Keys, Contains-from_among, among_from_Contains, among-with_keys, among_from_place, place_from_among, slice_get-with_keys, stays-with_keys, there-with_keys}
 use Rattle.oci_prune.specs.Kept.{Needs, IsKept, root, needed, IsNeeded, AreKept, AllKnown}
 use Rattle.oci_prune.specs.Subjects.{Referrers, RefersBy, referrers_in}
 use Rattle.oci_prune.specs.Walk.{IsVisit, IsNoted, HasOneMore, IsWalking, IsVisitFault, IsWalkFault}

@@ -120,17 +120,22 @@ refers_by_none store referrers none referrer subject = (
 
 -- ---- safety
 
+pub kept_from_reached : (graph : List Node) (roots : List Descriptor) (R : Descriptor → Descriptor → Type 0) (k : Descriptor) → Reaches graph roots k → has_key graph k ≡ true → IsKept graph roots R k
+kept_from_reached graph roots R k (start named) held = root named held
+kept_from_reached graph roots R k (along {from} path edge) held = needed (kept_from_reached graph roots R from path (ap is_some edge.1)) (inl edge) held
+
+pub reached_from_kept : (graph : List Node) (roots : List Descriptor) (k : Descriptor) → IsKept graph roots (λ _ _. ⊥) k → Reaches graph roots k × (has_key graph k ≡ true)
+reached_from_kept graph roots k (root named held) = (start named, held)
+reached_from_kept graph roots k (needed {from} kept (inl edge) held) = (along (reached_from_kept graph roots from kept).0 edge, held)
+reached_from_kept graph roots k (needed {from} kept (inr never) held) = absurd never
+
 pub safe_from_kept : (graph : List Node) (roots : List Descriptor) (R : Descriptor → Descriptor → Type 0) (set : BTreeSet Descriptor) → AreKept graph roots R set → HasAll graph roots → IsSafe graph roots set
 safe_from_kept graph roots R set are all = record {
   held = λ k h. held_from_kept graph roots R k ((are k).0 h);
   rooted = λ place d lt. (are (get_or roots place d)).1 (root (Contains-get_or roots place d lt) (all place d lt));
-  reached = λ k reaches held. (are k).1 (reached k reaches held);
+  reached = λ k reaches held. (are k).1 (kept_from_reached graph roots R k reaches held);
   closed = λ from to kept edge held. (are to).1 (needed ((are from).0 kept) (inl edge) held);
 }
-  where
-    reached : (k : Descriptor) → Reaches graph roots k → has_key graph k ≡ true → IsKept graph roots R k
-    reached k (start named) held = root named held
-    reached k (along {from} path edge) held = needed (reached from path (ap is_some edge.1)) (inl edge) held
 
 -- ---- the plan
 

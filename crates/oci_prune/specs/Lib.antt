@@ -7,3 +7,4 @@ pub mod Plan
 pub mod Files
 pub mod Refusal
 pub mod Pruned
+pub mod Laws

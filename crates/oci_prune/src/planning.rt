@@ -8,7 +8,7 @@ ghost use Rattle.oci_prune.specs.Subjects.{RefersBy, IsSubjectFault};
 
 use crate::fault::PruneFault;
 use crate::kept::kept_keys;
-use crate::subjects::referrers_of;
+use crate::referrers::referrers_of;
 use oci_manifest::Key;
 use oci_store::{GraphSource, Source};
 use std::alloc::Global;

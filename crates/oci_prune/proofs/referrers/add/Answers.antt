@@ -4,7 +4,7 @@ use Rattle.std.specs.Option.{option_copied_mut}
 use Rattle.oci_manifest.specs.Descriptor.{Descriptor, key_cmp}
 use Rattle.oci_store.specs.Predecessors.{PredecessorLists}
 use Rattle.oci_store.proofs.Predecessors.{noted, has_predecessor, is_there}
-use Rattle.oci_prune.proofs.subjects.add.Goals as goal
+use Rattle.oci_prune.proofs.referrers.add.Goals as goal
 
 pub returns-in-Some : goal.returns-in-Some
 returns-in-Some c =

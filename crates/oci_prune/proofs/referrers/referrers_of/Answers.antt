@@ -3,7 +3,7 @@ use Rattle.std.proofs.lemmas.List.{take_all}
 use Rattle.oci_manifest.specs.Descriptor.{Descriptor}
 use Rattle.oci_prune.specs.Subjects.{AreReferrers}
 use Rattle.oci_prune.proofs.Stating.{referrers_more}
-use Rattle.oci_prune.proofs.subjects.referrers_of.Goals as goal
+use Rattle.oci_prune.proofs.referrers.referrers_of.Goals as goal
 
 pub loop-key-preserved : goal.loop-key-preserved
 loop-key-preserved g c = λ honest.

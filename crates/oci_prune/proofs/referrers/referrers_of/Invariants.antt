@@ -1,6 +1,6 @@
 use Rattle.std.proofs.Common.{take}
 use Rattle.oci_prune.specs.Subjects.{AreReferrers}
-use Rattle.oci_prune.proofs.subjects.referrers_of.Given as goal
+use Rattle.oci_prune.proofs.referrers.referrers_of.Given as goal
 
 -- as far as the loop has come
 abbrev pub invariant-loop-key : goal.invariant-loop-key

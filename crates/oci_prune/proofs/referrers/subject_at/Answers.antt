@@ -3,7 +3,7 @@ use Rattle.oci_manifest.specs.Fault.{Fails}
 use Rattle.oci_manifest.specs.MediaTypes.{kind_of}
 use Rattle.oci_manifest.specs.Subject.{subject_of}
 use Rattle.oci_prune.proofs.Stating.{stated_exact, unread_fault}
-use Rattle.oci_prune.proofs.subjects.subject_at.Goals as goal
+use Rattle.oci_prune.proofs.referrers.subject_at.Goals as goal
 
 pub returns-in-Ok-subject : goal.returns-in-Ok-subject
 returns-in-Ok-subject g c =
