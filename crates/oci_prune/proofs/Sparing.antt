@@ -1,18 +1,20 @@
 -- What several removals spare.
-use Rattle.std.proofs.Common.{◌≡◌, ℕ, ◌+◌, ◌<◌, false, inl, inr, List, [], ◌∷◌, ◌++◌, length, take, get_or, None, String, Global, string_bytes, refl, sym, ap, subst, ◌∙◌}
-use Rattle.std.specs.Prelude.{◌↔◌}
+use Rattle.std.proofs.Common.{◌≡◌, ◌≢◌, ℕ, ◌+◌, ◌<◌, true, false, inl, inr, List, [], ◌∷◌, ◌++◌, length, take, get_or, None, String, Global, string_bytes, refl, sym, ap, subst, ◌∙◌, map, set, not, is_some, Option, Some, arith, Bool}
+use Rattle.std.specs.Prelude.{◌↔◌, Contains, IsSome}
 use Rattle.std.specs.List.{All}
 use Rattle.std.specs.Str.{bytes_eq}
 use Rattle.std.proofs.lemmas.Bool.{cases_Bool}
-use Rattle.std.proofs.lemmas.List.{map-append}
-use Rattle.std.proofs.lemmas.List.Elements.{All-push, All-weaker, Contains-push, Contains-append_left}
+use Rattle.std.proofs.lemmas.List.{map-append, take_more_set}
+use Rattle.std.proofs.lemmas.List.Elements.{All-head, All-tail, All-contains, All-push, All-weaker, Contains-push, Contains-append_left}
+use Rattle.std.proofs.lemmas.Option.{slice_get-get_or}
+use Rattle.std.specs.List.{slice_get}
 use Rattle.std.proofs.lemmas.Slice.Eq.{bytes_eq-Decides}
 use Rattle.oci_store.specs.Graph.{Node}
 use Rattle.oci_layout.specs.Blobs.{blob_path, stored, IsSound}
 use Rattle.oci_layout.specs.Device.{Device, Touches}
 use Rattle.oci_layout.specs.Index.{index_file}
 use Rattle.oci_layout.specs.Prunable.{by_name}
-use Rattle.oci_prune.specs.Pruned.{IsPathOf, IsDraftIn, Spares, AreSameBlobs}
+use Rattle.oci_prune.specs.Pruned.{is_gone, AreThere, AreApart, IsPathOf, IsDraftIn, Spares, AreSameBlobs}
 use Rattle.oci_prune.specs.declared.pruning.PrunedFile.{PrunedFile}
 use Rattle.oci_prune.proofs.Elements.{next_element}
 
@@ -75,6 +77,36 @@ pub all_gone : (b c : Device) (graph : List Node) (files : List PrunedFile) (i :
 all_gone b c graph files i f lt is honest spares here before =
     subst (λ (fs : List PrunedFile). All (IsGone c) fs) (sym (next_element files i f lt is))
     (All-push (IsGone c) (take i files) f (All-weaker (IsGone b) (IsGone c) (λ other was. stays_gone b c graph f other honest spares here was) (take i files) before) here)
+
+-- ---- flags
+
+pub map_same : {X Y : Type 0} (p q : X → Y) (xs : List X) → All (λ (x : X). p x ≡ q x) xs → map p xs ≡ map q xs
+map_same p q [] h = refl
+map_same {X} {Y} p q (x ∷ xs) h =
+    ap (λ (y : Y). y ∷ map p xs) (All-head (λ (z : X). p z ≡ q z) x xs h) ∙ ap (λ (ys : List Y). q x ∷ ys) (map_same p q xs (All-tail (λ (z : X). p z ≡ q z) x xs h))
+
+at_place : (files : List PrunedFile) (i : ℕ) (f : PrunedFile) → i < length files → f ≡ get_or files i f → slice_get files i ≡ Some f
+at_place files i f lt is = slice_get-get_or files i f lt ∙ ap (λ (x : PrunedFile). Some x) (sym is)
+
+-- a file that is there is not removed with those before it
+still_there : (a b : Device) (graph : List Node) (files : List PrunedFile) (i : ℕ) (f : PrunedFile) → i < length files → f ≡ get_or files i f → AreThere a.file files → AreApart files → Spares a b graph (IsPathOf (take i files)) → a.is_honest
+    → IsSome (b.file (blob_path f.digest))
+still_there a b graph files i f lt is there apart spares honest =
+    let was : IsSome (a.file (blob_path f.digest)) = subst (λ (x : PrunedFile). IsSome (a.file (blob_path x.digest))) (sym is) (there i f lt) in
+    let free : IsPathOf (take i files) (blob_path f.digest) → ⊥ = λ p. All-contains (λ (g : PrunedFile). blob_path g.digest ≢ blob_path f.digest) (take i files) p.0 (apart i f (at_place files i f lt is)) p.1 p.2 in
+    ap is_some (spares.other honest (blob_path f.digest) free) ∙ was
+
+pub flags_more : (a b c : Device) (graph now : List Node) (files : List PrunedFile) (i : ℕ) (f : PrunedFile) (gone : List Bool) (flag : Bool) → i < length files → f ≡ get_or files i f → length gone ≡ length files → AreThere a.file files → AreApart files
+    → Spares a b graph (IsPathOf (take i files)) → Spares b c now (λ (path : List ℕ). blob_path f.digest ≡ path) → a.is_honest → take i gone ≡ map (is_gone b.file) (take i files)
+    → (IsSome (b.file (blob_path f.digest)) → flag ≡ is_gone c.file f) → take (i + 1) (set gone i flag) ≡ map (is_gone c.file) (take (i + 1) files)
+flags_more a b c graph now files i f gone flag lt is long there apart first second honest before step =
+    let flagged = step (still_there a b graph files i f lt is there apart first honest) in
+    let same : map (is_gone b.file) (take i files) ≡ map (is_gone c.file) (take i files) =
+    map_same (is_gone b.file) (is_gone c.file) (take i files)
+    (All-weaker (λ (g : PrunedFile). blob_path g.digest ≢ blob_path f.digest) (λ (g : PrunedFile). is_gone b.file g ≡ is_gone c.file g)
+    (λ g other. sym (ap (λ (o : Option (List ℕ)). not (is_some o)) (second.other (first.honest.0 honest) (blob_path g.digest) (λ same. other (sym same))))) (take i files) (apart i f (at_place files i f lt is))) in
+    take_more_set gone i flag (omega (arith, lt, long)) ∙ ap (λ (bs : List Bool). bs ++ flag ∷ []) (before ∙ same) ∙ ap (λ (b' : Bool). map (is_gone c.file) (take i files) ++ b' ∷ []) flagged
+    ∙ sym (map-append (is_gone c.file) (take i files) (f ∷ [])) ∙ ap (map (is_gone c.file)) (sym (next_element files i f lt is))
 
 -- ---- drafts
 

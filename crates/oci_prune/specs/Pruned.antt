@@ -1,6 +1,7 @@
 -- What a prune leaves of a layout.
-use Rattle.std.specs.Prelude.{◌≡◌, ◌↔◌, ◌⊎◌, ℕ, true, List, filter, None, Contains}
+use Rattle.std.specs.Prelude.{◌≡◌, ◌≢◌, ◌↔◌, ◌⊎◌, ℕ, Bool, true, not, List, filter, take, slice_get, Some, None, is_some, IsSome, Contains}
 use Rattle.std.specs.BTreeSet.{BTreeSet, contains}
+use Rattle.std.specs.List.{All}
 use Rattle.oci_digest.specs.Digest.{IsDigest}
 use Rattle.oci_manifest.specs.Descriptor.{Descriptor, key_cmp}
 use Rattle.oci_store.specs.Graph.{Node, Reaches}
@@ -24,6 +25,18 @@ KeepsReached old new roots = (k : Descriptor) → Reaches old roots k → value_
 -- the path is that of one of these files
 abbrev pub IsPathOf : List PrunedFile → List ℕ → Type 0
 IsPathOf files path = (f : PrunedFile) × Contains files f × (blob_path f.digest ≡ path)
+
+-- whether the file of a digest is gone
+abbrev pub is_gone : File → PrunedFile → Bool
+is_gone file f = not (is_some (file (blob_path f.digest)))
+
+-- each of these files is there
+abbrev pub AreThere : File → List PrunedFile → Type 0
+AreThere file files = All (λ (f : PrunedFile). IsSome (file (blob_path f.digest))) files
+
+-- no file of the list has the path of an earlier one
+abbrev pub AreApart : List PrunedFile → Type 0
+AreApart files = (place : ℕ) (f : PrunedFile) → slice_get files place ≡ Some f → All (λ (earlier : PrunedFile). blob_path earlier.digest ≢ blob_path f.digest) (take place files)
 
 -- the path is that of one of these drafts
 abbrev pub IsDraftIn : List (List ℕ × ℕ) → List ℕ → Type 0

@@ -1,9 +1,9 @@
-ghost use Rattle.std.specs.Prelude.{◌≡◌, ◌≢◌, None, length};
+ghost use Rattle.std.specs.Prelude.{◌≡◌, ◌≢◌, None, IsSome, map, length};
 ghost use Rattle.std.specs.List.{All};
 ghost use Rattle.std.specs.Map.{keys_of};
 ghost use Rattle.oci_layout.specs.Blobs.{blob_path};
 ghost use Rattle.oci_layout.specs.Prunable.{by_name};
-ghost use Rattle.oci_prune.specs.Pruned.{IsPathOf, IsDraftIn, Spares, AreSameBlobs};
+ghost use Rattle.oci_prune.specs.Pruned.{is_gone, AreThere, AreApart, IsPathOf, IsDraftIn, Spares, AreSameBlobs};
 ghost use Rattle.oci_prune.specs.Refusal.{HasRemovalFault, IsRemovalFault};
 
 use crate::fault::PruneFault;
@@ -22,6 +22,9 @@ pub(crate) fn remove_files<D: PrunableDir>(
 )
     requires unneeded { (D.device layout.old.0).is_honest → All (λ f. All
         (λ k. k.digest ≢ f.digest) (keys_of layout.old.1)) files.now }
+    requires there { (D.device layout.old.0).is_honest
+        → AreThere (D.device layout.old.0).file files.now }
+    requires apart { (D.device layout.old.0).is_honest → AreApart files.now }
     requires noted { length gone.old.items ≡ length files.now }
     ensures graph { layout.new.1 ≡ layout.old.1 }
     ensures tags { layout.new.2 ≡ layout.old.2 }
@@ -32,6 +35,8 @@ pub(crate) fn remove_files<D: PrunableDir>(
     ensures removed { fault.new ≡ None → (D.device layout.old.0).is_honest → All
         (λ f. (D.device layout.new.0).file (blob_path f.digest) ≡ None) files.now }
     ensures cause { HasRemovalFault fault.old → HasRemovalFault fault.new }
+    ensures flags { (D.device layout.old.0).is_honest
+        → gone.new.items ≡ map (is_gone (D.device layout.new.0).file) files.now }
     ensures noted { length gone.new.items ≡ length files.now }
 {
     for place in 0..files.len() {
@@ -56,6 +61,9 @@ fn remove_file<D: PrunableDir>(
         (λ path. blob_path file.now.digest ≡ path) }
     ensures removed { fault.new ≡ None → (D.device layout.old.0).is_honest
         → (D.device layout.new.0).file (blob_path file.now.digest) ≡ None }
+    ensures flag { (D.device layout.old.0).is_honest
+        → IsSome ((D.device layout.old.0).file (blob_path file.now.digest))
+        → result ≡ is_gone (D.device layout.new.0).file file.now }
     ensures fault { fault.new ≡ None → fault.old ≡ None }
     ensures cause { HasRemovalFault fault.old → HasRemovalFault fault.new }
 {

@@ -1,4 +1,4 @@
-ghost use Rattle.std.specs.Prelude.{◌≡◌, ◌≢◌, ◌⊎◌, ◌↔◌, [], None, ℕ, List, filter, length, IfOk, IfErr, OnOk, OnErr};
+ghost use Rattle.std.specs.Prelude.{◌≡◌, ◌≢◌, ◌⊎◌, ◌↔◌, [], None, ℕ, List, filter, map, length, IfOk, IfErr, OnOk, OnErr};
 ghost use Rattle.std.specs.BTreeSet.{contains};
 ghost use Rattle.std.specs.Map.{values_of};
 ghost use Rattle.oci_manifest.specs.Descriptor.{key_cmp};
@@ -6,7 +6,7 @@ ghost use Rattle.oci_store.specs.Closed.{IsClosed};
 ghost use Rattle.oci_layout.specs.Blobs.{IsSound, stored};
 ghost use Rattle.oci_layout.specs.Index.{index_file, HasIndex};
 ghost use Rattle.oci_prune.specs.Plan.{AreRemoved, IsPruning, IsSafe};
-ghost use Rattle.oci_prune.specs.Pruned.{kept_of, HasOnlyNeeded, IsTouchedBy, KeepsReached, Spares};
+ghost use Rattle.oci_prune.specs.Pruned.{is_gone, kept_of, HasOnlyNeeded, IsTouchedBy, KeepsReached, Spares};
 ghost use Rattle.oci_prune.specs.Refusal.{HasRemovalFault, IsSaveFault};
 
 use crate::fault::PruneFault;
@@ -66,6 +66,8 @@ pub fn prune<D: PrunableDir>(
         layout.new.1 (λ path. index_file ≡ path)) }
     ensures cause { IfErr result IsSaveFault }
     ensures faults { IfOk result (λ done. HasRemovalFault done.fault) }
+    ensures flags { IfOk result (λ done. (D.device layout.old.0).is_honest
+        → done.files.items ≡ map (is_gone (D.device layout.new.0).file) plan.now.files.items) }
     ensures noted { IfOk result (λ done. (length done.files.items ≡ length plan.now.files.items)
         × (length done.drafts.items ≡ length plan.now.drafts.items)) }
 {

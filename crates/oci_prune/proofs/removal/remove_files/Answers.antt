@@ -1,6 +1,7 @@
-use Rattle.std.proofs.Common.{◌∙◌}
-use Rattle.std.proofs.lemmas.List.{length-set}
-use Rattle.oci_prune.proofs.Sparing.{spares_file, all_gone}
+use Rattle.std.proofs.Common.{◌∙◌, map, sym, ap, arith}
+use Rattle.std.proofs.lemmas.List.{length-set, take_all}
+use Rattle.oci_prune.specs.Pruned.{is_gone}
+use Rattle.oci_prune.proofs.Sparing.{spares_file, all_gone, flags_more}
 use Rattle.oci_prune.proofs.removal.remove_files.Goals as goal
 
 pub loop-place-preserved : goal.loop-place-preserved
@@ -19,5 +20,14 @@ loop-place-preserved g c =
           (c.remove_file.ensures.removed none (w.spared.honest.0 honest)) (w.removed (c.remove_file.ensures.fault none) honest);
       fault = λ none. w.fault (c.remove_file.ensures.fault none);
       cause = λ h. c.remove_file.ensures.cause (w.cause h);
+      flags = λ honest.
+          flags_more a b d c.args.layout.now.1 c.loop-place.layout.1 c.args.files.now c.loop-place.place c.index-files-place.result c.loop-place.gone.items c.remove_file.result c.loop-place-test.true c.index-files-place.is w.noted
+          (c.requires.there honest) (c.requires.apart honest) w.spared c.remove_file.ensures.spared honest (w.flags honest) (c.remove_file.ensures.flag (w.spared.honest.0 honest));
       noted = length-set c.loop-place.gone.items c.loop-place.place c.remove_file.result ∙ w.noted;
     }
+
+pub returns-clause-flags : goal.returns-clause-flags
+returns-clause-flags g c = λ honest.
+    let w = c.loop-place.invariant in
+    sym (take_all c.loop-place.place c.loop-place.gone.items (omega (arith, c.loop-place-test.false, w.noted))) ∙ w.flags honest
+    ∙ ap (map (is_gone (g.D.Dir.device c.loop-place.layout.0).file)) (take_all c.loop-place.place c.args.files.now (omega (arith, c.loop-place-test.false)))

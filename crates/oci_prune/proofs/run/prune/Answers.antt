@@ -1,4 +1,4 @@
-use Rattle.std.proofs.Common.{◌≡◌, List, None, inr, sym, ap, subst, ◌∙◌}
+use Rattle.std.proofs.Common.{◌≡◌, List, None, map, inr, sym, ap, subst, ◌∙◌}
 use Rattle.std.specs.List.{All}
 use Rattle.std.specs.Map.{keys_of, values_of}
 use Rattle.oci_manifest.specs.Descriptor.{Descriptor}
@@ -6,10 +6,10 @@ use Rattle.oci_store.specs.Graph.{Node}
 use Rattle.oci_store.specs.Tags.{Tags}
 use Rattle.oci_layout.specs.Blobs.{blob_path}
 use Rattle.oci_layout.specs.Index.{index_file}
-use Rattle.oci_prune.specs.Pruned.{IsPathOf, Spares}
+use Rattle.oci_prune.specs.Pruned.{is_gone, AreThere, AreApart, IsPathOf, Spares}
 use Rattle.oci_prune.specs.declared.pruning.PrunedFile.{PrunedFile}
 use Rattle.oci_prune.proofs.Leaving.{reached_either, closed_either}
-use Rattle.oci_prune.proofs.Results.{unneeded_left, contents_left, only_needed, index_stays, has_index-stays}
+use Rattle.oci_prune.proofs.Results.{unneeded_left, contents_left, only_needed, index_stays, has_index-stays, are_there, are_apart, flags_stay, are_digests}
 use Rattle.oci_prune.proofs.run.prune.Goals as goal
 
 pub returns-in_err-save_kept-clause-reached : goal.returns-in_err-save_kept-clause-reached
@@ -78,3 +78,27 @@ returns-clause-unwritten g c = λ none honest.
     let new = g.D.Dir.device c.remove_drafts.new.layout.0 in
     let stays = index_stays mid last new c.save_kept.new.layout.1 c.deref.result.now (c.in_ok-save_kept.ensures.spared.honest.0 honest) c.remove_files.ensures.spared c.remove_drafts.ensures.files in
     stays ∙ ap (λ (dir : g.row.D.Denot). (g.D.Dir.device dir).file index_file) (ap (λ (l : g.row.D.Denot × List Node × Tags × List Descriptor). l.0) (c.in_ok-save_kept.ensures.unwritten none))
+
+pub remove_files-requires-clause-there : goal.remove_files-requires-clause-there
+remove_files-requires-clause-there g c = λ honest.
+    let old = g.D.Dir.device c.args.layout.now.0 in
+    let mid = g.D.Dir.device c.save_kept.new.layout.0 in
+    let first = c.in_ok-save_kept.ensures.spared in
+    subst (λ (fs : List PrunedFile). AreThere mid.file fs) (sym c.deref.ensures.value)
+    (are_there old mid c.args.layout.now.1 c.save_kept.new.layout.1 c.args.plan.now.kept c.args.plan.now.files.items (first.honest.1 honest) (c.requires.files (first.honest.1 honest)) first)
+
+pub remove_files-requires-clause-apart : goal.remove_files-requires-clause-apart
+remove_files-requires-clause-apart g c = λ honest.
+    let old = g.D.Dir.device c.args.layout.now.0 in
+    subst (λ (fs : List PrunedFile). AreApart fs) (sym c.deref.ensures.value)
+    (are_apart old.file c.args.layout.now.1 c.args.plan.now.kept c.args.plan.now.files.items (c.requires.files (c.in_ok-save_kept.ensures.spared.honest.1 honest)))
+
+pub returns-clause-flags : goal.returns-clause-flags
+returns-clause-flags g c = λ honest.
+    let old = g.D.Dir.device c.args.layout.now.0 in
+    let last = g.D.Dir.device c.remove_files.new.layout.0 in
+    let new = g.D.Dir.device c.remove_drafts.new.layout.0 in
+    let files = c.args.plan.now.files.items in
+    let saved = c.in_ok-save_kept.ensures.spared.honest.0 honest in
+    let flags = subst (λ (fs : List PrunedFile). c.remove_files.new.gone.items ≡ map (is_gone last.file) fs) c.deref.ensures.value (c.remove_files.ensures.flags saved) in
+    flags_stay last new files c.remove_files.new.gone.items (c.remove_files.ensures.spared.honest.0 saved) (are_digests old.file c.args.layout.now.1 c.args.plan.now.kept files (c.requires.files honest)) c.remove_drafts.ensures.files flags
