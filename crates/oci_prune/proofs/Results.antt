@@ -1,6 +1,6 @@
 -- What a prune has done when it ends.
-use Rattle.std.proofs.Common.{◌≡◌, ◌≢◌, ℕ, Bool, true, false, inl, inr, List, length, get_or, filter, Option, Some, None, is_some, refl, sym, ap, subst, ◌∙◌, map, not, take, zero, suc, [], ◌∷◌, ◌<◌, Less}
-use Rattle.std.specs.Prelude.{◌↔◌, Contains, IsTrue, IsSome}
+use Rattle.std.proofs.Common.{◌≡◌, ◌≢◌, ℕ, Bool, true, false, inl, inr, List, length, get_or, filter, Option, Some, None, is_some, refl, sym, ap, subst, ◌∙◌, map, not, take, zero, suc, [], ◌∷◌, Less}
+use Rattle.std.specs.Prelude.{◌↔◌, Contains, IsTrue}
 use Rattle.std.specs.BTreeSet.{BTreeSet, contains}
 use Rattle.std.specs.List.{All}
 use Rattle.std.specs.Map.{keys_of}

@@ -1,6 +1,6 @@
 -- What several removals spare.
-use Rattle.std.proofs.Common.{◌≡◌, ◌≢◌, ℕ, ◌+◌, ◌<◌, true, false, inl, inr, List, [], ◌∷◌, ◌++◌, length, take, get_or, None, String, Global, string_bytes, refl, sym, ap, subst, ◌∙◌, map, set, not, is_some, Option, Some, arith, Bool}
-use Rattle.std.specs.Prelude.{◌↔◌, Contains, IsSome}
+use Rattle.std.proofs.Common.{◌≡◌, ◌≢◌, ℕ, ◌+◌, ◌<◌, false, inl, inr, List, [], ◌∷◌, ◌++◌, length, take, get_or, None, String, Global, string_bytes, refl, sym, ap, subst, ◌∙◌, map, set, not, is_some, Option, Some, arith, Bool}
+use Rattle.std.specs.Prelude.{◌↔◌, IsSome}
 use Rattle.std.specs.List.{All}
 use Rattle.std.specs.Str.{bytes_eq}
 use Rattle.std.proofs.lemmas.Bool.{cases_Bool}

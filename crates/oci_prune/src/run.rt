@@ -94,8 +94,8 @@ fn flags(alloc: Global, count: usize) -> Result<Vec<bool>, NoMemory>
     Ok(vec![in alloc; false; count]?)
 }
 
-/// Drops the keys that are not kept from a layout, and saves its index. Does nothing if all held
-/// keys are kept.
+/// Drops the keys that are not kept from a layout, and saves its index. Does not write it if all
+/// held keys are kept. The index is on the disk before a blob is removed.
 fn save_kept<D: PrunableDir>(layout: &mut Layout<D>, plan: &Pruning) -> Result<(), PruneFault>
     requires safe { IsSafe layout.old.1 (values_of layout.old.2) plan.now.kept }
     requires removed { AreRemoved layout.old.1 plan.now.kept plan.now.removed.items }
@@ -115,6 +115,10 @@ fn save_kept<D: PrunableDir>(layout: &mut Layout<D>, plan: &Pruning) -> Result<(
     ensures cause { IfErr result IsSaveFault }
 {
     if plan.removed.is_empty() {
+        // An earlier prune may have been killed between its save and its sync.
+        if !plan.files.is_empty() {
+            layout.sync()?;
+        }
         return Ok(());
     }
     layout.retain(&plan.kept)?;
