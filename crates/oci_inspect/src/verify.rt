@@ -6,17 +6,31 @@ use oci_store::{Dest, Drafting, FetchFault, Source, fetch_into};
 use std::alloc::Global;
 use std::io::Write;
 
-/// `verify FOLDER`: prints each key whose file does not match it, in key order. Then it prints the
+/// `verify FOLDER`: prints the key of each entry of `index.json` without a file, in the order of
+/// the entries, and then each key whose file does not match it, in key order. Then it prints the
 /// first key that lists a missing key, with that key, and the number of held keys.
 pub(crate) fn verify<D: Dir, W: Write>(
     alloc: Global,
     layout: &Layout<D>,
     out: &mut W,
 ) -> Result<Outcome, ProgramFault> {
+    let whole = print_absent(layout.absent(), out)?;
     let matching = print_corrupt(alloc, layout, out)?;
     let closed = print_open(layout, out)?;
     writeln!(out, "held {}", layout.count()).map_err(ProgramFault::of_output)?;
-    Ok(matching.and(closed))
+    Ok(whole.and(matching).and(closed))
+}
+
+/// Prints each key of an entry without a file.
+fn print_absent<W: Write>(keys: &[Key], out: &mut W) -> Result<Outcome, ProgramFault> {
+    for key in keys {
+        writeln!(out, "absent {key}").map_err(ProgramFault::of_output)?;
+    }
+    if keys.is_empty() {
+        Ok(Outcome::Good)
+    } else {
+        Ok(Outcome::Faulty)
+    }
 }
 
 /// Prints each key whose file does not match it.
