@@ -1,4 +1,4 @@
-use oci_command_line::{Query, Request, Selection, first_sentence};
+use oci_command_line::{Query, Request, Selection, UntagWords, first_sentence};
 use oci_exit::{Refusal, Subject};
 use std::io::Write;
 
@@ -25,9 +25,20 @@ fn word_of<'w>(request: &Request<'w>, subject: Subject) -> &'w str {
         (Request::Copy(words), Subject::Layout) => words.source,
         (Request::Copy(words), Subject::Destination) => words.destination,
         (Request::Copy(words), Subject::Reference) => reference_of(words.selection),
+        (Request::Untag(words), subject) => word_of_untag(words, subject),
+        (Request::Prune(words), Subject::Layout | Subject::Destination) => words.folder,
         (Request::Query(folder, _), Subject::Layout) => *folder,
         (Request::Query(_, query), Subject::Reference) => reference_in(*query),
         _ => "",
+    }
+}
+
+/// The word of `untag` that a refusal is about, or the empty text if there is none.
+fn word_of_untag<'w>(words: &UntagWords<'w>, subject: Subject) -> &'w str {
+    match subject {
+        Subject::Layout | Subject::Destination => words.folder,
+        Subject::Reference => words.tag,
+        Subject::Unknown => "",
     }
 }
 

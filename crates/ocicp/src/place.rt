@@ -45,12 +45,25 @@ pub(crate) fn open_copy<'r, R: Files<File: ReadAt> + AllocGlobal>(
     rt: &'r R,
     words: &CopyWords<'_>,
 ) -> Result<(Place<'r, R>, FsDir<'r, R>), ProgramFault> {
-    if is_file(rt, words.destination) {
-        let path = String::from_str(rt.alloc(), words.destination)?;
+    let destination = open_folder(rt, words.destination)?;
+    Ok((Place::open(rt, words.source)?, destination))
+}
+
+/// Opens the folder that a command writes into. It need not exist, and is not touched.
+///
+/// # Errors
+///
+/// - 95 `NotWritable` if the path leads to a regular file.
+/// - Out of memory, at any point.
+pub(crate) fn open_folder<'r, R: Files + AllocGlobal>(
+    rt: &'r R,
+    path: &str,
+) -> Result<FsDir<'r, R>, ProgramFault> {
+    if is_file(rt, path) {
+        let path = String::from_str(rt.alloc(), path)?;
         return Err(ProgramFault::NotWritable(path));
     }
-    let destination = FsDir::new(rt, words.destination)?;
-    Ok((Place::open(rt, words.source)?, destination))
+    Ok(FsDir::new(rt, path)?)
 }
 
 /// Returns whether a path leads to a regular file.

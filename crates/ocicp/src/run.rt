@@ -1,12 +1,13 @@
 ghost use Rattle.std.specs.Prelude.{◌≤◌};
 
 use crate::meaning::print_meaning;
-use crate::place::{Place, open_copy};
-use oci_command_line::{CommandLineFault, Request};
+use crate::place::{Place, open_copy, open_folder};
+use oci_command_line::{CommandLineFault, PruneWords, Request, UntagWords};
 use oci_copy_commands::{Host, run_copy, run_mem};
 use oci_exit::{Ended, Ending, Outcome, ProgramFault, finish_run, print_line};
 use oci_inspect::run_query;
 use oci_pool::MAX_WORKERS;
+use oci_prune_commands::{run_prune, run_untag};
 use std::io::Write;
 
 /// Runs the program on the words after its name, and returns its exit status.
@@ -72,6 +73,8 @@ fn run_request<R: Host, W: Write, X: Write + Send>(
             },
             Err(fault) => finish_run(Err(fault), out, err),
         },
+        Request::Untag(words) => run_change(rt, words.folder, Change::Untag(words), out, err),
+        Request::Prune(words) => run_change(rt, words.folder, Change::Prune(words), out, err),
         Request::Query(path, query) => match Place::open(rt, path) {
             Ok(place) => match place {
                 Place::Folder(dir) => run_query(rt.alloc(), dir, *query, out, err),
@@ -79,6 +82,32 @@ fn run_request<R: Host, W: Write, X: Write + Send>(
             },
             Err(fault) => finish_run(Err(fault), out, err),
         },
+    }
+}
+
+/// A command that changes the layout in a folder.
+#[derive(Clone, Copy)]
+enum Change<'c, 'w> {
+    Untag(&'c UntagWords<'w>),
+    Prune(&'c PruneWords<'w>),
+}
+
+/// Runs a command that changes the layout in a folder.
+fn run_change<R: Host, W: Write, X: Write>(
+    rt: &R,
+    folder: &str,
+    change: Change<'_, '_>,
+    out: &mut W,
+    err: &mut X,
+) -> Ended
+    ensures { result.status ≤ 3 }
+{
+    match open_folder(rt, folder) {
+        Ok(dir) => match change {
+            Change::Untag(words) => run_untag(rt, dir, words, out, err),
+            Change::Prune(words) => run_prune(rt, dir, words, out, err),
+        },
+        Err(fault) => finish_run(Err(fault), out, err),
     }
 }
 

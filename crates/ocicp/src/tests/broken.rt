@@ -39,15 +39,47 @@ impl Write for Broken {
     }
 }
 
-/// The files of a runtime. A file with this text in its path cannot be opened.
+/// The files of a runtime. Those with this text in their path refuse one call.
 #[derive(Drop)]
-pub(crate) struct Unreadable<'r, R: Files> {
+pub(crate) struct Refusing<'r, R: Files> {
     pub(crate) rt: &'r R,
     pub(crate) part: &'r str,
+    pub(crate) call: Call,
     pub(crate) kind: io::ErrorKind,
 }
 
-impl<'r, R: Files + Alloc> Alloc for Unreadable<'r, R> {
+/// A call that a file refuses.
+#[derive(Clone, Copy)]
+pub(crate) enum Call {
+    Open,
+    Remove,
+}
+
+impl<'r, R: Files> Refusing<'r, R> {
+    fn open_of(&self, path: &str) -> io::Result<()> {
+        match self.call {
+            Call::Open => self.answer(path),
+            Call::Remove => Ok(()),
+        }
+    }
+
+    fn removal_of(&self, path: &str) -> io::Result<()> {
+        match self.call {
+            Call::Open => Ok(()),
+            Call::Remove => self.answer(path),
+        }
+    }
+
+    fn answer(&self, path: &str) -> io::Result<()> {
+        if path.contains(self.part) {
+            Err(io::Error::from(self.kind))
+        } else {
+            Ok(())
+        }
+    }
+}
+
+impl<'r, R: Files + Alloc> Alloc for Refusing<'r, R> {
     type A = R::A;
 
     fn alloc(&self) -> R::A {
@@ -55,15 +87,13 @@ impl<'r, R: Files + Alloc> Alloc for Unreadable<'r, R> {
     }
 }
 
-impl<'r, R: Files> Files for Unreadable<'r, R> {
+impl<'r, R: Files> Files for Refusing<'r, R> {
     type File = R::File;
 
     type Dir = R::Dir;
 
     fn open_file(&self, how: &OpenOptions, path: &str) -> io::Result<R::File> {
-        if path.contains(self.part) {
-            return Err(io::Error::from(self.kind));
-        }
+        self.open_of(path)?;
         self.rt.open_file(how, path)
     }
 
@@ -88,6 +118,7 @@ impl<'r, R: Files> Files for Unreadable<'r, R> {
     }
 
     fn remove_file(&self, path: &str) -> io::Result<()> {
+        self.removal_of(path)?;
         self.rt.remove_file(path)
     }
 
@@ -104,7 +135,7 @@ impl<'r, R: Files> Files for Unreadable<'r, R> {
     }
 }
 
-impl<'r, R: Files + Clock> Clock for Unreadable<'r, R> {
+impl<'r, R: Files + Clock> Clock for Refusing<'r, R> {
     fn monotonic(&self) -> io::Result<Duration> {
         self.rt.monotonic()
     }
@@ -114,12 +145,12 @@ impl<'r, R: Files + Clock> Clock for Unreadable<'r, R> {
     }
 }
 
-impl<'r, R: Files + RandomSource> RandomSource for Unreadable<'r, R> {
+impl<'r, R: Files + RandomSource> RandomSource for Refusing<'r, R> {
     fn fill_bytes(&self, bytes: &mut [u8]) -> io::Result<()> {
         self.rt.fill_bytes(bytes)
     }
 }
 
-impl<'r, R: Files + Threads> Threads for Unreadable<'r, R> {}
+impl<'r, R: Files + Threads> Threads for Refusing<'r, R> {}
 
-impl<'r, R: Files + Wait> Wait for Unreadable<'r, R> {}
+impl<'r, R: Files + Wait> Wait for Refusing<'r, R> {}

@@ -91,6 +91,15 @@ const S: Sample = Sample {
     bytes: r#"{"schemaVersion":2,"mediaType":"application/vnd.oci.image.manifest.v1+json","config":{"mediaType":"application/vnd.oci.empty.v1+json","digest":"sha256:44136fa355b3678a1146ad16f7e8649e94fb4fc21fe77e8310c060f61caaff8a","size":2},"layers":[],"subject":{"mediaType":"application/vnd.oci.image.manifest.v1+json","digest":"sha256:7e1df211bc4556d2a9db939a81721c52e5e53c59e3dfb45a57205a794dd412b7","size":385}}"#,
 };
 
+/// A referrer of the referrer `S`.
+const SS: Sample = Sample {
+    media_type: IMAGE,
+    algorithm: "sha256",
+    digits: "89753e75e8a6f790d839e0c092b2a549d92e544790aeecbe55df5f8772b816dd",
+    size: "402",
+    bytes: r#"{"schemaVersion":2,"mediaType":"application/vnd.oci.image.manifest.v1+json","config":{"mediaType":"application/vnd.oci.empty.v1+json","digest":"sha256:44136fa355b3678a1146ad16f7e8649e94fb4fc21fe77e8310c060f61caaff8a","size":2},"layers":[],"subject":{"mediaType":"application/vnd.oci.image.manifest.v1+json","digest":"sha256:bab9e997a499d9a01debd4356f23454db050baa4f31321e5a33e2e3aebd4f8eb","size":402}}"#,
+};
+
 /// A referrer of `M2` that states its type.
 const SBOM: Sample = Sample {
     media_type: IMAGE,
@@ -146,6 +155,7 @@ fn named(name: &str) -> Result<&'static Sample, Fail> {
         "M2" => Ok(&M2),
         "M5" => Ok(&M5),
         "S" => Ok(&S),
+        "SS" => Ok(&SS),
         "SBOM" => Ok(&SBOM),
         "TYPED" => Ok(&TYPED),
         "I3" => Ok(&I3),

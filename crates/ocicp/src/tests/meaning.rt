@@ -24,6 +24,10 @@ $ terminal copy @/L nope @/N v1
 ocicp: 36 UnknownReference
 `nope`: The layout has no tag with this name, and no blob with this digest. Run `ocicp explain 36` for what to do.
 
+$ terminal untag @/L nope
+ocicp: 36 UnknownReference
+`nope`: The layout has no tag with this name, and no blob with this digest. Run `ocicp explain 36` for what to do.
+
 $ terminal resolve @/L ''
 ocicp: 35 EmptyReference
 The reference is empty. Run `ocicp explain 35` for what to do.
@@ -60,6 +64,14 @@ $ terminal copy --dry-run @/R v1 @/L
 ocicp: 71 BadLayoutFile
 `@/L`: The file `oci-layout` is not a JSON object with a text `imageLayoutVersion`. Run `ocicp explain 71` for what to do.
 
+$ terminal untag @/L v1
+ocicp: 71 BadLayoutFile
+`@/L`: The file `oci-layout` is not a JSON object with a text `imageLayoutVersion`. Run `ocicp explain 71` for what to do.
+
+$ terminal prune @/L
+ocicp: 71 BadLayoutFile
+`@/L`: The file `oci-layout` is not a JSON object with a text `imageLayoutVersion`. Run `ocicp explain 71` for what to do.
+
 $ write @/R/index.json no
 $ terminal verify @/R
 ocicp: 73 BadIndex 10 NotJson
@@ -82,8 +94,30 @@ $ terminal copy @/L v1 @/file
 ocicp: 95 NotWritable @/file
 `@/file`: The named path is a file, and `ocicp` writes only into folders. Run `ocicp explain 95` for what to do.
 
+$ terminal untag @/file v1
+ocicp: 95 NotWritable @/file
+`@/file`: The named path is a file, and `ocicp` writes only into folders. Run `ocicp explain 95` for what to do.
+
+$ terminal prune @/file
+ocicp: 95 NotWritable @/file
+`@/file`: The named path is a file, and `ocicp` writes only into folders. Run `ocicp explain 95` for what to do.
+
 ";
     assert_session_in(&rt, "meaning_of_a_refused_file", IMAGE, session)
+}
+
+/// The line names the folder that is not pruned.
+#[test]
+fn meaning_of_a_refused_prune(rt: HostRuntime) -> Result<(), Fail> {
+    let session = r"
+$ ocicp untag @/L v1
+untagged <M0>
+$ terminal prune @/L
+ocicp: 97 NoTags
+`@/L`: The layout has no tag, so no blob would be kept. Run `ocicp explain 97` for what to do.
+
+";
+    assert_session_in(&rt, "meaning_of_a_refused_prune", IMAGE, session)
 }
 
 /// The innermost number is explained. A run that was not refused has no such line.

@@ -67,6 +67,8 @@ $ broken copy --all --dry-run @/L @/N
 $ broken copy --all @/L @/N
 $ broken copy --dry-run @/L v1 @/N
 $ broken copy @/L v1 @/N
+$ broken prune --dry-run @/L
+$ broken prune @/L
 ";
     assert_session_in(&rt, "failing_outputs", IMAGE, session)
 }
@@ -95,6 +97,12 @@ $ starved index.json copy --dry-run @/L v1 @/N
 ! ocicp: memory
 ? 3
 $ starved N/blobs copy @/L v1 @/N
+! ocicp: memory
+? 3
+$ starved index.json untag @/L v1
+! ocicp: memory
+? 3
+$ starved index.json prune @/L
 ! ocicp: memory
 ? 3
 ";
@@ -127,6 +135,17 @@ $ locked L/<E file> copy @/L v1 @/N
 $ locked N/blobs copy @/L v1 @/N
 ! ocicp: 82 Push <E> 43 Device
 ? 1
+$ locked L/ untag @/L v1
+! ocicp: 74 Device
+? 1
+$ locked index.json. untag @/L v1
+! ocicp: 74 Device
+? 1
+$ locked L/ prune @/L
+! ocicp: 74 Device
+? 1
+$ ocicp tags @/L
+v1 <M0>
 ";
     assert_session_in(&rt, "files_without_permission", IMAGE, session)
 }

@@ -11,6 +11,7 @@
 //! | `$ terminal WORDS` | runs the program on a terminal; prints its error output and a line feed |
 //! | `$ locked PART WORDS` | runs the program, which may not open paths with this part |
 //! | `$ starved PART WORDS` | runs the program, which has no memory to open such a path |
+//! | `$ stuck PART WORDS` | runs the program, which may not remove files with this part |
 //! | `$ beside PATH WORDS` | runs the program while a folder is locked, until an error line |
 //! | `$ broken WORDS` | runs the program with each failing output of `outputs`; prints nothing |
 //! | `$ write PATH TEXT` | writes a file, and creates the folders above it |
@@ -21,7 +22,7 @@
 //! | `$ cat PATH` | prints a file, and a line feed |
 //! | `$ exists PATH` | prints `yes` or `no` |
 
-use crate::tests::broken::Unreadable;
+use crate::tests::broken::{Call, Refusing};
 use crate::tests::contents::filled;
 use crate::tests::files::{change, shown};
 use crate::tests::outputs::assert_breaks;
@@ -115,8 +116,9 @@ fn telling<R: Host + Abort>(rt: &R, command: &str, rest: &str) -> Result<String,
     match command {
         "ocicp" | "unordered" => transcript(rt, rest),
         "terminal" => drawn(rt, rest),
-        "locked" => hindered(rt, rest, ErrorKind::PermissionDenied),
-        "starved" => hindered(rt, rest, ErrorKind::OutOfMemory),
+        "locked" => hindered(rt, rest, Call::Open, ErrorKind::PermissionDenied),
+        "starved" => hindered(rt, rest, Call::Open, ErrorKind::OutOfMemory),
+        "stuck" => hindered(rt, rest, Call::Remove, ErrorKind::PermissionDenied),
         "beside" => beside(rt, rest),
         "cat" | "exists" => shown(rt, command, rest),
         _ => {
@@ -126,10 +128,18 @@ fn telling<R: Host + Abort>(rt: &R, command: &str, rest: &str) -> Result<String,
     }
 }
 
-/// Runs the program with some files that cannot be opened.
-fn hindered<R: Host>(rt: &R, line: &str, kind: ErrorKind) -> Result<String, Fail> {
+/// Runs the program with some files that refuse a call.
+fn hindered<R: Host>(rt: &R, line: &str, call: Call, kind: ErrorKind) -> Result<String, Fail> {
     let (part, words) = parts(line, ' ');
-    transcript(&Unreadable { rt, part, kind }, words)
+    transcript(
+        &Refusing {
+            rt,
+            part,
+            call,
+            kind,
+        },
+        words,
+    )
 }
 
 /// Runs a line that prints nothing.

@@ -66,6 +66,59 @@ v1 <M0>
     assert_session_in(&rt, "a_copy_waits", IMAGE, session)
 }
 
+/// `untag` and `prune` wait too.
+#[test]
+fn changes_wait(rt: HostRuntime) -> Result<(), Fail> {
+    let session = r"
+$ ocicp copy @/L v1 @/L v2
+copied <M0>
+planned 0 pushed 0 skipped 1
+$ beside @/L untag @/L v1
+untagged <M0>
+! ocicp: waiting for another process that writes into @/L
+$ beside @/L prune @/L
+kept 2 removed 0 files 0 bytes 0
+! ocicp: waiting for another process that writes into @/L
+";
+    assert_session_in(&rt, "changes_wait", IMAGE, session)
+}
+
+/// With `--no-wait` each of these commands is refused, and changes nothing. Without another process
+/// it is not refused.
+#[test]
+fn nothing_waits(rt: HostRuntime) -> Result<(), Fail> {
+    let session = r"
+$ beside @/N copy --no-wait @/L v1 @/N
+! ocicp: 99 Locked @/N
+? 1
+$ exists @/N/oci-layout
+no
+$ ocicp copy --no-wait @/L v1 @/N
+copied <M0>
+planned 2 pushed 2 skipped 0
+$ beside @/N untag --no-wait @/N v1
+! ocicp: 99 Locked @/N
+? 1
+$ write @/N/<FOO file> <FOO bytes>
+$ beside @/N prune --no-wait @/N
+! ocicp: 99 Locked @/N
+? 1
+$ exists @/N/<FOO file>
+yes
+$ beside @/N prune --dry-run --no-wait @/N
+removed-file <FOO file> 3
+kept 2 removed 0 files 1 bytes 3
+$ ocicp prune --no-wait @/N
+removed-file <FOO file> 3
+kept 2 removed 0 files 1 bytes 3
+$ ocicp tags @/N
+v1 <M0>
+$ ocicp untag --no-wait @/N v1
+untagged <M0>
+";
+    assert_session_in(&rt, "nothing_waits", IMAGE, session)
+}
+
 /// A command that only reads a locked folder does not wait, and a copy from it does not either.
 #[test]
 fn readers_do_not_wait(rt: HostRuntime) -> Result<(), Fail> {
@@ -79,6 +132,8 @@ $ beside @/N verify @/N
 held 2
 $ beside @/N copy --dry-run @/L v1 @/N
 planned 0 bytes 0 skipped 1
+$ beside @/N prune --dry-run @/N
+kept 2 removed 0 files 0 bytes 0
 $ beside @/N copy @/N v1 @/M
 copied <M0>
 planned 2 pushed 2 skipped 0

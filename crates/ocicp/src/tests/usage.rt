@@ -21,6 +21,15 @@ copy --all
 copy --all L
 copy --all L v1 N
 copy --all L v1 N w
+copy --prune L v1 N
+copy --all --prune --dry-run L N
+untag
+untag L
+untag L v1 w
+untag --dry-run L v1
+prune
+prune L N
+prune --depth 1 L
 tags
 tree L
 tree L v1 w
@@ -55,7 +64,7 @@ Prints `copied` for each tag, with the digest, the size and the media type of it
 Every blob is checked against its digest. A copy that is refused sets no tag in DST, and DST keeps its blobs. The exception is \
 94: only the output could not be written, and the copy is done and saved.
 
-A copy locks DST. Another copy into it on the same machine waits.
+A copy locks DST. Another copy into it on the same machine waits, unless it has --no-wait.
 
 Usage: ocicp copy [OPTIONS] <SRC> <SRCREF> <DST> [DSTREF]
        ocicp copy --all [OPTIONS] <SRC> <DST>
@@ -90,6 +99,11 @@ reach
       --descend
           Also looks below the blobs that DST has, and copies missing ones; without it, a DST with a missing blob is an error
 
+      --prune
+          With --all: afterwards removes from DST the tags that SRC does not have, and what no tag then needs, as the command \
+`prune` does. Refused, before anything is copied, if SRC has no tag (97), or lacks the blob of an entry of its `index.json` (96). \
+Not with --dry-run, since what is removed is known only after the copy
+
       --workers <N>
           How many workers copy at once, at most 64; 0 means 3
 
@@ -103,6 +117,9 @@ in place of the line on a terminal. KEY is a digest, a size and a media type
           Changes nothing; prints the blobs that would be copied, then their number, their total size, and how many requested \
 blobs DST already has
 
+      --no-wait
+          If another process has the lock of the folder, ends with 99 and does not wait
+
   -h, --help
           Print help (see a summary with '-h')
 
@@ -111,6 +128,7 @@ Examples:
   ocicp copy build v1 mirror stable        copies it too, and tags it `stable`
   ocicp copy --referrers build v1 mirror   copies also its signatures and SBOMs, and the indexes that list it
   ocicp copy --all --referrers build mirror    copies every tag, with the referrers of each
+  ocicp copy --all --prune build mirror    makes the tags of `mirror` those of `build`, and frees the space
   ocicp copy --all --dry-run build mirror  prints the blobs that a copy of every tag would copy
   ocicp copy --descend build v1 mirror     also restores blobs that `mirror` has lost
   ocicp copy --all image.tar mirror        copies every tag of an archive, such as `docker save` writes";
@@ -127,6 +145,8 @@ fn help(rt: HostRuntime) -> Result<(), Fail> {
     let lines = "\
 --help:  mem
 --help:  copy
+--help:  untag
+--help:  prune
 --help:  tags
 --help:  resolve
 --help:  predecessors
@@ -138,6 +158,14 @@ mem --help:TYPE=PATH
 mem --help:  ocicp mem application/vnd.oci.empty.v1+json=config.json
 mem --help:--workers <N>
 mem --help:--sha512
+untag --help:[OPTIONS] <FOLDER> <TAG>
+untag --help:--no-wait
+untag --help:  ocicp untag mirror v1
+prune --help:[OPTIONS] <FOLDER>
+prune --help:--dry-run
+prune --help:--no-referrers
+prune --help:--no-wait
+prune --help:  ocicp prune --dry-run mirror
 tags --help:<FOLDER>
 tags --help:  ocicp tags mirror
 resolve --help:<FOLDER> <REF>

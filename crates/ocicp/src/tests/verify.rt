@@ -21,6 +21,28 @@ held 1
     assert_session_in(&rt, "verify", IMAGE, session)
 }
 
+/// Each entry of `index.json` whose own blob is missing is reported first, in the order of the
+/// entries. `M2` has two entries.
+#[test]
+fn verify_of_entries_without_a_blob(rt: HostRuntime) -> Result<(), Fail> {
+    let session = r"
+$ rm @/R/<S file>
+$ ocicp verify @/R
+absent <S>
+held 5
+? 1
+$ rm @/R/<M2 file>
+$ ocicp verify @/R
+absent <M2>
+absent <M2>
+absent <S>
+open <I3> <M2>
+held 2
+? 1
+";
+    assert_session_in(&rt, "verify_absent", REFERRERS, session)
+}
+
 /// The key of the one entry has another size than its file.
 #[test]
 fn verify_of_another_size(rt: HostRuntime) -> Result<(), Fail> {
