@@ -41,7 +41,8 @@ pub(crate) fn prune_command<'w>(alloc: Global) -> Result<Command<'w>, AllocError
              image, the images of an index, the subject of a referrer. With each kept blob its referrers are \
              kept too, such as signatures and SBOMs, with everything that these reach: they are the manifests \
              of the layout whose `subject` is that blob. An index is not kept because it lists a kept blob. \
-             Layers that are not to be distributed are not kept, as `copy` does not copy them.\n\n\
+             Layers that are not to be distributed are not kept, as `copy` does not copy them. A manifest of \
+             a type that `copy` does not read, such as Docker's schema 1, counts as a blob that lists nothing.\n\n\
              All other blobs are removed, with their entries in `index.json`. Of the files in `blobs/sha256` \
              and `blobs/sha512` whose name is a digest, those stay that a kept blob has. Files that a \
              killed copy left are removed, and all other files stay.\n\n\

@@ -46,7 +46,7 @@ verify L N
 
 #[test]
 fn version(rt: HostRuntime) -> Result<(), Fail> {
-    assert_runs(&rt, "", "$ ocicp --version\nocicp 0.5.0\n")
+    assert_runs(&rt, "", "$ ocicp --version\nocicp 0.6.0\n")
 }
 
 /// The output of `copy --help`, without the spaces at the ends of lines.
