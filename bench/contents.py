@@ -67,9 +67,11 @@ def put(folder, content):
     return descriptor(content)
 
 
-def finish(folder, names):
-    """Writes the two files that make a folder a layout; `names` has the descriptor that each name stands for."""
+def finish(folder, names, untagged=()):
+    """Writes the two files that make a folder a layout; `names` has the descriptor that each name stands for, and `untagged` those of
+    the entries without a name."""
     entries = [dict(json.loads(text), annotations={NAME: name}) for name, text in names.items()]
+    entries += [json.loads(text) for text in untagged]
     with open(os.path.join(folder, "index.json"), "w") as file:
         json.dump({"schemaVersion": 2, "manifests": entries}, file)
     with open(os.path.join(folder, "oci-layout"), "w") as file:

@@ -1,14 +1,13 @@
 """Tar archives in the place of folders: each command answers as it does of the folder, and what is damaged is refused."""
 import functools
 import hashlib
-import json
 import os
 import shutil
 import subprocess
 import tarfile
 
 from harmful_folders import CONTENTS, FROM, PLAIN, PLAIN_TAGS, answers_to, fresh, read, wrong_copy
-from layouts import BAR, E, FOO, I1, IMAGE, LAYER, M2, M3, NAME, S, Content, blob, descriptor, digits, image, index, write_layout
+from layouts import BAR, E, FOO, I1, LAYER, M2, M3, S, Content, blob, digits, image, index, write_layout
 from odd_archives import PLACES, allowed, damaged, each, headers_for_long_names
 from program import first, leftovers, run, told, wrong_layout
 from tar_files import BLOCK, END, base256, extended, header, member
@@ -49,6 +48,10 @@ OF_PYTHON = {"USTAR": "short", "GNU": "long", "PAX": "long"}
 LARGE = Content(LAYER, b"a layer of some blocks. " * 60)
 LARGER = image([LARGE])
 CONTENTS_OF_SHORT = [E, FOO, BAR, LARGE, M2, M3, I1, S, LARGER]
+TAGS_OF_SHORT = {"new": I1, "one": M2, "sig": S, "large": LARGER}
+LONG_LAYER = Content(LAYER, b"long " * 20000, "sha512")
+LONG = image([LONG_LAYER])._replace(algorithm="sha512")
+OTHER_FILE = b'[{"Config":"of no matter here"}]'
 HUGE = 1 << 40
 NOBODY = {"user": 65534, "group": 65534, "extra_groups": []}
 
@@ -59,27 +62,14 @@ def write(path, written):
 
 
 def write_short(folder):
-    write_layout(folder, CONTENTS_OF_SHORT, {"new": I1, "one": M2, "sig": S, "large": LARGER})
-    write(folder + "/manifest.json", b'[{"Config":"of no matter here"}]')
+    write_layout(folder, CONTENTS_OF_SHORT, TAGS_OF_SHORT)
+    write(folder + "/manifest.json", OTHER_FILE)
 
 
 def write_long(folder):
     """A layout that has also an image by digests of sha512."""
-    write_short(folder)
-    os.mkdir(folder + "/blobs/sha512")
-    layer = put_long(folder, Content(LAYER, b"long " * 20000))
-    text = '{"schemaVersion":2,"mediaType":"%s","config":%s,"layers":[%s]}' % (IMAGE, descriptor(E), layer)
-    entry = dict(json.loads(put_long(folder, Content(IMAGE, text.encode()))), annotations={NAME: "long"})
-    whole = json.loads(read(folder + "/index.json"))
-    whole["manifests"].append(entry)
-    write(folder + "/index.json", json.dumps(whole).encode())
-
-
-def put_long(folder, content):
-    """Writes a content into a layout by its digest of sha512, and gives its descriptor."""
-    name = hashlib.sha512(content.bytes).hexdigest()
-    write("%s/blobs/sha512/%s" % (folder, name), content.bytes)
-    return '{"mediaType":"%s","digest":"sha512:%s","size":%d}' % (content.media_type, name, len(content.bytes))
+    write_layout(folder, [*CONTENTS_OF_SHORT, LONG_LAYER, LONG], {**TAGS_OF_SHORT, "long": LONG})
+    write(folder + "/manifest.json", OTHER_FILE)
 
 
 def sums(folder):

@@ -8,22 +8,27 @@ EMPTY = "application/vnd.oci.empty.v1+json"
 LAYER = "application/vnd.oci.image.layer.v1.tar"
 IMAGE = "application/vnd.oci.image.manifest.v1+json"
 INDEX = "application/vnd.oci.image.index.v1+json"
+ARTIFACT = "application/vnd.oci.artifact.manifest.v1+json"
+DOCKER_IMAGE = "application/vnd.docker.distribution.manifest.v2+json"
+DOCKER_LIST = "application/vnd.docker.distribution.manifest.list.v2+json"
 NAME = "org.opencontainers.image.ref.name"
 
-Content = namedtuple("Content", "media_type bytes")
+# The last is the algorithm of the digest that it is listed by.
+Content = namedtuple("Content", "media_type bytes algorithm", defaults=["sha256"])
 
 
 def digits(content):
-    return hashlib.sha256(content.bytes).hexdigest()
+    return hashlib.new(content.algorithm, content.bytes).hexdigest()
 
 
 def key(content):
     """A content as the program prints it."""
-    return "sha256:%s %d %s" % (digits(content), len(content.bytes), content.media_type)
+    return "%s:%s %d %s" % (content.algorithm, digits(content), len(content.bytes), content.media_type)
 
 
 def descriptor(content):
-    return '{"mediaType":"%s","digest":"sha256:%s","size":%d}' % (content.media_type, digits(content), len(content.bytes))
+    return '{"mediaType":"%s","digest":"%s:%s","size":%d}' % (
+        content.media_type, content.algorithm, digits(content), len(content.bytes))
 
 
 def listing(contents):
@@ -36,8 +41,9 @@ def image(layers, subject=None):
     return Content(IMAGE, (text + (',"subject":' + descriptor(subject) if subject else "") + "}").encode())
 
 
-def index(contents):
-    return Content(INDEX, ('{"schemaVersion":2,"manifests":%s}' % listing(contents)).encode())
+def index(contents, subject=None):
+    text = '{"schemaVersion":2,"manifests":%s' % listing(contents)
+    return Content(INDEX, (text + (',"subject":' + descriptor(subject) if subject else "") + "}").encode())
 
 
 E = Content(EMPTY, b"{}")
@@ -53,16 +59,18 @@ I4 = index([I3])
 
 def blob(content):
     """Where the file of a content lies in a layout."""
-    return "blobs/sha256/" + digits(content)
+    return "blobs/%s/%s" % (content.algorithm, digits(content))
 
 
-def write_layout(folder, contents, names):
-    """Makes a layout that holds these contents; `names` has the content of each tag."""
+def write_layout(folder, contents, names, untagged=()):
+    """Makes a layout that holds these contents; `names` has the content of each tag, and `untagged` those that are listed without one."""
     os.makedirs(folder + "/blobs/sha256")
     for content in contents:
+        os.makedirs("%s/blobs/%s" % (folder, content.algorithm), exist_ok=True)
         with open("%s/%s" % (folder, blob(content)), "wb") as file:
             file.write(content.bytes)
     entries = [dict(json.loads(descriptor(content)), annotations={NAME: name}) for name, content in names.items()]
+    entries += [json.loads(descriptor(content)) for content in untagged]
     with open(folder + "/index.json", "w") as file:
         json.dump({"schemaVersion": 2, "manifests": entries}, file)
     with open(folder + "/oci-layout", "w") as file:

@@ -1,7 +1,7 @@
 """Commands over a layout on a file system that may only be read. Wants `cc`.
 
 A library answers EROFS to each call that would change something below one folder. What reads makes no such call, and answers as it
-does elsewhere. A copy into that folder is refused, and the layout stays.
+does elsewhere. A copy into that folder is refused, as `untag` and `prune` are, and the layout stays.
 """
 import shim
 from layouts import BAR, E, FOO, I1, LAYER, M2, M3, S, Content, key, write_layout
@@ -31,6 +31,8 @@ READING = [
     ["copy", "--dry-run", "source", "both", "copied"],
     ["copy", "--dry-run", "other", "bar", "source"],
     ["copy", "--referrers", "source", "one", "copied"],
+    ["prune", "--dry-run", "source"],
+    ["prune", "--dry-run", "--no-referrers", "source"],
 ]
 
 
@@ -45,7 +47,7 @@ def wrong_read(library, words, room, usual):
 
 
 def wrong_write(library, words, room, wanted):
-    """What is wrong with a copy into the folder."""
+    """What is wrong with a command that would change the folder."""
     refused, ended = shim.run_marked(library, words, room, {"READ_ONLY": "source"})
     return first([
         None if ended[:3] == (1, "", wanted) else told(ended),
@@ -67,3 +69,5 @@ def checks(room):
     for name, line in ("bar", "74 Device"), ("other", "82 Push %s 43 Device" % key(OTHER)):
         words = ["copy", "other", name, "source"]
         yield " ".join(words), wrong_write(library, words, room, "ocicp: %s\n" % line)
+    for words in ["untag", "source", "signature"], ["prune", "--no-referrers", "source"]:
+        yield " ".join(words), wrong_write(library, words, room, "ocicp: 74 Device\n")

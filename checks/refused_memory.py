@@ -79,12 +79,12 @@ def wrong_run(case, shim, room, nth):
     return refused, complaint and "request %d: %s" % (nth, complaint)
 
 
-def refused_in_turn(case, shim, room):
-    """Refuses each request of a command in turn: how many it makes, and the first thing that is wrong."""
+def refused_in_turn(case, shim, room, wrong=wrong_run):
+    """Refuses each request of a command in turn: how many it makes, and the first thing that is wrong, as `wrong` tells it of one."""
     os.mkdir(room)
     with multiprocessing.Pool() as pool:
         for start in range(1, MOST, BATCH):
-            runs = pool.map(functools.partial(wrong_run, case, shim, room), range(start, start + BATCH), 4)
+            runs = pool.map(functools.partial(wrong, case, shim, room), range(start, start + BATCH), 4)
             complaint = first(it for _, it in runs)
             if complaint or not all(refused for refused, _ in runs):
                 count = start - 1 + sum(refused for refused, _ in runs)

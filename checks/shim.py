@@ -4,8 +4,8 @@ import subprocess
 
 from program import PROGRAM, run
 
-# Calls `on_change` before each call that would change a file or a folder, with the path, or with none for a write to an open file.
-# What it answers is the error of that call; 0 lets the call through.
+# Calls `on_change` before each call that would change a file or a folder, with the path, or with none for a write to an open file; and
+# before each call that waits for the disk, with SYNC. What it answers is the error of that call; 0 lets the call through.
 CHANGES = r"""
 #define _GNU_SOURCE
 #include <dlfcn.h>
@@ -18,6 +18,7 @@ CHANGES = r"""
 #include <sys/stat.h>
 #include <sys/syscall.h>
 #include <unistd.h>
+#define SYNC "(sync)"
 static int on_change(const char *path);
 static int is_refused(const char *path) {
   int error = on_change(path);
@@ -65,10 +66,13 @@ ssize_t write(int file, const void *bytes, size_t count) {
   if (file > 2 && is_refused(NULL)) return -1;
   return NEXT(ssize_t (*)(int, const void *, size_t), "write")(file, bytes, count);
 }
-/* Writes a mark into the pipe that the environment names. */
-__attribute__((unused)) static void mark(void) {
-  if (syscall(SYS_write, atoi(getenv("MARK")), "x", 1) != 1) abort();
+int fsync(int file) { return is_refused(SYNC) ? -1 : NEXT(int (*)(int), "fsync")(file); }
+int fdatasync(int file) { return is_refused(SYNC) ? -1 : NEXT(int (*)(int), "fdatasync")(file); }
+/* Writes a text into the pipe that the environment names. */
+__attribute__((unused)) static void note(const char *text) {
+  if (syscall(SYS_write, atoi(getenv("MARK")), text, strlen(text)) != (long)strlen(text)) abort();
 }
+__attribute__((unused)) static void mark(void) { note("x"); }
 """
 
 # The process stops itself before the change whose number the environment has.
@@ -91,12 +95,18 @@ def built(folder, name, source):
 
 def run_marked(library, words, folder, environment={}, **how):
     """Runs a command with a library that marks something: how many marks it made, and how it ended. `how` goes to `run`."""
+    text, ended = run_noted(library, words, folder, environment, **how)
+    return len(text), ended
+
+
+def run_noted(library, words, folder, environment={}, **how):
+    """Runs a command with a library that notes something: what it noted, which has to fit into a pipe, and how it ended."""
     marks, mark = os.pipe()
     environment = dict(os.environ, LD_PRELOAD=library, MARK=str(mark), **environment)
     ended = run(words, folder, env=environment, pass_fds=[mark], **how)
     os.close(mark)
     with os.fdopen(marks) as file:
-        return len(file.read()), ended
+        return file.read(), ended
 
 
 def stopped(library, words, folder, number):

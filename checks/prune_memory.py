@@ -1,0 +1,56 @@
+"""Prunes and removals of tags of which each request for memory is refused in turn.
+
+Such a run ends with status 3 and `ocicp: memory`, or as if nothing had been refused. The layout has then what it had before or what it
+is to have, the tags have lost nothing, and the same command, made again with all memory, finishes. Wants `cc`.
+"""
+import functools
+import os
+
+import refusals
+from program import first, run, told
+from prune_ended import TAGS, UNTAGGED, Layout, wrong_without
+from refused_memory import refused_in_turn
+
+
+@functools.lru_cache(maxsize=None)
+def layout_of(folder, untagged):
+    os.makedirs(folder)
+    return Layout(folder, untagged)
+
+
+def wrong_prune(untagged, library, room, nth):
+    """Refuses the nth request of a prune: whether it made so many, and what is wrong with it and with what it left."""
+    layout = layout_of("%s/%d" % (room, os.getpid()), untagged)
+    layout.fresh()
+    refused, ended = refusals.run_refused(library, nth, ["prune", "layout"], layout.room)
+    is_memory = refused and (ended.status, ended.err) == (3, "ocicp: memory\n")
+    complaint = first([
+        None if ended[:3] == layout.whole[:3] or is_memory else told(ended),
+        layout.wrong_state(),
+        layout.wrong_again(),
+    ])
+    return refused, complaint and "request %d: %s" % (nth, complaint)
+
+
+def wrong_untag(name, library, room, nth):
+    """The same of the removal of a tag."""
+    layout = layout_of("%s/%d" % (room, os.getpid()), tuple(UNTAGGED))
+    layout.fresh()
+    refused, ended = refusals.run_refused(library, nth, ["untag", "layout", name], layout.room)
+    is_done = ended.status == 0 and ended.out and not ended.err
+    is_memory = refused and ended[:3] == (3, "", "ocicp: memory\n")
+    again = run(["untag", "layout", name], layout.room)
+    complaint = first([
+        None if is_done or is_memory else told(ended),
+        None if again.status == (1 if is_done else 0) else "again: " + told(again),
+        wrong_without(layout, name),
+    ])
+    return refused, complaint and "request %d: %s" % (nth, complaint)
+
+
+def checks(room):
+    library = refusals.build(room)
+    cases = {"a prune": (tuple(UNTAGGED), wrong_prune), "a prune of files alone": ((), wrong_prune), "untag": (next(iter(TAGS)), wrong_untag)}
+    for number, (name, (case, wrong)) in enumerate(cases.items()):
+        count, complaint = refused_in_turn(case, library, "%s/%d" % (room, number), wrong)
+        yield "%s, %d requests refused in turn" % (name, count), complaint

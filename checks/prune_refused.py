@@ -1,0 +1,257 @@
+"""Refusals of `prune` and `untag`, which change nothing; folders that another process has locked; and files that cannot be removed. Wants `cc`."""
+import fcntl
+import os
+import shutil
+import subprocess
+import tarfile
+
+import shim
+from archives import NOBODY
+from harmful_folders import files
+from layouts import BAR, E, FOO, I1, LAYER, M2, M3, S, Content, blob, digits, image, index, key, write_layout
+from program import PROGRAM, first, run, told
+from pruning import Prune, stamps
+
+SECONDS = 10
+A = Content(LAYER, b"a layer")
+STRAYS = ["blobs/sha256/%064x" % 1, "blobs/sha256/%064x" % 2, "blobs/sha512/%0128x" % 3, "index.json.0123456789abcdef.new"]
+WAITS = "ocicp: waiting for another process that writes into layout\n"
+LINKED = ["blobs", "blobs/sha256", "blobs/sha512"]
+# An index that refers to the image that is tagged, and one that lacks an image.
+REFERRER, LACKING = index([M3], subject=M2), index([I1, S])
+PRUNES = [["prune", *flags, "layout"] for flags in ([], ["--dry-run"], ["--no-referrers"], ["--dry-run", "--no-referrers"], ["--no-wait"])]
+ALL = [E, FOO, BAR, M2, M3, A]
+
+# By what a prune is refused: the contents, the tags, what else is listed in the index, and the line of the refusal.
+REFUSED = {
+    "no tag": (ALL, {}, [M2, M3], "97 NoTags"),
+    "an empty layout": ([], {}, [], "97 NoTags"),
+    "a tag that is the empty text": (ALL, {"": M2}, [], "97 NoTags"),
+    "a tagged image that is not there": ([E, FOO, M2], {"new": M2, "other": M3}, [], "96 Unknown " + key(M3)),
+    "an image without a tag that is not there": ([E, FOO, M2], {"new": M2}, [M3], "96 Unknown " + key(M3)),
+    "a tagged layer that is not there": ([E, FOO, M2], {"new": M2, "layer": BAR}, [], "96 Unknown " + key(BAR)),
+    "a layer without a tag that is not there": ([E, FOO, M2], {"new": M2}, [A, BAR], "96 Unknown " + key(A)),
+    "an index that lacks an image": ([E, FOO, M2, I1], {"new": I1}, [], "96 Unknown " + key(M3)),
+    "an index in an index that lacks an image": ([E, FOO, M2, I1, index([I1])], {"new": index([I1])}, [], "96 Unknown " + key(M3)),
+    "an image that lacks its subject": ([E, S], {"new": S}, [], "96 Unknown " + key(M2)),
+}
+# What a manifest holds that is damaged, and by what each command that opens the layout is refused.
+DAMAGED = {
+    "other bytes": (M2, M2.bytes.replace(b"2", b"3"), "75 Corrupt " + key(M2)),
+    "fewer bytes": (M2, M2.bytes[:-1], "75 Corrupt " + key(M2)),
+    "no JSON": (M2._replace(bytes=b"["), b"[", "77 BadManifest %s 10 NotJson" % key(M2._replace(bytes=b"["))),
+    "no config": (M2._replace(bytes=b"{}"), b"{}", "77 BadManifest %s 12 NoConfig" % key(M2._replace(bytes=b"{}"))),
+}
+
+# The removal of one file is refused.
+KEEPS = shim.CHANGES + r"""
+static int on_change(const char *path) {
+  const char *kept = getenv("KEPT");
+  size_t length = path ? strlen(path) : 0, end = strlen(kept);
+  return length >= end && strcmp(path + length - end, kept) == 0 ? EACCES : 0;
+}
+"""
+
+
+def fresh(room, contents, tags, untagged=(), strays=STRAYS):
+    """Makes a layout that has files which a prune removes."""
+    shutil.rmtree(room + "/layout", ignore_errors=True)
+    write_layout(room + "/layout", contents, tags, untagged)
+    os.makedirs(room + "/layout/blobs/sha512", exist_ok=True)
+    for number, path in enumerate(strays):
+        with open("%s/layout/%s" % (room, path), "wb") as file:
+            file.write(b"x" * number)
+
+
+def wrong_refusal(room, words, line, status=1):
+    """What is wrong with how a command is refused, which is to change nothing."""
+    before, when = files(room), stamps(room)
+    ended = run(words, room)
+    return first([
+        None if ended[:3] == (status, "", "ocicp: %s\n" % line) else "%s: %s; and not %s" % (" ".join(words), told(ended), line),
+        None if files(room) == before and stamps(room) == when else "%s: something has changed" % " ".join(words),
+    ])
+
+
+def prunes(room):
+    for what, (contents, tags, untagged, line) in REFUSED.items():
+        fresh(room, contents, tags, untagged)
+        yield "refused by " + what, first(wrong_refusal(room, words, line) for words in PRUNES)
+    fresh(room, [*ALL, I1, LACKING], {"new": M2}, [LACKING])
+    yield "an index without a tag that lacks an image", wrong_done(room, [])
+    fresh(room, [E, FOO, M2, REFERRER], {"new": M2}, [REFERRER])
+    yield "a referrer that lacks an image", first(wrong_refusal(room, words, "96 Unknown " + key(M3)) for words in PRUNES[:2])
+    yield "the same with --no-referrers", wrong_done(room, ["--no-referrers"])
+    for what, (content, written, line) in DAMAGED.items():
+        fresh(room, [E, FOO, content, M3], {"new": content, "other": M3})
+        with open("%s/layout/%s" % (room, blob(content)), "wb") as file:
+            file.write(written)
+        yield "a manifest with %s" % what, first(wrong_refusal(room, words, line) for words in [*PRUNES, ["untag", "layout", "other"]])
+
+
+def wrong_done(room, flags):
+    """What is wrong with a prune that is not refused."""
+    prune = Prune(room + "/layout", keeps_referrers=not flags)
+    ended = run(["prune", *flags, "layout"], room)
+    return None if not prune.refusals and ended[:3] == (0, prune.out, "") else told(ended)
+
+
+def linked(room):
+    """Layouts whose blobs another layout has too."""
+    for link in LINKED:
+        fresh(room, ALL, {"new": M2}, [M3])
+        shutil.rmtree(room + "/shared", ignore_errors=True)
+        os.rename("%s/layout/%s" % (room, link), room + "/shared")
+        os.symlink(room + "/shared", "%s/layout/%s" % (room, link))
+        yield "a link in the place of " + link, first(wrong_refusal(room, words, "98 LinkedBlobs " + link) for words in PRUNES)
+    # (the folder itself may be a link)
+    fresh(room, ALL, {"new": M2}, [M3])
+    os.rename(room + "/layout", room + "/real")
+    os.symlink("real", room + "/layout")
+    yield "a link to a layout", wrong_done(room, [])
+    os.remove(room + "/layout")
+
+
+def no_layouts(room):
+    """What is no layout, or no folder."""
+    fresh(room, ALL, {"new": M2})
+    with tarfile.open(room + "/layout.tar", "w") as archive:
+        archive.add(room + "/layout", ".")
+    os.symlink("layout.tar", room + "/link.tar")
+    with open(room + "/text", "w") as file:
+        file.write("a text\n")
+    os.mkdir(room + "/folder")
+    commands = [["prune"], ["prune", "--dry-run"], ["prune", "--no-wait"], ["untag"], ["untag", "--no-wait"]]
+    for path, line in [*((it, "95 NotWritable " + it) for it in ("layout.tar", "link.tar", "text")),
+                       *((it, "70 NoLayoutFile") for it in ("folder", "nothing", "nothing/in/it"))]:
+        yield "%s is no layout" % path, first(
+            wrong_refusal(room, [*words, path, *(["new"] if words[0] == "untag" else [])], line) for words in commands)
+
+
+def locked(room):
+    """Commands on a folder that another process has locked."""
+    fresh(room, ALL, {"new": M2, "old": M3}, [A])
+    shutil.copytree(room + "/layout", room + "/source")
+    folder = os.open(room + "/layout", os.O_RDONLY | os.O_DIRECTORY)
+    fcntl.flock(folder, fcntl.LOCK_EX)
+    commands = {
+        "prune": ["prune", "--no-wait", "layout"],
+        "untag": ["untag", "--no-wait", "layout", "old"],
+        "copy": ["copy", "--no-wait", "source", "old", "layout"],
+        "copy --all": ["copy", "--no-wait", "--all", "source", "layout"],
+    }
+    for name, words in commands.items():
+        yield "%s --no-wait" % name, wrong_refusal(room, words, "99 Locked layout")
+    prune = Prune(room + "/layout")
+    for words in ["prune", "--dry-run", "layout"], ["prune", "--dry-run", "--no-wait", "layout"]:
+        ended = run(words, room)
+        yield "%s takes no lock" % " ".join(words), None if ended[:3] == (0, prune.out, "") else told(ended)
+    os.close(folder)
+    for words, out in (["untag", "layout", "old"], "untagged %s\n" % key(M3)), (["prune", "layout"], None):
+        yield "%s waits for the lock" % words[0], wrong_wait(room, words, out or Prune(room + "/layout").out)
+    for name, words in commands.items():
+        ended = run(words, room)
+        wanted = (1, "ocicp: 36 UnknownReference\n") if name == "untag" else (0, "")
+        yield "%s --no-wait, of a folder that is free" % name, None if (ended.status, ended.err) == wanted else told(ended)
+
+
+def wrong_wait(room, words, out):
+    """What is wrong with a command that has to wait: until it has the lock it changes nothing."""
+    when = stamps(room)
+    folder = os.open(room + "/layout", os.O_RDONLY | os.O_DIRECTORY)
+    fcntl.flock(folder, fcntl.LOCK_EX)
+    pipes = {"stdin": subprocess.DEVNULL, "stdout": subprocess.PIPE, "stderr": subprocess.PIPE}
+    with subprocess.Popen([PROGRAM, *words], cwd=room, text=True, **pipes) as process:
+        said = process.stderr.readline()
+        has_waited = process.poll() is None and stamps(room) == when
+        os.close(folder)
+        printed, err = process.communicate(timeout=SECONDS)
+    return first([
+        None if said == WAITS else "it says %r" % said,
+        None if has_waited else "it does not wait for the lock",
+        None if (process.returncode, printed, err) == (0, out, "") else "status %d, %s" % (process.returncode, (printed + err).strip()),
+    ])
+
+
+def written(room):
+    """Drafts that other processes are writing, which are locked: they stay, and are not counted."""
+    fresh(room, ALL, {"new": M2}, [M3])
+    drafts = ["blobs/sha256/%s.%s.new" % (digits(it), "f" * 16) for it in (M2, A)] + [STRAYS[-1]]
+    opened = [open("%s/layout/%s" % (room, it), "w") for it in drafts]
+    for file in opened[1:]:
+        fcntl.flock(file, fcntl.LOCK_EX)
+    prune = Prune(room + "/layout", written=drafts[1:])
+    for words in ["prune", "--dry-run", "layout"], ["prune", "layout"]:
+        ended = run(words, room)
+        yield "%s, with drafts that are written" % " ".join(words), None if ended[:3] == (0, prune.out, "") else told(ended)
+    gone = [it for it in drafts if not os.path.exists("%s/layout/%s" % (room, it))]
+    yield "drafts that are written stay", None if gone == drafts[:1] else "these are gone: %s" % gone
+    for file in opened:
+        file.close()
+
+
+def wrong_kept(room, prune, kept, how):
+    """What is wrong with a prune that cannot remove these files: the others are gone, and it says which these are."""
+    before = files(room + "/layout")
+    ended = how(["prune", "layout"])
+    left = files(room + "/layout")
+    lengths = {it: len(before[it]) for it in prune.gone if it not in kept}
+    lines = ["removed-file %s " % it for it in kept]
+    out = [it for it in prune.lines[:-1] if not it.startswith(tuple(lines))]
+    out += ["kept %d removed %d files %d bytes %d" % (len(prune.kept), len(prune.removed), len(lengths), sum(lengths.values()))]
+    return first([
+        None if (ended.status, ended.err) == (1, "ocicp: 79 NotRemoved %s\n" % kept[0]) else told(ended),
+        None if ended.out.splitlines() == out else "it prints %s, and not %s" % (ended.out.splitlines(), out),
+        None if set(before) - set(left) == set(lengths) else "it removed %s" % sorted(set(before) - set(left)),
+        first("%s is not as it was" % it for it in left if it != "index.json" and left[it] != before[it]),
+    ])
+
+
+def wrong_later(room):
+    """What is wrong with a prune after one that could not remove all."""
+    prune = Prune(room + "/layout")
+    ended, verified = run(["prune", "layout"], room), run(["verify", "layout"], room)
+    return first([
+        None if prune.gone and not prune.removed else "the index was not saved",
+        None if ended[:3] == (0, prune.out, "") else told(ended),
+        None if verified[:3] == (0, "held %d\n" % len(prune.kept), "") else told(verified),
+    ])
+
+
+def not_removed(room):
+    """Files that cannot be removed, one by one and all of a folder."""
+    library = shim.built(room, "keep", KEEPS)
+    for path in [*STRAYS, blob(BAR), blob(M3)]:
+        fresh(room, ALL, {"new": M2}, [M3])
+        prune = Prune(room + "/layout")
+        environment = dict(os.environ, LD_PRELOAD=library, KEPT="layout/" + path)
+        refused = wrong_kept(room, prune, [path], lambda words: run(words, room, env=environment))
+        yield "%s cannot be removed" % path, first([refused, wrong_later(room)])
+    fresh(room, ALL, {"new": M2}, [M3])
+    yield unwritable(room)
+
+
+def unwritable(room):
+    """The check of a folder that may only be read, as another user if this one may write into each folder."""
+    folder = room + "/layout/blobs/sha256"
+    os.chmod(folder, 0o555)
+    user = NOBODY if os.access(folder, os.W_OK) else {}
+    prune = Prune(room + "/layout")
+    kept = [it for it in prune.gone if it.startswith("blobs/sha256/")]
+    try:
+        for path in stamps(room + "/layout") if user else []:
+            os.chown("%s/layout/%s" % (room, path), user["user"], user["group"])
+        os.chmod(room, 0o711)
+        refused = wrong_kept(room, prune, kept, lambda words: run(words, room, **user))
+    except OSError:
+        return "a folder that may only be read is not looked at, since no other user can run the program here", None
+    os.chmod(folder, 0o755)
+    return "a folder that may only be read", first([refused, wrong_later(room)])
+
+
+def checks(room):
+    for number, group in enumerate([prunes, linked, no_layouts, locked, written, not_removed]):
+        folder = "%s/%d" % (room, number)
+        os.mkdir(folder)
+        os.chmod(room, 0o711)
+        yield from group(folder)

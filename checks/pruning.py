@@ -1,0 +1,134 @@
+"""What a prune of a layout keeps, removes and prints, worked out from the files of the layout by the rules that `ocicp prune --help` has."""
+import json
+import os
+import re
+import stat
+from collections import namedtuple
+
+from harmful_folders import read
+from layouts import ARTIFACT, DOCKER_IMAGE, DOCKER_LIST, IMAGE, INDEX, NAME
+
+# The members of each kind of manifest that list contents.
+MEMBERS = {
+    IMAGE: ["subject", "config", "layers"],
+    INDEX: ["subject", "manifests"],
+    DOCKER_IMAGE: ["config", "layers"],
+    DOCKER_LIST: ["manifests"],
+    ARTIFACT: ["subject", "blobs"],
+}
+# Layers of these types are not distributed, so no manifest needs them.
+FOREIGN = re.compile(
+    r"application/vnd\.oci\.image\.layer\.nondistributable\.v1\.tar(\+gzip|\+zstd)?"
+    r"|application/vnd\.docker\.image\.rootfs\.foreign\.diff\.tar\.gzip"
+)
+# Names of blobs, and of drafts.
+BLOB = re.compile(r"blobs/(sha256/[0-9a-f]{64}|sha512/[0-9a-f]{128})")
+DRAFT = re.compile(r"(%s|index\.json|oci-layout)\.[0-9a-f]{16}\.new" % BLOB.pattern)
+LINKS = ["blobs", "blobs/sha256", "blobs/sha512"]
+
+# Keys are in this order.
+Key = namedtuple("Key", "media_type digest size")
+
+
+def text(key):
+    """A key as the program prints it."""
+    return "%s %d %s" % (key.digest, key.size, key.media_type)
+
+
+def path(key):
+    return "blobs/" + key.digest.replace(":", "/")
+
+
+def key_of(value):
+    return Key(value["mediaType"], value["digest"], value["size"])
+
+
+class Held:
+    """The keys that a layout holds, and what refers to what."""
+
+    def __init__(self, folder):
+        self.folder = folder
+        entries = json.loads(read(folder + "/index.json"))["manifests"]
+        self.entries = [key_of(it) for it in entries]
+        self.absent = [it for it in self.entries if not self.has_file(it)]
+        self.keys = set(self.entries) - set(self.absent)
+        while more := {it for key in self.keys for it in self.listed(key) if self.has_file(it)} - self.keys:
+            self.keys |= more
+        # (of two entries with one name the last counts)
+        names = [it.get("annotations", {}).get(NAME) for it in entries]
+        self.tags = {name: key for name, key in zip(names, self.entries) if name and key in self.keys}
+
+    def has_file(self, key):
+        return os.path.isfile("%s/%s" % (self.folder, path(key)))
+
+    def member(self, key, name):
+        """The keys of a member of a manifest."""
+        value = json.loads(read("%s/%s" % (self.folder, path(key)))).get(name) or []
+        return [key_of(it) for it in (value if isinstance(value, list) else [value])]
+
+    def listed(self, key):
+        """The keys that a key lists."""
+        found = [it for name in MEMBERS.get(key.media_type, []) for it in self.member(key, name)]
+        return [it for it in found if not FOREIGN.fullmatch(it.media_type)]
+
+    def subject(self, key):
+        return self.member(key, "subject") if "subject" in MEMBERS.get(key.media_type, []) else []
+
+    def kept(self, keeps_referrers):
+        """The least set of held keys that has the tagged keys, with each key what it lists, and with each key what refers to it."""
+        kept = set()
+        more = set(self.tags.values())
+        while more:
+            kept |= more
+            more = {it for key in kept for it in self.listed(key)}
+            if keeps_referrers:
+                more |= {it for it in self.keys if kept.intersection(self.subject(it))}
+            more = (more & self.keys) - kept
+        return kept
+
+
+class Prune:
+    """A prune of a layout. Drafts at these paths are still written."""
+
+    def __init__(self, folder, keeps_referrers=True, written=()):
+        held = Held(folder)
+        self.held, self.kept = held, held.kept(keeps_referrers)
+        self.removed = sorted(held.keys - self.kept)
+        needed, had = set(map(path, self.kept)), set(map(path, held.keys))
+        lengths = {it: os.lstat("%s/%s" % (folder, it)).st_size for it in files_of(folder)}
+        blobs = [it for it in lengths if BLOB.fullmatch(it) and it not in needed]
+        drafts = [it for it in lengths if DRAFT.fullmatch(it) and it not in written]
+        self.gone = sorted(blobs + drafts)
+        self.lines = [
+            *("removed " + text(it) for it in self.removed),
+            *("removed-file %s %d" % (it, lengths[it]) for it in self.gone if it not in had),
+            "kept %d removed %d files %d bytes %d"
+            % (len(self.kept), len(self.removed), len(self.gone), sum(lengths[it] for it in self.gone)),
+        ]
+        self.refusals = [
+            *(["97 NoTags"] if not held.tags else []),
+            *("96 Unknown " + text(it) for it in held.absent),
+            *("96 Unknown " + text(it) for key in self.kept for it in held.listed(key) if it not in held.keys and it.media_type in MEMBERS),
+            *["98 LinkedBlobs " + it for it in LINKS if os.path.islink("%s/%s" % (folder, it))][:1],
+        ]
+        self.out = "".join(it + "\n" for it in self.lines)
+
+
+def files_of(folder):
+    """The paths of the files and links in the folders that a prune looks through."""
+    for place in "", "blobs/sha256/", "blobs/sha512/":
+        at = "%s/%s" % (folder, place)
+        for name in os.listdir(at) if os.path.isdir(at) else []:
+            mode = os.lstat(at + name).st_mode
+            if stat.S_ISREG(mode) or stat.S_ISLNK(mode):
+                yield place + name
+
+
+def stamps(folder):
+    """Each path below a folder, with the number of its file, its length, its mode and when it was last changed."""
+    found = {}
+    for at, folders, names in os.walk(folder):
+        for name in [".", *folders, *names]:
+            state = os.lstat(os.path.join(at, name))
+            found[os.path.relpath(os.path.join(at, name), folder)] = (state.st_ino, state.st_size, state.st_mode, state.st_mtime_ns)
+    return found
