@@ -1,4 +1,5 @@
-"""Prunes that are ended half-way, that cannot change a file, and that run beside copies: no tag loses anything, and the same prune finishes. Wants `cc`."""
+"""Prunes that are ended half-way, that cannot change a file, and that run beside copies. No tag loses anything, and the same prune,
+made again, finishes. Wants `cc`."""
 import os
 import re
 import resource
@@ -72,7 +73,8 @@ class Layout:
             return told(self.whole)
 
     def wrong_state(self):
-        """What is wrong with the layout when a prune has not finished: no file is gone of what it holds, which is what it was or is to be."""
+        """What is wrong with the layout when a prune has not finished. It holds what it did, or what is to be kept, and has each file of
+        that; no file is gone before the index is saved."""
         held = self.prune.kept if self.saved() else self.prune.held.keys
         return first([
             wrong_layout(self.room, "layout", held, TAGS),
@@ -120,12 +122,12 @@ def wrong_order(layout, library):
     removed = [it for it in notes if it in layout.prune.gone]
     start = notes.index(removed[0]) if removed else 0
     saved = notes.index("index.json") if "index.json" in notes else start
+    is_saved = saved < start and notes[saved:start].count("(sync)") >= 2
     return first([
         None if ended[:3] == (0, layout.prune.out, "") else told(ended),
         None if sorted(removed) == layout.prune.gone else "these were removed: %s" % removed,
         None if notes[start:] == removed else "after the first removal: %s" % notes[start:],
-        None if saved < start and notes[saved:start].count("(sync)") >= 2 or not layout.untagged else "these came first: %s" % notes[:start],
-        None if layout.untagged or notes == removed else "something was written: %s" % notes[:start],
+        None if (is_saved if layout.untagged else notes == removed) else "these came first: %s" % notes[:start],
     ])
 
 
@@ -168,8 +170,9 @@ def wrong_limit(layout):
 
 def copy_or_prune(room, name):
     """Copies an image, or prunes: what is wrong with the answer."""
-    words = ["copy", "source", name, "copied"] if name in IMAGES else ["prune", "copied"]
-    wanted = r"copied %s\n(.*\n)*" % re.escape(key(IMAGES[name])) if name in IMAGES else r"(removed.*\n)*kept \d+ removed \d+ files \d+ bytes \d+\n"
+    words, wanted = ["prune", "copied"], r"(removed.*\n)*kept \d+ removed \d+ files \d+ bytes \d+\n"
+    if name in IMAGES:
+        words, wanted = ["copy", "source", name, "copied"], r"copied %s\n(.*\n)*" % re.escape(key(IMAGES[name]))
     ended = run(words, room, seconds=30)
     if ended.status != 0 or not re.fullmatch(wanted, ended.out) or not WAITS.fullmatch(ended.err):
         return "%s: %s" % (" ".join(words), told(ended))

@@ -50,7 +50,11 @@ def wrong_untag(name, library, room, nth):
 
 def checks(room):
     library = refusals.build(room)
-    cases = {"a prune": (tuple(UNTAGGED), wrong_prune), "a prune of files alone": ((), wrong_prune), "untag": (next(iter(TAGS)), wrong_untag)}
+    cases = {
+        "a prune": (tuple(UNTAGGED), wrong_prune),
+        "a prune of files alone": ((), wrong_prune),
+        "untag": (next(iter(TAGS)), wrong_untag),
+    }
     for number, (name, (case, wrong)) in enumerate(cases.items()):
         count, complaint = refused_in_turn(case, library, "%s/%d" % (room, number), wrong)
         yield "%s, %d requests refused in turn" % (name, count), complaint

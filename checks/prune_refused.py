@@ -1,4 +1,5 @@
-"""Refusals of `prune` and `untag`, which change nothing; folders that another process has locked; and files that cannot be removed. Wants `cc`."""
+"""Refusals of `prune` and `untag`, which change nothing; folders that another process has locked; files that cannot be removed.
+Wants `cc`."""
 import fcntl
 import os
 import shutil

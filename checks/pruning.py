@@ -1,4 +1,4 @@
-"""What a prune of a layout keeps, removes and prints, worked out from the files of the layout by the rules that `ocicp prune --help` has."""
+"""What a prune of a layout keeps, removes and prints, worked out from the layout's files by the rules of `ocicp prune --help`."""
 import json
 import os
 import re
@@ -108,10 +108,15 @@ class Prune:
         self.refusals = [
             *(["97 NoTags"] if not held.tags else []),
             *("96 Unknown " + text(it) for it in held.absent),
-            *("96 Unknown " + text(it) for key in self.kept for it in held.listed(key) if it not in held.keys and it.media_type in MEMBERS),
+            *("96 Unknown " + text(it) for it in self.lacking()),
             *["98 LinkedBlobs " + it for it in LINKS if os.path.islink("%s/%s" % (folder, it))][:1],
         ]
         self.out = "".join(it + "\n" for it in self.lines)
+
+    def lacking(self):
+        """The manifests that a kept key lists and that are not held, so that nobody knows what they list."""
+        listed = {it for key in self.kept for it in self.held.listed(key)}
+        return {it for it in listed - self.held.keys if it.media_type in MEMBERS}
 
 
 def files_of(folder):
