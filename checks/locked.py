@@ -1,4 +1,4 @@
-"""The lock on the folder that a copy writes into: when it is taken, and how long it is held. Wants `cc`."""
+"""The lock on the folder that a command writes into: when it is taken, and how long it is held. Wants `cc`."""
 import fcntl
 import os
 import shutil
@@ -6,13 +6,22 @@ import signal
 import subprocess
 
 import shim
-from layouts import BAR, E, FOO, M2, digits, key, write_layout
+from layouts import BAR, E, FOO, LAYER, M2, Content, digits, key, write_layout
 from program import PROGRAM, first, wrong_layout
 
-# A copy makes at most so many changes, and is stopped before each.
+# A command makes at most so many changes, and is stopped before each.
 CHANGES = 100
 SECONDS = 10
+# What is held without a tag, and goes by a prune.
+OTHER = Content(LAYER, b"other")
+# By command, what is held when it is done, and the tags.
 COPY = ["copy", "--workers", "1", "source", "new", "copied"]
+COPIED = [BAR, OTHER, E, FOO, M2], {"old": BAR, "new": M2}
+COMMANDS = {
+    "a copy": (COPY, COPIED),
+    "a prune": (["prune", "copied"], ([BAR], {"old": BAR})),
+    "untag": (["untag", "copied", "old"], ([BAR, OTHER], {})),
+}
 WAITS = "ocicp: waiting for another process that writes into copied\n"
 
 
@@ -20,7 +29,7 @@ def fresh(room):
     for layout in "source", "copied":
         shutil.rmtree("%s/%s" % (room, layout), ignore_errors=True)
     write_layout(room + "/source", [E, FOO, M2], {"new": M2})
-    write_layout(room + "/copied", [BAR], {"old": BAR})
+    write_layout(room + "/copied", [BAR, OTHER], {"old": BAR}, [OTHER])
 
 
 def opened(room):
@@ -39,26 +48,23 @@ def is_free(room):
         os.close(folder)
 
 
-def wrong_done(room):
-    return wrong_layout(room, "copied", [BAR, E, FOO, M2], {"old": BAR, "new": M2})
-
-
-def held_at_each(room, library):
-    """Stops a copy before each of its changes, and tries to take the lock."""
+def held_at_each(room, library, what):
+    """Stops a command before each of its changes, and tries to take the lock."""
+    words, done = COMMANDS[what]
     for number in range(1, CHANGES + 1):
         fresh(room)
-        process = shim.stopped(library, COPY, room, number)
+        process = shim.stopped(library, words, room, number)
         if not process:
             break
         free = is_free(room)
         os.kill(process.pid, signal.SIGCONT)
         _, err = process.communicate(timeout=SECONDS)
-        yield "a copy has the lock before its change %d" % number, first([
+        yield "%s has the lock before its change %d" % (what, number), first([
             "the lock is free" if free else None,
             None if (process.returncode, err) == (0, "") else "status %d, %s" % (process.returncode, err.strip()),
-            wrong_done(room),
+            wrong_layout(room, "copied", *done),
         ])
-    yield "a copy makes between 5 and %d changes" % CHANGES, None if 5 < number < CHANGES else "it makes %d" % (number - 1)
+    yield "%s makes between 3 and %d changes" % (what, CHANGES), None if 3 < number < CHANGES else "it makes %d" % (number - 1)
 
 
 def wrong_wait(room):
@@ -78,13 +84,15 @@ def wrong_wait(room):
         out, err = process.communicate(timeout=SECONDS)
     return first([
         None if said == WAITS else "it says %r" % said,
-        None if was_there and not was_done and len(files) == 2 else "it does not wait for the lock",
+        None if was_there and not was_done and len(files) == 3 else "it does not wait for the lock",
         None if (process.returncode, err) == (0, "") and out.startswith("copied %s\n" % key(M2)) else "status %d, %s" % (process.returncode, err),
         "the draft is still there" if os.path.exists(draft) else None,
-        wrong_done(room),
+        wrong_layout(room, "copied", *COPIED),
     ])
 
 
 def checks(room):
-    yield from held_at_each(room, shim.built(room, "stop", shim.STOPS))
+    library = shim.built(room, "stop", shim.STOPS)
+    for what in COMMANDS:
+        yield from held_at_each(room, library, what)
     yield "a copy that waits for the lock", wrong_wait(room)

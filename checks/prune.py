@@ -24,6 +24,10 @@ OLD_IMAGE = image([A, OLD])
 LONG_IMAGE, OLD_LONG = image([LONG]), image([B], subject=M3)._replace(algorithm="sha512")
 SIGNED = image([B], subject=S)
 BILL = index([SIGNED], subject=S)
+# (each refers to the one before)
+CHAIN = [M2]
+for _ in range(60):
+    CHAIN.append(image([], subject=CHAIN[-1]))
 OF_OLD, OF_BOTH = image([B], subject=OLD_IMAGE), image([], subject=I1)
 ALL = [E, FOO, B, M2]
 
@@ -45,6 +49,9 @@ CASES = {
                                     shared=[M2]),
     "one digest by two media types, without a tag": Case([E, FOO, M2, A], {"new": M2}, [A, A_ZIPPED], goes=[A, A_ZIPPED]),
     "referrers of referrers": Case([*ALL, S, SIGNED, BILL], {"new": M2}, [S, BILL], referrers=[S, B, SIGNED, BILL]),
+    "a chain of referrers": Case([E, FOO, *CHAIN], {"new": M2}, [CHAIN[-1]], referrers=CHAIN[1:]),
+    "the other end of a chain of referrers": Case([E, FOO, *CHAIN], {"last": CHAIN[-1]}),
+    "a chain of referrers without a tag": Case([E, FOO, *CHAIN, A], {"layer": A}, [CHAIN[-1]], goes=[E, FOO, *CHAIN]),
     "a referrer that is tagged": Case([*ALL, S, SIGNED], {"signature": S}, [M2, SIGNED], referrers=[B, SIGNED]),
     "what refers to an image without a tag": Case([*ALL, A, OLD, OLD_IMAGE, OF_OLD], {"new": M2}, [OLD_IMAGE, OF_OLD],
                                                   goes=[A, B, OLD, OLD_IMAGE, OF_OLD]),
