@@ -24,12 +24,12 @@ OLD_IMAGE = image([A, OLD])
 LONG_IMAGE, OLD_LONG = image([LONG]), image([B], subject=M3)._replace(algorithm="sha512")
 SIGNED = image([B], subject=S)
 BILL = index([SIGNED], subject=S)
+OF_OLD, OF_BOTH = image([B], subject=OLD_IMAGE), image([], subject=I1)
+ALL = [E, FOO, B, M2]
 # (each refers to the one before)
 CHAIN = [M2]
 for _ in range(60):
     CHAIN.append(image([], subject=CHAIN[-1]))
-OF_OLD, OF_BOTH = image([B], subject=OLD_IMAGE), image([], subject=I1)
-ALL = [E, FOO, B, M2]
 
 # A layout: its contents, its tags, and what else is listed in its index; other files, each with its text; what goes, and what goes also
 # with --no-referrers, of contents and of files; contents of which the file stays, since another one has it; and whether all is there
