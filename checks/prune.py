@@ -144,7 +144,6 @@ def wrong_prune(folder, flags, is_whole=True):
     """What is wrong with a prune of a layout: first with --dry-run, which changes nothing, then itself, then once more."""
     layout = folder + "/layout"
     prune = Prune(layout, keeps_referrers=not flags)
-    tags = run(["tags", "layout"], folder)
     before, when = files(layout), stamps(layout)
     complaint = wrong_answer(folder, ["--dry-run", *flags], prune)
     complaint = complaint or (None if stamps(layout) == when else "--dry-run changed something")
@@ -155,15 +154,19 @@ def wrong_prune(folder, flags, is_whole=True):
     return first([
         wrong_left(folder, prune, before),
         None if prune.removed or stamps(layout)["index.json"] == when["index.json"] else "index.json was written",
-        None if run(["tags", "layout"], folder)[:3] == tags[:3] else "the tags are others",
-        wrong_verified(folder, len(prune.kept)) if is_whole else None,
+        wrong_answers(folder, prune) if is_whole else None,
         wrong_again(folder, flags, len(prune.kept), again),
     ])
 
 
-def wrong_verified(folder, count):
-    ended = run(["verify", "layout"], folder)
-    return None if ended[:3] == (0, "held %d\n" % count, "") else "verify: " + told(ended)
+def wrong_answers(folder, prune):
+    """What is wrong with the answers of the commands that read, after a prune: each tag is what it was, and all that is kept is good."""
+    tags, verified = run(["tags", "layout"], folder), run(["verify", "layout"], folder)
+    lines = ["%s %s\n" % (name, text(key)) for name, key in sorted(prune.held.tags.items())]
+    return first([
+        None if tags[:3] == (0, "".join(lines), "") else "tags: " + told(tags),
+        None if verified[:3] == (0, "held %d\n" % len(prune.kept), "") else "verify: " + told(verified),
+    ])
 
 
 def wrong_again(folder, flags, count, prune):
@@ -210,7 +213,8 @@ def others(room):
     write_case(room + "/layout", Case([E, FOO, M2], {"new": M2}))
     os.mkfifo("%s/layout/blobs/sha256/%s" % (room, ZEROS))
     os.mkfifo("%s/layout/index.json%s" % (room, DRAFT))
-    yield "a FIFO with the name of a blob", wrong_prune(room, [])
+    os.symlink("index.json", "%s/layout/oci-layout%s" % (room, DRAFT))
+    yield "a FIFO with the name of a blob, and a link with that of a draft", wrong_prune(room, [])
 
 
 # By kind, the members of a manifest: whether each is one content or a list of them, and whether it may be absent.

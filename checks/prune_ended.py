@@ -69,8 +69,12 @@ class Layout:
         return files(self.room + "/layout")["index.json"] == self.after["index.json"]
 
     def wrong_whole(self):
-        if self.whole[:3] != (0, self.prune.out, "") or self.gone() != self.prune.gone:
-            return told(self.whole)
+        """What is wrong with a prune that was not ended, and with what it left."""
+        return first([
+            None if self.whole[:3] == (0, self.prune.out, "") else told(self.whole),
+            None if self.gone() == self.prune.gone else "these files are gone: %s" % self.gone(),
+            wrong_layout(self.room, "layout", self.prune.kept, TAGS),
+        ])
 
     def wrong_state(self):
         """What is wrong with the layout when a prune has not finished. It holds what it did, or what is to be kept, and has each file of
@@ -89,7 +93,6 @@ class Layout:
         return first([
             None if ended[:3] == (0, prune.out, "") else "the same prune again: " + told(ended),
             None if files(self.room + "/layout") == self.after else "the same prune again leaves something else",
-            wrong_layout(self.room, "layout", self.prune.kept, TAGS),
         ])
 
 

@@ -97,7 +97,8 @@ class Prune:
         needed, had = set(map(path, self.kept)), set(map(path, held.keys))
         lengths = {it: os.lstat("%s/%s" % (folder, it)).st_size for it in files_of(folder)}
         blobs = [it for it in lengths if BLOB.fullmatch(it) and it not in needed]
-        drafts = [it for it in lengths if DRAFT.fullmatch(it) and it not in written]
+        # (a link is no draft)
+        drafts = [it for it in lengths if DRAFT.fullmatch(it) and it not in written and not os.path.islink("%s/%s" % (folder, it))]
         self.gone = sorted(blobs + drafts)
         self.lines = [
             *("removed " + text(it) for it in self.removed),
