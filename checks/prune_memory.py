@@ -40,9 +40,11 @@ def wrong_untag(name, library, room, nth):
     is_done = ended.status == 0 and ended.out and not ended.err
     is_memory = refused and ended[:3] == (3, "", "ocicp: memory\n")
     again = run(["untag", "layout", name], layout.room)
+    # (the index may have been saved before memory was refused)
+    is_gone = again[:3] == (1, "", "ocicp: 36 UnknownReference\n")
     complaint = first([
         None if is_done or is_memory else told(ended),
-        None if again.status == (1 if is_done else 0) else "again: " + told(again),
+        None if is_gone or not is_done and again.status == 0 else "again: " + told(again),
         wrong_without(layout, name),
     ])
     return refused, complaint and "request %d: %s" % (nth, complaint)

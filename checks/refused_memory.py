@@ -80,7 +80,7 @@ def wrong_run(case, shim, room, nth):
 
 
 def refused_in_turn(case, shim, room, wrong=wrong_run):
-    """Refuses each request of a command in turn: how many it makes, and the first thing that is wrong, as `wrong` tells it of one."""
+    """Refuses each request of a command in turn: how many it makes, and the first thing that is wrong, which `wrong` finds."""
     os.mkdir(room)
     with multiprocessing.Pool() as pool:
         for start in range(1, MOST, BATCH):
