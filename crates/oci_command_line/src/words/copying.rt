@@ -135,8 +135,11 @@ fn prune<'w>(alloc: Global) -> Result<Arg<'w>, AllocError> {
         "With --all: afterwards removes from DST the tags that SRC does not have, and what no tag then needs, as the command \
                 `prune` does. Refused, before anything is copied, if SRC has no tag (97), or lacks the blob of an entry of \
                 its `index.json` (96). Not with --dry-run, since what is removed is known only after the copy";
+    // A required argument is not asked for beside one that it conflicts with, as `all` does with the
+    // destination's own word.
     flag(alloc, "prune", help)
         .requires_arg("all")?
+        .conflicts_with("destination")?
         .conflicts_with("dry-run")
 }
 
