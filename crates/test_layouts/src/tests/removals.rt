@@ -150,7 +150,7 @@ fn assert_cleaned<R: Host + Abort>(rt: &R) -> Result<(), Fail> {
 }
 
 /// Removes the link in the place of `blobs`.
-fn unlinked<D: PrunableDir>(alloc: Global, mut dir: D) -> Result<String, Fail> {
+fn unlinked<D: PrunableDir + Drop>(alloc: Global, mut dir: D) -> Result<String, Fail> {
     let before = dir.linked()?.unwrap_or("none");
     let found = dir.remove("blobs")?;
     let after = dir.linked()?.unwrap_or("none");
