@@ -3,13 +3,19 @@ _ocicp() {
   local word=${COMP_WORDS[COMP_CWORD]} flags='' valued='' last='' kinds=() words=() at line
   COMPREPLY=()
   if ((COMP_CWORD == 1)); then
-    mapfile -t COMPREPLY < <(compgen -W 'copy tags resolve predecessors tree verify mem explain --help --version' -- "$word")
+    mapfile -t COMPREPLY < <(compgen -W 'copy untag prune tags resolve predecessors tree verify mem explain --help --version' -- "$word")
     return
   fi
   case ${COMP_WORDS[1]} in
     copy)
-      flags='--all --referrers --depth --descend --workers --progress --dry-run --help' valued='--depth --workers' kinds=(folder tag folder tag)
+      flags='--all --referrers --depth --descend --prune --workers --progress --dry-run --no-wait --help' valued='--depth --workers' kinds=(folder tag folder tag)
       [[ " ${COMP_WORDS[*]} " != *' --all '* ]] || kinds=(folder folder)
+      ;;
+    untag)
+      flags='--no-wait --help' kinds=(folder tag)
+      ;;
+    prune)
+      flags='--dry-run --no-referrers --no-wait --help' kinds=(folder)
       ;;
     tags)
       flags='--help' kinds=(folder)
