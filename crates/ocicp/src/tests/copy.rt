@@ -113,6 +113,7 @@ $ ocicp copy --descend @/R <I4 digest> @/N i
 ? 1
 $ rm @/N/<M2 file>
 $ ocicp verify @/N
+absent <M2>
 open <I3> <M2>
 held 2
 ? 1
