@@ -4,7 +4,7 @@ import shutil
 import signal
 
 import shim
-from ended import SHIM
+from ended import CHANGES, SHIM
 from harmful_folders import files
 from layouts import BAR, E, FOO, I1, LAYER, M2, M3, S, Content, blob, image, index, key, write_layout
 from program import first, run, told
@@ -120,9 +120,7 @@ def killed(room, library):
     fresh(room, source, mirror)
     shutil.copytree(room + "/mirror", room + "/turn")
     in_turn(room, "turn")
-    number, made = 0, 1
-    while made > number:
-        number += 1
+    for number in range(1, CHANGES + 1):
         fresh(room, source, mirror)
         made, ended = shim.run_marked(library, ["copy", "--all", "--prune", "source", "mirror"], room, {"LAST_CHANGE": str(number)})
         if made < number:
@@ -136,7 +134,7 @@ def killed(room, library):
             None if again.status == 0 else told(again),
             None if files(room + "/mirror") == files(room + "/turn") else "the same mirror again leaves something else",
         ])
-    yield "the mirror makes more than 10 changes", None if number > 10 else "it makes %d" % (number - 1)
+    yield "the mirror makes between 10 and %d changes" % CHANGES, None if 10 < number < CHANGES else "it makes %d" % (number - 1)
 
 
 def checks(room):

@@ -118,7 +118,8 @@ def killed(layout, library, what):
 
 
 def wrong_order(layout, library):
-    """What is wrong with the order of the changes: the new index is in its place and on the disk, with the folder, before a file goes."""
+    """What is wrong with the order of the changes: the new index is in its place and on the disk, with the folder, before a file goes.
+    An index that is not written is on the disk too."""
     layout.fresh()
     text, ended = shim.run_noted(library, ["prune", "layout"], layout.room)
     notes = [it.replace("layout/", "") for it in text.splitlines()]
@@ -130,7 +131,7 @@ def wrong_order(layout, library):
         None if ended[:3] == (0, layout.prune.out, "") else told(ended),
         None if sorted(removed) == layout.prune.gone else "these were removed: %s" % removed,
         None if notes[start:] == removed else "after the first removal: %s" % notes[start:],
-        None if (is_saved if layout.untagged else notes == removed) else "these came first: %s" % notes[:start],
+        None if (is_saved if layout.untagged else notes[:start] == ["(sync)", "(sync)"]) else "these came first: %s" % notes[:start],
     ])
 
 
@@ -155,7 +156,7 @@ def without_room(layout, library, what):
             break
         nothing += not layout.gone()
         yield "%s, change %d refused" % (what, number), first([wrong_refused(layout, ended), layout.wrong_state(), layout.wrong_again()])
-    wanted = range(3, 10) if layout.untagged else [0]
+    wanted = range(3, 10) if layout.untagged else [2]
     yield "%d of these removed nothing" % nothing, None if nothing in wanted else "this is not one of %s" % list(wanted)
 
 
