@@ -6,6 +6,7 @@ ghost use Rattle.oci_manifest.specs.declared.fault.KeyFault.TheVariants.{BadSize
 use crate::fault::KeyFault;
 use crate::media_type::MediaType;
 use oci_digest::{Digest, NoMemory};
+use serde::{Described, Serialize, Serializer};
 use std::alloc::Global;
 use std::cmp::Ordering;
 use std::fmt;
@@ -167,6 +168,23 @@ impl fmt::Debug for Key {
 
     fn fmt<W: fmt::Write>(&self, f: &mut fmt::Formatter<W>) -> fmt::Result {
         write!(f, "Key({self})")
+    }
+}
+
+impl Described for Key {}
+
+/// A key is written as a descriptor with its required properties, `mediaType`, `digest` and `size`
+/// (OCI image-spec 1.1, descriptor.md, "Properties").
+impl Serialize for Key {
+    fn serialize<S: Serializer>(&self, out: &mut S) -> Result<(), S::Error> {
+        out.begin_map(Some(3))?;
+        out.key("mediaType")?;
+        out.str(self.media_type())?;
+        out.key("digest")?;
+        out.collect_str(&self.digest)?;
+        out.key("size")?;
+        out.u64(self.size)?;
+        out.end_map()
     }
 }
 
