@@ -3,6 +3,7 @@ pub mod Stating
 pub mod Elements
 pub mod Filing
 pub mod Sparing
+pub mod Noting
 pub mod Leaving
 pub mod Results
 pub mod Plans

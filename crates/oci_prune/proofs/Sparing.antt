@@ -18,11 +18,11 @@ use Rattle.oci_prune.specs.Pruned.{is_gone, AreThere, AreApart, IsPathOf, IsDraf
 use Rattle.oci_prune.specs.declared.pruning.PrunedFile.{PrunedFile}
 use Rattle.oci_prune.proofs.Elements.{next_element}
 
-abbrev Paths : Type 1
+abbrev pub Paths : Type 1
 Paths = List ℕ → Type 0
 
 pub spares_same : (dir : Device) (graph : List Node) (P : Paths) → Spares dir dir graph P
-spares_same dir graph P = record { other = λ honest path free. refl; contents = λ honest. refl; sound = λ h. h; honest = (λ h. h, λ h. h) }
+spares_same dir graph P = record { other = λ honest path free. refl; contents = λ honest. refl; sound = λ h. h; honest = (λ h. h, λ h. h); reads = refl }
 
 -- of two changes one after the other
 pub spares_both : (a b c : Device) (graph : List Node) (P Q T : Paths) → Spares a b graph P → Spares b c graph Q → ((path : List ℕ) → P path → T path) → ((path : List ℕ) → Q path → T path) → Spares a c graph T
@@ -31,16 +31,18 @@ spares_both a b c graph P Q T first second p q = record {
   contents = λ honest. second.contents (first.honest.0 honest) ∙ first.contents honest;
   sound = λ h. second.sound (first.sound h);
   honest = (λ h. second.honest.0 (first.honest.0 h), λ h. first.honest.1 (second.honest.1 h));
+  reads = second.reads ∙ first.reads;
 }
 
 -- a save touches the index alone
 pub spares_index : (a b : Device) (graph : List Node) → (a.is_honest → Touches a.file b.file index_file) → (a.is_honest → stored b.file graph ≡ stored a.file graph) → (IsSound a.is_honest a.file graph → IsSound b.is_honest b.file graph)
-    → (a.is_honest ↔ b.is_honest) → Spares a b graph (λ (path : List ℕ). index_file ≡ path)
-spares_index a b graph touches contents sound honest = record {
+    → (a.is_honest ↔ b.is_honest) → b.fails_reads ≡ a.fails_reads → Spares a b graph (λ (path : List ℕ). index_file ≡ path)
+spares_index a b graph touches contents sound honest reads = record {
   other = λ h path free. touches h path (apart path free);
   contents = contents;
   sound = sound;
   honest = honest;
+  reads = reads;
 }
   where
     apart : (path : List ℕ) → (index_file ≡ path → ⊥) → bytes_eq index_file path ≡ false
@@ -110,7 +112,7 @@ flags_more a b c graph now files i f gone flag lt is long there apart first seco
 
 -- ---- drafts
 
-abbrev Drafts : Type 0
+abbrev pub Drafts : Type 0
 Drafts = List (String Global × ℕ)
 
 pub draft_later : (drafts : List (List ℕ × ℕ)) (d : List ℕ × ℕ) (path : List ℕ) → IsDraftIn drafts path → IsDraftIn (drafts ++ d ∷ []) path
@@ -119,11 +121,14 @@ draft_later drafts d path h = (h.0, Contains-append_left drafts (d ∷ []) h.0 h
 pub draft_here : (drafts : List (List ℕ × ℕ)) (d : List ℕ × ℕ) (path : List ℕ) → d.0 ≡ path → IsDraftIn (drafts ++ d ∷ []) path
 draft_here drafts d path is = (d, Contains-push drafts d, is)
 
+-- the drafts of one step more
+pub by_name-next : (drafts : Drafts) (i : ℕ) (d : String Global × ℕ) → i < length drafts → d ≡ get_or drafts i d → by_name (take (i + 1) drafts) ≡ by_name (take i drafts) ++ (string_bytes d.0, d.1) ∷ []
+by_name-next drafts i d lt is = ap by_name (next_element drafts i d lt is) ∙ map-append (λ (f : String Global × ℕ). (string_bytes f.0, f.1)) (take i drafts) (d ∷ [])
+
 pub spares_draft : (a b c : Device) (graph now : List Node) (drafts : Drafts) (i : ℕ) (d : String Global × ℕ) → i < length drafts → d ≡ get_or drafts i d → Spares a b graph (IsDraftIn (by_name (take i drafts))) → now ≡ graph
     → Spares b c now (λ (path : List ℕ). string_bytes d.0 ≡ path) → Spares a c graph (IsDraftIn (by_name (take (i + 1) drafts)))
 spares_draft a b c graph now drafts i d lt is first same second =
-    let more : by_name (take (i + 1) drafts) ≡ by_name (take i drafts) ++ (string_bytes d.0, d.1) ∷ [] = ap by_name (next_element drafts i d lt is) ∙ map-append (λ (f : String Global × ℕ). (string_bytes f.0, f.1)) (take i drafts) (d ∷ []) in
-    subst (λ (ds : List (List ℕ × ℕ)). Spares a c graph (IsDraftIn ds)) (sym more)
+    subst (λ (ds : List (List ℕ × ℕ)). Spares a c graph (IsDraftIn ds)) (sym (by_name-next drafts i d lt is))
     (spares_both a b c graph (IsDraftIn (by_name (take i drafts))) (λ (path : List ℕ). string_bytes d.0 ≡ path) (IsDraftIn (by_name (take i drafts) ++ (string_bytes d.0, d.1) ∷ [])) first
     (subst (λ (g : List Node). Spares b c g (λ (path : List ℕ). string_bytes d.0 ≡ path)) same second) (draft_later (by_name (take i drafts)) (string_bytes d.0, d.1)) (draft_here (by_name (take i drafts)) (string_bytes d.0, d.1)))
 

@@ -46,16 +46,21 @@ IsDraftIn drafts path = (draft : List ℕ × ℕ) × Contains drafts draft × (d
 abbrev pub HasOnlyNeeded : File → List Node → Type 0
 HasOnlyNeeded file graph = (digest : List ℕ) → IsDigest digest → (HasDigestIn (λ k. has_key graph k ≡ true) digest → ⊥) → file (blob_path digest) ≡ None
 
--- a directory lost or got no file but at touched paths, and a graph in it kept its contents
+-- only files at touched paths changed in a directory, and the contents of a graph stayed
 pub record Spares (old new : Device) (graph : List Node) (touched : List ℕ → Type 0) : Type 0 where
   pub other : old.is_honest → (path : List ℕ) → (touched path → ⊥) → new.file path ≡ old.file path
   pub contents : old.is_honest → stored new.file graph ≡ stored old.file graph
   pub sound : IsSound old.is_honest old.file graph → IsSound new.is_honest new.file graph
   pub honest : old.is_honest ↔ new.is_honest
+  pub reads : new.fails_reads ≡ old.fails_reads
 
--- the path is that of the index, or of a file or a draft that a plan removes
+-- the path is that of a file or a draft that a plan removes
+abbrev pub IsPlanned : Pruning → List ℕ → Type 0
+IsPlanned plan path = IsPathOf plan.files.items path ⊎ IsDraftIn (by_name plan.drafts.items) path
+
+-- the path is that of the index, or planned
 abbrev pub IsTouchedBy : Pruning → List ℕ → Type 0
-IsTouchedBy plan path = (index_file ≡ path) ⊎ (IsPathOf plan.files.items path ⊎ IsDraftIn (by_name plan.drafts.items) path)
+IsTouchedBy plan path = (index_file ≡ path) ⊎ IsPlanned plan path
 
 -- the files of digests and the index are unchanged
 pub record AreSameBlobs (old new : Device) : Type 0 where

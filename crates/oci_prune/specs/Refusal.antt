@@ -1,13 +1,17 @@
--- Why there is no plan of a prune.
-use Rattle.std.specs.Prelude.{◌≡◌, ◌⊎◌, Bool, true, List, [], Option, Some, MatchOption, ⊤, slice_get}
+-- Why there is no plan of a prune, or why it is not carried out.
+use Rattle.std.specs.Prelude.{◌≡◌, ◌≢◌, ◌⊎◌, ℕ, Bool, true, List, [], Option, Some, Result, Ok, IfSome, IsErr, String, string_bytes, slice_get}
+use Rattle.std.specs.declared.alloc.Global.{Global}
 use Rattle.std.specs.Map.{values_of}
+use Rattle.oci_digest.specs.declared.fault.NoMemory.{NoMemory}
 use Rattle.oci_manifest.specs.Descriptor.{Descriptor}
 use Rattle.oci_store.specs.Graph.{Node}
 use Rattle.oci_store.specs.Keyed.{has_key}
+use Rattle.oci_store.specs.Push.{IsRaised}
 use Rattle.oci_store.specs.State.{State}
 use Rattle.oci_store.specs.Tags.{Tags}
 use Rattle.oci_layout.specs.Blobs.{meaning}
 use Rattle.oci_layout.specs.Device.{Device}
+use Rattle.oci_layout.specs.declared.fault.LayoutFault.{LayoutFault}
 use Rattle.oci_layout.specs.declared.fault.LayoutFault.TheVariants as layout
 use Rattle.oci_prune.specs.Kept.{IsUnknown}
 use Rattle.oci_prune.specs.Plan.{RefersIf}
@@ -34,6 +38,12 @@ IsCheckFault dir absent (fault.Unknown k) = slice_get absent 0 ≡ Some k
 IsCheckFault dir absent (fault.LinkedBlobs path) = Unit {0}
 IsCheckFault dir absent e = IsLayoutFault dir e
 
+-- why a layout with absent entries is refused: the first of them, or memory ran out
+abbrev pub IsEntryFault : List Descriptor → PruneFault → Type 0
+IsEntryFault absent (fault.Unknown k) = slice_get absent 0 ≡ Some k
+IsEntryFault absent fault.Memory = Unit {0}
+IsEntryFault absent other = ⊥
+
 -- why there is no plan for a layout in a directory
 abbrev pub IsPlanFault : Device → List Node → Tags → List Descriptor → Bool → PruneFault → Type 0
 IsPlanFault dir graph tags absent keeps fault.NoTags = tags ≡ []
@@ -43,18 +53,27 @@ IsPlanFault dir graph tags absent keeps (fault.LinkedBlobs path) = Unit {0}
 IsPlanFault dir graph tags absent keeps (fault.Layout layout.Device) = dir.fails_reads ≡ true
 IsPlanFault dir graph tags absent keeps e = IsSubjectFault (meaning dir graph tags) (λ k. (keeps ≡ true) × (has_key graph k ≡ true)) e
 
--- why the index was not saved: the directory failed, or memory ran out
-abbrev pub IsSaveFault : PruneFault → Type 0
-IsSaveFault (fault.Layout layout.Device) = Unit {0}
-IsSaveFault fault.Memory = Unit {0}
-IsSaveFault other = ⊥
+-- why the index was not saved: reads may fail, or a put failed, or memory ran out
+abbrev pub IsSaveFault : Device → Device → PruneFault → Type 0
+IsSaveFault old new (fault.Layout layout.Device) = (old.fails_reads ≡ true) ⊎ IsRaised old.failures new.failures
+IsSaveFault old new fault.Memory = Unit {0}
+IsSaveFault old new other = ⊥
 
--- why a file was not removed: the directory failed, or memory ran out
-abbrev pub IsRemovalFault : PruneFault → Type 0
-IsRemovalFault (fault.NotRemoved path) = Unit {0}
-IsRemovalFault fault.Memory = Unit {0}
-IsRemovalFault other = ⊥
+-- why a file at one of these paths was not removed: removals may fail, or memory ran out
+abbrev pub IsRemovalFault : Device → (List ℕ → Type 0) → PruneFault → Type 0
+IsRemovalFault dir is_one (fault.NotRemoved path) = (dir.fails_reads ≡ true) × is_one (string_bytes path)
+IsRemovalFault dir is_one fault.Memory = Unit {0}
+IsRemovalFault dir is_one other = ⊥
 
--- there is no fault, or a file was not removed
-abbrev pub HasRemovalFault : Option PruneFault → Type 0
-HasRemovalFault found = MatchOption found ⊤ IsRemovalFault
+-- the first fault of removals of files at these paths is kept
+pub record Notes (dir : Device) (is_one : List ℕ → Type 0) (old new : Option PruneFault) : Type 0 where
+  -- a fault that was noted stays
+  pub first : IfSome old (λ e. new ≡ Some e)
+  -- a fault that is noted was noted before, or is that of a removal
+  pub cause : IfSome new (λ e. (old ≡ Some e) ⊎ IsRemovalFault dir is_one e)
+
+-- the fault of a removal that this fault of the layout refused; the path is copied for it
+abbrev pub IsNotRemoved : Result (String Global) NoMemory → LayoutFault → PruneFault → Type 0
+IsNotRemoved path cause (fault.NotRemoved named) = (path ≡ Ok named) × (cause ≢ layout.Memory)
+IsNotRemoved path cause fault.Memory = (cause ≡ layout.Memory) ⊎ IsErr path
+IsNotRemoved path cause other = ⊥

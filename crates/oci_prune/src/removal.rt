@@ -1,10 +1,10 @@
-ghost use Rattle.std.specs.Prelude.{◌≡◌, ◌≢◌, None, IsSome, map, length};
+ghost use Rattle.std.specs.Prelude.{◌≡◌, ◌≢◌, ◌⊎◌, None, Some, IsSome, IfSome, IfOk, map, length, string_bytes};
 ghost use Rattle.std.specs.List.{All};
 ghost use Rattle.std.specs.Map.{keys_of};
 ghost use Rattle.oci_layout.specs.Blobs.{blob_path};
 ghost use Rattle.oci_layout.specs.Prunable.{by_name};
 ghost use Rattle.oci_prune.specs.Pruned.{is_gone, AreThere, AreApart, IsPathOf, IsDraftIn, Spares, AreSameBlobs};
-ghost use Rattle.oci_prune.specs.Refusal.{HasRemovalFault, IsRemovalFault};
+ghost use Rattle.oci_prune.specs.Refusal.{IsNotRemoved, Notes};
 
 use crate::fault::PruneFault;
 use crate::pruning::PrunedFile;
@@ -34,7 +34,7 @@ pub(crate) fn remove_files<D: PrunableDir>(
     ensures fault { fault.new ≡ None → fault.old ≡ None }
     ensures removed { fault.new ≡ None → (D.device layout.old.0).is_honest → All
         (λ f. (D.device layout.new.0).file (blob_path f.digest) ≡ None) files.now }
-    ensures cause { HasRemovalFault fault.old → HasRemovalFault fault.new }
+    ensures notes { Notes (D.device layout.old.0) (IsPathOf files.now) fault.old fault.new }
     ensures flags { (D.device layout.old.0).is_honest
         → gone.new.items ≡ map (is_gone (D.device layout.new.0).file) files.now }
     ensures noted { length gone.new.items ≡ length files.now }
@@ -65,7 +65,8 @@ fn remove_file<D: PrunableDir>(
         → IsSome ((D.device layout.old.0).file (blob_path file.now.digest))
         → result ≡ is_gone (D.device layout.new.0).file file.now }
     ensures fault { fault.new ≡ None → fault.old ≡ None }
-    ensures cause { HasRemovalFault fault.old → HasRemovalFault fault.new }
+    ensures notes { Notes (D.device layout.old.0) (λ path. blob_path file.now.digest ≡ path)
+        fault.old fault.new }
 {
     match layout.remove_blob(&file.digest) {
         Ok(found) => found,
@@ -93,7 +94,8 @@ pub(crate) fn remove_drafts<D: PrunableDir>(
         (IsDraftIn (by_name drafts.now)) }
     ensures files { AreSameBlobs (D.device layout.old.0) (D.device layout.new.0) }
     ensures fault { fault.new ≡ None → fault.old ≡ None }
-    ensures cause { HasRemovalFault fault.old → HasRemovalFault fault.new }
+    ensures notes { Notes (D.device layout.old.0) (IsDraftIn (by_name drafts.now))
+        fault.old fault.new }
     ensures noted { length gone.new.items ≡ length drafts.now }
 {
     for place in 0..drafts.len() {
@@ -116,7 +118,8 @@ fn remove_draft<D: PrunableDir>(
         (λ touched. path.now ≡ touched) }
     ensures files { AreSameBlobs (D.device layout.old.0) (D.device layout.new.0) }
     ensures fault { fault.new ≡ None → fault.old ≡ None }
-    ensures cause { HasRemovalFault fault.old → HasRemovalFault fault.new }
+    ensures notes { Notes (D.device layout.old.0) (λ touched. path.now ≡ touched)
+        fault.old fault.new }
 {
     match layout.remove_leftover(path) {
         Ok(found) => found,
@@ -128,13 +131,15 @@ fn remove_draft<D: PrunableDir>(
 }
 
 /// Returns a copy of a path.
-fn copied(alloc: Global, path: &str) -> Result<String, NoMemory> {
+fn copied(alloc: Global, path: &str) -> Result<String, NoMemory>
+    ensures { IfOk result (λ copy. string_bytes copy ≡ path.now) }
+{
     Ok(String::from_str(alloc, path)?)
 }
 
 /// Returns the fault of a prune for a file that was not removed.
 fn not_removed(path: Result<String, NoMemory>, fault: LayoutFault) -> PruneFault
-    ensures { IsRemovalFault result }
+    ensures { IsNotRemoved path fault result }
 {
     match fault {
         LayoutFault::Memory => PruneFault::Memory,
@@ -147,9 +152,9 @@ fn not_removed(path: Result<String, NoMemory>, fault: LayoutFault) -> PruneFault
 
 /// Notes a fault if it is the first one.
 fn note(first: &mut Option<PruneFault>, fault: PruneFault)
-    requires { IsRemovalFault fault }
     ensures some { first.new ≡ None → ⊥ }
-    ensures cause { HasRemovalFault first.old → HasRemovalFault first.new }
+    ensures stays { IfSome first.old (λ e. first.new ≡ Some e) }
+    ensures noted { IfSome first.new (λ e. (first.old ≡ Some e) ⊎ (e ≡ fault)) }
 {
     if first.is_none() {
         *first = Some(fault);

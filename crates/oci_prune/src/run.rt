@@ -1,4 +1,4 @@
-ghost use Rattle.std.specs.Prelude.{◌≡◌, ◌≢◌, ◌⊎◌, ◌↔◌, [], None, ℕ, List, filter, map, length, IfOk, IfErr, OnOk, OnErr};
+ghost use Rattle.std.specs.Prelude.{◌≡◌, ◌≢◌, ◌⊎◌, ◌↔◌, [], None, ℕ, List, filter, map, length, IfSome, IfOk, IfErr, OnOk, OnErr};
 ghost use Rattle.std.specs.BTreeSet.{contains};
 ghost use Rattle.std.specs.Map.{values_of};
 ghost use Rattle.oci_manifest.specs.Descriptor.{key_cmp};
@@ -6,8 +6,8 @@ ghost use Rattle.oci_store.specs.Closed.{IsClosed};
 ghost use Rattle.oci_layout.specs.Blobs.{IsSound, stored};
 ghost use Rattle.oci_layout.specs.Index.{index_file, HasIndex};
 ghost use Rattle.oci_prune.specs.Plan.{AreRemoved, IsPruning, IsSafe};
-ghost use Rattle.oci_prune.specs.Pruned.{is_gone, kept_of, HasOnlyNeeded, IsTouchedBy, KeepsReached, Spares};
-ghost use Rattle.oci_prune.specs.Refusal.{HasRemovalFault, IsSaveFault};
+ghost use Rattle.oci_prune.specs.Pruned.{is_gone, kept_of, HasOnlyNeeded, IsPlanned, IsTouchedBy, KeepsReached, Spares};
+ghost use Rattle.oci_prune.specs.Refusal.{IsRemovalFault, IsSaveFault};
 
 use crate::fault::PruneFault;
 use crate::pruning::{Pruned, Pruning};
@@ -25,10 +25,14 @@ use std::alloc::Global;
 ///
 /// # Errors
 ///
-/// - 74 `Device` if the index could not be saved.
+/// - 74 `Device` if `index.json` could not be written, or if it is not known whether it is on the
+///   disk.
 /// - 89 `Memory` if memory runs out.
 ///
-/// No blob and no draft is then removed, and every tag and all that it reaches is held.
+/// No blob and no draft is then removed, and every tag and all that it reaches is held. The layout
+/// in memory holds the same keys as before, or only the kept ones. After a failed write
+/// `index.json` may have any bytes. After a failed sync it has the kept keys, but the old one may
+/// be back if the machine stops. The next prune syncs it again before it removes a file.
 pub fn prune<D: PrunableDir>(
     alloc: Global,
     layout: &mut Layout<D>,
@@ -38,6 +42,10 @@ pub fn prune<D: PrunableDir>(
 
     // What the tags need stays, whatever the result.
     ensures tags { layout.new.2 ≡ layout.old.2 }
+    ensures absent { layout.new.3 ≡ layout.old.3 }
+    // The layout holds the same keys as before, or the kept ones.
+    ensures either { (layout.new.1 ≡ layout.old.1)
+        ⊎ (layout.new.1 ≡ kept_of plan.now.kept layout.old.1) }
     ensures reached { KeepsReached layout.old.1 layout.new.1 (values_of layout.old.2) }
     ensures closed { IsClosed layout.old.1 → IsClosed layout.new.1 }
     ensures sound { IsSound (D.device layout.old.0).is_honest (D.device layout.old.0).file
@@ -64,8 +72,9 @@ pub fn prune<D: PrunableDir>(
     // If the index is not saved, no other file changes.
     ensures refused { OnErr result (Spares (D.device layout.old.0) (D.device layout.new.0)
         layout.new.1 (λ path. index_file ≡ path)) }
-    ensures cause { IfErr result IsSaveFault }
-    ensures faults { IfOk result (λ done. HasRemovalFault done.fault) }
+    ensures cause { IfErr result (IsSaveFault (D.device layout.old.0) (D.device layout.new.0)) }
+    ensures faults { IfOk result (λ done. IfSome done.fault
+        (IsRemovalFault (D.device layout.old.0) (IsPlanned plan.now))) }
     ensures flags { IfOk result (λ done. (D.device layout.old.0).is_honest
         → done.files.items ≡ map (is_gone (D.device layout.new.0).file) plan.now.files.items) }
     ensures noted { IfOk result (λ done. (length done.files.items ≡ length plan.now.files.items)
@@ -112,7 +121,7 @@ fn save_kept<D: PrunableDir>(layout: &mut Layout<D>, plan: &Pruning) -> Result<(
     ensures index { OnOk result (plan.now.removed.items ≢ [] → (D.device layout.old.0).is_honest
         → HasIndex (D.device layout.new.0).file layout.new.1 layout.new.2) }
     ensures unwritten { OnOk result (plan.now.removed.items ≡ [] → layout.new ≡ layout.old) }
-    ensures cause { IfErr result IsSaveFault }
+    ensures cause { IfErr result (IsSaveFault (D.device layout.old.0) (D.device layout.new.0)) }
 {
     if plan.removed.is_empty() {
         // An earlier prune may have been killed between its save and its sync.

@@ -1,6 +1,8 @@
 use Rattle.std.proofs.Common.{◌≡◌, ◌∙◌, ℕ, List, String, Global, string_bytes, sym, ap, subst}
 use Rattle.std.proofs.lemmas.List.{length-set}
 use Rattle.oci_prune.specs.Pruned.{Spares}
+use Rattle.oci_prune.specs.Refusal.{Notes}
+use Rattle.oci_prune.proofs.Noting.{notes_draft}
 use Rattle.oci_prune.proofs.Sparing.{spares_draft, same_blobs_both}
 use Rattle.oci_prune.proofs.removal.remove_drafts.Goals as goal
 
@@ -10,7 +12,9 @@ loop-place-preserved g c =
     let a = g.D.Dir.device c.args.layout.now.0 in
     let b = g.D.Dir.device c.loop-place.layout.0 in
     let d = g.D.Dir.device c.remove_draft.new.layout.0 in
-    let spared = subst (λ (text : List ℕ). Spares b d c.loop-place.layout.1 (λ (path : List ℕ). text ≡ path)) (c.as_str.ensures.value ∙ ap (λ (d : String Global × ℕ). string_bytes d.0) (sym c.index-drafts-place.is)) c.remove_draft.ensures.spared in
+    let text = c.as_str.ensures.value ∙ ap (λ (d : String Global × ℕ). string_bytes d.0) (sym c.index-drafts-place.is) in
+    let spared = subst (λ (text : List ℕ). Spares b d c.loop-place.layout.1 (λ (path : List ℕ). text ≡ path)) text c.remove_draft.ensures.spared in
+    let notes = subst (λ (text : List ℕ). Notes b (λ (path : List ℕ). text ≡ path) c.loop-place.fault c.remove_draft.new.fault) text c.remove_draft.ensures.notes in
     record {
       graph = c.remove_draft.ensures.graph ∙ w.graph;
       tags = c.remove_draft.ensures.tags ∙ w.tags;
@@ -18,6 +22,6 @@ loop-place-preserved g c =
       spared = spares_draft a b d c.args.layout.now.1 c.loop-place.layout.1 c.args.drafts.now c.loop-place.place c.index-drafts-place.result c.loop-place-test.true c.index-drafts-place.is w.spared w.graph spared;
       files = same_blobs_both a b d w.spared.honest.0 w.files c.remove_draft.ensures.files;
       fault = λ none. w.fault (c.remove_draft.ensures.fault none);
-      cause = λ h. c.remove_draft.ensures.cause (w.cause h);
+      notes = notes_draft a b c.args.drafts.now c.loop-place.place c.index-drafts-place.result c.args.fault.now c.loop-place.fault c.remove_draft.new.fault c.loop-place-test.true c.index-drafts-place.is w.spared.reads w.notes notes;
       noted = length-set c.loop-place.gone.items c.loop-place.place c.remove_draft.result ∙ w.noted;
     }

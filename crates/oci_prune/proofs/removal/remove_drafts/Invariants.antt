@@ -1,7 +1,7 @@
 use Rattle.std.proofs.Common.{◌≡◌, None, length, take}
 use Rattle.oci_layout.specs.Prunable.{by_name}
 use Rattle.oci_prune.specs.Pruned.{IsDraftIn, Spares, AreSameBlobs}
-use Rattle.oci_prune.specs.Refusal.{HasRemovalFault}
+use Rattle.oci_prune.specs.Refusal.{Notes}
 use Rattle.oci_prune.proofs.removal.remove_drafts.Given as goal
 
 -- as far as the loop has come
@@ -13,6 +13,6 @@ invariant-loop-place g l = record {
   spared : Spares (g.D.Dir.device l.initial.layout.0) (g.D.Dir.device l.layout.0) l.initial.layout.1 (IsDraftIn (by_name (take l.place l.drafts)));
   files : AreSameBlobs (g.D.Dir.device l.initial.layout.0) (g.D.Dir.device l.layout.0);
   fault : l.fault ≡ None → l.initial.fault ≡ None;
-  cause : HasRemovalFault l.initial.fault → HasRemovalFault l.fault;
+  notes : Notes (g.D.Dir.device l.initial.layout.0) (IsDraftIn (by_name (take l.place l.drafts))) l.initial.fault l.fault;
   noted : length l.gone.items ≡ length l.drafts;
 }

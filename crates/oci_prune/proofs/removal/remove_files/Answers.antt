@@ -1,6 +1,7 @@
 use Rattle.std.proofs.Common.{◌∙◌, map, sym, ap, arith}
 use Rattle.std.proofs.lemmas.List.{length-set, take_all}
 use Rattle.oci_prune.specs.Pruned.{is_gone}
+use Rattle.oci_prune.proofs.Noting.{notes_file}
 use Rattle.oci_prune.proofs.Sparing.{spares_file, all_gone, flags_more}
 use Rattle.oci_prune.proofs.removal.remove_files.Goals as goal
 
@@ -19,7 +20,7 @@ loop-place-preserved g c =
           all_gone b d c.loop-place.layout.1 c.args.files.now c.loop-place.place c.index-files-place.result c.loop-place-test.true c.index-files-place.is (w.spared.honest.0 honest) c.remove_file.ensures.spared
           (c.remove_file.ensures.removed none (w.spared.honest.0 honest)) (w.removed (c.remove_file.ensures.fault none) honest);
       fault = λ none. w.fault (c.remove_file.ensures.fault none);
-      cause = λ h. c.remove_file.ensures.cause (w.cause h);
+      notes = notes_file a b c.args.files.now c.loop-place.place c.index-files-place.result c.args.fault.now c.loop-place.fault c.remove_file.new.fault c.loop-place-test.true c.index-files-place.is w.spared.reads w.notes c.remove_file.ensures.notes;
       flags = λ honest.
           flags_more a b d c.args.layout.now.1 c.loop-place.layout.1 c.args.files.now c.loop-place.place c.index-files-place.result c.loop-place.gone.items c.remove_file.result c.loop-place-test.true c.index-files-place.is w.noted
           (c.requires.there honest) (c.requires.apart honest) w.spared c.remove_file.ensures.spared honest (w.flags honest) (c.remove_file.ensures.flag (w.spared.honest.0 honest));

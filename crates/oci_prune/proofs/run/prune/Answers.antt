@@ -6,9 +6,13 @@ use Rattle.oci_store.specs.Graph.{Node}
 use Rattle.oci_store.specs.Tags.{Tags}
 use Rattle.oci_layout.specs.Blobs.{blob_path}
 use Rattle.oci_layout.specs.Index.{index_file}
-use Rattle.oci_prune.specs.Pruned.{is_gone, AreThere, AreApart, IsPathOf, Spares}
+use Rattle.oci_layout.specs.Prunable.{by_name}
+use Rattle.oci_prune.specs.Pruned.{is_gone, AreThere, AreApart, IsPathOf, IsDraftIn, Spares}
+use Rattle.oci_prune.specs.Refusal.{Notes}
 use Rattle.oci_prune.specs.declared.pruning.PrunedFile.{PrunedFile}
 use Rattle.oci_prune.proofs.Leaving.{reached_either, closed_either}
+use Rattle.oci_prune.proofs.Noting.{planned_fault}
+use Rattle.oci_prune.proofs.Sparing.{Drafts}
 use Rattle.oci_prune.proofs.Results.{unneeded_left, contents_left, only_needed, index_stays, has_index-stays, are_there, are_apart, flags_stay, are_digests}
 use Rattle.oci_prune.proofs.run.prune.Goals as goal
 
@@ -102,3 +106,15 @@ returns-clause-flags g c = λ honest.
     let saved = c.in_ok-save_kept.ensures.spared.honest.0 honest in
     let flags = subst (λ (fs : List PrunedFile). c.remove_files.new.gone.items ≡ map (is_gone last.file) fs) c.deref.ensures.value (c.remove_files.ensures.flags saved) in
     flags_stay last new files c.remove_files.new.gone.items (c.remove_files.ensures.spared.honest.0 saved) (are_digests old.file c.args.layout.now.1 c.args.plan.now.kept files (c.requires.files honest)) c.remove_drafts.ensures.files flags
+
+pub returns-clause-either : goal.returns-clause-either
+returns-clause-either g c = inr (c.remove_drafts.ensures.graph ∙ c.remove_files.ensures.graph ∙ c.in_ok-save_kept.ensures.kept)
+
+pub returns-clause-faults : goal.returns-clause-faults
+returns-clause-faults g c =
+    let old = g.D.Dir.device c.args.layout.now.0 in
+    let mid = g.D.Dir.device c.save_kept.new.layout.0 in
+    let last = g.D.Dir.device c.remove_files.new.layout.0 in
+    let files = subst (λ (fs : List PrunedFile). Notes mid (IsPathOf fs) None c.remove_files.new.fault) c.deref.ensures.value c.remove_files.ensures.notes in
+    let drafts = subst (λ (ds : Drafts). Notes last (IsDraftIn (by_name ds)) c.remove_files.new.fault c.remove_drafts.new.fault) c.deref-2.ensures.value c.remove_drafts.ensures.notes in
+    planned_fault old mid last c.args.plan.now c.remove_files.new.fault c.remove_drafts.new.fault c.in_ok-save_kept.ensures.spared.reads c.remove_files.ensures.spared.reads files drafts

@@ -26,4 +26,4 @@ returns-clause-spared g c =
     let saved = c.in_ok-save.ensures in
     subst (λ (graph : List Node). Spares (g.D.Dir.device c.args.layout.now.0) b graph (λ (path : List ℕ). index_file ≡ path)) (sym saved.graph)
     (subst (λ (dir : g.row.D.Denot). Spares (g.D.Dir.device dir) b retained.1 (λ (path : List ℕ). index_file ≡ path)) c.in_ok-retain.ensures.dir
-    (spares_index (g.D.Dir.device retained.0) b retained.1 saved.other saved.contents (λ h. subst (λ (graph : List Node). IsSound b.is_honest b.file graph) saved.graph (saved.sound h)) saved.device.honest))
+    (spares_index (g.D.Dir.device retained.0) b retained.1 saved.other saved.contents (λ h. subst (λ (graph : List Node). IsSound b.is_honest b.file graph) saved.graph (saved.sound h)) saved.device.honest saved.device.reads))

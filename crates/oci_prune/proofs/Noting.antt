@@ -1,0 +1,73 @@
+-- The first fault of several removals.
+use Rattle.std.proofs.Common.{◌≡◌, ℕ, ◌+◌, ◌<◌, ◌⊎◌, inl, inr, List, [], ◌∷◌, ◌++◌, length, take, get_or, Option, Some, None, String, Global, string_bytes, refl, sym, subst, ◌∙◌}
+use Rattle.std.specs.Prelude.{IfSome}
+use Rattle.std.proofs.lemmas.Option.{IfSome_then}
+use Rattle.oci_layout.specs.Blobs.{blob_path}
+use Rattle.oci_layout.specs.Device.{Device}
+use Rattle.oci_layout.specs.Prunable.{by_name}
+use Rattle.oci_prune.specs.Pruned.{IsPathOf, IsDraftIn, IsPlanned}
+use Rattle.oci_prune.specs.Refusal.{IsRemovalFault, Notes}
+use Rattle.oci_prune.specs.declared.fault.PruneFault.{PruneFault}
+use Rattle.oci_prune.specs.declared.fault.PruneFault.TheVariants as fault
+use Rattle.oci_prune.specs.declared.pruning.PrunedFile.{PrunedFile}
+use Rattle.oci_prune.specs.declared.pruning.Pruning.{Pruning}
+use Rattle.oci_prune.proofs.Elements.{next_element}
+use Rattle.oci_prune.proofs.Sparing.{Paths, Drafts, by_name-next, path_later, path_here, draft_later, draft_here}
+
+-- the fault of a removal at one of some paths, in a directory that fails as another
+pub removal_weaker : (a b : Device) (P Q : Paths) (e : PruneFault) → b.fails_reads ≡ a.fails_reads → ((path : List ℕ) → P path → Q path) → IsRemovalFault b P e → IsRemovalFault a Q e
+removal_weaker a b P Q (fault.NotRemoved path) reads p h = (sym reads ∙ h.0, p (string_bytes path) h.1)
+removal_weaker a b P Q (fault.Fetch k e) reads p h = absurd h
+removal_weaker a b P Q (fault.Layout e) reads p h = absurd h
+removal_weaker a b P Q fault.Memory reads p h = tt
+removal_weaker a b P Q (fault.Unknown k) reads p h = absurd h
+removal_weaker a b P Q fault.NoTags reads p h = absurd h
+removal_weaker a b P Q (fault.LinkedBlobs path) reads p h = absurd h
+
+-- the fault that was noted first stays through two removals
+stays_both : (old mid new : Option PruneFault) → IfSome old (λ (e : PruneFault). mid ≡ Some e) → IfSome mid (λ (e : PruneFault). new ≡ Some e) → IfSome old (λ (e : PruneFault). new ≡ Some e)
+stays_both None mid new first second = tt
+stays_both (Some e) mid new first second = subst (λ (o : Option PruneFault). IfSome o (λ (x : PruneFault). new ≡ Some x)) first second
+
+-- of two removals one after the other
+pub notes_both : (a b : Device) (P Q T : Paths) (old mid new : Option PruneFault) → b.fails_reads ≡ a.fails_reads → Notes a P old mid → Notes b Q mid new → ((path : List ℕ) → P path → T path) → ((path : List ℕ) → Q path → T path) → Notes a T old new
+notes_both a b P Q T old mid new reads first second p q = record { first = stays_both old mid new first.first second.first; cause = from new second.cause }
+  where
+    before : (e : PruneFault) → mid ≡ Some e → (old ≡ Some e) ⊎ IsRemovalFault a T e
+    before e is =
+        elim (subst (λ (o : Option PruneFault). IfSome o (λ (x : PruneFault). (old ≡ Some x) ⊎ IsRemovalFault a P x)) is first.cause) [
+          | inl was ↦ inl was
+          | inr refused ↦ inr (removal_weaker a a P T e refl p refused)
+        ]
+
+    from : (last : Option PruneFault) → IfSome last (λ (e : PruneFault). (mid ≡ Some e) ⊎ IsRemovalFault b Q e) → IfSome last (λ (e : PruneFault). (old ≡ Some e) ⊎ IsRemovalFault a T e)
+    from None h = tt
+    from (Some e) h = elim h [ inl was ↦ before e was | inr refused ↦ inr (removal_weaker a b Q T e reads q refused) ]
+
+-- a fault where none was before is that of a removal
+pub only_new : (dir : Device) (P : Paths) (new : Option PruneFault) → Notes dir P None new → IfSome new (IsRemovalFault dir P)
+only_new dir P None notes = tt
+only_new dir P (Some e) notes = elim notes.cause [ inl never ↦ cc never | inr refused ↦ refused ]
+
+-- the first fault of a prune is that of a planned path
+pub planned_fault : (old mid last : Device) (plan : Pruning) (noted new : Option PruneFault) → mid.fails_reads ≡ old.fails_reads → last.fails_reads ≡ mid.fails_reads → Notes mid (IsPathOf plan.files.items) None noted → Notes last (IsDraftIn (by_name plan.drafts.items)) noted new
+    → IfSome new (IsRemovalFault old (IsPlanned plan))
+planned_fault old mid last plan noted new saved removed first second =
+    let all = notes_both mid last (IsPathOf plan.files.items) (IsDraftIn (by_name plan.drafts.items)) (IsPlanned plan) None noted new removed first second (λ path h. inl h) (λ path h. inr h) in
+    IfSome_then new (only_new mid (IsPlanned plan) new all) (λ e h. removal_weaker old mid (IsPlanned plan) (IsPlanned plan) e saved (λ path p. p) h)
+
+-- ---- the loops
+
+pub notes_file : (a b : Device) (files : List PrunedFile) (i : ℕ) (f : PrunedFile) (old mid new : Option PruneFault) → i < length files → f ≡ get_or files i f → b.fails_reads ≡ a.fails_reads → Notes a (IsPathOf (take i files)) old mid
+    → Notes b (λ (path : List ℕ). blob_path f.digest ≡ path) mid new → Notes a (IsPathOf (take (i + 1) files)) old new
+notes_file a b files i f old mid new lt is reads first second =
+    subst (λ (fs : List PrunedFile). Notes a (IsPathOf fs) old new) (sym (next_element files i f lt is))
+    (notes_both a b (IsPathOf (take i files)) (λ (path : List ℕ). blob_path f.digest ≡ path) (IsPathOf (take i files ++ f ∷ [])) old mid new reads first second (path_later (take i files) f) (path_here (take i files) f))
+
+pub notes_draft : (a b : Device) (drafts : Drafts) (i : ℕ) (d : String Global × ℕ) (old mid new : Option PruneFault) → i < length drafts → d ≡ get_or drafts i d → b.fails_reads ≡ a.fails_reads → Notes a (IsDraftIn (by_name (take i drafts))) old mid
+    → Notes b (λ (path : List ℕ). string_bytes d.0 ≡ path) mid new → Notes a (IsDraftIn (by_name (take (i + 1) drafts))) old new
+notes_draft a b drafts i d old mid new lt is reads first second =
+    let draft : List ℕ × ℕ = (string_bytes d.0, d.1) in
+    subst (λ (ds : List (List ℕ × ℕ)). Notes a (IsDraftIn ds) old new) (sym (by_name-next drafts i d lt is))
+    (notes_both a b (IsDraftIn (by_name (take i drafts))) (λ (path : List ℕ). string_bytes d.0 ≡ path) (IsDraftIn (by_name (take i drafts) ++ draft ∷ [])) old mid new reads first second (draft_later (by_name (take i drafts)) draft)
+    (draft_here (by_name (take i drafts)) draft))
