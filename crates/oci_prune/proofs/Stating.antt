@@ -100,7 +100,7 @@ referrers_more entries keys i k found old new lt is are exact noted =
 
 -- the fault of one key is one of the keys
 pub one_of : (store : State) (k : Descriptor) (P : Descriptor → Type 0) (e : PruneFault) → P k → IsSubjectFault store (λ other. other ≡ k) e → IsSubjectFault store P e
-one_of store k P (fault.Fetch j e) one h = (subst P (sym h.0) one, h.1)
+one_of store k P (fault.Fetch j e) one h = (subst P (sym h.0) one, h.1, h.2)
 one_of store k P (fault.Layout (layout.BadManifest j e)) one h = (subst P (sym h.0) one, h.1)
 one_of store k P (fault.Layout layout.NoLayoutFile) one h = absurd h
 one_of store k P (fault.Layout layout.BadLayoutFile) one h = absurd h

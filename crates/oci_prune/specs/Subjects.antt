@@ -6,7 +6,7 @@ use Rattle.std.specs.Option.{option_map_or}
 use Rattle.oci_manifest.specs.Descriptor.{Descriptor, key_cmp, same_key}
 use Rattle.oci_manifest.specs.Fault.{Fault, IsFault}
 use Rattle.oci_manifest.specs.MediaTypes.{kind_of}
-use Rattle.oci_manifest.specs.Subject.{HasSubject, subject_of}
+use Rattle.oci_manifest.specs.Subject.{HasSubject, may_refer, subject_of}
 use Rattle.oci_manifest.specs.declared.fault.ManifestFault.{ManifestFault}
 use Rattle.oci_store.specs.Content.{Entry, Matches}
 use Rattle.oci_store.specs.Keyed.{value_at, has_key}
@@ -53,9 +53,9 @@ IsRefusedFetch store k e = store.fails_at k ≡ true
 abbrev pub IsUnread : State → Descriptor → ManifestFault → Type 0
 IsUnread store k e = (bytes : List ℕ) × (cause : Fault) × Matches k bytes × (store.is_honest → value_at store.entries k ≡ Some bytes) × (subject_of (kind_of k.media_type) bytes ≡ Err cause) × IsFault e cause
 
--- why the subject of one of these keys was not read
+-- why the subject of one of these keys, which may state one, was not read
 abbrev pub IsSubjectFault : State → (Descriptor → Type 0) → PruneFault → Type 0
-IsSubjectFault store is_one (fault.Fetch k e) = is_one k × IsRefusedFetch store k e
+IsSubjectFault store is_one (fault.Fetch k e) = is_one k × (may_refer (kind_of k.media_type) ≡ true) × IsRefusedFetch store k e
 IsSubjectFault store is_one (fault.Layout (layout.BadManifest k e)) = is_one k × IsUnread store k e
 IsSubjectFault store is_one fault.Memory = Unit {0}
 IsSubjectFault store is_one other = ⊥

@@ -19,15 +19,16 @@ use std::alloc::Global;
 /// `keeps_referrers`, the held manifests that have it as their subject. All other held keys are
 /// removed, and the files under `blobs` that are named by a digest that no kept key has.
 ///
-/// Each held manifest is read once, if `keeps_referrers`. The time grows with the held keys, the
-/// keys that they list and the files, times a logarithm.
+/// If `keeps_referrers`, each held manifest of a kind that may have a subject is read once; Docker
+/// manifests are not. The time grows with the held keys, the keys that they list and the files,
+/// times a logarithm.
 ///
 /// # Errors
 ///
 /// - 97 `NoTags` if the layout has no tag. Checked first.
 /// - 96 `Unknown` if an entry of the opened index has no file: the first one. Checked second.
 /// - 98 `LinkedBlobs` if `blobs`, `blobs/sha256` or `blobs/sha512` is a link. Checked third.
-/// - 77 `BadManifest` if a held manifest cannot be read, and 88 `Fetch` if its bytes cannot be
+/// - 77 `BadManifest` if such a manifest cannot be read, and 88 `Fetch` if its bytes cannot be
 ///   fetched; only if `keeps_referrers`.
 /// - 96 `Unknown` if a kept key lists a key of a manifest kind that is not held.
 /// - 74 `Device` if a folder cannot be read.

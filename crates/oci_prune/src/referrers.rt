@@ -1,5 +1,6 @@
 ghost use Rattle.std.specs.Prelude.{◌≡◌, ◌↔◌, ◌++◌, ◌∷◌, [], Some, Contains, IfOk, IfErr, OnOk};
 ghost use Rattle.oci_manifest.specs.Descriptor.{Descriptor};
+ghost use Rattle.oci_manifest.specs.Subject.{may_refer};
 ghost use Rattle.oci_prune.specs.Subjects.{States, AreReferrers, IsNoted, IsSubjectFault};
 
 use crate::fault::{PruneFault, of_fetch, of_manifest};
@@ -9,7 +10,8 @@ use oci_store::Source;
 use std::alloc::Global;
 use std::collections::BTreeMap;
 
-/// Returns those of these keys that state a subject, under their subjects. Reads each manifest once.
+/// Returns those of these keys that state a subject, under their subjects. Reads each manifest that
+/// may state one once.
 ///
 /// # Errors
 ///
@@ -76,7 +78,8 @@ fn put(keys: &mut Vec<Key>, key: Key) -> Result<(), NoMemory>
     Ok(())
 }
 
-/// Returns the subject of a key, or `None` if it states none. A leaf is not read.
+/// Returns the subject of a key, or `None` if it states none. A key whose kind has no subjects is
+/// not read.
 fn subject_at<S: Source>(alloc: Global, source: &S, key: &Key) -> Result<Option<Key>, PruneFault>
     ensures exact { IfOk result (λ found. (S.state source.now).is_honest
         → (subject : Descriptor) → (found ≡ Some subject)
@@ -84,7 +87,7 @@ fn subject_at<S: Source>(alloc: Global, source: &S, key: &Key) -> Result<Option<
     ensures cause { IfErr result (IsSubjectFault (S.state source.now) (λ k. k ≡ key.now)) }
 {
     let kind = Kind::of(key.media_type());
-    if let Kind::Leaf = kind {
+    if !may_refer(kind) {
         return Ok(None);
     }
     let bytes = match source.fetch(key) {
@@ -95,4 +98,11 @@ fn subject_at<S: Source>(alloc: Global, source: &S, key: &Key) -> Result<Option<
         Ok(found) => Ok(found),
         Err(fault) => Err(of_manifest(key.try_clone()?, fault)),
     }
+}
+
+/// Returns whether manifests of a kind may state a subject.
+fn may_refer(kind: Kind) -> bool
+    ensures { result ≡ may_refer kind }
+{
+    matches!(kind, Kind::Image | Kind::Index | Kind::Artifact)
 }
