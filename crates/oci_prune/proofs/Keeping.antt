@@ -1,50 +1,32 @@
 -- How far the walk to the kept keys is.
-use Rattle.std.proofs.Common.{◌≡◌, ℕ, ◌+◌, ◌<◌, ◌≤◌, Bool, true, false, cond, ◌⊎◌, inl, inr, List, [], length, get_or, Some, None, is_some, refl, sym, ap, subst, ◌∙◌, arith}
+use Rattle.std.proofs.Common.{◌≡◌, ℕ, ◌+◌, ◌<◌, ◌≤◌, true, false, ◌⊎◌, inl, inr, List, [], length, get_or, Some, None, is_some, refl, sym, ap, subst, ◌∙◌, arith}
 use Rattle.std.specs.Prelude.{Contains}
 use Rattle.std.specs.BTreeMap.{get}
 use Rattle.std.specs.Global.{Vec}
 use Rattle.std.specs.BTreeSet.{BTreeSet, contains}
 use Rattle.std.specs.List.{slice_get}
 use Rattle.std.specs.Option.{option_map_or}
-use Rattle.std.specs.Ordering.{is_eq}
-use Rattle.std.proofs.lemmas.Bool.{cases_Bool, cases_order}
+use Rattle.std.proofs.lemmas.Bool.{cases_order}
 use Rattle.std.proofs.lemmas.Map.Views.{btree_set_contains_iff}
 use Rattle.std.proofs.lemmas.Option.{slice_get_within, slice_get-get_or}
-use Rattle.oci_manifest.specs.Descriptor.{Descriptor, same_key, key_cmp, is_among}
+use Rattle.oci_manifest.specs.Descriptor.{Descriptor, key_cmp, is_among}
 use Rattle.oci_manifest.specs.MediaTypes.{kind_of}
 use Rattle.oci_manifest.specs.declared.kind.Kind.TheVariants.{Leaf}
-use Rattle.oci_manifest.proofs.Keys.{Decides-same_key}
 use Rattle.oci_store.specs.Graph.{Node}
 use Rattle.oci_store.specs.Keyed.{value_at, has_key}
 use Rattle.oci_store.specs.Predecessors.{is_predecessor}
 use Rattle.oci_store.specs.Visiting.{with_keys}
-use Rattle.oci_store.proofs.KeyOrder.{is_eq-key_cmp, key_cmp_total, key_cmp_exact}
+use Rattle.oci_store.proofs.KeyOrder.{key_cmp_total, key_cmp_exact}
 use Rattle.oci_store.proofs.Membership.{Keys, Contains-from_among, among_from_Contains, among-with_keys, among_from_place, place_from_among, slice_get-with_keys, stays-with_keys, there-with_keys}
+use Rattle.oci_prune.proofs.Elements.{no_element}
 use Rattle.oci_prune.specs.Kept.{Needs, IsKept, root, needed, IsNeeded, AreKept, AllKnown}
 use Rattle.oci_prune.specs.Subjects.{Referrers, RefersBy, referrers_in}
-use Rattle.oci_prune.specs.Walk.{IsVisit, IsNoted, HasOneMore, IsWalking, IsVisitFault, IsWalkFault}
+use Rattle.oci_prune.specs.Walk.{IsVisit, KeepsHeld, HasOneMore, IsWalking, IsVisitFault, IsWalkFault}
 use Rattle.oci_prune.specs.declared.fault.PruneFault.{PruneFault}
 use Rattle.oci_prune.specs.declared.fault.PruneFault.TheVariants as fault
 
 abbrev Relation : Type 1
 Relation = Descriptor → Descriptor → Type 0
-
--- ---- sets
-
--- a set with one key more
-pub one_more : (old new : BTreeSet Descriptor) (k : Descriptor) → ((other : Descriptor) → contains key_cmp new other ≡ cond (is_eq (key_cmp k other)) true (contains key_cmp old other)) → HasOneMore k old new
-one_more old new k grown other =
-    let e : contains key_cmp new other ≡ cond (same_key k other) true (contains key_cmp old other) =
-    grown other ∙ ap (λ (b : Bool). cond b true (contains key_cmp old other)) (is_eq-key_cmp k other) in
-    elim (cases_Bool (same_key k other)) [
-      | inl same ↦ (λ h. inr (sym ((Decides-same_key k other).0 same)), λ h. rw same at e)
-      | inr apart ↦
-          let stays : contains key_cmp new other ≡ contains key_cmp old other = rw apart at e in
-          (λ h. inl (sym stays ∙ h), λ h. elim h [ inl was ↦ stays ∙ was | inr is ↦ cc (sym apart ∙ (Decides-same_key k other).1 (sym is)) ])
-    ]
-
-no_element : {X : Type 0} (x : X) → Contains [] x → ⊥
-no_element x h = omega (arith, h.1)
 
 -- an empty set has no key
 pub none_kept : (set : BTreeSet Descriptor) → set.keys ≡ [] → (k : Descriptor) → contains key_cmp set k ≡ true → ⊥
@@ -95,13 +77,13 @@ visit_held graph referrers k old new successors listed e = record {
 pub visit_absent : (graph : List Node) (refers : Relation) (k : Descriptor) (found : Keys) → has_key graph k ≡ false → IsVisit graph refers k found found
 visit_absent graph refers k found absent = record { stays = λ i j h. h; each = λ j. (λ h. inl h, λ h. elim h [ inl was ↦ was | inr p ↦ cc (sym absent ∙ p.0) ]) }
 
-pub noted_held : (graph : List Node) (k : Descriptor) (old new : BTreeSet Descriptor) → has_key graph k ≡ true → HasOneMore k old new → IsNoted graph k old new
+pub noted_held : (graph : List Node) (k : Descriptor) (old new : BTreeSet Descriptor) → has_key graph k ≡ true → HasOneMore k old new → KeepsHeld graph k old new
 noted_held graph k old new held more j = (
   λ h. elim ((more j).0 h) [ inl was ↦ inl was | inr is ↦ inr (is, subst (λ (x : Descriptor). has_key graph x ≡ true) (sym is) held) ],
   λ h. (more j).1 (elim h [ inl was ↦ inl was | inr is ↦ inr is.0 ]),
 )
 
-pub noted_absent : (graph : List Node) (k : Descriptor) (set : BTreeSet Descriptor) → has_key graph k ≡ false → IsNoted graph k set set
+pub noted_absent : (graph : List Node) (k : Descriptor) (set : BTreeSet Descriptor) → has_key graph k ≡ false → KeepsHeld graph k set set
 noted_absent graph k set absent j = (λ h. inl h, λ h. elim h [ inl was ↦ was | inr is ↦ cc (sym absent ∙ sym (ap (λ (x : Descriptor). has_key graph x) is.0) ∙ is.1) ])
 
 -- ---- the walk
@@ -125,7 +107,7 @@ kept_from_needed graph roots refers k (inl named) held = root named held
 kept_from_needed graph roots refers k (inr p) held = needed p.1 p.2 held
 
 pub walking_step : (graph : List Node) (roots : Keys) (refers : Relation) (found more : Keys) (set set_after : BTreeSet Descriptor) (place : ℕ) (key : Descriptor) → IsWalking graph roots refers found set place → slice_get found place ≡ Some key
-    → IsVisit graph refers key found more → IsNoted graph key set set_after → (has_key graph key ≡ false → kind_of key.media_type ≡ Leaf) → IsWalking graph roots refers more set_after (place + 1)
+    → IsVisit graph refers key found more → KeepsHeld graph key set set_after → (has_key graph key ≡ false → kind_of key.media_type ≡ Leaf) → IsWalking graph roots refers more set_after (place + 1)
 walking_step graph roots refers found more set set_after place key w at visit noted known = record {
   has_roots = λ k h. (visit.each k).1 (inl (w.has_roots k h));
   needed = λ k h.

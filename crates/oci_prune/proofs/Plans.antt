@@ -1,6 +1,6 @@
 -- What is planned, from its parts.
-use Rattle.std.proofs.Common.{◌≡◌, Bool, true, false, not, ◌⊎◌, inl, inr, List, [], filter, get_or, None, is_some, Result, Ok, Err, sym, ap, subst, ◌∙◌, Option}
-use Rattle.std.specs.Prelude.{◌↔◌, Contains, IfOk, OnOk, IfErr}
+use Rattle.std.proofs.Common.{◌≡◌, Bool, true, false, not, ◌⊎◌, inl, inr, List, [], filter, get_or, None, is_some, sym, ap, subst, ◌∙◌, Option}
+use Rattle.std.specs.Prelude.{◌↔◌, Contains}
 use Rattle.std.specs.BTreeMap.{get}
 use Rattle.std.specs.BTreeSet.{BTreeSet, contains}
 use Rattle.std.specs.Global.{Vec}
@@ -29,20 +29,6 @@ use Rattle.oci_prune.specs.Walk.{IsWalkFault}
 use Rattle.oci_prune.specs.declared.fault.PruneFault.{PruneFault}
 use Rattle.oci_prune.specs.declared.fault.PruneFault.TheVariants as fault
 use Rattle.oci_prune.proofs.Keeping.{held_from_kept}
-
--- ---- results
-
-pub if_ok_weaker : {X E : Type 0} {P Q : X → Type 0} (r : Result X E) → ((x : X) → P x → Q x) → IfOk r P → IfOk r Q
-if_ok_weaker (Ok x) to h = to x h
-if_ok_weaker (Err e) to h = tt
-
-pub on_ok_weaker : {X E P Q : Type 0} (r : Result X E) → (P → Q) → OnOk r P → OnOk r Q
-on_ok_weaker (Ok x) to h = to h
-on_ok_weaker (Err e) to h = tt
-
-pub if_err_weaker : {X E : Type 0} {P Q : E → Type 0} (r : Result X E) → ((e : E) → P e → Q e) → IfErr r P → IfErr r Q
-if_err_weaker (Ok x) to h = tt
-if_err_weaker (Err e) to h = to e h
 
 -- ---- the held keys
 

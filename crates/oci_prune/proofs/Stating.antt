@@ -2,7 +2,6 @@
 use Rattle.std.proofs.Common.{◌≡◌, ℕ, ◌+◌, ◌<◌, Bool, true, false, inl, inr, List, [], ◌∷◌, ◌++◌, length, get_or, take, Option, Some, None, Ok, refl, sym, ap, subst, ◌∙◌, ◌&&◌, ◌||◌, ◌⊎◌}
 use Rattle.std.specs.Prelude.{◌↔◌, Contains}
 use Rattle.std.proofs.lemmas.Bool.{or_left, or_right}
-use Rattle.std.proofs.lemmas.List.{take_more}
 use Rattle.std.proofs.lemmas.List.Elements.{Contains-push, Contains-push_cases, Contains-append_left}
 use Rattle.oci_manifest.specs.Descriptor.{Descriptor, same_key, Matches}
 use Rattle.oci_manifest.specs.Fault.{Fails, not_json, not_object, no_config, bad_list, bad_descriptor}
@@ -21,6 +20,7 @@ use Rattle.oci_prune.specs.Subjects.{States, Referrers, AreReferrers, IsNoted, I
 use Rattle.oci_layout.specs.declared.fault.LayoutFault.TheVariants as layout
 use Rattle.oci_prune.specs.declared.fault.PruneFault.{PruneFault}
 use Rattle.oci_prune.specs.declared.fault.PruneFault.TheVariants as fault
+use Rattle.oci_prune.proofs.Elements.{next_element}
 
 abbrev Keys : Type 0
 Keys = List Descriptor
@@ -90,13 +90,10 @@ referrers_push entries keys key (Some found) old new are exact noted k subject =
   ],
 )
 
-next_key : (keys : Keys) (i : ℕ) (k : Descriptor) → i < length keys → k ≡ get_or keys i k → take (i + 1) keys ≡ take i keys ++ k ∷ []
-next_key keys i k lt is = take_more keys i k lt ∙ ap (λ (x : Descriptor). take i keys ++ x ∷ []) (sym is)
-
 pub referrers_more : (entries : List Entry) (keys : Keys) (i : ℕ) (k : Descriptor) (found : Option Descriptor) (old new : Referrers) → i < length keys → k ≡ get_or keys i k → AreReferrers entries (take i keys) old
     → ((subject : Descriptor) → (found ≡ Some subject) ↔ States entries k subject) → IsNoted k found old new → AreReferrers entries (take (i + 1) keys) new
 referrers_more entries keys i k found old new lt is are exact noted =
-    subst (λ (ks : Keys). AreReferrers entries ks new) (sym (next_key keys i k lt is)) (referrers_push entries (take i keys) k found old new are exact noted)
+    subst (λ (ks : Keys). AreReferrers entries ks new) (sym (next_element keys i k lt is)) (referrers_push entries (take i keys) k found old new are exact noted)
 
 -- the fault of one key is one of the keys
 pub one_of : (store : State) (k : Descriptor) (P : Descriptor → Type 0) (e : PruneFault) → P k → IsSubjectFault store (λ other. other ≡ k) e → IsSubjectFault store P e

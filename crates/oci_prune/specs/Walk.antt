@@ -16,8 +16,8 @@ pub record IsVisit (graph : List Node) (refers : Descriptor → Descriptor → T
   pub each : (k : Descriptor) → Contains new k ↔ (Contains old k ⊎ ((has_key graph visited ≡ true) × Needs graph refers visited k))
 
 -- the key was added to the kept ones if it is held
-abbrev pub IsNoted : List Node → Descriptor → BTreeSet Descriptor → BTreeSet Descriptor → Type 0
-IsNoted graph visited old new = (k : Descriptor) → (contains key_cmp new k ≡ true) ↔ ((contains key_cmp old k ≡ true) ⊎ ((k ≡ visited) × (has_key graph k ≡ true)))
+abbrev pub KeepsHeld : List Node → Descriptor → BTreeSet Descriptor → BTreeSet Descriptor → Type 0
+KeepsHeld graph visited old new = (k : Descriptor) → (contains key_cmp new k ≡ true) ↔ ((contains key_cmp old k ≡ true) ⊎ ((k ≡ visited) × (has_key graph k ≡ true)))
 
 -- one key was added to a set
 abbrev pub HasOneMore : Descriptor → BTreeSet Descriptor → BTreeSet Descriptor → Type 0

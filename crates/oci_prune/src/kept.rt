@@ -5,7 +5,7 @@ ghost use Rattle.oci_store.specs.Keyed.{has_key};
 ghost use Rattle.oci_store.specs.Visiting.{with_keys};
 ghost use Rattle.oci_prune.specs.Kept.{AreKept, AllKnown};
 ghost use Rattle.oci_prune.specs.Subjects.{RefersBy, referrers_in};
-ghost use Rattle.oci_prune.specs.Walk.{IsVisit, IsNoted, HasOneMore, IsVisitFault, IsWalkFault};
+ghost use Rattle.oci_prune.specs.Walk.{IsVisit, KeepsHeld, HasOneMore, IsVisitFault, IsWalkFault};
 
 use crate::fault::PruneFault;
 use oci_digest::NoMemory;
@@ -63,7 +63,7 @@ fn visit<S: GraphSource>(
 ) -> Result<(), PruneFault>
     ensures found { OnOk result (IsVisit (S.state source.now).nodes
         (RefersBy referrers.now) key.now found.old found.new) }
-    ensures kept { OnOk result (IsNoted (S.state source.now).nodes key.now kept.old kept.new) }
+    ensures kept { OnOk result (KeepsHeld (S.state source.now).nodes key.now kept.old kept.new) }
     ensures known { OnOk result (has_key (S.state source.now).nodes key.now ≡ false
         → kind_of key.now.media_type ≡ Leaf) }
     ensures cause { IfErr result (IsVisitFault (S.state source.now).nodes key.now) }
