@@ -10,7 +10,7 @@ ghost use Rattle.oci_copy.specs.Planned.{CanBeRead};
 
 use crate::fault::CopyFault;
 use oci_manifest::{Key, Kind};
-use oci_store::{CheckedContent, Drafting, FetchFault, PushFault, Source, fetch_into};
+use oci_store::{CheckedContent, Drafting, FetchFault, PartWatcher, PushFault, Source, fetch_into};
 
 /// Fetches and reads the content of a planned key. The fetch checked its bytes, so they are not
 /// hashed again.
@@ -44,11 +44,13 @@ pub(crate) fn goes_by_parts<A: Source>(source: &A, key: &Key) -> bool
     Kind::of(key.media_type()) == Kind::Leaf && source.may_fail(key)
 }
 
-/// Reads the content of a planned key into a draft, up to the first write that fails.
-pub(crate) fn draft_planned<A: Source, W: Drafting>(
+/// Reads the content of a planned key into a draft, up to the first write that fails. The watcher
+/// is told of each part.
+pub(crate) fn draft_planned<A: Source, W: Drafting, P: PartWatcher>(
     source: &A,
     key: &Key,
     draft: &mut W,
+    watcher: &P,
 ) -> Result<(), CopyFault>
     requires empty { W.drafted draft.old [] }
     requires fails { (A.state source.now).fails_at key.now ≡ true }
@@ -57,7 +59,7 @@ pub(crate) fn draft_planned<A: Source, W: Drafting>(
         (A.state source.now) key.now) }
     ensures cause { IfErr result (IsContentCause (A.state source.now) key.now) }
 {
-    match fetch_into(source, key, draft) {
+    match fetch_into(source, key, draft, watcher) {
         Ok(()) => Ok(()),
         Err(fault) => Err(fetch_fault(key, fault)),
     }

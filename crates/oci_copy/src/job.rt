@@ -10,7 +10,7 @@ use crate::fetching::{draft_planned, fetch_planned, goes_by_parts};
 use oci_manifest::Key;
 use oci_plan::Plan;
 use oci_pool::{Hooks, Job, Pass};
-use oci_store::{Dest, Source};
+use oci_store::{Dest, PartWatcher, Source};
 use std::marker::Model;
 use std::sync::{Condvar, Mutex, Wait};
 
@@ -54,11 +54,29 @@ impl<'a, A: Source, D: Dest + Drop, T: CopyStart, R: Wait, H: Hooks> CopyJob<'a,
     {
         if goes_by_parts(self.source, key) {
             let mut draft = begin_draft(self.rt, self.lock, self.pushed, key)?;
-            draft_planned(self.source, key, &mut draft)?;
+            let watcher = PartHook {
+                hooks: self.hooks,
+                key,
+            };
+            draft_planned(self.source, key, &mut draft, &watcher)?;
             return push_draft_now(self.rt, self.lock, self.pushed, key, draft);
         }
         let content = fetch_planned(self.source, key)?;
+        self.hooks.part_arrived(key, content.bytes().len());
         push_later(self.rt, self.lock, self.pushed, key, content)
+    }
+}
+
+/// Tells the hooks of each part of a key that is read part by part.
+#[derive(Drop)]
+struct PartHook<'k, H> {
+    hooks: &'k H,
+    key: &'k Key,
+}
+
+impl<'k, H: Hooks> PartWatcher for PartHook<'k, H> {
+    fn part_arrived(&self, length: usize) {
+        self.hooks.part_arrived(self.key, length);
     }
 }
 

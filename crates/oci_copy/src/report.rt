@@ -1,13 +1,14 @@
 ghost use Rattle.std.specs.Prelude.{◌≡◌, Some, length};
 
 use oci_plan::Plan;
+use serde::Serialize;
 use std::fmt;
 use std::fmt::Display;
 
 /// The numbers of a successful copy.
 ///
-/// It prints as `planned 2 pushed 2 skipped 0`.
-#[derive(Clone, Copy, Debug, PartialEq, Eq)]
+/// It prints as `planned 2 pushed 2 skipped 0`, and serializes as an object with its three members.
+#[derive(Clone, Copy, Debug, PartialEq, Eq, Serialize)]
 pub struct Report {
     /// The number of planned keys.
     pub planned: u64,

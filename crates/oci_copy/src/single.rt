@@ -143,7 +143,7 @@ fn push_parts<A: Source, D: Dest>(
     let Ok(mut draft) = destination.draft(key) else {
         return Err(CopyFault::Memory);
     };
-    draft_planned(source, key, &mut draft)?;
+    draft_planned(source, key, &mut draft, &())?;
     match destination.push_draft(key, draft) {
         Ok(_) => Ok(()),
         Err(fault) => Err(push_fault(key, fault)),

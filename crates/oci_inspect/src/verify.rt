@@ -87,7 +87,7 @@ fn is_corrupt<A: Source>(source: &A, key: &Key) -> Result<bool, ProgramFault> {
 /// not kept.
 fn check<A: Source>(source: &A, key: &Key) -> Result<(), FetchFault> {
     if source.may_fail(key) && is_leaf(key) {
-        return fetch_into(source, key, &mut Discard);
+        return fetch_into(source, key, &mut Discard, &());
     }
     source.fetch(key)?;
     Ok(())

@@ -8,6 +8,11 @@ pub trait Hooks {
     /// Called by a worker before the content of the key is fetched.
     fn pre_copy(&self, key: &Key);
 
+    /// Called by a worker, without any lock, for each part of the key's content after it was
+    /// fetched, with the number of its bytes. A content that is fetched whole is one part. Does
+    /// nothing by default.
+    fn part_arrived(&self, _key: &Key, _length: usize) {}
+
     /// Called by a worker after the key was pushed.
     fn post_copy(&self, key: &Key);
 

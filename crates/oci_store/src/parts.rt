@@ -11,6 +11,17 @@ use oci_manifest::Key;
 /// The largest number of bytes that one read requests.
 const PART: usize = 1_048_576;
 
+/// Is told of each part of a content that is read part by part.
+///
+/// `()` ignores the parts.
+pub trait PartWatcher {
+    /// Called after a part with this number of bytes was read and drafted. Does nothing by default.
+    /// It has no result and does not change what is read, and it is assumed to terminate.
+    fn part_arrived(&self, _length: usize) {}
+}
+
+impl PartWatcher for () {}
+
 /// Returns the size of the next read: a full part, or the remainder plus one byte, so that a short
 /// read marks the end and an over-long blob is noticed.
 fn part_size(left: u64) -> usize
@@ -24,8 +35,9 @@ fn part_size(left: u64) -> usize
     }
 }
 
-/// Reads the content of a key part by part into a draft, and verifies it. It requests at most one
-/// byte more than the key's size. The contract does not state this bound.
+/// Reads the content of a key part by part into a draft, and verifies it. The watcher is told of
+/// each part. It requests at most one byte more than the key's size. The contract does not state
+/// this bound, nor the calls of the watcher.
 ///
 /// If a write of the draft fails, the rest is not read, nothing is verified, and the result is
 /// `Ok`. The push of the draft reports the failure.
@@ -39,10 +51,11 @@ fn part_size(left: u64) -> usize
 /// - 23 `Memory`: an allocation failed.
 ///
 /// After an error the bytes of the draft are unspecified: drop it.
-pub fn fetch_into<A: Source, W: Drafting>(
+pub fn fetch_into<A: Source, W: Drafting, P: PartWatcher>(
     source: &A,
     key: &Key,
     draft: &mut W,
+    watcher: &P,
 ) -> Result<(), FetchFault>
     requires empty { W.drafted draft.old [] }
     requires fails { (A.state source.now).fails_at key.now ≡ true }
@@ -69,6 +82,7 @@ pub fn fetch_into<A: Source, W: Drafting>(
         if draft.is_broken() {
             return Ok(());
         }
+        watcher.part_arrived(length);
         left -= length as u64;
         if length < most {
             break;
