@@ -1,4 +1,5 @@
 mod algorithms;
+mod arrivals;
 mod changing;
 mod copies;
 mod drafting;

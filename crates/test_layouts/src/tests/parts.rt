@@ -37,7 +37,7 @@ pub(crate) struct Layer {
 }
 
 /// Returns a layer of the first seed.
-fn first_layer(size: usize) -> Layer {
+pub(crate) fn first_layer(size: usize) -> Layer {
     Layer {
         size,
         seed: 0,
@@ -55,7 +55,7 @@ fn period(alloc: Global, seed: u8) -> Result<Vec<u8>, Fail> {
     Ok(period)
 }
 
-fn bytes_of(alloc: Global, size: usize, seed: u8) -> Result<Vec<u8>, Fail> {
+pub(crate) fn bytes_of(alloc: Global, size: usize, seed: u8) -> Result<Vec<u8>, Fail> {
     let period = period(alloc, seed)?;
     let mut bytes = Vec::with_capacity(alloc, size)?;
     for _ in 0..size.div_ceil(251) {
@@ -72,7 +72,7 @@ fn digest_of(layer: Layer, bytes: &[u8]) -> Result<Digest, Fail> {
     }
 }
 
-fn key_of(alloc: Global, layer: Layer, bytes: &[u8]) -> Result<Key, Fail> {
+pub(crate) fn key_of(alloc: Global, layer: Layer, bytes: &[u8]) -> Result<Key, Fail> {
     let digest = digest_of(layer, bytes)?;
     let media_type = String::from_str(alloc, layer.media_type)?;
     Ok(Key::new(media_type, digest, layer.size as u64)?)
