@@ -50,16 +50,32 @@ impl MeetingPlace {
     }
 }
 
-/// Hooks with two meeting places: one for the calls before a fetch, one for the calls after a push.
+/// Hooks with three meeting places: one for the calls before a fetch, one for the parts that were
+/// fetched, one for the calls after a push.
 #[derive(Drop)]
 struct MeetingHooks {
     began: MeetingPlace,
+    arrived: MeetingPlace,
     ended: MeetingPlace,
+}
+
+impl MeetingHooks {
+    fn looking(looks: u64) -> MeetingHooks {
+        MeetingHooks {
+            began: MeetingPlace::looking(looks),
+            arrived: MeetingPlace::looking(looks),
+            ended: MeetingPlace::looking(looks),
+        }
+    }
 }
 
 impl Hooks for MeetingHooks {
     fn pre_copy(&self, _key: &Key) {
         self.began.come();
+    }
+
+    fn part_arrived(&self, _key: &Key, _length: usize) {
+        self.arrived.come();
     }
 
     fn post_copy(&self, _key: &Key) {
@@ -170,37 +186,36 @@ fn assert_two<R: AllocGlobal + Threads + Wait + Sync + Abort, A: Source + Sync, 
     assert_told(rt, told, "planned 2 pushed 2 skipped 0", run)
 }
 
-/// Of the workers that copy with these hooks, `met` meet before they fetch, and `met` after they
-/// have pushed.
-fn assert_hooks_meet<R: AllocGlobal + Threads + Wait + Sync + Abort>(
+/// Of the workers that copy from this source with these hooks, `met` meet before they fetch, `met`
+/// when they have fetched, and `met` after they have pushed.
+fn assert_hooks_meet<R: AllocGlobal + Threads + Wait + Sync + Abort, A: Source + Sync>(
     rt: &R,
+    source: &A,
     workers: u32,
     hooks: &MeetingHooks,
     met: u64,
 ) -> Result<(), Fail> {
-    assert_two(rt, &memory(rt.alloc(), &[Foo, Bar])?, workers, hooks)?;
+    assert_two(rt, source, workers, hooks)?;
     assert_eq!(rt; hooks.began.met(), met, "before a fetch, by {workers}");
+    assert_eq!(rt; hooks.arrived.met(), met, "after a fetch, by {workers}");
     assert_eq!(rt; hooks.ended.met(), met, "after a push, by {workers}");
     Ok(())
 }
 
-/// Of these workers, which look `looks` times for each other, `met` meet before they fetch and
-/// after they have pushed.
+/// Of these workers, which look `looks` times for each other, `met` meet at each call of the hooks.
 fn assert_met<R: AllocGlobal + Threads + Wait + Sync + Abort>(
     rt: &R,
     workers: u32,
     looks: u64,
     met: u64,
 ) -> Result<(), Fail> {
-    let hooks = MeetingHooks {
-        began: MeetingPlace::looking(looks),
-        ended: MeetingPlace::looking(looks),
-    };
-    assert_hooks_meet(rt, workers, &hooks, met)
+    let hooks = MeetingHooks::looking(looks);
+    let source = memory(rt.alloc(), &[Foo, Bar])?;
+    assert_hooks_meet(rt, &source, workers, &hooks, met)
 }
 
 /// Two workers run at the same time: each of two keys waits for the other to begin. Then each waits
-/// for the push of the other, so neither worker holds the destination's lock.
+/// for the fetch and for the push of the other, so neither worker holds the destination's lock.
 #[test]
 fn meeting(rt: HostRuntime) -> Result<(), Fail> {
     assert_met(&rt, 2, LOOKS, 2)
@@ -233,17 +248,19 @@ fn fetches_meet(rt: HostRuntime) -> Result<(), Fail> {
     assert_fetches_meet(&rt, &source)
 }
 
-/// Two workers that read parts of the contents of a store meet.
+/// Two workers that read parts of the contents of a store meet at each read and at each call of the
+/// hooks.
 fn assert_parts_meet<R: AllocGlobal + Threads + Wait + Sync + Abort>(
     rt: &R,
     source: &PartsMeet,
 ) -> Result<(), Fail> {
-    assert_two(rt, source, 2, &NoHooks)?;
+    assert_hooks_meet(rt, source, 2, &MeetingHooks::looking(LOOKS), 2)?;
     assert_eq!(rt; source.meeting.met(), 2);
     Ok(())
 }
 
-/// Two workers read parts of two layers at the same time, so neither holds the destination's lock.
+/// Two workers read parts of two layers at the same time, and each is told of its part while the
+/// other is, so neither holds the destination's lock.
 #[test]
 fn parts_meet(rt: HostRuntime) -> Result<(), Fail> {
     let source = PartsMeet {
