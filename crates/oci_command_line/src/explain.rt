@@ -1,4 +1,7 @@
-/// Three lines for each error number, with an empty line between two numbers: the number and its
+use serde::Serialize;
+use std::fmt::{self, Display, Formatter, Write};
+
+/// An entry of three lines for each error number, with an empty line between two numbers: the number and its
 /// name, the meaning, and the remedy. The first sentence of the meaning is also printed by itself.
 const REFUSALS: &str = "\
 1 BadForm
@@ -333,27 +336,49 @@ Check the file and its permissions, and the disk.
 Memory ran out while an archive was opened.
 Give the process more memory. `ocicp` itself prints `ocicp: memory` and ends with status 3.";
 
-/// Returns the explanation of a number, which begins with the number. `None` if no error has it.
-pub(crate) fn explanation(number: &str) -> Option<&'static str> {
-    REFUSALS
+/// What `explain` prints about an error number.
+#[derive(Clone, Copy, Serialize)]
+pub struct Explanation {
+    /// The number of the error.
+    pub number: u8,
+    /// The name of the error.
+    pub name: &'static str,
+    /// The meaning and the remedy, each on a line of its own. The last line has no line feed.
+    pub text: &'static str,
+}
+
+impl Display for Explanation {
+    /// Prints the number and the name on the first line, and the text below it. Each line has its
+    /// line feed.
+    fn fmt<W: Write>(&self, f: &mut Formatter<W>) -> fmt::Result {
+        writeln!(f, "{} {}", self.number, self.name)?;
+        writeln!(f, "{}", self.text)
+    }
+}
+
+/// Returns the explanation of a number, which is written without leading zeros. `None` if no error
+/// has it.
+pub(crate) fn find_explanation(number: &str) -> Option<Explanation> {
+    let entry = REFUSALS
         .split("\n\n")
-        .find(|text| first_word(text) == number)
+        .find(|entry| first_word(entry) == number)?;
+    parse_entry(entry)
 }
 
 /// Returns the first sentence of the meaning of an error number, without its full stop. `None` if
 /// no error has the number.
 pub fn first_sentence(number: u8) -> Option<&'static str> {
-    let text = REFUSALS.split("\n\n").find(|text| is_of(text, number))?;
-    let meaning = text.lines().nth(1)?;
+    let entry = REFUSALS.split("\n\n").find(|entry| is_of(entry, number))?;
+    let meaning = entry.lines().nth(1)?;
     match meaning.split_once(". ") {
         Some((sentence, _)) => Some(sentence),
         None => meaning.strip_suffix('.'),
     }
 }
 
-/// Whether an explanation is that of a number.
-fn is_of(text: &str, number: u8) -> bool {
-    match first_word(text).parse::<u8>() {
+/// Whether an entry of the table is that of a number.
+fn is_of(entry: &str, number: u8) -> bool {
+    match first_word(entry).parse::<u8>() {
         Ok(first) => first == number,
         Err(_) => false,
     }
@@ -364,5 +389,15 @@ fn first_word(text: &str) -> &str {
     match text.split_once(' ') {
         Some((first, _)) => first,
         None => text,
+    }
+}
+
+/// Parses an entry of the table. `None` if its first line is not a number and a name.
+fn parse_entry(entry: &'static str) -> Option<Explanation> {
+    let (heading, text) = entry.split_once('\n')?;
+    let (number, name) = heading.split_once(' ')?;
+    match number.parse::<u8>() {
+        Ok(number) => Some(Explanation { number, name, text }),
+        Err(_) => None,
     }
 }

@@ -3,12 +3,14 @@
 //!
 //! | Type | What it is |
 //! |---|---|
-//! | [`Request`] | a valid command line; [`Request::parse`] reads it |
+//! | [`CommandLine`] | a valid command line; [`CommandLine::parse`] reads it |
+//! | [`Request`] | its command |
 //! | [`CopyWords`] | the words of `copy` |
 //! | [`UntagWords`] | the words of `untag` |
 //! | [`PruneWords`] | the words of `prune` |
 //! | [`MemWords`] | the words of `mem` |
 //! | [`Query`] | a command that reads one layout |
+//! | [`Explanation`] | the explanation of an error number |
 //! | [`CommandLineFault`] | why parsing failed |
 //!
 //! [`first_sentence`] returns the meaning of an error number in one sentence.
@@ -22,7 +24,7 @@ mod request;
 mod words;
 
 pub use copying::{CopyWords, Selection, Shown};
-pub use explain::first_sentence;
+pub use explain::{Explanation, first_sentence};
 pub use memory::{Algorithm, MemWords};
 pub use pruning::{PruneWords, UntagWords};
-pub use request::{CommandLineFault, Query, Request};
+pub use request::{CommandLine, CommandLineFault, Query, Request};

@@ -1,5 +1,5 @@
 use crate::copying::{CopyWords, Selection, Shown};
-use crate::explain::explanation;
+use crate::explain::{Explanation, find_explanation};
 use crate::memory::{Algorithm, MemWords};
 use crate::pruning::{PruneWords, UntagWords};
 use crate::words::command;
@@ -9,11 +9,21 @@ use std::alloc::{AllocError, Global};
 
 /// A valid command line.
 #[derive(Drop)]
+pub struct CommandLine<'w> {
+    /// The command with its words and flags, or a text to print.
+    pub request: Request<'w>,
+    /// Whether `--json` was given: whether the command prints its result, or its refusal, as one
+    /// JSON document. It is false for [`Request::Text`].
+    pub as_json: bool,
+}
+
+/// The command of a command line, with its words and flags, or a text to print.
+#[derive(Drop)]
 pub enum Request<'w> {
     /// `--help` or `--version`, with the text to print and its last line feed.
     Text(String),
-    /// `explain`, with the explanation.
-    Explain(&'static str),
+    /// `explain`, with the explanation to print.
+    Explain(Explanation),
     /// `mem`, with its items and flags.
     Mem(MemWords<'w>),
     /// `copy`, with its folders, references and flags.
@@ -43,7 +53,10 @@ pub enum Query<'w> {
         shows_referrers: bool,
     },
     /// `verify`.
-    Verify,
+    Verify {
+        /// Whether a line on the terminal shows how much was checked so far.
+        shows_progress: bool,
+    },
 }
 
 /// Why parsing failed.
@@ -61,7 +74,7 @@ impl From<AllocError> for CommandLineFault {
     }
 }
 
-impl<'w> Request<'w> {
+impl<'w> CommandLine<'w> {
     /// Parses the words after the program's name. `on_terminal` says whether stderr is a terminal.
     ///
     /// # Errors
@@ -73,28 +86,32 @@ impl<'w> Request<'w> {
         words: &'w [String],
         on_terminal: bool,
         most_workers: u32,
-    ) -> Result<Request<'w>, CommandLineFault> {
+    ) -> Result<CommandLine<'w>, CommandLineFault> {
         let matches = match command(alloc, most_workers)?.try_get_matches_from(words) {
             Ok(matches) => matches,
             Err(error) => return text_or_usage(alloc, &error),
         };
         match matches.subcommand() {
-            Some(("explain", matches)) => {
-                explanation_of(alloc, word(matches, "number"), most_workers)
-            }
-            Some((name, matches)) => request_of(alloc, name, matches, on_terminal),
-            None => Ok(Request::Mem(MemWords::none(alloc))),
+            Some((name, matches)) => Ok(CommandLine {
+                request: request_of(alloc, name, matches, on_terminal, most_workers)?,
+                as_json: matches.get_flag("json"),
+            }),
+            None => Ok(CommandLine {
+                request: Request::Mem(MemWords::none(alloc)),
+                as_json: false,
+            }),
         }
     }
 }
 
 /// Turns an error of `clap` into the requested text, or into an invalid command line.
-fn text_or_usage<'w>(alloc: Global, error: &Error) -> Result<Request<'w>, CommandLineFault> {
+fn text_or_usage<'w>(alloc: Global, error: &Error) -> Result<CommandLine<'w>, CommandLineFault> {
     match error.kind() {
         ErrorKind::OutOfMemory => Err(CommandLineFault::Memory),
-        ErrorKind::DisplayHelp | ErrorKind::DisplayVersion => {
-            Ok(Request::Text(text_of(alloc, error)?))
-        }
+        ErrorKind::DisplayHelp | ErrorKind::DisplayVersion => Ok(CommandLine {
+            request: Request::Text(text_of(alloc, error)?),
+            as_json: false,
+        }),
         _ => Err(CommandLineFault::Usage(text_of(alloc, error)?)),
     }
 }
@@ -109,8 +126,10 @@ fn request_of<'w>(
     name: &str,
     matches: &ArgMatches<'w>,
     on_terminal: bool,
+    most_workers: u32,
 ) -> Result<Request<'w>, CommandLineFault> {
     match name {
+        "explain" => explanation_of(alloc, word(matches, "number"), most_workers),
         "copy" => Ok(Request::Copy(copy_words(matches, on_terminal))),
         "untag" => Ok(Request::Untag(untag_words(matches))),
         "prune" => Ok(Request::Prune(prune_words(matches))),
@@ -118,7 +137,12 @@ fn request_of<'w>(
         "resolve" => Ok(of_folder(matches, Query::Resolve(word(matches, "reference")))),
         "predecessors" => Ok(of_folder(matches, Query::Predecessors(word(matches, "reference")))),
         "tree" => Ok(of_folder(matches, tree_of(matches))),
-        "verify" => Ok(of_folder(matches, Query::Verify)),
+        "verify" => Ok(of_folder(
+            matches,
+            Query::Verify {
+                shows_progress: on_terminal,
+            },
+        )),
         _ => Ok(Request::Mem(mem_words(alloc, matches)?)),
     }
 }
@@ -147,8 +171,8 @@ fn explanation_of<'w>(
     number: &str,
     most_workers: u32,
 ) -> Result<Request<'w>, CommandLineFault> {
-    match explanation(number) {
-        Some(text) => Ok(Request::Explain(text)),
+    match find_explanation(number) {
+        Some(explanation) => Ok(Request::Explain(explanation)),
         None => {
             let error = unknown_number(alloc, number, most_workers)?;
             Err(CommandLineFault::Usage(text_of(alloc, &error)?))

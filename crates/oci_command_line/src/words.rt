@@ -14,7 +14,7 @@ use clap::{Arg, Command};
 use std::alloc::{AllocError, Global};
 
 /// The version that `--version` prints.
-const VERSION: &str = "0.6.0";
+const VERSION: &str = "0.7.0";
 
 /// The `clap` command; `most_workers` bounds `--workers`.
 pub(crate) fn command<'w>(alloc: Global, most_workers: u32) -> Result<Command<'w>, AllocError> {
@@ -23,7 +23,9 @@ pub(crate) fn command<'w>(alloc: Global, most_workers: u32) -> Result<Command<'w
         .about(
             "Copies container images and the artifacts attached to them between OCI image layouts",
         )
-        .after_help("`ocicp COMMAND --help` shows a command's flags and examples.")
+        .after_help(
+            "`ocicp COMMAND --help` shows a command's flags and examples. With --json a command prints JSON.",
+        )
         .no_binary_name(true)
         .disable_help_subcommand(true)
         .subcommand_required(true);
@@ -66,5 +68,14 @@ fn no_wait<'w>(alloc: Global) -> Arg<'w> {
         alloc,
         "no-wait",
         "If another process has the lock of the folder, ends with 99 and does not wait",
+    )
+}
+
+/// `--json`
+fn json<'w>(alloc: Global) -> Arg<'w> {
+    flag(
+        alloc,
+        "json",
+        "Prints one JSON document on a line in place of the lines; an error is then a JSON document on stderr",
     )
 }

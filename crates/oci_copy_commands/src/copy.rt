@@ -1,6 +1,7 @@
 ghost use Rattle.std.specs.Prelude.{◌≤◌};
 
 use crate::Host;
+use crate::answer::{CleanUpAnswer, CopyAnswer};
 use crate::between::copy_between;
 use crate::destination::{open_or_create, remove_leftovers};
 use crate::dry_run::show_plan;
@@ -9,19 +10,19 @@ use crate::progress::Progress;
 use crate::selected::Selected;
 use oci_command_line::CopyWords;
 use oci_copy::{Options, Report, plan_copy};
-use oci_exit::{Ended, Outcome, ProgramFault, finish_run, make_and_lock_folder, print_line};
+use oci_exit::{Ended, Form, Outcome, ProgramFault, finish_run, make_and_lock_folder};
 use oci_layout::{Dir, FolderLock, Layout, PrunableDir};
 use oci_plan::Existing;
-use oci_prune_commands::print_pruned;
+use oci_prune_commands::print_answer_with_fault;
 use std::alloc::Global;
 use std::io::Write;
 
 /// `copy SRC SRCREF DST [DSTREF]` and `copy --all SRC DST`: copies the selected blobs, tags them in
-/// the destination, and saves it. Prints the key of each tag and the report, and returns how the
-/// run ended. With `--progress` each blob is printed on `err` when it arrives. Without it, on a
-/// terminal, one line shows how much has arrived. With `--dry-run` only the plan is printed. With
-/// `--all --prune` the tags that the source does not have are removed too, and what no tag then
-/// needs; the tags and what was removed are printed.
+/// the destination, and saves it. Prints in this form the key of each tag and the report, and
+/// returns how the run ended. With `--progress` each blob is printed on `err` when it arrives.
+/// Without it, on a terminal, one line shows how much has arrived. With `--dry-run` only the plan is
+/// printed. With `--all --prune` the tags that the source does not have are removed too, and what no
+/// tag then needs; the tags and what was removed are printed.
 ///
 /// Otherwise a destination without `oci-layout` becomes a layout, once the source is open and its
 /// reference is resolved. The destination's folder is locked from before the destination is opened
@@ -51,21 +52,29 @@ pub fn run_copy<
     D: PrunableDir + Drop + Send,
     W: Write,
     X: Write + Send,
->(rt: &R, source: S, destination: D, words: &CopyWords<'_>, out: &mut W, err: &mut X) -> Ended
+>(
+    rt: &R,
+    source: S,
+    destination: D,
+    words: &CopyWords<'_>,
+    form: Form,
+    out: &mut W,
+    err: &mut X,
+) -> Ended
 where
     S::Draft: Send,
     D::Draft: Send,
     ensures { result.status ≤ 3 }
 {
     let done = if words.is_dry {
-        show_plan(rt.alloc(), source, destination, words, out)
+        show_plan(rt.alloc(), source, destination, words, form, out)
     } else {
         match copy_layout(rt, source, destination, words, err) {
-            Ok((selected, copied)) => print_copied(rt.alloc(), &selected, copied, out),
+            Ok((selected, copied)) => print_copied(rt.alloc(), selected, copied, form, out),
             Err(fault) => Err(fault),
         }
     };
-    finish_run(done, out, err)
+    finish_run(rt.alloc(), done, form, out, err)
 }
 
 /// What a copy did.
@@ -196,37 +205,22 @@ pub(crate) fn options_of(words: &CopyWords<'_>) -> Options {
     }
 }
 
-/// Prints the key of each tag of a copy, the report, and what was removed.
+/// Prints what a copy of the selected tags did.
 fn print_copied<W: Write>(
     alloc: Global,
-    selected: &Selected,
+    selected: Selected,
     copied: Copied,
+    form: Form,
     out: &mut W,
 ) -> Result<Outcome, ProgramFault> {
-    for (_, key) in selected.tags() {
-        writeln!(out, "copied {key}").map_err(ProgramFault::of_output)?;
-    }
     let Copied { report, removed } = copied;
-    print_line(&report, out)?;
-    match removed {
-        Some(removed) => print_removed(alloc, removed, out),
-        None => Ok(Outcome::Good),
-    }
-}
-
-/// Prints the tags that were removed with the keys that they named, and what the prune removed.
-fn print_removed<W: Write>(
-    alloc: Global,
-    removed: CleanUp,
-    out: &mut W,
-) -> Result<Outcome, ProgramFault> {
-    let CleanUp {
-        untagged,
-        plan,
-        pruned,
-    } = removed;
-    for (name, key) in &untagged {
-        writeln!(out, "untagged {name} {key}").map_err(ProgramFault::of_output)?;
-    }
-    print_pruned(alloc, &plan, pruned, out)
+    let (removed, fault) = match removed {
+        Some(removed) => {
+            let (removed, fault) = CleanUpAnswer::of(alloc, removed)?;
+            (Some(removed), fault)
+        }
+        None => (None, None),
+    };
+    let answer = CopyAnswer::of(alloc, selected, report, removed)?;
+    print_answer_with_fault(alloc, &answer, fault, form, out)
 }

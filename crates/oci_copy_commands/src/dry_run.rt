@@ -2,17 +2,21 @@ use crate::copy::options_of;
 use crate::selected::Selected;
 use oci_command_line::CopyWords;
 use oci_copy::{Options, plan_copy};
-use oci_exit::{Outcome, ProgramFault, print_line};
+use oci_digest::NoMemory;
+use oci_exit::{Form, Outcome, ProgramFault, Sum, print_answer};
 use oci_layout::{Dir, Layout, LayoutFault};
 use oci_manifest::Key;
 use oci_plan::Plan;
 use oci_store::ClosedStore;
+use serde::Serialize;
 use std::alloc::Global;
+use std::fmt;
+use std::fmt::Display;
 use std::io::Write;
 
-/// `copy --dry-run`: prints the key of each blob that the copy would push, each after the blobs
-/// that it lists. Then prints the number of these blobs, the number of their bytes, and how many
-/// roots the destination already has.
+/// `copy --dry-run`: prints in this form the key of each blob that the copy would push, each after
+/// the blobs that it lists. Then prints the number of these blobs, the number of their bytes, and
+/// how many roots the destination already has.
 ///
 /// Nothing is changed and nothing is locked. A destination without `oci-layout` counts as an empty
 /// layout, and is not created.
@@ -30,17 +34,14 @@ pub(crate) fn show_plan<S: Dir + Drop, D: Dir + Drop, W: Write>(
     source: S,
     destination: D,
     words: &CopyWords<'_>,
+    form: Form,
     out: &mut W,
 ) -> Result<Outcome, ProgramFault> {
     let source = Layout::open(alloc, source)?;
     let selected = Selected::of(alloc, &source, words)?;
     let options = options_of(words);
     let plan = plan_into(alloc, &source, destination, selected.roots(), &options)?;
-    let bytes = print_planned(&plan, out)?;
-    let (planned, skipped) = (plan.len(), plan.skipped().len());
-    writeln!(out, "planned {planned} bytes {bytes} skipped {skipped}").map_err(
-        ProgramFault::of_output,
-    )?;
+    print_answer(alloc, &PlanAnswer::of(alloc, &plan)?, form, out)?;
     Ok(Outcome::Good)
 }
 
@@ -62,14 +63,46 @@ fn plan_into<S: Dir, D: Dir + Drop>(
     Ok(plan?)
 }
 
-/// Prints the keys of a plan in its order, and returns the number of their bytes.
-fn print_planned<W: Write>(plan: &Plan, out: &mut W) -> Result<u128, ProgramFault> {
-    let mut bytes = 0u128;
-    for place in 0..plan.len() {
-        if let Some(key) = plan.key_in_order(place) {
-            print_line(key, out)?;
-            bytes = bytes.saturating_add(key.size() as u128);
+/// What a copy would push.
+///
+/// It prints the keys on a line each, and then a line with the counts.
+#[derive(Drop, Serialize)]
+struct PlanAnswer<'p> {
+    /// The keys, in the order of the plan.
+    blobs: Vec<&'p Key>,
+    /// The number of the keys.
+    planned: usize,
+    /// The sum of their sizes.
+    bytes: Sum,
+    /// The number of roots that the destination already has.
+    skipped: usize,
+}
+
+impl<'p> PlanAnswer<'p> {
+    fn of(alloc: Global, plan: &'p Plan) -> Result<PlanAnswer<'p>, NoMemory> {
+        let mut blobs: Vec<&'p Key> = Vec::new(alloc);
+        let mut bytes = 0u128;
+        for place in 0..plan.len() {
+            if let Some(key) = plan.key_in_order(place) {
+                blobs.push(key)?;
+                bytes = bytes.saturating_add(u128::from(key.size()));
+            }
         }
+        Ok(PlanAnswer {
+            blobs,
+            planned: plan.len(),
+            bytes: Sum(bytes),
+            skipped: plan.skipped().len(),
+        })
     }
-    Ok(bytes)
+}
+
+impl<'p> Display for PlanAnswer<'p> {
+    fn fmt<W: fmt::Write>(&self, f: &mut fmt::Formatter<W>) -> fmt::Result {
+        for key in &self.blobs {
+            writeln!(f, "{key}")?;
+        }
+        let (planned, bytes, skipped) = (self.planned, self.bytes, self.skipped);
+        writeln!(f, "planned {planned} bytes {bytes} skipped {skipped}")
+    }
 }

@@ -5,6 +5,7 @@
 //! contract says what the copy leaves. [`Host`] is the runtime that the commands need.
 #![tactic(auto)]
 
+mod answer;
 mod between;
 mod copy;
 mod destination;
@@ -13,7 +14,6 @@ mod item;
 mod mem;
 mod mirror;
 mod progress;
-mod progress_line;
 mod retag;
 mod selected;
 

@@ -1,19 +1,22 @@
 use crate::item::Item;
 use oci_command_line::{Algorithm, MemWords};
 use oci_copy::{CopyFault, Options, Report, copy_memory, copy_memory_by_workers};
-use oci_exit::{Outcome, ProgramFault, print_line, print_lines};
+use oci_exit::{Form, Outcome, ProgramFault, print_answer};
 use oci_manifest::Key;
 use oci_pool::NoHooks;
 use oci_store::{ClosedStore, MemoryStore};
+use serde::Serialize;
 use std::alloc::Global;
+use std::fmt;
+use std::fmt::Display;
 use std::io::Write;
 use std::rt::Files;
 use std::sync::Wait;
 use std::thread::Threads;
 
 /// `mem [--workers N] [--sha512] TYPE=PATH..`: pushes the items' files into a store in memory, and
-/// copies from the key of the last item into an empty store. Prints the keys that arrived there, in
-/// key order, and the report.
+/// copies from the key of the last item into an empty store. Prints in this form the keys that
+/// arrived there, in key order, and the report.
 ///
 /// # Errors
 ///
@@ -30,15 +33,38 @@ use std::thread::Threads;
 pub fn run_mem<R: Files + AllocGlobal + Threads + Wait + Sync, W: Write>(
     rt: &R,
     words: &MemWords<'_>,
+    form: Form,
     out: &mut W,
 ) -> Result<Outcome, ProgramFault> {
     let mut source = MemoryStore::new(rt.alloc());
     let roots = push_items(rt, &mut source, words)?;
     let (copied, report) = copy_roots(rt, &source, &roots, words.workers);
-    let report = report?;
-    print_lines(&sorted_keys(rt.alloc(), copied.memory())?, out)?;
-    print_line(&report, out)?;
+    let answer = MemAnswer {
+        report: report?,
+        blobs: sorted_keys(rt.alloc(), copied.memory())?,
+    };
+    print_answer(rt.alloc(), &answer, form, out)?;
     Ok(Outcome::Good)
+}
+
+/// What a copy into an empty store in memory did.
+///
+/// It prints the keys on a line each, and the line of the report.
+#[derive(Drop, Serialize)]
+struct MemAnswer<'m> {
+    /// The keys that arrived, in key order.
+    blobs: Vec<&'m Key>,
+    #[serde(flatten)]
+    report: Report,
+}
+
+impl<'m> Display for MemAnswer<'m> {
+    fn fmt<W: fmt::Write>(&self, f: &mut fmt::Formatter<W>) -> fmt::Result {
+        for key in &self.blobs {
+            writeln!(f, "{key}")?;
+        }
+        writeln!(f, "{}", self.report)
+    }
 }
 
 /// Pushes the files of the items, in their order, and returns the key of the last one.

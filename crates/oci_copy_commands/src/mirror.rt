@@ -4,6 +4,7 @@ ghost use Rattle.oci_copy.specs.Planned.{IsPlanOf};
 ghost use Rattle.oci_store.specs.Keyed.{HasAll};
 ghost use Rattle.oci_copy_commands.specs.Selected.{other_tags, set_tags, without_tags};
 
+use crate::Host;
 use crate::retag::retag;
 use crate::selected::Selected;
 use oci_copy::{Options, Report, copy_plan};
@@ -15,8 +16,6 @@ use oci_pool::Hooks;
 use oci_prune::{PruneFault, Pruned, Pruning, plan_prune, prune};
 use oci_store::Store;
 use std::alloc::Global;
-use std::sync::Wait;
-use std::thread::Threads;
 
 /// What `copy --all --prune` removed from the destination.
 #[derive(Drop)]
@@ -104,12 +103,7 @@ fn check_plan<D: PrunableDir>(alloc: Global, layout: &Layout<D>) -> Result<(), P
 ///   copied blobs stay, and the index is not written.
 /// - 74 `Device` if `index.json` could not be written.
 /// - Out of memory, at any point.
-pub(crate) fn mirror<
-    R: AllocGlobal + Threads + Wait + Sync,
-    S: Dir + Sync,
-    D: PrunableDir + Drop + Send,
-    H: Hooks + Sync,
->(
+pub(crate) fn mirror<R: Host, S: Dir + Sync, D: PrunableDir + Drop + Send, H: Hooks + Sync>(
     rt: &R,
     source: &Layout<S>,
     destination: Layout<D>,

@@ -1,5 +1,5 @@
-use crate::progress_line::ProgressLine;
 use oci_command_line::Shown;
+use oci_exit::{Amount, ProgressLine};
 use oci_manifest::Key;
 use oci_plan::Plan;
 use oci_pool::Hooks;
@@ -24,7 +24,7 @@ impl<'p, R: Clock + Wait, X: Write> Progress<'p, R, X> {
         match shown {
             Shown::Nothing => Progress::Nothing,
             Shown::EachBlob => Progress::EachBlob(BlobLines::new(rt, err)),
-            Shown::Line => Progress::Line(ProgressLine::new(rt, err, plan)),
+            Shown::Line => Progress::Line(ProgressLine::new(rt, err, planned(plan))),
         }
     }
 
@@ -39,11 +39,17 @@ impl<'p, R: Clock + Wait, X: Write> Progress<'p, R, X> {
 impl<'p, R: Clock + Wait, X: Write> Hooks for Progress<'p, R, X> {
     fn pre_copy(&self, _key: &Key) {}
 
+    fn part_arrived(&self, _key: &Key, length: usize) {
+        if let Progress::Line(line) = self {
+            line.add_bytes(length);
+        }
+    }
+
     fn post_copy(&self, key: &Key) {
         match self {
             Progress::Nothing => {}
             Progress::EachBlob(lines) => lines.print("pushed", key),
-            Progress::Line(line) => line.add(key),
+            Progress::Line(line) => line.add_blob(),
         }
     }
 
@@ -52,6 +58,15 @@ impl<'p, R: Clock + Wait, X: Write> Hooks for Progress<'p, R, X> {
             lines.print("skipped", key);
         }
     }
+}
+
+/// The amount of all blobs of a plan.
+fn planned(plan: &Plan) -> Amount {
+    let mut all = Amount::NONE;
+    for key in plan.keys() {
+        all = all.with(key);
+    }
+    all
 }
 
 /// Prints a line for each blob: `pushed` and the key if it arrived, `skipped` and the key for a

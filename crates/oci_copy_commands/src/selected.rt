@@ -132,6 +132,14 @@ impl Selected {
     {
         &self.tags
     }
+
+    /// Returns the tags that the copy sets, and the root that each names.
+    pub(crate) fn into_tags(self) -> Vec<(String, Key)>
+        ensures { by_bytes result.items ≡ self.1 }
+    {
+        let Selected { tags, .. } = self;
+        tags
+    }
 }
 
 /// The tag to set: the destination's reference, or the source's if that is empty.

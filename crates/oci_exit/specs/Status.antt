@@ -1,5 +1,7 @@
 -- The status that a run ends with, and the numbers of its fault.
-use Rattle.std.specs.Prelude.{ℕ, Bool, true, false, if◌then◌else◌, Option, Some, None}
+use Rattle.std.specs.Prelude.{◌≡◌, ◌⊎◌, [], ◌∷◌, ℕ, List, Bool, true, false, if◌then◌else◌, Option, Some, None}
+use Rattle.std.specs.List.{last_or}
+use Rattle.std.specs.Option.{option_to_list}
 use Rattle.oci_archive.specs.Numbers.{archive_number}
 use Rattle.oci_archive.specs.declared.fault.ArchiveFault.{ArchiveFault}
 use Rattle.oci_archive.specs.declared.fault.ArchiveFault.TheVariants as archive
@@ -24,6 +26,8 @@ use Rattle.oci_store.specs.declared.fault.PushFault.{PushFault}
 use Rattle.oci_store.specs.declared.fault.PushFault.TheVariants as push
 use Rattle.oci_store.specs.declared.fault.RefFault.{RefFault}
 use Rattle.oci_store.specs.declared.fault.RefFault.TheVariants as reference
+use Rattle.oci_exit.specs.declared.answer.Form.{Form}
+use Rattle.oci_exit.specs.declared.answer.Form.TheVariants as form
 use Rattle.oci_exit.specs.declared.outcome.Outcome.{Outcome}
 use Rattle.oci_exit.specs.declared.outcome.Outcome.TheVariants as outcome
 use Rattle.oci_exit.specs.declared.ending.Ending.{Ending}
@@ -86,6 +90,11 @@ status_of (ending.Usage error) = 2
 status_of ending.NotUtf8 = 2
 status_of (ending.Fault e) = if is_memory e then 3 else 1
 
+-- the status of a refused run: that of its fault, or 3 if its document is asked for and memory runs out
+abbrev pub IsRefusalStatus : Form → ProgramFault → ℕ → Type 0
+IsRefusalStatus form.Lines e status = status ≡ status_of (ending.Fault e)
+IsRefusalStatus form.Json e status = (status ≡ status_of (ending.Fault e)) ⊎ (status ≡ 3)
+
 -- the status of a run that was not refused: 1 if it found something wrong
 abbrev pub status_of_done : Outcome → ℕ
 status_of_done outcome.Good = 0
@@ -114,42 +123,47 @@ program_number (fault.Reference e) = Some (reference_number e)
 program_number (fault.Fetch e) = Some (fetch_number e)
 program_number fault.Memory = None
 
--- the last number of a refused push: that of the manifest's fault, if there is one
-abbrev pub last_push_number : PushFault → ℕ
-last_push_number (push.BadManifest e) = manifest_number_of e
-last_push_number e = push_number e
+-- the numbers of a refused push: its own, and that of the manifest's fault if there is one
+abbrev pub push_numbers : PushFault → List ℕ
+push_numbers (push.BadManifest e) = push_number (push.BadManifest e) ∷ manifest_number_of e ∷ []
+push_numbers e = push_number e ∷ []
 
--- the last number of a refused plan: that of the fault in it, if there is one
-abbrev pub last_plan_number : PlanFault → ℕ
-last_plan_number (plan.Manifest k e) = manifest_number_of e
-last_plan_number (plan.Fetch k e) = fetch_number e
-last_plan_number e = plan_number_of e
+-- the numbers of a refused plan: its own, and that of the fault in it if there is one
+abbrev pub plan_numbers : PlanFault → List ℕ
+plan_numbers (plan.Manifest k e) = plan_number_of (plan.Manifest k e) ∷ manifest_number_of e ∷ []
+plan_numbers (plan.Fetch k e) = plan_number_of (plan.Fetch k e) ∷ fetch_number e ∷ []
+plan_numbers e = plan_number_of e ∷ []
 
--- the last number of a refused copy
-abbrev pub last_copy_number : CopyFault → ℕ
-last_copy_number (copy.Plan e) = last_plan_number e
-last_copy_number (copy.Push k e) = last_push_number e
-last_copy_number (copy.Reference e) = reference_number e
-last_copy_number (copy.Fetch k e) = fetch_number e
-last_copy_number e = number_of e
+-- the numbers of a refused copy, the outermost first
+abbrev pub copy_numbers : CopyFault → List ℕ
+copy_numbers (copy.Plan e) = number_of (copy.Plan e) ∷ plan_numbers e
+copy_numbers (copy.Push k e) = number_of (copy.Push k e) ∷ push_numbers e
+copy_numbers (copy.Reference e) = number_of (copy.Reference e) ∷ reference_number e ∷ []
+copy_numbers (copy.Fetch k e) = number_of (copy.Fetch k e) ∷ fetch_number e ∷ []
+copy_numbers e = number_of e ∷ []
 
--- the last number of a refused layout: that of the manifest's fault, if there is one
-abbrev pub last_layout_number : LayoutFault → ℕ
-last_layout_number (layout.BadIndex e) = manifest_number_of e
-last_layout_number (layout.BadManifest k e) = manifest_number_of e
-last_layout_number e = layout_number e
+-- the numbers of a refused layout: its own, and that of the manifest's fault if there is one
+abbrev pub layout_numbers : LayoutFault → List ℕ
+layout_numbers (layout.BadIndex e) = layout_number (layout.BadIndex e) ∷ manifest_number_of e ∷ []
+layout_numbers (layout.BadManifest k e) =
+    layout_number (layout.BadManifest k e) ∷ manifest_number_of e ∷ []
+layout_numbers e = layout_number e ∷ []
 
--- the last number of a refused prune: that of the fault in it, if there is one
-abbrev pub last_prune_number : PruneFault → ℕ
-last_prune_number (prune.Fetch k e) = fetch_number e
-last_prune_number (prune.Layout e) = last_layout_number e
-last_prune_number e = prune_number e
+-- the numbers of a refused prune; a refused layout in it has no other number
+abbrev pub prune_numbers : PruneFault → List ℕ
+prune_numbers (prune.Fetch k e) = prune_number (prune.Fetch k e) ∷ fetch_number e ∷ []
+prune_numbers (prune.Layout e) = layout_numbers e
+prune_numbers e = prune_number e ∷ []
+
+-- the numbers of a fault's text, the outermost first; the program's own memory error has none
+abbrev pub numbers : ProgramFault → List ℕ
+numbers (fault.Push e) = push_numbers e
+numbers (fault.Copy e) = copy_numbers e
+numbers (fault.Layout e) = layout_numbers e
+numbers (fault.Destination e) = layout_numbers e
+numbers (fault.Prune e) = prune_numbers e
+numbers e = option_to_list (program_number e)
 
 -- the last number of a fault's text, which is that of its innermost fault
 abbrev pub last_number : ProgramFault → Option ℕ
-last_number (fault.Push e) = Some (last_push_number e)
-last_number (fault.Copy e) = Some (last_copy_number e)
-last_number (fault.Layout e) = Some (last_layout_number e)
-last_number (fault.Destination e) = Some (last_layout_number e)
-last_number (fault.Prune e) = Some (last_prune_number e)
-last_number e = program_number e
+last_number e = last_or None (numbers e)

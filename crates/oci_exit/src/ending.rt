@@ -1,9 +1,7 @@
-ghost use Rattle.std.specs.Prelude.{◌≡◌, ◌≤◌, ◌⊎◌, IfErr, IfOk};
-ghost use Rattle.oci_exit.specs.Status.{status_of, status_of_done};
+ghost use Rattle.std.specs.Prelude.{◌≡◌};
+ghost use Rattle.oci_exit.specs.Status.{status_of};
 
 use crate::fault::ProgramFault;
-use crate::outcome::Outcome;
-use crate::refusal::Refusal;
 use std::alloc::AllocError;
 use std::fmt;
 use std::io::Write;
@@ -60,53 +58,5 @@ impl From<ProgramFault> for Ending {
 impl From<AllocError> for Ending {
     fn from(_refused: AllocError) -> Ending {
         Ending::Fault(ProgramFault::Memory)
-    }
-}
-
-/// How a run ended.
-#[derive(Clone, Copy)]
-pub struct Ended {
-    /// The exit status.
-    pub status: u8,
-    /// The refusal, if the run has one with a number.
-    pub refusal: Option<Refusal>,
-}
-
-/// Ends a run: flushes `out` if the command was done, or prints its fault on `err`.
-///
-/// # Errors
-///
-/// The run ends with 94 `Output` or out of memory if `out` cannot be flushed. What was printed
-/// before stays.
-pub fn finish_run<W: Write, X: Write>(
-    done: Result<Outcome, ProgramFault>,
-    out: &mut W,
-    err: &mut X,
-) -> Ended
-    ensures status { result.status ≤ 3 }
-    ensures done { IfOk done (λ outcome. (result.status ≡ status_of_done outcome)
-        ⊎ ((result.status ≡ 1) ⊎ (result.status ≡ 3))) }
-    ensures refused { IfErr done (λ fault. result.status ≡ status_of (Ending.Fault fault)) }
-{
-    match done {
-        Ok(outcome) => match out.flush() {
-            Ok(()) => Ended {
-                status: outcome.status(),
-                refusal: None,
-            },
-            Err(error) => refused(ProgramFault::of_output(error), err),
-        },
-        Err(fault) => refused(fault, err),
-    }
-}
-
-/// Ends a run that was refused: prints the fault on `err`.
-fn refused<X: Write>(fault: ProgramFault, err: &mut X) -> Ended
-    ensures { result.status ≡ status_of (Ending.Fault fault) }
-{
-    let refusal = fault.refusal();
-    Ended {
-        status: Ending::Fault(fault).tell(err),
-        refusal,
     }
 }

@@ -1,4 +1,4 @@
-ghost use Rattle.std.specs.Prelude.{◌≡◌, ◌↔◌, IsTrue};
+ghost use Rattle.std.specs.Prelude.{◌≡◌, ◌↔◌, ◌⊎◌, IsTrue};
 ghost use Rattle.std.specs.IoError.{error_kind};
 ghost use Rattle.std.specs.declared.io.ErrorKind.TheVariants.{OutOfMemory};
 ghost use Rattle.oci_exit.specs.Status.{is_memory, is_prune_memory, program_number};
@@ -68,7 +68,8 @@ impl ProgramFault {
     /// Returns the fault of an output that failed with this error: `Memory` for `OutOfMemory`, and
     /// otherwise `Output`.
     pub fn of_output(error: io::Error) -> ProgramFault
-        ensures { IsTrue (is_memory result) ↔ (error_kind error ≡ OutOfMemory) }
+        ensures memory { IsTrue (is_memory result) ↔ (error_kind error ≡ OutOfMemory) }
+        ensures either { (result ≡ ProgramFault.Output) ⊎ (result ≡ ProgramFault.Memory) }
     {
         match error.kind() {
             io::ErrorKind::OutOfMemory => ProgramFault::Memory,
@@ -141,18 +142,33 @@ fn is_prune_memory(fault: &PruneFault) -> bool
 }
 
 impl From<AllocError> for ProgramFault {
+    ghost use Rattle.std.specs.Prelude.{◌≡◌};
+    ghost use Rattle.oci_exit.specs.declared.fault.ProgramFault.TheVariants.{Memory};
+
+    ghost from_gives = { λ _ e. e ≡ Memory };
+
     fn from(_refused: AllocError) -> ProgramFault {
         ProgramFault::Memory
     }
 }
 
 impl From<NoMemory> for ProgramFault {
+    ghost use Rattle.std.specs.Prelude.{◌≡◌};
+    ghost use Rattle.oci_exit.specs.declared.fault.ProgramFault.TheVariants.{Memory};
+
+    ghost from_gives = { λ _ e. e ≡ Memory };
+
     fn from(_refused: NoMemory) -> ProgramFault {
         ProgramFault::Memory
     }
 }
 
 impl<T: Drop> From<AllocFailed<T>> for ProgramFault {
+    ghost use Rattle.std.specs.Prelude.{◌≡◌};
+    ghost use Rattle.oci_exit.specs.declared.fault.ProgramFault.TheVariants.{Memory};
+
+    ghost from_gives = { λ _ e. e ≡ Memory };
+
     fn from(_refused: AllocFailed<T>) -> ProgramFault {
         ProgramFault::Memory
     }

@@ -1,29 +1,44 @@
-//! The ends of runs, the printing of lines and sizes, and the locking of folders, for all commands
-//! of the program.
+//! The ends of runs, the printing of answers, the line that shows progress, and the locking of
+//! folders, for all commands of the program.
 //!
 //! | Type | What it is |
 //! |---|---|
 //! | [`ProgramFault`] | why a command is refused, by a fault from below or one of 92 to 95 and 99 |
 //! | [`Outcome`] | the result of a command that was not refused |
+//! | [`Form`] | lines or JSON, the form in which a command prints |
 //! | [`Ending`] | why a run ended early: an invalid command line, or a refused command |
 //! | [`Ended`] | how a run ended: its exit status, and its [`Refusal`] |
-//! | [`Readable`] | a size as people read it |
+//! | [`Tagged`], [`Sum`] | parts of answers: a tag with its key, and a sum |
+//! | [`ProgressLine`] | a line on a terminal: how much of an [`Amount`] has arrived, and how fast |
+//! | [`Readable`], [`TimeLeft`] | a size, and a time, as people read them |
 //!
-//! [`finish_run`] ends a run; [`print_line`] and [`print_lines`] print lines. [`lock_folder`] and
-//! [`make_and_lock_folder`] lock the folder that a command writes into.
+//! [`print_answer`] prints the answer of a command, and [`finish_run`] ends a run. [`lock_folder`]
+//! and [`make_and_lock_folder`] lock the folder that a command writes into.
 #![tactic(auto)]
 
+mod answer;
+mod any_fault;
+mod carried;
 mod ending;
 mod fault;
-mod last_number;
+mod finish;
 mod locking;
 mod outcome;
-mod printing;
+mod progress_line;
+mod readable;
 mod refusal;
+mod refusal_document;
+mod speed;
+mod sum;
 
-pub use ending::{Ended, Ending, finish_run};
+pub use answer::{Form, Tagged, print_answer};
+pub use ending::Ending;
 pub use fault::ProgramFault;
+pub use finish::{Ended, finish_run};
 pub use locking::{lock_folder, make_and_lock_folder};
 pub use outcome::Outcome;
-pub use printing::{Readable, print_line, print_lines};
+pub use progress_line::{Amount, ProgressLine};
+pub use readable::{Readable, TimeLeft};
 pub use refusal::{Refusal, Subject};
+pub use speed::rate;
+pub use sum::Sum;

@@ -1,19 +1,20 @@
 ghost use Rattle.std.specs.Prelude.{◌≤◌};
 
-use crate::lines::{print_planned, print_pruned};
+use crate::answer::{PruneAnswer, print_answer_with_fault};
 use crate::place::check_is_layout;
 use oci_command_line::PruneWords;
-use oci_exit::{Ended, Outcome, ProgramFault, finish_run, lock_folder};
+use oci_digest::NoMemory;
+use oci_exit::{Ended, Form, Outcome, ProgramFault, finish_run, lock_folder};
 use oci_layout::{Layout, Lockable, PrunableDir};
 use oci_prune::{Pruned, Pruning, plan_prune, prune};
 use std::alloc::Global;
 use std::io::Write;
 use std::rt::Files;
 
-/// `prune FOLDER`: removes from the layout in a directory what no tag needs, prints what was
-/// removed, and returns how the run ended. The directory is the words' folder, which is locked from
-/// before the layout is opened until after the last file is removed. With `--dry-run` nothing is
-/// locked or changed, and the same lines are printed.
+/// `prune FOLDER`: removes from the layout in a directory what no tag needs, prints in this form
+/// what was removed, and returns how the run ended. The directory is the words' folder, which is
+/// locked from before the layout is opened until after the last file is removed. With `--dry-run`
+/// nothing is locked or changed, and the same is printed.
 ///
 /// # Errors
 ///
@@ -33,32 +34,43 @@ pub fn run_prune<R: Files<File: Lockable> + AllocGlobal, D: PrunableDir + Drop, 
     rt: &R,
     dir: D,
     words: &PruneWords<'_>,
+    form: Form,
     out: &mut W,
     err: &mut X,
 ) -> Ended
     ensures { result.status ≤ 3 }
 {
-    let done = if words.is_dry {
-        show_plan(rt.alloc(), dir, words, out)
+    let pruned = if words.is_dry {
+        plan_folder(rt.alloc(), dir, words)
     } else {
-        match prune_folder(rt, dir, words, err) {
-            Ok((plan, pruned)) => print_pruned(rt.alloc(), &plan, pruned, out),
-            Err(fault) => Err(fault),
-        }
+        prune_folder(rt, dir, words, err)
     };
-    finish_run(done, out, err)
+    let done = match pruned {
+        Ok((plan, pruned)) => print_pruned(rt.alloc(), plan, pruned, form, out),
+        Err(fault) => Err(fault),
+    };
+    finish_run(rt.alloc(), done, form, out, err)
 }
 
-/// `prune --dry-run`: prints what a prune would remove.
-fn show_plan<D: PrunableDir + Drop, W: Write>(
+/// Plans a prune of a layout. Returns the plan, and a prune that removed all that is planned.
+fn plan_folder<D: PrunableDir + Drop>(
     alloc: Global,
     dir: D,
     words: &PruneWords<'_>,
-    out: &mut W,
-) -> Result<Outcome, ProgramFault> {
+) -> Result<(Pruning, Pruned), ProgramFault> {
     let layout = Layout::open(alloc, dir)?;
     let plan = plan_prune(alloc, &layout, words.keeps_referrers)?;
-    print_planned(alloc, &plan, out)
+    let pruned = all_of(alloc, &plan)?;
+    Ok((plan, pruned))
+}
+
+/// Returns a prune that removed all that is planned.
+fn all_of(alloc: Global, plan: &Pruning) -> Result<Pruned, NoMemory> {
+    Ok(Pruned {
+        files: vec![in alloc; true; plan.files.len()]?,
+        drafts: vec![in alloc; true; plan.drafts.len()]?,
+        fault: None,
+    })
 }
 
 /// Locks the folder of a layout, and prunes the layout.
@@ -74,4 +86,16 @@ fn prune_folder<R: Files<File: Lockable> + AllocGlobal, D: PrunableDir + Drop, X
     let plan = plan_prune(rt.alloc(), &layout, words.keeps_referrers)?;
     let pruned = prune(rt.alloc(), &mut layout, &plan)?;
     Ok((plan, pruned))
+}
+
+/// Prints what the prune of a plan removed.
+fn print_pruned<W: Write>(
+    alloc: Global,
+    plan: Pruning,
+    pruned: Pruned,
+    form: Form,
+    out: &mut W,
+) -> Result<Outcome, ProgramFault> {
+    let answer = PruneAnswer::of(alloc, plan, &pruned)?;
+    print_answer_with_fault(alloc, &answer, pruned.fault, form, out)
 }

@@ -7,16 +7,20 @@ ghost use Rattle.oci_prune_commands.specs.Refusal.{IsRefusedUntag};
 
 use crate::place::check_is_layout;
 use oci_command_line::UntagWords;
-use oci_exit::{Ended, Outcome, ProgramFault, finish_run, lock_folder};
+use oci_exit::{Ended, Form, Outcome, ProgramFault, Tagged, finish_run, lock_folder, print_answer};
 use oci_layout::{Dir, Layout, Lockable};
 use oci_manifest::Key;
 use oci_store::Untagger;
+use serde::Serialize;
+use std::alloc::Global;
+use std::fmt;
+use std::fmt::Display;
 use std::io::Write;
 use std::rt::Files;
 
 /// `untag FOLDER TAG`: removes a tag from the layout in a directory, and saves it. The directory is
 /// the words' folder, which is locked from before the layout is opened until after it is saved.
-/// Prints the key that the tag named, and returns how the run ended.
+/// Prints in this form which key the tag named, and returns how the run ended.
 ///
 /// # Errors
 ///
@@ -32,29 +36,42 @@ pub fn run_untag<R: Files<File: Lockable> + AllocGlobal, D: Dir + Drop, W: Write
     rt: &R,
     dir: D,
     words: &UntagWords<'_>,
+    form: Form,
     out: &mut W,
     err: &mut X,
 ) -> Ended
     ensures { result.status ≤ 3 }
 {
     let done = match untag_folder(rt, dir, words, err) {
-        Ok(key) => print_untagged(&key, out),
+        Ok(untagged) => print_untagged(rt.alloc(), &untagged, form, out),
         Err(fault) => Err(fault),
     };
-    finish_run(done, out, err)
+    finish_run(rt.alloc(), done, form, out, err)
 }
 
-/// Locks the folder of a layout, and removes a tag from the layout. Returns the key that it named.
+/// The tag that was removed, with the key that it named.
+#[derive(Drop, Serialize)]
+struct Untagged(Tagged);
+
+impl Display for Untagged {
+    fn fmt<W: fmt::Write>(&self, f: &mut fmt::Formatter<W>) -> fmt::Result {
+        writeln!(f, "untagged {}", self.0.descriptor)
+    }
+}
+
+/// Locks the folder of a layout, and removes a tag from the layout.
 fn untag_folder<R: Files<File: Lockable> + AllocGlobal, D: Dir + Drop, X: Write>(
     rt: &R,
     dir: D,
     words: &UntagWords<'_>,
     err: &mut X,
-) -> Result<Key, ProgramFault> {
+) -> Result<Untagged, ProgramFault> {
+    let tag = String::from_str(rt.alloc(), words.tag)?;
     check_is_layout(&dir)?;
     let _lock = lock_folder(rt, words.folder, words.waits, err)?;
     let mut layout = Layout::open(rt.alloc(), dir)?;
-    untag_and_save(&mut layout, words.tag)
+    let descriptor = untag_and_save(&mut layout, words.tag)?;
+    Ok(Untagged(Tagged { tag, descriptor }))
 }
 
 /// Removes a tag from a layout, and saves the layout. Returns the key that the tag named, which is
@@ -87,8 +104,13 @@ pub fn untag_and_save<D: Dir>(layout: &mut Layout<D>, tag: &str) -> Result<Key, 
     }
 }
 
-/// Prints the key of a removed tag.
-fn print_untagged<W: Write>(key: &Key, out: &mut W) -> Result<Outcome, ProgramFault> {
-    writeln!(out, "untagged {key}").map_err(ProgramFault::of_output)?;
+/// Prints the removed tag.
+fn print_untagged<W: Write>(
+    alloc: Global,
+    untagged: &Untagged,
+    form: Form,
+    out: &mut W,
+) -> Result<Outcome, ProgramFault> {
+    print_answer(alloc, untagged, form, out)?;
     Ok(Outcome::Good)
 }

@@ -57,6 +57,6 @@ fn reference_in<'w>(query: Query<'w>) -> &'w str {
         Query::Predecessors(reference) => reference,
         Query::Tree { reference, .. } => reference,
         Query::Tags => "",
-        Query::Verify => "",
+        Query::Verify { .. } => "",
     }
 }

@@ -1,6 +1,7 @@
-use crate::run::run_words_on;
+use crate::run::{form_of, run_words_on};
 use oci_copy_commands::Host;
-use oci_exit::{Ending, ProgramFault};
+use oci_exit::{Ending, ProgramFault, finish_run};
+use std::env::FillError;
 use std::io::{BufWriter, IsTerminal, Write};
 use std::rt::Env;
 use std::{env, io};
@@ -15,11 +16,11 @@ pub fn run_process<R: Env + Host, W: Write + Drop, X: Write + IsTerminal + Send>
 ) -> u8 {
     let words = match words(rt) {
         Ok(words) => words,
-        Err(ending) => return ending.tell(err),
+        Err(ending) => return end(rt, ending, err),
     };
     match BufWriter::new(rt.alloc(), out) {
         Ok(mut out) => run_words_on(rt, &words, err.is_terminal(), &mut out, err),
-        Err(error) => Ending::Fault(ProgramFault::of_output(error)).tell(err),
+        Err(error) => end(rt, Ending::Fault(ProgramFault::of_output(error)), err),
     }
 }
 
@@ -36,4 +37,33 @@ fn unread(error: io::Error) -> Ending {
         io::ErrorKind::InvalidData => Ending::NotUtf8,
         _ => Ending::Fault(ProgramFault::Memory),
     }
+}
+
+/// Ends a run before its command line is parsed. A fault is printed as JSON if `--json` is one of
+/// the words.
+fn end<R: Env + AllocGlobal, X: Write>(rt: &R, ending: Ending, err: &mut X) -> u8 {
+    match ending {
+        Ending::Fault(fault) => {
+            let form = form_of(has_json(rt));
+            finish_run(rt.alloc(), Err(fault), form, &mut io::sink(), err).status
+        }
+        ending => ending.tell(err),
+    }
+}
+
+/// Whether `--json` is one of the words of the process. Takes no memory.
+fn has_json<R: Env>(rt: &R) -> bool {
+    for place in 1..usize::MAX {
+        let mut word = [0; 6];
+        match rt.arg(place, &mut word) {
+            Ok(length) => {
+                if word[..length].starts_with(b"--json") {
+                    return true;
+                }
+            }
+            Err(FillError::TooLong) => {}
+            Err(FillError::NotPresent) => return false,
+        }
+    }
+    false
 }

@@ -2,12 +2,15 @@ ghost use Rattle.std.specs.Prelude.{◌≤◌};
 
 use crate::meaning::print_meaning;
 use crate::place::{Place, open_copy, open_folder};
-use oci_command_line::{CommandLineFault, PruneWords, Request, UntagWords};
+use oci_command_line::{
+    CommandLine, CommandLineFault, Explanation, PruneWords, Request, UntagWords,
+};
 use oci_copy_commands::{Host, run_copy, run_mem};
-use oci_exit::{Ended, Ending, Outcome, ProgramFault, finish_run, print_line};
+use oci_exit::{Ended, Ending, Form, Outcome, ProgramFault, finish_run, print_answer};
 use oci_inspect::run_query;
 use oci_pool::MAX_WORKERS;
 use oci_prune_commands::{run_prune, run_untag};
+use std::alloc::Global;
 use std::io::Write;
 
 /// Runs the program on the words after its name, and returns its exit status.
@@ -19,6 +22,9 @@ use std::io::Write;
 /// - 3: memory ran out. `err` has the line `ocicp: memory`.
 ///
 /// With `--progress`, `copy` also prints a line for each blob on `err`.
+///
+/// With `--json` the result is a JSON document on one line of `out`, and a refusal is a JSON
+/// document on the last line of `err`, also if memory ran out. The usage stays plain.
 pub fn run_words<R: Host, W: Write, X: Write + Send>(
     rt: &R,
     words: &[String],
@@ -30,9 +36,10 @@ pub fn run_words<R: Host, W: Write, X: Write + Send>(
     run_words_on(rt, words, false, out, err)
 }
 
-/// Runs the program as [`run_words`] does. If `err` is a terminal, `copy` without `--progress`
-/// draws a line on it that shows how much has arrived, and erases that line at the end. Also, a
-/// second line below the line of a refusal then says what its innermost number means.
+/// Runs the program as [`run_words`] does. If `err` is a terminal, `verify`, and `copy` without
+/// `--progress`, draw a line on it that shows how much has been checked or has arrived, and erase
+/// that line at the end. Also, a second line below the line of a refusal then says what its
+/// innermost number means, unless the command has `--json`.
 pub fn run_words_on<R: Host, W: Write, X: Write + Send>(
     rt: &R,
     words: &[String],
@@ -42,45 +49,58 @@ pub fn run_words_on<R: Host, W: Write, X: Write + Send>(
 ) -> u8
     ensures { result ≤ 3 }
 {
-    let request = match Request::parse(rt.alloc(), words, on_terminal, MAX_WORKERS) {
-        Ok(request) => request,
-        Err(fault) => return ending_of(fault).tell(err),
+    let line = match CommandLine::parse(rt.alloc(), words, on_terminal, MAX_WORKERS) {
+        Ok(line) => line,
+        Err(fault) => return end_unparsed(rt.alloc(), words, fault, out, err),
     };
-    let ended = run_request(rt, &request, out, err);
-    if on_terminal && let Some(refusal) = ended.refusal {
-        print_meaning(&request, refusal, err);
+    let ended = run_request(rt, &line.request, form_of(line.as_json), out, err);
+    if on_terminal
+        && !line.as_json
+        && let Some(refusal) = ended.refusal
+    {
+        print_meaning(&line.request, refusal, err);
     }
     ended.status
+}
+
+/// The form in which a run prints its result and its refusal.
+pub(crate) fn form_of(as_json: bool) -> Form {
+    if as_json { Form::Json } else { Form::Lines }
 }
 
 /// Runs the command of a valid command line.
 fn run_request<R: Host, W: Write, X: Write + Send>(
     rt: &R,
     request: &Request<'_>,
+    form: Form,
     out: &mut W,
     err: &mut X,
 ) -> Ended
     ensures { result.status ≤ 3 }
 {
+    let alloc = rt.alloc();
     match request {
-        Request::Text(text) => finish_run(print_text(text, out), out, err),
-        Request::Explain(text) => finish_run(print_explanation(text, out), out, err),
-        Request::Mem(words) => finish_run(run_mem(rt, words, out), out, err),
+        Request::Text(text) => finish_run(alloc, print_text(text, out), form, out, err),
+        Request::Explain(explanation) => {
+            let done = print_explanation(alloc, explanation, form, out);
+            finish_run(alloc, done, form, out, err)
+        }
+        Request::Mem(words) => finish_run(alloc, run_mem(rt, words, form, out), form, out, err),
         Request::Copy(words) => match open_copy(rt, words) {
             Ok((source, destination)) => match source {
-                Place::Folder(source) => run_copy(rt, source, destination, words, out, err),
-                Place::Archive(source) => run_copy(rt, source, destination, words, out, err),
+                Place::Folder(source) => run_copy(rt, source, destination, words, form, out, err),
+                Place::Archive(source) => run_copy(rt, source, destination, words, form, out, err),
             },
-            Err(fault) => finish_run(Err(fault), out, err),
+            Err(fault) => finish_run(alloc, Err(fault), form, out, err),
         },
-        Request::Untag(words) => run_change(rt, words.folder, Change::Untag(words), out, err),
-        Request::Prune(words) => run_change(rt, words.folder, Change::Prune(words), out, err),
+        Request::Untag(words) => run_change(rt, words.folder, Change::Untag(words), form, out, err),
+        Request::Prune(words) => run_change(rt, words.folder, Change::Prune(words), form, out, err),
         Request::Query(path, query) => match Place::open(rt, path) {
             Ok(place) => match place {
-                Place::Folder(dir) => run_query(rt.alloc(), dir, *query, out, err),
-                Place::Archive(dir) => run_query(rt.alloc(), dir, *query, out, err),
+                Place::Folder(dir) => run_query(rt, dir, *query, form, out, err),
+                Place::Archive(dir) => run_query(rt, dir, *query, form, out, err),
             },
-            Err(fault) => finish_run(Err(fault), out, err),
+            Err(fault) => finish_run(alloc, Err(fault), form, out, err),
         },
     }
 }
@@ -97,6 +117,7 @@ fn run_change<R: Host, W: Write, X: Write>(
     rt: &R,
     folder: &str,
     change: Change<'_, '_>,
+    form: Form,
     out: &mut W,
     err: &mut X,
 ) -> Ended
@@ -104,18 +125,30 @@ fn run_change<R: Host, W: Write, X: Write>(
 {
     match open_folder(rt, folder) {
         Ok(dir) => match change {
-            Change::Untag(words) => run_untag(rt, dir, words, out, err),
-            Change::Prune(words) => run_prune(rt, dir, words, out, err),
+            Change::Untag(words) => run_untag(rt, dir, words, form, out, err),
+            Change::Prune(words) => run_prune(rt, dir, words, form, out, err),
         },
-        Err(fault) => finish_run(Err(fault), out, err),
+        Err(fault) => finish_run(rt.alloc(), Err(fault), form, out, err),
     }
 }
 
-/// The end of a run whose command line was not parsed.
-fn ending_of(fault: CommandLineFault) -> Ending {
+/// Ends a run whose command line was not parsed. If memory ran out, this is printed as JSON if one of
+/// the words is `--json`.
+fn end_unparsed<W: Write, X: Write>(
+    alloc: Global,
+    words: &[String],
+    fault: CommandLineFault,
+    out: &mut W,
+    err: &mut X,
+) -> u8
+    ensures { result ≤ 3 }
+{
     match fault {
-        CommandLineFault::Usage(text) => Ending::Usage(text),
-        CommandLineFault::Memory => Ending::Fault(ProgramFault::Memory),
+        CommandLineFault::Usage(text) => Ending::Usage(text).tell(err),
+        CommandLineFault::Memory => {
+            let form = form_of(words.iter().any(|word| word.as_str() == "--json"));
+            finish_run(alloc, Err(ProgramFault::Memory), form, out, err).status
+        }
     }
 }
 
@@ -126,7 +159,12 @@ fn print_text<W: Write>(text: &str, out: &mut W) -> Result<Outcome, ProgramFault
 }
 
 /// `explain NUMBER`: prints the explanation of an error number.
-fn print_explanation<W: Write>(text: &str, out: &mut W) -> Result<Outcome, ProgramFault> {
-    print_line(&text, out)?;
+fn print_explanation<W: Write>(
+    alloc: Global,
+    explanation: &Explanation,
+    form: Form,
+    out: &mut W,
+) -> Result<Outcome, ProgramFault> {
+    print_answer(alloc, explanation, form, out)?;
     Ok(Outcome::Good)
 }

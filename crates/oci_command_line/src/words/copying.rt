@@ -1,4 +1,4 @@
-use crate::words::{flag, no_wait, required};
+use crate::words::{flag, json, no_wait, required};
 use clap::builder::ValueParser;
 use clap::{Arg, Command};
 use std::alloc::{AllocError, Global};
@@ -59,6 +59,7 @@ fn with_flags<'w>(
         .arg(workers(alloc, most_workers))?
         .arg(progress(alloc))?
         .arg(dry_run(alloc))?
+        .arg(json(alloc))?
         .arg(no_wait(alloc))
 }
 

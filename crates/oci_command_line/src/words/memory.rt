@@ -1,4 +1,4 @@
-use crate::words::flag;
+use crate::words::{flag, json};
 use clap::builder::ValueParser;
 use clap::{Arg, Command};
 use std::alloc::{AllocError, Global};
@@ -39,5 +39,6 @@ pub(crate) fn mem_command<'w>(alloc: Global, most_workers: u32) -> Result<Comman
         .after_help(EXAMPLES)
         .arg(workers)?
         .arg(sha512)?
+        .arg(json(alloc))?
         .arg(item)
 }

@@ -1,4 +1,4 @@
-use crate::words::{flag, no_wait, required};
+use crate::words::{flag, json, no_wait, required};
 use clap::{Arg, Command};
 use std::alloc::{AllocError, Global};
 
@@ -26,6 +26,7 @@ pub(crate) fn untag_command<'w>(alloc: Global) -> Result<Command<'w>, AllocError
         )
         .override_usage("ocicp untag [OPTIONS] <FOLDER> <TAG>")
         .after_help("Example:\n  ocicp untag mirror v1")
+        .arg(json(alloc))?
         .arg(no_wait(alloc))?
         .arg(folder(alloc))?
         .arg(required(alloc, "tag", "TAG", tag))
@@ -65,6 +66,7 @@ pub(crate) fn prune_command<'w>(alloc: Global) -> Result<Command<'w>, AllocError
         .after_help(EXAMPLES_OF_PRUNE)
         .arg(dry_run(alloc))?
         .arg(no_referrers(alloc))?
+        .arg(json(alloc))?
         .arg(no_wait(alloc))?
         .arg(folder(alloc))
 }

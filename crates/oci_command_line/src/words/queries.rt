@@ -1,4 +1,4 @@
-use crate::words::{flag, required};
+use crate::words::{flag, json, required};
 use clap::{Arg, Command};
 use std::alloc::{AllocError, Global};
 
@@ -14,7 +14,7 @@ fn reference<'w>(alloc: Global) -> Arg<'w> {
     required(alloc, "reference", "REF", help)
 }
 
-/// `tags FOLDER`
+/// `tags [--json] FOLDER`
 pub(crate) fn tags_command<'w>(alloc: Global) -> Result<Command<'w>, AllocError> {
     Command::new(alloc, "tags")
         .about(
@@ -24,22 +24,24 @@ pub(crate) fn tags_command<'w>(alloc: Global) -> Result<Command<'w>, AllocError>
             "Lists the tags of a layout in byte order, each with the digest, the size and the media type of \
              the blob that it resolves to. A tag whose blob is missing is left out.",
         )
-        .override_usage("ocicp tags <FOLDER>")
+        .override_usage("ocicp tags [OPTIONS] <FOLDER>")
         .after_help("Example:\n  ocicp tags mirror")
+        .arg(json(alloc))?
         .arg(folder(alloc))
 }
 
-/// `resolve FOLDER REF`
+/// `resolve [--json] FOLDER REF`
 pub(crate) fn resolve_command<'w>(alloc: Global) -> Result<Command<'w>, AllocError> {
     Command::new(alloc, "resolve")
         .about("Prints the digest, size and media type that a reference resolves to")
-        .override_usage("ocicp resolve <FOLDER> <REF>")
+        .override_usage("ocicp resolve [OPTIONS] <FOLDER> <REF>")
         .after_help("Example:\n  ocicp resolve mirror v1")
+        .arg(json(alloc))?
         .arg(folder(alloc))?
         .arg(reference(alloc))
 }
 
-/// `predecessors FOLDER REF`
+/// `predecessors [--json] FOLDER REF`
 pub(crate) fn predecessors_command<'w>(alloc: Global) -> Result<Command<'w>, AllocError> {
     Command::new(alloc, "predecessors")
         .about("Lists the manifests that list a blob: indexes, and referrers such as signatures")
@@ -48,8 +50,9 @@ pub(crate) fn predecessors_command<'w>(alloc: Global) -> Result<Command<'w>, All
              signatures. Each line is a digest, a size and a media type. Only direct predecessors are listed; \
              `tree --referrers` shows theirs too.",
         )
-        .override_usage("ocicp predecessors <FOLDER> <REF>")
+        .override_usage("ocicp predecessors [OPTIONS] <FOLDER> <REF>")
         .after_help("Example:\n  ocicp predecessors mirror v1")
+        .arg(json(alloc))?
         .arg(folder(alloc))?
         .arg(reference(alloc))
 }
@@ -78,11 +81,12 @@ pub(crate) fn tree_command<'w>(alloc: Global) -> Result<Command<'w>, AllocError>
         .override_usage("ocicp tree [OPTIONS] <FOLDER> <REF>")
         .after_help("Examples:\n  ocicp tree mirror v1\n  ocicp tree --referrers mirror v1")
         .arg(referrers)?
+        .arg(json(alloc))?
         .arg(folder(alloc))?
         .arg(reference(alloc))
 }
 
-/// `verify FOLDER`
+/// `verify [--json] FOLDER`
 pub(crate) fn verify_command<'w>(alloc: Global) -> Result<Command<'w>, AllocError> {
     Command::new(alloc, "verify")
         .about(
@@ -98,18 +102,20 @@ pub(crate) fn verify_command<'w>(alloc: Global) -> Result<Command<'w>, AllocErro
              missing blob. Then prints `held` and the number of blobs. The status is 1 if it finds a \
              problem.",
         )
-        .override_usage("ocicp verify <FOLDER>")
+        .override_usage("ocicp verify [OPTIONS] <FOLDER>")
         .after_help("Example:\n  ocicp verify mirror")
+        .arg(json(alloc))?
         .arg(folder(alloc))
 }
 
-/// `explain NUMBER`
+/// `explain [--json] NUMBER`
 pub(crate) fn explain_command<'w>(alloc: Global) -> Result<Command<'w>, AllocError> {
     let help =
         "A number of an error line, such as 53 in `ocicp: 81 Plan 53 NotFound ..`; if there are several, the last one is the most specific";
     Command::new(alloc, "explain")
         .about("Explains the number of an error: what it means, and what to do")
-        .override_usage("ocicp explain <NUMBER>")
+        .override_usage("ocicp explain [OPTIONS] <NUMBER>")
         .after_help("Example:\n  ocicp explain 53")
+        .arg(json(alloc))?
         .arg(required(alloc, "number", "NUMBER", help))
 }

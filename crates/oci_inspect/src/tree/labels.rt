@@ -1,56 +1,46 @@
 use oci_digest::{Digest, NoMemory};
-use oci_exit::{ProgramFault, Readable};
 use oci_layout::{Dir, Layout};
 use oci_manifest::Key;
 use oci_store::Dest;
 use std::alloc::Global;
 use std::collections::BTreeMap;
-use std::io::Write;
 
 /// The least number of digits of a digest that are shown.
 const LEAST_DIGITS: usize = 12;
 
-/// The labels of the blobs of a layout: their short digests and their tags.
+/// The labels of the blobs of a layout: the beginnings of their digests, and their tags.
 #[derive(Drop)]
 pub(crate) struct Labels {
     /// The number of digits shown of each digest. The digests of the layout differ in them.
     digits: usize,
-    /// The tags of a key, each in brackets after a space.
-    tags: BTreeMap<Key, String>,
+    /// The tags of each key that has one, in byte order.
+    tags: BTreeMap<Key, Vec<String>>,
 }
 
 impl Labels {
     /// Returns the labels of a layout.
-    pub(crate) fn of<D: Dir>(alloc: Global, layout: &Layout<D>) -> Result<Labels, ProgramFault> {
+    pub(crate) fn of<D: Dir>(alloc: Global, layout: &Layout<D>) -> Result<Labels, NoMemory> {
         Ok(Labels {
             digits: distinct_digits(alloc, &sorted_digests(alloc, layout)?)?,
-            tags: bracketed_tags(alloc, layout)?,
+            tags: tags_by_key(alloc, layout)?,
         })
     }
 
-    /// Prints the labels of a blob, with the type that it states. Prints no line feed.
-    pub(crate) fn print<W: Write>(
-        &self,
-        alloc: Global,
-        key: &Key,
-        stated: Option<String>,
-        out: &mut W,
-    ) -> Result<(), ProgramFault> {
+    /// Returns the tags of a key, in byte order.
+    pub(crate) fn tags(&self, key: &Key) -> &[String] {
+        match self.tags.get(key) {
+            Some(tags) => tags,
+            None => &[],
+        }
+    }
+
+    /// Returns the beginning of a key's digest: its algorithm, a colon, and as many digits as are
+    /// shown.
+    pub(crate) fn short_digest(&self, alloc: Global, key: &Key) -> Result<String, NoMemory> {
         let algorithm = key.digest().algorithm();
         let encoded = key.digest().encoded(alloc)?;
         let digits = self.digits;
-        let size = Readable(key.size());
-        let media_type = key.media_type();
-        write!(out, "{algorithm}:{encoded:.digits$} {size} {media_type}").map_err(
-            ProgramFault::of_output,
-        )?;
-        if let Some(stated) = stated {
-            write!(out, " ({stated})").map_err(ProgramFault::of_output)?;
-        }
-        match self.tags.get(key) {
-            Some(tags) => write!(out, "{tags}").map_err(ProgramFault::of_output),
-            None => Ok(()),
-        }
+        Ok(format!(in alloc; "{algorithm}:{encoded:.digits$}")?)
     }
 }
 
@@ -94,24 +84,29 @@ fn needed_digits(alloc: Global, first: &Digest, second: &Digest) -> Result<usize
     Ok(digits)
 }
 
-/// The tags of each key, in byte order.
-fn bracketed_tags<D: Dir>(
+/// The tags of each key that has one, in byte order.
+fn tags_by_key<D: Dir>(
     alloc: Global,
     layout: &Layout<D>,
-) -> Result<BTreeMap<Key, String>, NoMemory> {
-    let mut tags: BTreeMap<Key, String> = BTreeMap::new(alloc);
-    for (name, key) in layout.tags()? {
-        add_tag(&mut tags, key, format!(in alloc; " [{name}]")?)?;
+) -> Result<BTreeMap<Key, Vec<String>>, NoMemory> {
+    let mut tags = BTreeMap::new(alloc);
+    for (tag, key) in layout.tags()? {
+        add_tag(alloc, &mut tags, key, tag)?;
     }
     Ok(tags)
 }
 
-/// Adds a bracketed tag to the tags of a key.
-fn add_tag(tags: &mut BTreeMap<Key, String>, key: Key, tag: String) -> Result<(), NoMemory> {
+/// Adds a tag to the tags of a key.
+fn add_tag(
+    alloc: Global,
+    tags: &mut BTreeMap<Key, Vec<String>>,
+    key: Key,
+    tag: String,
+) -> Result<(), NoMemory> {
     match tags.get_mut(&key) {
-        Some(text) => text.push_str(&tag)?,
+        Some(tags) => tags.push(tag)?,
         None => {
-            tags.insert(key, tag)?;
+            tags.insert(key, vec![in alloc; tag]?)?;
         }
     }
     Ok(())

@@ -39,7 +39,8 @@ impl Write for Broken {
     }
 }
 
-/// The files of a runtime. Those with this text in their path refuse one call.
+/// The files of a runtime, and a clock that stands still. Files with this text in their path refuse
+/// one call.
 #[derive(Drop)]
 pub(crate) struct Refusing<'r, R: Files> {
     pub(crate) rt: &'r R,
@@ -53,20 +54,32 @@ pub(crate) struct Refusing<'r, R: Files> {
 pub(crate) enum Call {
     Open,
     Remove,
+    /// No call.
+    None,
 }
 
 impl<'r, R: Files> Refusing<'r, R> {
+    /// The files of a runtime. None refuses a call.
+    pub(crate) fn nothing(rt: &'r R) -> Refusing<'r, R> {
+        Refusing {
+            rt,
+            part: "",
+            call: Call::None,
+            kind: io::ErrorKind::Other,
+        }
+    }
+
     fn open_of(&self, path: &str) -> io::Result<()> {
         match self.call {
             Call::Open => self.answer(path),
-            Call::Remove => Ok(()),
+            Call::Remove | Call::None => Ok(()),
         }
     }
 
     fn removal_of(&self, path: &str) -> io::Result<()> {
         match self.call {
-            Call::Open => Ok(()),
             Call::Remove => self.answer(path),
+            Call::Open | Call::None => Ok(()),
         }
     }
 
@@ -137,7 +150,7 @@ impl<'r, R: Files> Files for Refusing<'r, R> {
 
 impl<'r, R: Files + Clock> Clock for Refusing<'r, R> {
     fn monotonic(&self) -> io::Result<Duration> {
-        self.rt.monotonic()
+        Ok(Duration::from_secs(0))
     }
 
     fn since_1970(&self) -> io::Result<Duration> {

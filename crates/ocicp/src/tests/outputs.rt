@@ -10,33 +10,38 @@ use std::io::ErrorKind;
 use std::process::Abort;
 use std::test::Fail;
 
-/// The error output and status of a run whose output fails.
-const OUTPUT: &str = "! ocicp: 94 Output\n? 1\n";
-
-/// The error output and status of a run that is out of memory.
-const MEMORY: &str = "! ocicp: memory\n? 3\n";
-
-/// The ways in which an output fails, each with the error output and status.
-const FAILURES: [(Step, ErrorKind, &str); 5] = [
-    (Step::Write, ErrorKind::BrokenPipe, OUTPUT),
-    (Step::Write, ErrorKind::Other, OUTPUT),
-    (Step::Flush, ErrorKind::StorageFull, OUTPUT),
-    (Step::Write, ErrorKind::OutOfMemory, MEMORY),
-    (Step::Flush, ErrorKind::OutOfMemory, MEMORY),
+/// The ways in which an output fails.
+const FAILURES: [(Step, ErrorKind); 5] = [
+    (Step::Write, ErrorKind::BrokenPipe),
+    (Step::Write, ErrorKind::Other),
+    (Step::Flush, ErrorKind::StorageFull),
+    (Step::Write, ErrorKind::OutOfMemory),
+    (Step::Flush, ErrorKind::OutOfMemory),
 ];
 
 /// Runs the program with outputs that fail in each way, and compares the error output and status.
 pub(crate) fn assert_breaks<R: Host + Abort>(rt: &R, words: &str) -> Result<(), Fail> {
-    for (at, kind, wanted) in FAILURES {
+    for (at, kind) in FAILURES {
         let told = broken(rt, words, Broken { at, kind })?;
-        assert_told(rt, words, kind, told.as_str(), wanted);
+        assert_told(rt, words, kind, told.as_str());
     }
     Ok(())
 }
 
 /// Compares the error output and status of a run with those that are wanted.
-fn assert_told<R: Abort>(rt: &R, words: &str, kind: ErrorKind, told: &str, wanted: &str) {
+fn assert_told<R: Abort>(rt: &R, words: &str, kind: ErrorKind, told: &str) {
+    let wanted = wanted(words.contains("--json"), kind);
     assert_eq!(rt; told, wanted, "{words}: {kind:?}");
+}
+
+/// The error output and status of a run whose output fails with an error of this kind.
+fn wanted(as_json: bool, kind: ErrorKind) -> &'static str {
+    match (as_json, kind) {
+        (false, ErrorKind::OutOfMemory) => "! ocicp: memory\n? 3\n",
+        (false, _) => "! ocicp: 94 Output\n? 1\n",
+        (true, ErrorKind::OutOfMemory) => "! {\"error\":[{\"name\":\"Memory\"}]}\n? 3\n",
+        (true, _) => "! {\"error\":[{\"number\":94,\"name\":\"Output\"}]}\n? 1\n",
+    }
 }
 
 /// The error output and status of a run with this output.
@@ -73,10 +78,31 @@ $ broken prune @/L
     assert_session_in(&rt, "failing_outputs", IMAGE, session)
 }
 
+/// The same with `--json`.
+#[test]
+fn failing_outputs_of_json(rt: HostRuntime) -> Result<(), Fail> {
+    let session = r"
+$ write @/abc.txt abc
+$ broken explain --json 80
+$ broken mem --json text/plain=@/abc.txt
+$ broken tags --json @/L
+$ broken resolve --json @/L v1
+$ broken predecessors --json @/L <E digest>
+$ broken tree --json --referrers @/L v1
+$ broken verify --json @/L
+$ broken copy --json --all --dry-run @/L @/N
+$ broken copy --json --all @/L @/N
+$ broken copy --json --all --prune @/L @/N
+$ broken prune --json --dry-run @/L
+$ broken prune --json @/L
+";
+    assert_session_in(&rt, "failing_outputs_of_json", IMAGE, session)
+}
+
 /// A run without memory to read a file is out of memory; the file is not reported.
 #[test]
 fn files_without_memory(rt: HostRuntime) -> Result<(), Fail> {
-    let session = r"
+    let session = r#"
 $ write @/abc.txt abc
 $ starved abc.txt mem text/plain=@/abc.txt
 ! ocicp: memory
@@ -105,7 +131,13 @@ $ starved index.json untag @/L v1
 $ starved index.json prune @/L
 ! ocicp: memory
 ? 3
-";
+$ starved <E file> verify --json @/L
+! {"error":[{"name":"Memory"}]}
+? 3
+$ starved N/blobs copy --json @/L v1 @/N
+! {"error":[{"name":"Memory"}]}
+? 3
+"#;
     assert_session_in(&rt, "files_without_memory", IMAGE, session)
 }
 

@@ -61,16 +61,42 @@ planned 6 pushed 6 skipped 0
     assert_session_in(&rt, "progress_by_workers", REFERRERS, session)
 }
 
-/// On a terminal one line is drawn and erased. If nothing arrives, no line is drawn.
+/// On a terminal one line is drawn when the first bytes arrive, and erased at the end. If nothing
+/// arrives, no line is drawn.
 #[test]
 fn progress_on_a_terminal(rt: HostRuntime) -> Result<(), Fail> {
     let session = "
 $ terminal copy @/L <E digest> @/N e
-\r1 of 1 blobs, 2 B of 2 B\x1b[K\r\x1b[K
+\r0 of 1 blobs, 2 B of 2 B\x1b[K\r\x1b[K
 $ terminal copy @/L <E digest> @/N e
 
 $ terminal copy --dry-run @/L v1 @/N
 
 ";
     assert_session_in(&rt, "progress_on_a_terminal", IMAGE, session)
+}
+
+/// `verify` counts the bytes of all held blobs. The line is erased before a refusal is printed.
+#[test]
+fn progress_of_verify(rt: HostRuntime) -> Result<(), Fail> {
+    let files = r#"
+$ write @/V/oci-layout {"imageLayoutVersion":"1.0.0"}
+$ write @/V/index.json {"manifests":[{"mediaType":"a/a","digest":"<E digest>","size":2},{"mediaType":"a/b","digest":"<E digest>","size":2},{"mediaType":"b/b","digest":"<FOO digest>","size":3}]}
+$ write @/V/<E file> <E bytes>
+$ write @/V/<FOO file> <FOO bytes>
+"#;
+    let session = "
+$ terminal verify @/V
+\r0 of 3 blobs, 2 B of 7 B\x1b[K\r\x1b[K
+$ rm @/V/<FOO file>
+$ mkdir @/V/<FOO file>
+$ terminal verify @/V
+\r0 of 3 blobs, 2 B of 7 B\x1b[K\r\x1b[Kocicp: 22 Device
+The file of the blob could not be read, or is not a regular file. Run `ocicp explain 22` for what to do.
+
+$ terminal verify --json @/V
+\r0 of 3 blobs, 2 B of 7 B\x1b[K\r\x1b[K{\"error\":[{\"number\":22,\"name\":\"Device\"}]}
+
+";
+    assert_session_in(&rt, "progress_of_verify", files, session)
 }

@@ -52,7 +52,7 @@ yes
     assert_session_in(&rt, "prune_missing_entry", REFERRERS, session)
 }
 
-/// The same of the image of one of two tags.
+/// Nothing is removed while the image of one of the two tags is missing.
 #[test]
 fn prune_with_a_missing_image(rt: HostRuntime) -> Result<(), Fail> {
     let session = r"

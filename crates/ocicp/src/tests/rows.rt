@@ -63,7 +63,7 @@ fn run_of<R: Host>(rt: &R, command: &str, words: &str) -> Result<String, Fail> {
 /// Whether a run had the expected result of its row.
 fn is_as_wanted(told: &str, row: &str, wanted: Wanted) -> bool {
     match wanted {
-        Wanted::Usage => told.starts_with("! ") && told.ends_with("\n? 2\n"),
+        Wanted::Usage => told.starts_with("! error: ") && told.ends_with("\n? 2\n"),
         Wanted::Help => {
             told.contains(parts(row, ':').1) && !told.contains("! ") && !told.contains("? ")
         }

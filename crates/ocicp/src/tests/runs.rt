@@ -1,6 +1,7 @@
 //! Runs of the program, and their output.
 
 use crate::run::{run_words, run_words_on};
+use crate::tests::broken::Refusing;
 use crate::tests::contents::push_all;
 use oci_copy_commands::Host;
 use std::alloc::Global;
@@ -16,12 +17,13 @@ pub(crate) fn transcript<R: Host>(rt: &R, words: &str) -> Result<String, Fail> {
     told(rt.alloc(), &out, &err, status)
 }
 
-/// The error output of a run on a terminal, and a line feed.
+/// The error output of a run on a terminal, and a line feed. The clock stands still, so that a
+/// progress line is drawn at most once.
 pub(crate) fn drawn<R: Host>(rt: &R, words: &str) -> Result<String, Fail> {
     let words = words_of(rt.alloc(), words)?;
     let mut out = Vec::new(rt.alloc());
     let mut err = Vec::new(rt.alloc());
-    run_words_on(rt, &words, true, &mut out, &mut err);
+    run_words_on(&Refusing::nothing(rt), &words, true, &mut out, &mut err);
     line_of(rt.alloc(), &err)
 }
 

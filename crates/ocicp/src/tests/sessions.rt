@@ -8,7 +8,7 @@
 //! | Line | What it does |
 //! |---|---|
 //! | `$ unordered WORDS` | runs the program, whose lines may be in any order |
-//! | `$ terminal WORDS` | runs the program on a terminal; prints its error output and a line feed |
+//! | `$ terminal WORDS` | runs the program on a terminal, while the clock stands still; prints its error output and a line feed |
 //! | `$ locked PART WORDS` | runs the program, which may not open paths with this part |
 //! | `$ starved PART WORDS` | runs the program, which has no memory to open such a path |
 //! | `$ stuck PART WORDS` | runs the program, which may not remove files with this part |
@@ -16,6 +16,7 @@
 //! | `$ broken WORDS` | runs the program with each failing output of `outputs`; prints nothing |
 //! | `$ write PATH TEXT` | writes a file, and creates the folders above it |
 //! | `$ large PATH TEXT` | writes a file of 1 MiB of the letter `a`, and this text after it |
+//! | `$ header PATH FLAG SIZE TEXT` | writes a header of a tar archive, and this text after it |
 //! | `$ mkdir PATH` | creates a folder |
 //! | `$ link PATH TARGET` | creates a symbolic link |
 //! | `$ rm PATH` | removes a file |

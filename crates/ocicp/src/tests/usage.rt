@@ -2,7 +2,7 @@ use crate::tests::rows::{Wanted, assert_row, assert_rows};
 use crate::tests::sessions::assert_runs;
 use std::test::Fail;
 
-/// Invalid command lines.
+/// Invalid command lines. Their text is plain with `--json` too.
 #[test]
 fn usage_faults(rt: HostRuntime) -> Result<(), Fail> {
     let lines = "\
@@ -39,6 +39,12 @@ resolve L
 predecessors L
 verify
 verify L N
+--json tags L
+tags --json
+copy --json L v1
+mem --json
+explain --json
+explain --json 5
 ";
     // The text ends with a line feed, so that its last row is empty.
     assert_rows(&rt, lines, "\n", Wanted::Usage)
@@ -46,7 +52,7 @@ verify L N
 
 #[test]
 fn version(rt: HostRuntime) -> Result<(), Fail> {
-    assert_runs(&rt, "", "$ ocicp --version\nocicp 0.6.0\n")
+    assert_runs(&rt, "", "$ ocicp --version\nocicp 0.7.0\n")
 }
 
 /// The output of `copy --help`, without the spaces at the ends of lines.
@@ -117,6 +123,9 @@ in place of the line on a terminal. KEY is a digest, a size and a media type
           Changes nothing; prints the blobs that would be copied, then their number, their total size, and how many requested \
 blobs DST already has
 
+      --json
+          Prints one JSON document on a line in place of the lines; an error is then a JSON document on stderr
+
       --no-wait
           If another process has the lock of the folder, ends with 99 and does not wait
 
@@ -158,26 +167,35 @@ mem --help:TYPE=PATH
 mem --help:  ocicp mem application/vnd.oci.empty.v1+json=config.json
 mem --help:--workers <N>
 mem --help:--sha512
+mem --help:--json
 untag --help:[OPTIONS] <FOLDER> <TAG>
 untag --help:--no-wait
+untag --help:--json
 untag --help:  ocicp untag mirror v1
 prune --help:[OPTIONS] <FOLDER>
 prune --help:--dry-run
 prune --help:--no-referrers
 prune --help:--no-wait
+prune --help:--json
 prune --help:  ocicp prune --dry-run mirror
 tags --help:<FOLDER>
+tags --help:--json
 tags --help:  ocicp tags mirror
 resolve --help:<FOLDER> <REF>
+resolve --help:--json
 resolve --help:  ocicp resolve mirror v1
 predecessors --help:<FOLDER> <REF>
+predecessors --help:--json
 predecessors --help:  ocicp predecessors mirror v1
 tree --help:[OPTIONS] <FOLDER> <REF>
 tree --help:--referrers
+tree --help:--json
 tree --help:  ocicp tree --referrers mirror v1
 verify --help:<FOLDER>
+verify --help:--json
 verify --help:  ocicp verify mirror
 explain --help:<NUMBER>
+explain --help:--json
 explain --help:  ocicp explain 53";
     assert_rows(&rt, lines, "\n", Wanted::Help)
 }

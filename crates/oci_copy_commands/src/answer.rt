@@ -1,0 +1,113 @@
+use crate::mirror::CleanUp;
+use crate::selected::Selected;
+use oci_copy::Report;
+use oci_digest::NoMemory;
+use oci_exit::Tagged;
+use oci_manifest::Key;
+use oci_prune::PruneFault;
+use oci_prune_commands::PruneAnswer;
+use serde::Serialize;
+use std::alloc::Global;
+use std::fmt;
+use std::fmt::Display;
+
+/// What a copy did.
+///
+/// It prints a line `copied` with the key of each tag, and the line of the report. With `--prune` it
+/// then prints what was removed.
+#[derive(Drop, Serialize)]
+pub(crate) struct CopyAnswer {
+    /// The tags that the copy set, in the order in which it set them.
+    copied: Vec<Tagged>,
+    #[serde(flatten)]
+    report: Report,
+    /// What was removed, with `--prune`.
+    #[serde(flatten)]
+    removed: Option<CleanUpAnswer>,
+}
+
+impl CopyAnswer {
+    /// Returns what a copy of the selected tags did.
+    ///
+    /// # Errors
+    ///
+    /// Returns [`NoMemory`] if an allocation fails.
+    pub(crate) fn of(
+        alloc: Global,
+        selected: Selected,
+        report: Report,
+        removed: Option<CleanUpAnswer>,
+    ) -> Result<CopyAnswer, NoMemory> {
+        Ok(CopyAnswer {
+            copied: tagged(alloc, selected.into_tags())?,
+            report,
+            removed,
+        })
+    }
+}
+
+impl Display for CopyAnswer {
+    fn fmt<W: fmt::Write>(&self, f: &mut fmt::Formatter<W>) -> fmt::Result {
+        for tagged in &self.copied {
+            writeln!(f, "copied {}", tagged.descriptor)?;
+        }
+        writeln!(f, "{}", self.report)?;
+        match &self.removed {
+            Some(removed) => write!(f, "{removed}"),
+            None => Ok(()),
+        }
+    }
+}
+
+/// What `copy --all --prune` removed from the destination.
+///
+/// It prints a line `untagged` for each removed tag, with the key that the tag named, and then what
+/// the prune removed.
+#[derive(Drop, Serialize)]
+pub(crate) struct CleanUpAnswer {
+    /// The removed tags, in byte order.
+    untagged: Vec<Tagged>,
+    #[serde(flatten)]
+    pruned: PruneAnswer,
+}
+
+impl CleanUpAnswer {
+    /// Returns what was removed, and the fault of the prune, if it has one.
+    ///
+    /// # Errors
+    ///
+    /// Returns [`NoMemory`] if an allocation fails.
+    pub(crate) fn of(
+        alloc: Global,
+        removed: CleanUp,
+    ) -> Result<(CleanUpAnswer, Option<PruneFault>), NoMemory> {
+        let CleanUp {
+            untagged,
+            plan,
+            pruned,
+        } = removed;
+        let answer = CleanUpAnswer {
+            untagged: tagged(alloc, untagged)?,
+            pruned: PruneAnswer::of(alloc, plan, &pruned)?,
+        };
+        Ok((answer, pruned.fault))
+    }
+}
+
+impl Display for CleanUpAnswer {
+    fn fmt<W: fmt::Write>(&self, f: &mut fmt::Formatter<W>) -> fmt::Result {
+        for Tagged { tag, descriptor } in &self.untagged {
+            writeln!(f, "untagged {tag} {descriptor}")?;
+        }
+        write!(f, "{}", self.pruned)
+    }
+}
+
+/// These tags, each with the key that it names.
+fn tagged(alloc: Global, tags: Vec<(String, Key)>) -> Result<Vec<Tagged>, NoMemory> {
+    let mut tagged = Vec::new(alloc);
+    for (tag, descriptor) in tags {
+        tagged.push(Tagged { tag, descriptor })?;
+    }
+    Ok(tagged)
+}

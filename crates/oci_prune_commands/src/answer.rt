@@ -1,0 +1,165 @@
+use oci_digest::NoMemory;
+use oci_exit::{Form, Outcome, ProgramFault, Sum, print_answer};
+use oci_manifest::Key;
+use oci_prune::{PruneFault, Pruned, PrunedFile, Pruning};
+use serde::Serialize;
+use std::alloc::Global;
+use std::fmt;
+use std::fmt::Display;
+use std::io::Write;
+
+/// What a prune removed.
+///
+/// It prints a line for each held key, in key order, and then a line for each file that no held key
+/// had, in byte order of the paths, with its length. The last line counts the kept and the removed
+/// keys, and all files that were removed, with the sum of their lengths.
+#[derive(Drop, Serialize)]
+pub struct PruneAnswer {
+    /// The removed keys, in key order.
+    removed: Vec<Key>,
+    /// The removed files, in byte order of the paths.
+    files: Vec<RemovedFile>,
+    /// The number of kept keys.
+    kept: usize,
+    /// The sum of the lengths of the files.
+    bytes: Sum,
+}
+
+/// A file that a prune removed.
+#[derive(Drop, Serialize)]
+struct RemovedFile {
+    path: String,
+    /// The length of the file in bytes.
+    length: u64,
+    /// Whether a held key had the file.
+    #[serde(skip)]
+    is_held: bool,
+}
+
+impl PruneAnswer {
+    /// Returns what the prune of a plan removed: the keys of the plan, and those of its files and
+    /// drafts that went.
+    ///
+    /// # Errors
+    ///
+    /// Returns [`NoMemory`] if an allocation fails.
+    pub fn of(alloc: Global, plan: Pruning, pruned: &Pruned) -> Result<PruneAnswer, NoMemory> {
+        let Pruning {
+            kept,
+            removed,
+            files,
+            drafts,
+        } = plan;
+        let mut gone = Vec::new(alloc);
+        add_files(alloc, &files, &pruned.files, &mut gone)?;
+        add_drafts(drafts, &pruned.drafts, &mut gone)?;
+        gone.sort_by(|one, other| one.path.cmp(&other.path))?;
+        Ok(PruneAnswer {
+            removed,
+            bytes: sum_of_lengths(&gone),
+            files: gone,
+            kept: kept.len(),
+        })
+    }
+
+    /// Prints a line for each draft, and for each file that no held key had.
+    fn fmt_files<W: fmt::Write>(&self, f: &mut fmt::Formatter<W>) -> fmt::Result {
+        for file in &self.files {
+            if !file.is_held {
+                writeln!(f, "removed-file {} {}", file.path, file.length)?;
+            }
+        }
+        Ok(())
+    }
+}
+
+impl Display for PruneAnswer {
+    fn fmt<W: fmt::Write>(&self, f: &mut fmt::Formatter<W>) -> fmt::Result {
+        for key in &self.removed {
+            writeln!(f, "removed {key}")?;
+        }
+        self.fmt_files(f)?;
+        let (kept, removed) = (self.kept, self.removed.len());
+        let (files, bytes) = (self.files.len(), self.bytes);
+        writeln!(
+            f,
+            "kept {kept} removed {removed} files {files} bytes {bytes}"
+        )
+    }
+}
+
+/// Adds the files that went.
+fn add_files(
+    alloc: Global,
+    files: &[PrunedFile],
+    went: &[bool],
+    gone: &mut Vec<RemovedFile>,
+) -> Result<(), NoMemory> {
+    for (file, went) in files.iter().zip(went.iter()) {
+        if *went {
+            gone.push(RemovedFile {
+                path: file.path(alloc)?,
+                length: file.length,
+                is_held: file.is_held,
+            })?;
+        }
+    }
+    Ok(())
+}
+
+/// Adds the drafts that went. No held key has a draft.
+fn add_drafts(
+    drafts: Vec<(String, u64)>,
+    went: &[bool],
+    gone: &mut Vec<RemovedFile>,
+) -> Result<(), NoMemory> {
+    for ((path, length), went) in drafts.into_iter().zip(went.iter()) {
+        if *went {
+            gone.push(RemovedFile {
+                path,
+                length,
+                is_held: false,
+            })?;
+        }
+    }
+    Ok(())
+}
+
+/// The sum of the lengths of some files.
+fn sum_of_lengths(files: &[RemovedFile]) -> Sum {
+    let mut sum = 0u128;
+    for file in files {
+        sum = sum.saturating_add(u128::from(file.length));
+    }
+    Sum(sum)
+}
+
+/// Prints the answer of a command that pruned, and then refuses the command if the prune has a
+/// fault.
+///
+/// # Errors
+///
+/// - 79 `NotRemoved` if that is the fault. The answer is printed and `out` is flushed before.
+/// - Any other fault of the prune. Nothing is printed.
+/// - 94 `Output` if `out` cannot be written.
+/// - Out of memory, at any point.
+pub fn print_answer_with_fault<T: Display + Serialize, W: Write>(
+    alloc: Global,
+    answer: &T,
+    fault: Option<PruneFault>,
+    form: Form,
+    out: &mut W,
+) -> Result<Outcome, ProgramFault> {
+    match fault {
+        None => {
+            print_answer(alloc, answer, form, out)?;
+            Ok(Outcome::Good)
+        }
+        Some(PruneFault::NotRemoved(path)) => {
+            print_answer(alloc, answer, form, out)?;
+            out.flush().map_err(ProgramFault::of_output)?;
+            Err(ProgramFault::Prune(PruneFault::NotRemoved(path)))
+        }
+        Some(fault) => Err(ProgramFault::Prune(fault)),
+    }
+}
