@@ -2,6 +2,7 @@
 import os
 import pty
 import subprocess
+import threading
 
 from layouts import E, FOO, M2, write_layout
 from program import PROGRAM, SECONDS, run
@@ -21,7 +22,7 @@ CASES = [
 
 
 def read_all(terminal):
-    """What was written to a terminal that no process has open any more."""
+    """What is written to a terminal until no process has it open any more."""
     written = b""
     try:
         while part := os.read(terminal, 4096):
@@ -31,17 +32,23 @@ def read_all(terminal):
     return written.decode().replace("\r\n", "\n")
 
 
-def run_on_terminal(words, folder):
-    """The status of a run whose error output is a terminal, and what it wrote there."""
-    terminal, err = pty.openpty()
+def run_on_terminal(words, folder, seconds=SECONDS, shows_output=False, **how):
+    """The status of a run whose error output is a terminal, with `shows_output` its output too, and what it wrote there. A run that takes
+    longer is killed. `how` goes to `subprocess.Popen`."""
+    terminal, end = pty.openpty()
     try:
-        status = subprocess.run([PROGRAM, *words], cwd=folder, stdin=subprocess.DEVNULL, stdout=subprocess.DEVNULL,
-                                stderr=err, timeout=SECONDS).returncode
+        out = end if shows_output else subprocess.DEVNULL
+        process = subprocess.Popen([PROGRAM, *words], cwd=folder, stdin=subprocess.DEVNULL, stdout=out, stderr=end, **how)
     finally:
-        os.close(err)
+        os.close(end)
+    timer = threading.Timer(seconds, process.kill)
+    timer.start()
     try:
-        return status, read_all(terminal)
+        # (while it runs, since a terminal that nobody reads holds only some kilobytes)
+        written = read_all(terminal)
+        return process.wait(), written
     finally:
+        timer.cancel()
         os.close(terminal)
 
 
