@@ -1,0 +1,185 @@
+"""The documents of `--json`: each has the facts of the lines, for layouts made by hand and at random, archives, odd texts, large sums
+and a deep graph."""
+import functools
+import json
+import multiprocessing
+import os
+import random
+import shutil
+import tarfile
+from itertools import accumulate
+
+import prune
+from archives import pack
+from json_rooms import Rooms
+from layouts import BAR, E, FOO, IMAGE, LAYER, M2, M3, S, Content, descriptor, digits, image, write_layout
+from program import TOP, first, run, told
+from pruning import Held
+
+LAYOUTS = 40
+# `L` stands for the layout or an archive of it, `M` for another layout, and `N` for a folder that is not there.
+OF_REFERENCES = ["resolve L REF", "predecessors L REF", "tree L REF", "tree --referrers L REF", "copy --dry-run L REF M"]
+LOOKS = ["tags L", "verify L", "copy --dry-run --all --referrers L M", "copy --dry-run --all --descend L N", *OF_REFERENCES]
+# (by one worker, since a copy by more that is refused may leave one or another blob)
+CHANGES = [
+    "prune --dry-run L", "prune --dry-run --no-referrers L", "copy --workers 1 --progress L TAG M new",
+    "copy --workers 1 --referrers --depth 1 L DIGEST N", "copy --workers 1 --all --descend L M", "copy --workers 1 --all --prune L M",
+    "untag L TAG", "untag M new", "prune --no-referrers L", "prune L", "prune M", "verify M", "tags M",
+]
+# (a JSON text has some of these only as escapes)
+TEXTS = [
+    'a "quoted" text', "back\\slash\\u0041 \\", "a tab\tand\na line feed\r", "\x01\x1b[31m\x7f", "\u00e9\u4e16\U0001f600",
+    "\u2028\ufeff/", "{}", " ", "\x80\x9f\uffff",
+]
+OF_TEXTS = [
+    "resolve L TEXT", "tree --referrers L TEXT", "predecessors L TEXT", "copy L TEXT M", "copy --dry-run L TEXT N", "untag M TEXT",
+]
+# The greatest size, and sums of sizes: the greatest that 64 bits hold, and others.
+MOST = (1 << 63) - 1
+TOTALS = [(1 << 64) - 1, 1 << 64, 3 * MOST - 1]
+# A chain of so many images, and how deep a document may be nested.
+DEPTH, NESTED = 3000, 5
+EXAMPLE = TOP + "/examples/hello"
+
+
+def words_of(command, **named):
+    return [named.get(word, word) for word in command.split(" ")]
+
+
+def write_others(folder):
+    """Beside a layout, an archive of it and another layout."""
+    pack(folder + "/layout.tar", folder + "/layout", ["."], tarfile.GNU_FORMAT)
+    write_layout(folder + "/other", [E, FOO, BAR, M2, M3, S], {"a": M2, "old": M3, "z": M3}, [S])
+
+
+def write_case(case, folder):
+    prune.write_case(folder + "/layout", case)
+    write_others(folder)
+
+
+def write_random(seed, folder):
+    chance = random.Random(seed)
+    prune.write_random(folder + "/layout", chance)
+    write_others(folder)
+    if chance.random() < 0.5:
+        prune.write_random(folder + "/other", chance)
+
+
+def wrong_layout(room, make):
+    """What is wrong with the documents about a layout and its archive, and with those of the commands that change it."""
+    rooms = Rooms(room, make)
+    tag = min(Held(rooms.folders[0] + "/layout").tags, default="nope")
+    named = {"M": "other", "N": "new", "TAG": tag, "DIGEST": "sha256:" + digits(E)}
+    looks = [(layout, it) for layout in ("layout", "layout.tar") for it in LOOKS]
+    commands = [(layout, reference, it) for layout, it in looks for reference in ([tag, named["DIGEST"]] if "REF" in it else [""])]
+    commands += [("layout", "nope", it) for it in [*OF_REFERENCES, *CHANGES]]
+    return first(rooms.wrong(words_of(it, L=layout, REF=reference, **named)) for layout, reference, it in commands)
+
+
+def by_hand(room):
+    cases = [("%s/%d" % (room, number), functools.partial(write_case, case)) for number, case in enumerate(prune.CASES.values())]
+    with multiprocessing.Pool() as pool:
+        yield from zip(prune.CASES, pool.starmap(wrong_layout, cases))
+
+
+def at_random(room):
+    cases = [("%s/%d" % (room, seed), functools.partial(write_random, seed)) for seed in range(LAYOUTS)]
+    with multiprocessing.Pool() as pool:
+        yield "%d layouts at random" % LAYOUTS, first(pool.starmap(wrong_layout, cases))
+
+
+def example(room):
+    rooms = Rooms(room, lambda folder: shutil.copytree(EXAMPLE, folder + "/layout"))
+    for command in ["tags L", "tree --referrers L base", "verify L", "copy --all L M", "copy --all --prune L M", "untag M both", "prune M"]:
+        yield "the example, " + command, rooms.wrong(words_of(command, L="layout", M="mirror"))
+    for number in range(256):
+        complaint = rooms.wrong(["explain", str(number)]) if run(["explain", str(number)], room).status == 0 else None
+        if complaint:
+            break
+    yield "explain", complaint
+
+
+def write_texts(folder):
+    """A layout with odd tags, media types and artifact types, and files of such names."""
+    layers = [Content(text, b"layer %d" % number) for number, text in enumerate(TEXTS)]
+    images = [odd_image(text, layer) for text, layer in zip(TEXTS, layers)]
+    signatures = [odd_image(text, layers[0], subject=images[0]) for text in TEXTS]
+    # (no word can have a NUL)
+    tags = {**dict(zip(TEXTS, images)), "a NUL \0": images[0]}
+    write_layout(folder + "/layout", [E, *layers, *images, *signatures], tags, signatures)
+    for number, text in enumerate(TEXTS):
+        with open("%s/%s" % (folder, text.replace("/", " ")), "w") as file:
+            file.write(text)
+
+
+def odd_image(text, layer, subject=None):
+    of = lambda it: {"mediaType": it.media_type, "digest": "sha256:" + digits(it), "size": len(it.bytes)}
+    value = {"schemaVersion": 2, "artifactType": text, "config": of(E), "layers": [of(layer)]}
+    return Content(IMAGE, json.dumps({**value, **({"subject": of(subject)} if subject else {})}).encode())
+
+
+def texts(room):
+    rooms = Rooms(room, write_texts)
+    yield "odd tags", rooms.wrong(["tags", "layout"])
+    for text in TEXTS:
+        name = text.replace("/", " ")
+        yield "the text %r" % text, first([
+            *(rooms.wrong(words_of(it, L="layout", M="mirror", TEXT=text)) for it in OF_TEXTS),
+            rooms.wrong(["mem", "%s=%s" % (text, name)]),
+            # (refused, with the text in what the refusal carries)
+            *(rooms.wrong(it) for it in [["mem", text], ["mem", "type=%s/%s" % (name, text)], ["copy", "layout", text, name],
+                                         ["prune", name], ["untag", name, text], ["resolve", name, text]]),
+        ])
+    yield "copies of odd tags", first(rooms.wrong(it.split()) for it in [
+        "copy --all --workers 1 --progress layout all", "copy --all --prune layout all", "verify all", "prune all"])
+
+
+def image_of(sizes):
+    """An image of layers that state these sizes."""
+    layers = [{"mediaType": LAYER, "digest": "sha256:%064x" % number, "size": size} for number, size in enumerate(sizes, 1)]
+    value = {"schemaVersion": 2, "config": json.loads(descriptor(E)), "layers": layers}
+    return Content(IMAGE, json.dumps(value).encode()), [it["digest"][len("sha256:"):] for it in layers]
+
+
+def write_sum(total, folder):
+    """An image that has with its blobs so many bytes, by their sizes."""
+    largest = [MOST] * ((total - 1000) // (MOST + 1))
+    # (the last size has as many digits as the others, so that the image is as long)
+    rest = total - sum(largest) - len(E.bytes) - len(image_of([*largest, MOST])[0].bytes)
+    made, names = image_of([*largest, rest])
+    write_layout(folder + "/layout", [E, made], {"new": made})
+    for name in names:
+        open("%s/layout/blobs/sha256/%s" % (folder, name), "w").close()
+
+
+def sums(room):
+    for total in TOTALS:
+        rooms = Rooms(room, functools.partial(write_sum, total))
+        complaint = rooms.wrong("copy --dry-run layout new other".split())
+        wanted = '"bytes":%d,' if total < 1 << 64 else '"bytes":"%d",'
+        yield "a sum of %d" % total, complaint or (None if wanted % total in rooms.ended.out else told(rooms.ended))
+
+
+def write_chain(folder):
+    """Images of which each refers to the one before, and has a tag."""
+    images = [M2]
+    for _ in range(DEPTH):
+        images.append(image([], subject=images[-1]))
+    write_layout(folder + "/layout", [E, FOO, *images], {str(number): it for number, it in enumerate(images)})
+
+
+def chain(room):
+    """Documents about a deep graph are not nested more deeply."""
+    rooms = Rooms(room, write_chain)
+    for command in ["tags L", "tree L %d" % DEPTH, "tree --referrers L 0", "copy --dry-run L %d M" % DEPTH, "copy --all L M",
+                    "prune --no-referrers M"]:
+        complaint = rooms.wrong(words_of(command, L="layout", M="mirror"))
+        deepest = max(accumulate({"{": 1, "[": 1, "}": -1, "]": -1}.get(it, 0) for it in rooms.ended.out), default=0)
+        yield "a chain of %d images, %s" % (DEPTH, command), complaint or (None if deepest <= NESTED else "it is nested %d deep" % deepest)
+
+
+def checks(room):
+    for number, group in enumerate([example, by_hand, at_random, texts, sums, chain]):
+        folder = "%s/%d" % (room, number)
+        os.mkdir(folder)
+        yield from group(folder)

@@ -1,0 +1,222 @@
+"""The lines that each command prints, made again from the document that it prints with `--json`."""
+import json
+import os
+
+from pruning import Held, Key
+
+DESCRIPTOR = {"mediaType": str, "digest": str, "size": int}
+# A sum over this is a text.
+GREATEST = (1 << 64) - 1
+SUM = (int, str)
+PRUNED = {"removed": list, "files": list, "kept": int, "bytes": SUM}
+COPIED = {"copied": list, "planned": int, "pushed": int, "skipped": int}
+LEAST_DIGITS = 12
+# The values of a fault beside its number and its name.
+CARRIED = {
+    13: {"member": str},
+    14: {"member": str, "position": int},
+    **dict.fromkeys([42, 53, 56, 57, 75, 77, 82, 83, 84, 88, 96], {"descriptor": dict}),
+    54: {"descriptor": dict, "limit": int},
+    55: {"descriptors": list},
+    **dict.fromkeys([79, 93, 95, 98, 99], {"path": str}),
+    80: {"holder": dict, "missing": dict},
+    92: {"item": str},
+    101: {"form": str},
+    **dict.fromkeys([102, 103, 104], {"offset": int}),
+}
+MEMORY = '{"error":[{"name":"Memory"}]}\n'
+
+
+def object_of(members):
+    """The object with these members, of which no two may have one name."""
+    if len(dict(members)) != len(members):
+        raise ValueError("a member is there twice")
+    return dict(members)
+
+
+def no_number(text):
+    raise ValueError("%s is no whole number" % text)
+
+
+def read_document(text):
+    """Reads a document, which is one line."""
+    if not text.endswith("\n") or text.count("\n") != 1:
+        raise ValueError("it is not one line")
+    return json.loads(text, object_pairs_hook=object_of, parse_float=no_number, parse_constant=no_number)
+
+
+def taken(value, kinds):
+    """The values of an object that has exactly these members in this order, each of its kind or of one of its kinds."""
+    if type(value) is not dict or list(value) != list(kinds):
+        raise ValueError("%.200s does not have the members %s" % (value, ", ".join(kinds)))
+    for name, kind in kinds.items():
+        if type(value[name]) not in (kind if isinstance(kind, tuple) else (kind,)):
+            raise ValueError("%s is %.200r" % (name, value[name]))
+    return list(value.values())
+
+
+def key(descriptor):
+    """A descriptor as a line has it."""
+    media_type, digest, size = taken(descriptor, DESCRIPTOR)
+    return "%s %d %s" % (digest, size, media_type)
+
+
+def sum_of(value):
+    """A sum, which is a number if 64 bits hold it."""
+    if (type(value) is int) != (int(value) <= GREATEST) or str(int(value)) != str(value):
+        raise ValueError("the sum is %r" % value)
+    return int(value)
+
+
+def tagged(value):
+    tag, descriptor = taken(value, {"tag": str, "descriptor": dict})
+    return tag, key(descriptor)
+
+
+def of_tags(value, words):
+    tags, = taken(value, {"tags": list})
+    return ["%s %s" % tagged(it) for it in tags]
+
+
+def of_resolve(value, words):
+    descriptor, = taken(value, {"descriptor": dict})
+    return [key(descriptor)]
+
+
+def of_predecessors(value, words):
+    found, = taken(value, {"predecessors": list})
+    return [key(it) for it in found]
+
+
+def of_verify(value, words):
+    absent, corrupt, open_, held = taken(value, {"absent": list, "corrupt": list, "open": (dict, type(None)), "held": int})
+    pair = [taken(open_, {"holder": dict, "missing": dict})] if open_ else []
+    return [
+        *("absent " + key(it) for it in absent),
+        *("corrupt " + key(it) for it in corrupt),
+        *("open %s %s" % (key(holder), key(missing)) for holder, missing in pair),
+        "held %d" % held,
+    ]
+
+
+def of_explain(value, words):
+    return ["%d %s\n%s" % tuple(taken(value, {"number": int, "name": str, "text": str}))]
+
+
+def of_untag(value, words):
+    tag, removed = tagged(value)
+    if tag != words[-1]:
+        raise ValueError("the tag is %r" % tag)
+    return ["untagged " + removed]
+
+
+def of_mem(value, words):
+    blobs, *counts = taken(value, {"blobs": list, "planned": int, "pushed": int, "skipped": int})
+    return [*map(key, blobs), "planned %d pushed %d skipped %d" % tuple(counts)]
+
+
+def of_prune(value, words):
+    removed, files, kept, total = taken(value, PRUNED)
+    files = [taken(it, {"path": str, "length": int}) for it in files]
+    had = {"blobs/" + taken(it, DESCRIPTOR)[1].replace(":", "/") for it in removed}
+    if [path for path, _ in files] != sorted({path for path, _ in files}, key=str.encode):
+        raise ValueError("the files are not in the order of their paths")
+    if sum(length for _, length in files) != sum_of(total):
+        raise ValueError("the files do not have %s bytes" % total)
+    return [
+        *("removed " + key(it) for it in removed),
+        *("removed-file %s %d" % (path, length) for path, length in files if path not in had),
+        "kept %d removed %d files %d bytes %d" % (kept, len(removed), len(files), sum_of(total)),
+    ]
+
+
+def tag_of(words):
+    """The tag that a copy sets: DSTREF, or SRCREF if there is none."""
+    places = [it for it, before in zip(words[1:], words) if not it.startswith("--") and before not in ("--workers", "--depth")]
+    return places[3 if len(places) > 3 else 1]
+
+
+def of_copy(value, words):
+    if "--dry-run" in words:
+        blobs, planned, total, skipped = taken(value, {"blobs": list, "planned": int, "bytes": SUM, "skipped": int})
+        return [*map(key, blobs), "planned %d bytes %d skipped %d" % (planned, sum_of(total), skipped)]
+    prunes = "--prune" in words
+    copied, *counts = taken(value, {**COPIED, **({"untagged": list, **PRUNED} if prunes else {})})[:4]
+    if "--all" not in words and [it["tag"] for it in copied] != [tag_of(words)]:
+        raise ValueError("the tag is not %r" % tag_of(words))
+    lines = ["copied " + tagged(it)[1] for it in copied] + ["planned %d pushed %d skipped %d" % tuple(counts)]
+    if prunes:
+        lines += ["untagged %s %s" % tagged(it) for it in value["untagged"]]
+        lines += of_prune({name: value[name] for name in PRUNED}, words)
+    return lines
+
+
+def size(number):
+    """A size as people read it."""
+    for least, tenth, unit in (999_950_000, 100_000_000, "GB"), (999_950, 100_000, "MB"), (1_000, 100, "KB"):
+        if number >= least:
+            return "%d.%d %s" % (*divmod((number + tenth // 2) // tenth, 10), unit)
+    return "%d B" % number
+
+
+class Labels:
+    """What the line of a blob of a tree shortens, for a layout: the keys, and how many digits it shows, in which the digests differ."""
+
+    def __init__(self, folder):
+        held = Held(folder)
+        self.keys = held.keys.union(*map(held.listed, held.keys))
+        digests = sorted({it.digest for it in held.keys})
+        needed = [len(os.path.commonprefix(pair)) + 1 - len("sha256:") for pair in zip(digests, digests[1:])]
+        self.digits = max([LEAST_DIGITS, *needed])
+
+    def of(self, descriptor):
+        """The short digest, the size and the media type."""
+        media_type, digest, number = taken(descriptor, DESCRIPTOR)
+        if Key(media_type, digest, number) not in self.keys:
+            raise ValueError("the layout does not have %s" % descriptor)
+        return "%s %s %s" % (digest[: len("sha256:") + self.digits], size(number), media_type)
+
+
+def node(value, labels, is_referrer):
+    """The line of a blob of a tree."""
+    kinds = {"depth": int, "descriptor": dict, "tags": list, "repeated": bool, "absent": bool}
+    if is_referrer and "artifactType" in value:
+        kinds["artifactType"] = str
+    depth, descriptor, tags, repeated, absent, *stated = taken(value, kinds)
+    notes = [*(" (%s)" % it for it in stated), *(" [%s]" % it for it in tags), " (shown above)" * repeated, " (absent)" * absent]
+    return "".join(["  " * depth, labels.of(descriptor), *notes])
+
+
+def of_tree(value, words, labels):
+    blobs, referrers = taken(value, {"blobs": list, "referrers": list})
+    lines = [node(it, labels, False) for it in blobs]
+    if "--referrers" in words:
+        return lines + ["referrers:" if referrers else "referrers: none"] + [node(it, labels, True) for it in referrers]
+    if referrers:
+        raise ValueError("it has referrers")
+    return lines
+
+
+LINES = {
+    "tags": of_tags, "resolve": of_resolve, "predecessors": of_predecessors, "verify": of_verify, "explain": of_explain,
+    "untag": of_untag, "prune": of_prune, "copy": of_copy, "mem": of_mem, "tree": of_tree,
+}
+
+
+def fault(value):
+    """A fault as a line has it."""
+    carried = CARRIED.get(value.get("number"), {})
+    number, name, *values = taken(value, {"number": int, "name": str, **carried})
+    values = [part for it in values for part in (it if isinstance(it, list) else [it])]
+    return " ".join([str(number), name, *(key(it) if isinstance(it, dict) else str(it) for it in values)])
+
+
+def of_error(text):
+    """The error output as it is without `--json`: with a line in the place of the document."""
+    if text == MEMORY:
+        return "ocicp: memory\n"
+    before, document = text[: text[:-1].rfind("\n") + 1], text[text[:-1].rfind("\n") + 1 :]
+    if not document.startswith("{"):
+        return text
+    faults, = taken(read_document(document), {"error": list})
+    return "%socicp: %s\n" % (before, " ".join(map(fault, faults)))

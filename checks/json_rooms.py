@@ -1,0 +1,72 @@
+"""Runs each command twice, in folders of its own with the same files: once for its lines, and once with `--json`. The lines that
+`json_lines` makes of the document are to be those of the other run, and both runs are to leave the same files."""
+import os
+import shutil
+import subprocess
+import time
+
+import json_lines
+from harmful_folders import files
+from program import PROGRAM, SECONDS, Ended, told
+
+FORMS = ["lines", "json"]
+CHANGES = ["copy", "untag", "prune"]
+
+
+def run_long(words, folder, seconds=SECONDS):
+    """Runs the program, which may print any length."""
+    began = time.monotonic()
+    ended = subprocess.run([PROGRAM, *words], cwd=folder, stdin=subprocess.DEVNULL, capture_output=True, timeout=seconds)
+    return Ended(ended.returncode, ended.stdout.decode(), ended.stderr.decode(), time.monotonic() - began, 0)
+
+
+def with_json(words):
+    """The words with `--json`, after the command or at the end."""
+    return [words[0], "--json", *words[1:]] if len(" ".join(words)) % 2 else [*words, "--json"]
+
+
+def lines_of(words, ended, folder):
+    """What a run with `--json` printed on both outputs, as lines."""
+    out = ended.out
+    # (a refusal has no document on stdout, but for that of a prune which could not remove a file)
+    if ended.status == 0 or out:
+        labels = [json_lines.Labels(folder + "/" + words[-2].removesuffix(".tar"))] if words[0] == "tree" else []
+        lines = json_lines.LINES[words[0]](json_lines.read_document(out), words, *labels)
+        out = "".join(line + "\n" for line in lines)
+    return out, json_lines.of_error(ended.err)
+
+
+def wrong_document(words, plain, ended, folder):
+    """What is wrong with a run with `--json` beside the other run."""
+    if ended.status != plain.status or bool(ended.out) != bool(plain.out or plain.status == 0):
+        return "%s; and without --json: %s" % (told(ended), told(plain))
+    try:
+        found = lines_of(words, ended, folder)
+    except (ValueError, TypeError, KeyError) as error:
+        return "%s: %s" % (error, told(ended))
+    for made, line in zip(found, (plain.out, plain.err)):
+        if made != line:
+            at = next((at for at, pair in enumerate(zip(made, line)) if pair[0] != pair[1]), min(len(made), len(line)))
+            start = line.rfind("\n", 0, at) + 1
+            return "it says %.300r where the line is %.300r" % (made[start:], line[start:])
+
+
+class Rooms:
+    """A folder that `make` fills, and a copy of it."""
+
+    def __init__(self, room, make):
+        self.folders = lines, copy = ["%s/%s" % (room, form) for form in FORMS]
+        for folder in self.folders:
+            shutil.rmtree(folder, ignore_errors=True)
+        os.makedirs(lines)
+        make(lines)
+        subprocess.run(["cp", "-a", lines, copy], check=True)
+        self.ended = None
+
+    def wrong(self, words, run=run_long):
+        """What is wrong with a command: how `run` ran it in each folder, and what it left."""
+        plain, self.ended = run(words, self.folders[0]), run(with_json(words), self.folders[1])
+        complaint = wrong_document(words, plain, self.ended, self.folders[1])
+        if not complaint and words[0] in CHANGES and files(self.folders[0]) != files(self.folders[1]):
+            complaint = "it leaves other files than without --json"
+        return complaint and "%s: %s" % (" ".join(words), complaint)
