@@ -1,5 +1,5 @@
-"""Runs each fenced command of the README in a copy of the folder, and compares what those of the sessions print. Code in the README
-is to be the example that it names."""
+"""Runs each fenced command of the README, and of docs/json.md, in a copy of the folder, and compares what those of the sessions print.
+Code in the README is to be the example that it names."""
 import os
 import re
 import shutil
@@ -8,6 +8,8 @@ import subprocess
 from program import PROGRAM, TOP
 
 SECONDS = 60
+README = "README.md"
+DOCUMENTS = [README, "docs/json.md"]
 EXAMPLE = "/crates/example_copy/src/main.rt"
 # Comes after the output of each command. No README has it.
 END = "== that was it =="
@@ -15,15 +17,15 @@ END = "== that was it =="
 LARGE = shutil.ignore_patterns("crates", ".git", "out", "ocicp")
 
 
-def blocks():
-    """The fenced blocks of the README, each with its kind: `console` for a session, `sh` for commands alone, `rust` for the example."""
-    with open(TOP + "/README.md") as file:
+def blocks(document=README):
+    """The fenced blocks of a document, each with its kind: `console` for a session, `sh` for commands alone, `rust` for the example."""
+    with open("%s/%s" % (TOP, document)) as file:
         return re.findall(r"^```(\w*)\n(.*?)^```$", file.read(), re.M | re.S)
 
 
-def sessions():
-    """The sessions of the README: each a list of commands and the lines that each is to print."""
-    for block in [text for kind, text in blocks() if kind == "console"]:
+def sessions(document):
+    """The sessions of a document: each a list of commands and the lines that each is to print."""
+    for block in [text for kind, text in blocks(document) if kind == "console"]:
         session = []
         for line in block.splitlines():
             if line.startswith("$ "):
@@ -44,22 +46,29 @@ def printed(commands, folder):
 
 
 def checks(room):
-    folder = room + "/clone"
-    shutil.copytree(TOP, folder, ignore=LARGE)
-    for place in "ocicp", "release/ocicp":
-        shutil.copyfile(PROGRAM, "%s/%s" % (folder, place))
-        os.chmod("%s/%s" % (folder, place), 0o755)
-    yield from commands_alone(folder)
-    yield "the code", wrong_code()
-    found = list(sessions())
+    for number, document in enumerate(DOCUMENTS):
+        folder = "%s/%d/clone" % (room, number)
+        shutil.copytree(TOP, folder, ignore=LARGE)
+        for place in "ocicp", "release/ocicp":
+            shutil.copyfile(PROGRAM, "%s/%s" % (folder, place))
+            os.chmod("%s/%s" % (folder, place), 0o755)
+        if document == README:
+            yield from commands_alone(folder)
+            yield "the code", wrong_code()
+        yield from wrong_sessions(document, folder)
+
+
+def wrong_sessions(document, folder):
+    """Runs the sessions of a document, one after the other."""
+    found = list(sessions(document))
     if not found:
-        yield "sessions", "README.md has none"
-    commands = [command for session in found for command, _ in session]
-    outputs = iter(printed(commands, folder))
+        yield "sessions", "%s has none" % document
+    outputs = iter(printed([command for session in found for command, _ in session], folder))
     for number, session in enumerate(found, 1):
         for command, wanted in session:
             lines = next(outputs)
-            yield "session %d: $ %s" % (number, command), None if lines == wanted else difference(lines, wanted)
+            label = "session %d of %s: $ %s" % (number, document, command)
+            yield label, None if lines == wanted else difference(lines, wanted, document)
 
 
 def commands_alone(folder):
@@ -86,9 +95,9 @@ def wrong_code():
         return None if found == [file.read()] else "it is not what %s has" % EXAMPLE[1:]
 
 
-def difference(lines, wanted):
+def difference(lines, wanted, document):
     """The first line that differs."""
     for line, other in zip([*lines, "no more"], [*wanted, "no more"]):
         if line != other:
-            return "it prints %r where README.md has %r" % (line, other)
-    return "it prints %d lines where README.md has %d" % (len(lines), len(wanted))
+            return "it prints %r where %s has %r" % (line, document, other)
+    return "it prints %d lines where %s has %d" % (len(lines), document, len(wanted))
