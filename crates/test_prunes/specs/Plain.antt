@@ -1,0 +1,37 @@
+-- Held keys as a plain list, and the tests of the plain program.
+use Rattle.std.specs.Prelude.{◌≡◌, Bool, false, not, ◌&&◌, ◌||◌, List, Option, Some, map, find, Contains}
+use Rattle.std.specs.BTreeSet.{BTreeSet, contains}
+use Rattle.std.specs.List.{list_any}
+use Rattle.std.specs.Option.{option_map_or}
+use Rattle.oci_manifest.specs.Descriptor.{Descriptor, key_cmp, is_among}
+use Rattle.oci_store.specs.Graph.{Node}
+use Rattle.oci_store.specs.Predecessors.{lists_key}
+use Rattle.test_prunes.specs.declared.plain.Held.{Held}
+
+-- the graph of held keys
+abbrev pub graph_of : List Held → List Node
+graph_of held = map (λ (h : Held). (h.key, h.lists.items)) held
+
+-- an entry of the first key states the second as its subject
+abbrev pub RefersIn : List Held → Descriptor → Descriptor → Type 0
+RefersIn held referrer subject = (h : Held) × Contains held h × (h.key ≡ referrer) × (h.subject ≡ Some subject)
+
+-- whether a key of the set lists the key
+abbrev pub is_listed : List Held → BTreeSet Descriptor → Descriptor → Bool
+is_listed held kept k = list_any (λ (h : Held). contains key_cmp kept h.key && lists_key (graph_of held) h.key k) held
+
+-- whether the entry states a key of the set as its subject
+abbrev pub states_kept : BTreeSet Descriptor → Held → Bool
+states_kept kept h = option_map_or (λ k. contains key_cmp kept k) h.subject false
+
+-- whether the key of the entry is a root, or a key of the set needs it
+abbrev pub is_needed : List Held → List Descriptor → BTreeSet Descriptor → Held → Bool
+is_needed held roots kept h = is_among roots h.key || is_listed held kept h.key || states_kept kept h
+
+-- whether the key of the entry is to be added to the set
+abbrev pub is_next : List Held → List Descriptor → BTreeSet Descriptor → Held → Bool
+is_next held roots kept h = not (contains key_cmp kept h.key) && is_needed held roots kept h
+
+-- the first entry whose key is to be added to the set
+abbrev pub next_in : List Held → List Descriptor → BTreeSet Descriptor → Option Held
+next_in held roots kept = find (is_next held roots kept) held

@@ -1,0 +1,9 @@
+//! Tests of prunes, run through the public calls of `oci_prune`.
+//!
+//! [`kept_plainly`] computes what a prune keeps without a walk and without an index. Its contract
+//! is the definition of the kept keys.
+#![tactic(auto)]
+
+mod plain;
+
+pub use plain::{Held, kept_plainly};
