@@ -1,0 +1,2 @@
+mod layouts;
+mod random;

@@ -1,0 +1,103 @@
+//! Prunes of random layouts, compared with the plain program.
+
+use crate::plain::{Held, kept_plainly};
+use crate::tests::layouts::{Made, random_layout};
+use oci_digest::NoMemory;
+use oci_manifest::Key;
+use oci_prune::{Pruning, plan_prune};
+use oci_store::keys_of_set;
+use std::alloc::Global;
+use std::collections::BTreeSet;
+use std::process::Abort;
+use std::test::Fail;
+
+/// Returns the held keys that are not kept, in key order.
+fn removed_plainly(
+    alloc: Global,
+    held: &[Held],
+    kept: &BTreeSet<Key>,
+) -> Result<Vec<Key>, NoMemory> {
+    let mut removed = BTreeSet::new(alloc);
+    for entry in held {
+        if !kept.contains(&entry.key) {
+            removed.insert(entry.key.try_clone()?)?;
+        }
+    }
+    keys_of_set(alloc, &removed)
+}
+
+/// Compares a plan with the plain program. Returns the kept keys.
+fn assert_plan<R: AllocGlobal + Abort>(
+    rt: &R,
+    plan: &Pruning,
+    held: &[Held],
+    tagged: &[Key],
+) -> Result<BTreeSet<Key>, Fail> {
+    let kept = kept_plainly(rt.alloc(), held, tagged)?;
+    let wanted = keys_of_set(rt.alloc(), &kept)?;
+    let removed = removed_plainly(rt.alloc(), held, &kept)?;
+    assert_eq!(rt; keys_of_set(rt.alloc(), &plan.kept)?, wanted);
+    assert_eq!(rt; plan.removed, removed);
+    Ok(kept)
+}
+
+/// Returns whether an entry and its subject are in one set and not in another.
+fn is_chained(entry: &Held, set: &BTreeSet<Key>, other: &BTreeSet<Key>) -> bool {
+    match &entry.subject {
+        Some(subject) => [&entry.key, subject]
+            .iter()
+            .all(|key| set.contains(*key) && !other.contains(*key)),
+        None => false,
+    }
+}
+
+/// The number of layouts of which a key is kept only with referrers, of such keys with such a
+/// subject, and of layouts of which a key is removed.
+#[derive(Clone, Copy, Debug)]
+struct Seen {
+    by_referrers: u32,
+    chains: u32,
+    removed: u32,
+}
+
+/// Returns the count, with one more if the condition holds.
+fn counted(count: u32, condition: bool) -> u32 {
+    count.saturating_add(u32::from(condition))
+}
+
+/// Plans a prune of a layout without referrers and with them, and compares both.
+fn assert_plans<R: AllocGlobal + Abort>(rt: &R, made: &Made, seen: Seen) -> Result<Seen, Fail> {
+    let without = plan_prune(rt.alloc(), &made.layout, false)?;
+    let fewer = assert_plan(rt, &without, &made.unreferred, &made.tagged)?;
+    let with = plan_prune(rt.alloc(), &made.layout, true)?;
+    let more = assert_plan(rt, &with, &made.held, &made.tagged)?;
+    let mut chains = seen.chains;
+    for entry in &made.held {
+        chains = counted(chains, is_chained(entry, &more, &fewer));
+    }
+    Ok(Seen {
+        by_referrers: counted(seen.by_referrers, fewer.len() < more.len()),
+        chains,
+        removed: counted(seen.removed, more.len() < made.held.len()),
+    })
+}
+
+/// The plans of random layouts keep what the plain program keeps, and remove the other keys. Some
+/// keep a key only with referrers, some also a referrer of such a key, and some remove a key.
+#[test]
+fn random_layouts(rt: HostRuntime) -> Result<(), Fail> {
+    let mut state = 1;
+    let mut seen = Seen {
+        by_referrers: 0,
+        chains: 0,
+        removed: 0,
+    };
+    for _ in 0..60 {
+        let made = random_layout(rt.alloc(), &mut state)?;
+        seen = assert_plans(&rt, &made, seen)?;
+    }
+    assert!(rt; seen.by_referrers > 0, "{seen:?}");
+    assert!(rt; seen.chains > 0, "{seen:?}");
+    assert!(rt; seen.removed > 0, "{seen:?}");
+    Ok(())
+}
