@@ -1,5 +1,5 @@
 -- The plain program keeps what is needed, and in the end all of it.
-use Rattle.std.proofs.Common.{◌≡◌, ℕ, ◌<◌, ◌≤◌, Bool, true, false, not, ◌&&◌, ◌||◌, ◌⊎◌, inl, inr, List, [], ◌∷◌, length, filter, option_map, Option, Some, None, refl, sym, ap, subst, ◌∙◌, arith}
+use Rattle.std.proofs.Common.{◌≡◌, ℕ, ◌+◌, ◌<◌, ◌≤◌, Bool, true, false, not, ◌&&◌, ◌||◌, ◌⊎◌, inl, inr, List, [], ◌∷◌, length, filter, option_map, Option, Some, None, refl, sym, ap, subst, ◌∙◌, arith}
 use Rattle.std.specs.Prelude.{Contains, find}
 use Rattle.std.specs.BTreeSet.{BTreeSet, contains}
 use Rattle.std.specs.List.{list_any}
@@ -67,18 +67,24 @@ any_one p (y ∷ xs) h =
 
 -- ---- fewer elements pass a stronger test
 
-no_more : {X : Type 0} (p q : X → Bool) (xs : List X) → ((x : X) → q x ≡ true → p x ≡ true) → length (filter q xs) ≤ length (filter p xs)
-no_more p q [] implies = omega arith
-no_more p q (x ∷ xs) implies =
-    let rest = no_more p q xs implies in
+-- a head that passes the stronger test passes the other, so the difference stays
+more_head : {X : Type 0} (p q : X → Bool) (x : X) (xs : List X) (k : ℕ) → (q x ≡ true → p x ≡ true) → (k + length (filter q xs)) ≤ length (filter p xs) → (k + length (filter q (x ∷ xs))) ≤ length (filter p (x ∷ xs))
+more_head p q x xs k implies rest =
     elim (cases_Bool (q x)) [
-      | inl passes ↦ let also = implies x passes in rw (passes, also) (omega (arith, rest))
+      | inl passes ↦ let also = implies passes in rw (passes, also) (omega (arith, rest))
       | inr fails ↦
           elim (cases_Bool (p x)) [
             | inl more ↦ rw (fails, more) (omega (arith, rest))
             | inr less ↦ rw (fails, less) rest
           ]
     ]
+
+no_more : {X : Type 0} (p q : X → Bool) (xs : List X) → ((x : X) → q x ≡ true → p x ≡ true) → length (filter q xs) ≤ length (filter p xs)
+no_more p q [] implies = omega arith
+no_more p q (x ∷ xs) implies =
+    let rest = no_more p q xs implies in
+    let more = more_head p q x xs 0 (implies x) (omega (arith, rest)) in
+    omega (arith, more)
 
 pub fewer : {X : Type 0} (p q : X → Bool) (xs : List X) (x : X) → ((y : X) → q y ≡ true → p y ≡ true) → Contains xs x → p x ≡ true → q x ≡ false → length (filter q xs) < length (filter p xs)
 fewer {X} p q [] x implies there was gone = absurd (no_element x there)
@@ -91,14 +97,8 @@ fewer {X} p q (y ∷ xs) x implies there was gone =
           rw (was_y, gone_y) (omega (arith, rest))
       | inr later ↦
           let rest = fewer p q xs x implies later was gone in
-          elim (cases_Bool (q y)) [
-            | inl passes ↦ let also = implies y passes in rw (passes, also) (omega (arith, rest))
-            | inr fails ↦
-                elim (cases_Bool (p y)) [
-                  | inl more ↦ rw (fails, more) (omega (arith, rest))
-                  | inr less ↦ rw (fails, less) rest
-                ]
-          ]
+          let more = more_head p q y xs 1 (implies y) (omega (arith, rest)) in
+          omega (arith, more)
     ]
 
 -- ---- the graph of entries

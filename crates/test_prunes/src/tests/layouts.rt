@@ -19,7 +19,7 @@ pub(crate) struct Made {
     /// The held keys with their subjects.
     pub(crate) held: Vec<Held>,
     /// The held keys without a subject.
-    pub(crate) unreferred: Vec<Held>,
+    pub(crate) without_subjects: Vec<Held>,
     /// The tagged keys.
     pub(crate) tagged: Vec<Key>,
 }
@@ -49,12 +49,12 @@ fn created(alloc: Global) -> Result<Layout<MemDir>, Fail> {
 /// Notes a content, with and without its subject.
 fn note(alloc: Global, made: &mut Made, key: Key, links: Links) -> Result<(), Fail> {
     let Links { lists, subject } = links;
-    let unreferred = Held {
+    let without_subjects = Held {
         key: key.try_clone()?,
         lists: cloned(alloc, &lists)?,
         subject: None,
     };
-    made.unreferred.push(unreferred)?;
+    made.without_subjects.push(without_subjects)?;
     made.held.push(Held {
         key,
         lists,
@@ -228,13 +228,13 @@ fn tag_some(alloc: Global, state: &mut u64, made: &mut Made) -> Result<(), Fail>
     Ok(())
 }
 
-/// Returns a random layout of 3 to 12 contents, of which one or two are tagged. All have the empty
-/// config, and two layers of one digest.
+/// Returns a random layout with 3 to 12 contents and one or two tags. Each layout has the empty
+/// config, and two layers with the same digest.
 pub(crate) fn random_layout(alloc: Global, state: &mut u64) -> Result<Made, Fail> {
     let mut made = Made {
         layout: created(alloc)?,
         held: Vec::new(alloc),
-        unreferred: Vec::new(alloc),
+        without_subjects: Vec::new(alloc),
         tagged: Vec::new(alloc),
     };
     push(

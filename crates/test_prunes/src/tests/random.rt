@@ -51,12 +51,14 @@ fn is_chained(entry: &Held, set: &BTreeSet<Key>, other: &BTreeSet<Key>) -> bool 
     }
 }
 
-/// The number of layouts of which a key is kept only with referrers, of such keys with such a
-/// subject, and of layouts of which a key is removed.
+/// What the layouts have shown so far.
 #[derive(Clone, Copy, Debug)]
 struct Seen {
+    /// The number of layouts that keep a key only with referrers.
     by_referrers: u32,
+    /// The number of keys that are kept only with referrers, and so is their subject.
     chains: u32,
+    /// The number of layouts that lose a key.
     removed: u32,
 }
 
@@ -68,7 +70,7 @@ fn counted(count: u32, condition: bool) -> u32 {
 /// Plans a prune of a layout without referrers and with them, and compares both.
 fn assert_plans<R: AllocGlobal + Abort>(rt: &R, made: &Made, seen: Seen) -> Result<Seen, Fail> {
     let without = plan_prune(rt.alloc(), &made.layout, false)?;
-    let fewer = assert_plan(rt, &without, &made.unreferred, &made.tagged)?;
+    let fewer = assert_plan(rt, &without, &made.without_subjects, &made.tagged)?;
     let with = plan_prune(rt.alloc(), &made.layout, true)?;
     let more = assert_plan(rt, &with, &made.held, &made.tagged)?;
     let mut chains = seen.chains;
@@ -82,8 +84,9 @@ fn assert_plans<R: AllocGlobal + Abort>(rt: &R, made: &Made, seen: Seen) -> Resu
     })
 }
 
-/// The plans of random layouts keep what the plain program keeps, and remove the other keys. Some
-/// keep a key only with referrers, some also a referrer of such a key, and some remove a key.
+/// The plans of random layouts keep what the plain program keeps, and remove the other keys. The
+/// layouts show something: keys that are kept only with referrers, referrers of such keys, and keys
+/// that are removed.
 #[test]
 fn random_layouts(rt: HostRuntime) -> Result<(), Fail> {
     let mut state = 1;
