@@ -1,6 +1,5 @@
-use crate::words::{flag, json, no_wait, required};
-use clap::{Arg, Command};
-use std::alloc::{AllocError, Global};
+use crate::words::argument::{Argument, Kind, flag, json, no_wait};
+use crate::words::text::CommandText;
 
 const EXAMPLES_OF_PRUNE: &str = "\
 Examples:
@@ -9,87 +8,91 @@ Examples:
   ocicp prune --no-referrers mirror  also removes signatures and SBOMs that no tag reaches";
 
 /// `untag [--no-wait] FOLDER TAG`
-pub(crate) fn untag_command<'w>(alloc: Global) -> Result<Command<'w>, AllocError> {
+pub(crate) const UNTAG: CommandText = CommandText {
+    name: "untag",
+    about: "Removes a tag from a layout, and keeps the blob that it names",
+    details: Some(
+        "Removes a tag from a layout. The blob that it names stays, with everything that it reaches; \
+         `prune` removes blobs that no tag needs.\n\n\
+         Prints `untagged` with the digest, the size and the media type of the blob that the tag named.\n\n\
+         An empty tag (35) and a tag that the layout does not have (36) are refused, and nothing is \
+         changed. FOLDER is not created, and cannot be an archive (95).\n\n\
+         `index.json` is written anew, as `copy` writes it: each entry keeps its media type, digest, size \
+         and tag. `platform` and annotations are removed from all entries, and entries whose blob is \
+         missing are left out.\n\n\
+         Locks FOLDER. While another process on the same machine has the lock, it waits.",
+    ),
+    usage: "ocicp untag [OPTIONS] <FOLDER> <TAG>",
+    examples: "Example:\n  ocicp untag mirror v1",
+};
+
+/// The arguments of `untag`.
+pub(crate) fn untag_arguments() -> [Argument; 4] {
     let tag = "The tag to remove; it is never read as the digest of a blob";
-    Command::new(alloc, "untag")
-        .about("Removes a tag from a layout, and keeps the blob that it names")
-        .long_about(
-            "Removes a tag from a layout. The blob that it names stays, with everything that it reaches; \
-             `prune` removes blobs that no tag needs.\n\n\
-             Prints `untagged` with the digest, the size and the media type of the blob that the tag named.\n\n\
-             An empty tag (35) and a tag that the layout does not have (36) are refused, and nothing is \
-             changed. FOLDER is not created, and cannot be an archive (95).\n\n\
-             `index.json` is written anew, as `copy` writes it: each entry keeps its media type, digest, size \
-             and tag. `platform` and annotations are removed from all entries, and entries whose blob is \
-             missing are left out.\n\n\
-             Locks FOLDER. While another process on the same machine has the lock, it waits.",
-        )
-        .override_usage("ocicp untag [OPTIONS] <FOLDER> <TAG>")
-        .after_help("Example:\n  ocicp untag mirror v1")
-        .arg(json(alloc))?
-        .arg(no_wait(alloc))?
-        .arg(folder(alloc))?
-        .arg(required(alloc, "tag", "TAG", tag))
+    [
+        json(),
+        no_wait(),
+        folder(),
+        Argument::new("tag", Kind::Word("TAG"), tag),
+    ]
 }
 
 /// `prune [--dry-run] [--no-referrers] [--no-wait] FOLDER`
-pub(crate) fn prune_command<'w>(alloc: Global) -> Result<Command<'w>, AllocError> {
-    Command::new(alloc, "prune")
-        .about("Removes the blobs of a layout that no tag needs, to free their space")
-        .long_about(
-            "Removes the blobs of a layout that no tag needs, to free their space.\n\n\
-             Every tagged blob is kept, with everything that it reaches: the config and the layers of an \
-             image, the images of an index, the subject of a referrer. With each kept blob its referrers are \
-             kept too, such as signatures and SBOMs, with everything that these reach: they are the manifests \
-             of the layout whose `subject` is that blob. An index is not kept because it lists a kept blob. \
-             Layers that are not to be distributed are not kept, as `copy` does not copy them. A manifest of \
-             a type that `copy` does not read, such as Docker's schema 1, counts as a blob that lists nothing.\n\n\
-             All other blobs are removed, with their entries in `index.json`. Of the files in `blobs/sha256` \
-             and `blobs/sha512` whose name is a digest, those stay that a kept blob has. Files that a \
-             killed copy left are removed, and all other files stay.\n\n\
-             Prints `removed` with the digest, the size and the media type of each blob that is removed, and \
-             `removed-file` with the path and the length of each other file. The last line counts the blobs \
-             `kept` and `removed`, and all `files` that are removed, with their `bytes`.\n\n\
-             Refused, before anything is changed: a layout without tags (97); a missing blob (96) that is an \
-             entry of `index.json`, or a manifest that a kept manifest lists, since it is not known what it \
-             needs; a folder `blobs`, `blobs/sha256` or `blobs/sha512` that is a symbolic link (98), since \
-             another layout may need the blobs there; a manifest that cannot be read. FOLDER is not created, \
-             and cannot be an archive (95).\n\n\
-             `index.json` is saved first. If the prune is then killed, or a file cannot be removed (79), no \
-             tag has lost anything, and the next prune removes the rest. If a blob is removed, `index.json` is \
-             written anew, as `copy` writes it: each entry keeps its media type, digest, size and tag, and \
-             `platform` and annotations are removed from all entries.\n\n\
-             Locks FOLDER, but not for --dry-run. While another process on the same machine has the lock, it \
-             waits.",
-        )
-        .override_usage("ocicp prune [OPTIONS] <FOLDER>")
-        .after_help(EXAMPLES_OF_PRUNE)
-        .arg(dry_run(alloc))?
-        .arg(no_referrers(alloc))?
-        .arg(json(alloc))?
-        .arg(no_wait(alloc))?
-        .arg(folder(alloc))
+pub(crate) const PRUNE: CommandText = CommandText {
+    name: "prune",
+    about: "Removes the blobs of a layout that no tag needs, to free their space",
+    details: Some(
+        "Removes the blobs of a layout that no tag needs, to free their space.\n\n\
+         Every tagged blob is kept, with everything that it reaches: the config and the layers of an \
+         image, the images of an index, the subject of a referrer. With each kept blob its referrers are \
+         kept too, such as signatures and SBOMs, with everything that these reach: they are the manifests \
+         of the layout whose `subject` is that blob. An index is not kept because it lists a kept blob. \
+         Layers that are not to be distributed are not kept, as `copy` does not copy them. A manifest of \
+         a type that `copy` does not read, such as Docker's schema 1, counts as a blob that lists nothing.\n\n\
+         All other blobs are removed, with their entries in `index.json`. Of the files in `blobs/sha256` \
+         and `blobs/sha512` whose name is a digest, those stay that a kept blob has. Files that a \
+         killed copy left are removed, and all other files stay.\n\n\
+         Prints `removed` with the digest, the size and the media type of each blob that is removed, and \
+         `removed-file` with the path and the length of each other file. The last line counts the blobs \
+         `kept` and `removed`, and all `files` that are removed, with their `bytes`.\n\n\
+         Refused, before anything is changed: a layout without tags (97); a missing blob (96) that is an \
+         entry of `index.json`, or a manifest that a kept manifest lists, since it is not known what it \
+         needs; a folder `blobs`, `blobs/sha256` or `blobs/sha512` that is a symbolic link (98), since \
+         another layout may need the blobs there; a manifest that cannot be read. FOLDER is not created, \
+         and cannot be an archive (95).\n\n\
+         `index.json` is saved first. If the prune is then killed, or a file cannot be removed (79), no \
+         tag has lost anything, and the next prune removes the rest. If a blob is removed, `index.json` is \
+         written anew, as `copy` writes it: each entry keeps its media type, digest, size and tag, and \
+         `platform` and annotations are removed from all entries.\n\n\
+         Locks FOLDER, but not for --dry-run. While another process on the same machine has the lock, it \
+         waits.",
+    ),
+    usage: "ocicp prune [OPTIONS] <FOLDER>",
+    examples: EXAMPLES_OF_PRUNE,
+};
+
+/// The arguments of `prune`.
+pub(crate) fn prune_arguments() -> [Argument; 5] {
+    [
+        flag(
+            "dry-run",
+            "Changes nothing and locks nothing; prints the lines that the prune would print",
+        ),
+        flag(
+            "no-referrers",
+            "Removes also the referrers of kept blobs that no tag reaches, such as signatures and SBOMs",
+        ),
+        json(),
+        no_wait(),
+        folder(),
+    ]
 }
 
 /// `FOLDER`
-fn folder<'w>(alloc: Global) -> Arg<'w> {
-    required(alloc, "folder", "FOLDER", "The folder of an image layout")
-}
-
-/// `--dry-run`
-fn dry_run<'w>(alloc: Global) -> Arg<'w> {
-    flag(
-        alloc,
-        "dry-run",
-        "Changes nothing and locks nothing; prints the lines that the prune would print",
-    )
-}
-
-/// `--no-referrers`
-fn no_referrers<'w>(alloc: Global) -> Arg<'w> {
-    flag(
-        alloc,
-        "no-referrers",
-        "Removes also the referrers of kept blobs that no tag reaches, such as signatures and SBOMs",
+fn folder() -> Argument {
+    Argument::new(
+        "folder",
+        Kind::Word("FOLDER"),
+        "The folder of an image layout",
     )
 }

@@ -52,7 +52,7 @@ explain --json 5
 
 #[test]
 fn version(rt: HostRuntime) -> Result<(), Fail> {
-    assert_runs(&rt, "", "$ ocicp --version\nocicp 0.7.0\n")
+    assert_runs(&rt, "", "$ ocicp --version\nocicp 0.7.1\n")
 }
 
 /// The output of `copy --help`, without the spaces at the ends of lines.
@@ -91,7 +91,7 @@ Arguments:
 Options:
       --all
           Copies every tag of SRC into DST, in one copy; takes only SRC and DST. Tags that exist in both are overwritten; other \
-tags in DST are kept
+tags in DST are kept, unless --prune is given
 
       --referrers
           Also copies its referrers, such as signatures and SBOMs, and the indexes that list it, with everything that these \
