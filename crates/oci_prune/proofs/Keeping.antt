@@ -1,6 +1,6 @@
 -- How far the walk to the kept keys is.
 use Rattle.std.proofs.Common.{◌≡◌, ℕ, ◌+◌, ◌<◌, ◌≤◌, true, false, ◌⊎◌, inl, inr, List, [], length, get_or, Some, None, is_some, refl, sym, ap, subst, ◌∙◌, arith}
-use Rattle.std.specs.Prelude.{Contains}
+use Rattle.std.specs.Prelude.{◌≢◌, Contains}
 use Rattle.std.specs.BTreeMap.{get}
 use Rattle.std.specs.Global.{Vec}
 use Rattle.std.specs.BTreeSet.{BTreeSet, contains}
@@ -19,9 +19,10 @@ use Rattle.oci_store.specs.Visiting.{with_keys}
 use Rattle.oci_store.proofs.KeyOrder.{key_cmp_total, key_cmp_exact}
 use Rattle.oci_store.proofs.Membership.{Keys, Contains-from_among, among_from_Contains, among-with_keys, among_from_place, place_from_among, slice_get-with_keys, stays-with_keys, there-with_keys}
 use Rattle.oci_prune.proofs.Elements.{no_element}
-use Rattle.oci_prune.specs.Kept.{Needs, IsKept, root, needed, IsNeeded, AreKept, AllKnown}
+use Rattle.oci_prune.specs.Kept.{Needs, IsKept, root, needed, IsNeeded, IsUnknown, AreKept, AllKnown}
+use Rattle.oci_prune.specs.Refusal.{IsUnknownFault}
 use Rattle.oci_prune.specs.Subjects.{Referrers, RefersBy, referrers_in}
-use Rattle.oci_prune.specs.Walk.{IsVisit, KeepsHeld, HasOneMore, IsWalking, IsVisitFault, IsWalkFault}
+use Rattle.oci_prune.specs.Walk.{IsVisit, KeepsHeld, HasOneMore, IsWalking}
 use Rattle.oci_prune.specs.declared.fault.PruneFault.{PruneFault}
 use Rattle.oci_prune.specs.declared.fault.PruneFault.TheVariants as fault
 
@@ -167,7 +168,7 @@ inside_step found place k at =
 
 -- the fault of a visit is one of the walk
 pub walk_fault : (graph : List Node) (roots : Keys) (refers : Relation) (found : Keys) (set : BTreeSet Descriptor) (place : ℕ) (key : Descriptor) (e : PruneFault) → IsWalking graph roots refers found set place → slice_get found place ≡ Some key
-    → IsVisitFault graph key e → IsWalkFault graph roots refers e
+    → IsUnknownFault (λ (k : Descriptor). (k ≡ key) × (has_key graph k ≡ false) × (kind_of k.media_type ≢ Leaf)) e → IsUnknownFault (IsUnknown graph roots refers) e
 walk_fault graph roots refers found set place key (fault.Unknown k) w at h =
     record { needed = subst (IsNeeded graph roots refers) (sym h.0) (w.needed key (Contains-from_among found key (among_from_place found place key at))); absent = h.1; is_manifest = h.2 }
 walk_fault graph roots refers found set place key fault.Memory w at h = tt

@@ -23,9 +23,8 @@ use Rattle.oci_store.proofs.Lookups.{has_key-from_Contains, Contains-from_has_ke
 use Rattle.oci_layout.proofs.Loose.{HasKeys}
 use Rattle.oci_prune.specs.Kept.{Needs, IsKept, root, needed, IsNeeded, IsUnknown, AreKept, AllKnown}
 use Rattle.oci_prune.specs.Plan.{AreHeld, AreRemoved, RefersIf, IsSafe}
-use Rattle.oci_prune.specs.Refusal.{IsKeyFault, IsPlanFault}
+use Rattle.oci_prune.specs.Refusal.{IsKeyFault, IsPlanFault, IsUnknownFault}
 use Rattle.oci_prune.specs.Subjects.{Referrers, AreReferrers, RefersBy, IsSubjectFault}
-use Rattle.oci_prune.specs.Walk.{IsWalkFault}
 use Rattle.oci_prune.specs.declared.fault.PruneFault.{PruneFault}
 use Rattle.oci_prune.specs.declared.fault.PruneFault.TheVariants as fault
 use Rattle.oci_prune.proofs.Keeping.{held_from_kept}
@@ -72,7 +71,7 @@ are_kept_same graph roots R Q set same are k = (
 pub all_known_same : (graph : List Node) (roots : List Descriptor) (R Q : Descriptor → Descriptor → Type 0) → Same R Q → AllKnown graph roots R → AllKnown graph roots Q
 all_known_same graph roots R Q same known k unknown = known k (unknown_same graph roots Q R (λ r s. (same r s).1) k unknown)
 
-pub walk_key_fault : (store : State) (roots : List Descriptor) (keeps : Bool) (R : Descriptor → Descriptor → Type 0) (e : PruneFault) → (store.is_honest → Same R (RefersIf keeps store)) → IsWalkFault store.nodes roots R e → IsKeyFault store roots keeps e
+pub walk_key_fault : (store : State) (roots : List Descriptor) (keeps : Bool) (R : Descriptor → Descriptor → Type 0) (e : PruneFault) → (store.is_honest → Same R (RefersIf keeps store)) → IsUnknownFault (IsUnknown store.nodes roots R) e → IsKeyFault store roots keeps e
 walk_key_fault store roots keeps R (fault.Unknown k) same h = λ honest. unknown_same store.nodes roots R (RefersIf keeps store) (λ r s. (same honest r s).0) k h
 walk_key_fault store roots keeps R fault.Memory same h = tt
 walk_key_fault store roots keeps R (fault.NotRemoved path) same h = absurd h

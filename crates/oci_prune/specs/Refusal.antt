@@ -25,24 +25,24 @@ abbrev pub IsKeyFault : State → List Descriptor → Bool → PruneFault → Ty
 IsKeyFault store roots keeps (fault.Unknown k) = store.is_honest → IsUnknown store.nodes roots (RefersIf keeps store) k
 IsKeyFault store roots keeps e = IsSubjectFault store (λ k. (keeps ≡ true) × (has_key store.nodes k ≡ true)) e
 
--- a read of the layout failed, or memory ran out
-abbrev pub IsLayoutFault : Device → PruneFault → Type 0
-IsLayoutFault dir (fault.Layout layout.Device) = dir.fails_reads ≡ true
-IsLayoutFault dir fault.Memory = Unit {0}
-IsLayoutFault dir other = ⊥
+-- a key is unknown for this cause, or memory ran out
+abbrev pub IsUnknownFault : (Descriptor → Type 0) → PruneFault → Type 0
+IsUnknownFault is_cause (fault.Unknown k) = is_cause k
+IsUnknownFault is_cause fault.Memory = Unit {0}
+IsUnknownFault is_cause other = ⊥
+
+-- the device failed for this cause, or memory ran out
+abbrev pub IsDeviceFault : Type 0 → PruneFault → Type 0
+IsDeviceFault cause (fault.Layout layout.Device) = cause
+IsDeviceFault cause fault.Memory = Unit {0}
+IsDeviceFault cause other = ⊥
 
 -- why a layout is not pruned before anything is read: its first absent entry, a link, or a fault of
 -- a read
 abbrev pub IsCheckFault : Device → List Descriptor → PruneFault → Type 0
 IsCheckFault dir absent (fault.Unknown k) = slice_get absent 0 ≡ Some k
 IsCheckFault dir absent (fault.LinkedBlobs path) = Unit {0}
-IsCheckFault dir absent e = IsLayoutFault dir e
-
--- why a layout with absent entries is refused: the first of them, or memory ran out
-abbrev pub IsEntryFault : List Descriptor → PruneFault → Type 0
-IsEntryFault absent (fault.Unknown k) = slice_get absent 0 ≡ Some k
-IsEntryFault absent fault.Memory = Unit {0}
-IsEntryFault absent other = ⊥
+IsCheckFault dir absent e = IsDeviceFault (dir.fails_reads ≡ true) e
 
 -- why there is no plan for a layout in a directory
 abbrev pub IsPlanFault : Device → List Node → Tags → List Descriptor → Bool → PruneFault → Type 0
@@ -53,11 +53,9 @@ IsPlanFault dir graph tags absent keeps (fault.LinkedBlobs path) = Unit {0}
 IsPlanFault dir graph tags absent keeps (fault.Layout layout.Device) = dir.fails_reads ≡ true
 IsPlanFault dir graph tags absent keeps e = IsSubjectFault (meaning dir graph tags) (λ k. (keeps ≡ true) × (has_key graph k ≡ true)) e
 
--- why the index was not saved: reads may fail, or a put failed, or memory ran out
-abbrev pub IsSaveFault : Device → Device → PruneFault → Type 0
-IsSaveFault old new (fault.Layout layout.Device) = (old.fails_reads ≡ true) ⊎ IsRaised old.failures new.failures
-IsSaveFault old new fault.Memory = Unit {0}
-IsSaveFault old new other = ⊥
+-- a save may fail: reads may fail, or a put failed
+abbrev pub MayNotSave : Device → Device → Type 0
+MayNotSave old new = (old.fails_reads ≡ true) ⊎ IsRaised old.failures new.failures
 
 -- why a file at one of these paths was not removed: removals may fail, or memory ran out
 abbrev pub IsRemovalFault : Device → (List ℕ → Type 0) → PruneFault → Type 0

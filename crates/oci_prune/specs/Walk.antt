@@ -6,9 +6,7 @@ use Rattle.oci_manifest.specs.MediaTypes.{kind_of}
 use Rattle.oci_manifest.specs.declared.kind.Kind.TheVariants.{Leaf}
 use Rattle.oci_store.specs.Graph.{Node}
 use Rattle.oci_store.specs.Keyed.{has_key}
-use Rattle.oci_prune.specs.Kept.{Needs, IsNeeded, IsUnknown}
-use Rattle.oci_prune.specs.declared.fault.PruneFault.{PruneFault}
-use Rattle.oci_prune.specs.declared.fault.PruneFault.TheVariants as fault
+use Rattle.oci_prune.specs.Kept.{Needs, IsNeeded}
 
 -- the keys found keep their places, and those that a held key needs were added
 pub record IsVisit (graph : List Node) (refers : Descriptor → Descriptor → Type 0) (visited : Descriptor) (old new : List Descriptor) : Type 0 where
@@ -30,15 +28,3 @@ pub record IsWalking (graph : List Node) (roots : List Descriptor) (refers : Des
   pub visited : (i : ℕ) (from k : Descriptor) → i < place → slice_get found i ≡ Some from → has_key graph from ≡ true → Needs graph refers from k → Contains found k
   pub known : (i : ℕ) (k : Descriptor) → i < place → slice_get found i ≡ Some k → has_key graph k ≡ false → kind_of k.media_type ≡ Leaf
   pub kept : (k : Descriptor) → (contains key_cmp set k ≡ true) ↔ ((i : ℕ) × (i < place) × (slice_get found i ≡ Some k) × (has_key graph k ≡ true))
-
--- why a visit failed: the key is absent and of a manifest kind, or memory ran out
-abbrev pub IsVisitFault : List Node → Descriptor → PruneFault → Type 0
-IsVisitFault graph visited (fault.Unknown k) = (k ≡ visited) × (has_key graph k ≡ false) × (kind_of k.media_type ≡ Leaf → ⊥)
-IsVisitFault graph visited fault.Memory = Unit {0}
-IsVisitFault graph visited other = ⊥
-
--- why the walk failed: a needed key is unknown, or memory ran out
-abbrev pub IsWalkFault : List Node → List Descriptor → (Descriptor → Descriptor → Type 0) → PruneFault → Type 0
-IsWalkFault graph roots refers (fault.Unknown k) = IsUnknown graph roots refers k
-IsWalkFault graph roots refers fault.Memory = Unit {0}
-IsWalkFault graph roots refers other = ⊥

@@ -5,7 +5,7 @@ ghost use Rattle.std.specs.Ordering.{nat_cmp};
 ghost use Rattle.oci_manifest.specs.Descriptor.{Descriptor};
 ghost use Rattle.oci_prune.specs.Files.{HasDigests, unneeded_in};
 ghost use Rattle.oci_prune.specs.Plan.{AreHeld, AreUnneeded};
-ghost use Rattle.oci_prune.specs.Refusal.{IsLayoutFault};
+ghost use Rattle.oci_prune.specs.Refusal.{IsDeviceFault};
 
 use crate::fault::PruneFault;
 use crate::pruning::PrunedFile;
@@ -31,7 +31,7 @@ pub(crate) fn plan_files<D: PrunableDir>(
     requires { AreHeld layout.now.1 held.now }
     ensures files { IfOk result (λ files. (D.device layout.now.0).is_honest
         → AreUnneeded (D.device layout.now.0).file layout.now.1 kept.now files.items) }
-    ensures cause { IfErr result (IsLayoutFault (D.device layout.now.0)) }
+    ensures cause { IfErr result (IsDeviceFault ((D.device layout.now.0).fails_reads ≡ true)) }
 {
     let blobs = layout.blobs()?;
     let kept = keys_of_set(alloc, kept)?;

@@ -1,11 +1,12 @@
-ghost use Rattle.std.specs.Prelude.{◌≡◌, [], false, IfOk, IfErr, OnOk};
+ghost use Rattle.std.specs.Prelude.{◌≡◌, ◌≢◌, false, IfOk, IfErr, OnOk};
 ghost use Rattle.oci_manifest.specs.MediaTypes.{kind_of};
 ghost use Rattle.oci_manifest.specs.declared.kind.Kind.TheVariants.{Leaf};
 ghost use Rattle.oci_store.specs.Keyed.{has_key};
 ghost use Rattle.oci_store.specs.Visiting.{with_keys};
-ghost use Rattle.oci_prune.specs.Kept.{AreKept, AllKnown};
+ghost use Rattle.oci_prune.specs.Kept.{AreKept, AllKnown, IsUnknown};
+ghost use Rattle.oci_prune.specs.Refusal.{IsUnknownFault};
 ghost use Rattle.oci_prune.specs.Subjects.{RefersBy, referrers_in};
-ghost use Rattle.oci_prune.specs.Walk.{IsVisit, KeepsHeld, HasOneMore, IsVisitFault, IsWalkFault};
+ghost use Rattle.oci_prune.specs.Walk.{IsVisit, KeepsHeld, HasOneMore};
 
 use crate::fault::PruneFault;
 use oci_digest::NoMemory;
@@ -33,8 +34,8 @@ pub(crate) fn kept_keys<S: GraphSource>(
         (RefersBy referrers.now)) }
     ensures known { OnOk result (AllKnown (S.state source.now).nodes roots.now
         (RefersBy referrers.now)) }
-    ensures cause { IfErr result (IsWalkFault (S.state source.now).nodes roots.now
-        (RefersBy referrers.now)) }
+    ensures cause { IfErr result (IsUnknownFault (IsUnknown (S.state source.now).nodes roots.now
+        (RefersBy referrers.now))) }
 {
     let mut found = KeyList::new(alloc);
     let mut kept = BTreeSet::new(alloc);
@@ -66,7 +67,8 @@ fn visit<S: GraphSource>(
     ensures kept { OnOk result (KeepsHeld (S.state source.now).nodes key.now kept.old kept.new) }
     ensures known { OnOk result (has_key (S.state source.now).nodes key.now ≡ false
         → kind_of key.now.media_type ≡ Leaf) }
-    ensures cause { IfErr result (IsVisitFault (S.state source.now).nodes key.now) }
+    ensures cause { IfErr result (IsUnknownFault (λ k. (k ≡ key.now)
+        × (has_key (S.state source.now).nodes k ≡ false) × (kind_of k.media_type ≢ Leaf))) }
 {
     let Some(successors) = source.successors(key)? else {
         return check_absent(key);
@@ -88,7 +90,8 @@ fn keep(kept: &mut BTreeSet<Key>, key: &Key) -> Result<(), NoMemory>
 /// Refuses an absent key of a manifest kind.
 fn check_absent(key: &Key) -> Result<(), PruneFault>
     ensures leaf { OnOk result (kind_of key.now.media_type ≡ Leaf) }
-    ensures cause { IfErr result (IsVisitFault [] key.now) }
+    ensures cause { IfErr result (IsUnknownFault (λ k. (k ≡ key.now)
+        × (kind_of k.media_type ≢ Leaf))) }
 {
     match Kind::of(key.media_type()) {
         Kind::Leaf => Ok(()),

@@ -1,9 +1,9 @@
-ghost use Rattle.std.specs.Prelude.{◌≡◌, ◌≢◌, ◌⊎◌, [], IfOk, IfErr, OnOk};
+ghost use Rattle.std.specs.Prelude.{◌≡◌, ◌≢◌, ◌⊎◌, [], Some, IfOk, IfErr, OnOk, slice_get};
 ghost use Rattle.std.specs.Map.{values_of};
 ghost use Rattle.oci_layout.specs.Blobs.{meaning};
 ghost use Rattle.oci_prune.specs.Kept.{AreKept, AllKnown};
 ghost use Rattle.oci_prune.specs.Plan.{IsPruning, RefersIf};
-ghost use Rattle.oci_prune.specs.Refusal.{IsCheckFault, IsEntryFault, IsPlanFault};
+ghost use Rattle.oci_prune.specs.Refusal.{IsCheckFault, IsPlanFault, IsUnknownFault};
 
 use crate::fault::PruneFault;
 use crate::files::plan_files;
@@ -51,7 +51,7 @@ pub fn plan_prune<D: PrunableDir>(
     ensures first { layout.now.2 ≡ [] → IfErr result (λ e. (e ≡ PruneFault.NoTags)
         ⊎ (e ≡ PruneFault.Memory)) }
     ensures second { layout.now.2 ≢ [] → layout.now.3 ≢ []
-        → IfErr result (IsEntryFault layout.now.3) }
+        → IfErr result (IsUnknownFault (λ k. slice_get layout.now.3 0 ≡ Some k)) }
     ensures cause { IfErr result (IsPlanFault (D.device layout.now.0) layout.now.1 layout.now.2
         layout.now.3 keeps_referrers) }
 {
@@ -73,7 +73,8 @@ pub fn plan_prune<D: PrunableDir>(
 /// Refuses a layout with an absent entry, and one whose folders of blobs are links.
 fn check_whole<D: PrunableDir>(layout: &Layout<D>) -> Result<(), PruneFault>
     ensures whole { OnOk result (layout.now.3 ≡ []) }
-    ensures first { layout.now.3 ≢ [] → IfErr result (IsEntryFault layout.now.3) }
+    ensures first { layout.now.3 ≢ []
+        → IfErr result (IsUnknownFault (λ k. slice_get layout.now.3 0 ≡ Some k)) }
     ensures cause { IfErr result (IsCheckFault (D.device layout.now.0) layout.now.3) }
 {
     if let Some(key) = layout.absent().first() {

@@ -7,7 +7,7 @@ ghost use Rattle.oci_layout.specs.Blobs.{IsSound, stored};
 ghost use Rattle.oci_layout.specs.Index.{index_file, HasIndex};
 ghost use Rattle.oci_prune.specs.Plan.{AreRemoved, IsPruning, IsSafe};
 ghost use Rattle.oci_prune.specs.Pruned.{is_gone, kept_of, HasOnlyNeeded, IsPlanned, IsTouchedBy, KeepsReached, Spares};
-ghost use Rattle.oci_prune.specs.Refusal.{IsRemovalFault, IsSaveFault};
+ghost use Rattle.oci_prune.specs.Refusal.{IsDeviceFault, IsRemovalFault, MayNotSave};
 
 use crate::fault::PruneFault;
 use crate::pruning::{Pruned, Pruning};
@@ -72,7 +72,8 @@ pub fn prune<D: PrunableDir>(
     // If the index is not saved, no other file changes.
     ensures refused { OnErr result (Spares (D.device layout.old.0) (D.device layout.new.0)
         layout.new.1 (λ path. index_file ≡ path)) }
-    ensures cause { IfErr result (IsSaveFault (D.device layout.old.0) (D.device layout.new.0)) }
+    ensures cause { IfErr result (IsDeviceFault (MayNotSave (D.device layout.old.0)
+        (D.device layout.new.0))) }
     ensures faults { IfOk result (λ done. IfSome done.fault
         (IsRemovalFault (D.device layout.old.0) (IsPlanned plan.now))) }
     ensures flags { IfOk result (λ done. (D.device layout.old.0).is_honest
@@ -121,7 +122,8 @@ fn save_kept<D: PrunableDir>(layout: &mut Layout<D>, plan: &Pruning) -> Result<(
     ensures index { OnOk result (plan.now.removed.items ≢ [] → (D.device layout.old.0).is_honest
         → HasIndex (D.device layout.new.0).file layout.new.1 layout.new.2) }
     ensures unwritten { OnOk result (plan.now.removed.items ≡ [] → layout.new ≡ layout.old) }
-    ensures cause { IfErr result (IsSaveFault (D.device layout.old.0) (D.device layout.new.0)) }
+    ensures cause { IfErr result (IsDeviceFault (MayNotSave (D.device layout.old.0)
+        (D.device layout.new.0))) }
 {
     if plan.removed.is_empty() {
         // An earlier prune may have been killed between its save and its sync.
