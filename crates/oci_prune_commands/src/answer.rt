@@ -1,3 +1,5 @@
+ghost use Rattle.std.specs.Prelude.{◌≡◌, None, IfOk, OnOk};
+
 use oci_digest::NoMemory;
 use oci_exit::{Form, Outcome, ProgramFault, Sum, print_answer};
 use oci_manifest::Key;
@@ -149,7 +151,10 @@ pub fn print_answer_with_fault<T: Display + Serialize, W: Write>(
     fault: Option<PruneFault>,
     form: Form,
     out: &mut W,
-) -> Result<Outcome, ProgramFault> {
+) -> Result<Outcome, ProgramFault>
+    ensures whole { OnOk result (fault ≡ None) }
+    ensures good { IfOk result (λ outcome. outcome ≡ Outcome.Good) }
+{
     match fault {
         None => {
             print_answer(alloc, answer, form, out)?;
