@@ -16,15 +16,13 @@
 //! [`first_sentence`] returns the meaning of an error number in one sentence.
 #![tactic(auto)]
 
-mod copying;
+mod changing;
 mod explain;
 mod memory;
-mod pruning;
 mod request;
 mod words;
 
-pub use copying::{CopyWords, Selection, Shown};
+pub use changing::{CopyWords, PruneWords, Selection, Shown, UntagWords};
 pub use explain::{Explanation, first_sentence};
 pub use memory::{Algorithm, MemWords};
-pub use pruning::{PruneWords, UntagWords};
 pub use request::{CommandLine, CommandLineFault, Query, Request};

@@ -1,7 +1,6 @@
-use crate::copying::{CopyWords, Selection, Shown};
+use crate::changing::{CopyWords, PruneWords, Selection, Shown, UntagWords};
 use crate::explain::{Explanation, find_explanation};
 use crate::memory::{Algorithm, MemWords};
-use crate::pruning::{PruneWords, UntagWords};
 use crate::words::command;
 use clap::error::ErrorKind;
 use clap::{ArgMatches, Error};

@@ -7,7 +7,6 @@
 #![tactic(auto)]
 
 mod answer;
-mod place;
 mod prune;
 mod untag;
 

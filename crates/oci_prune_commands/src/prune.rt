@@ -1,7 +1,7 @@
 ghost use Rattle.std.specs.Prelude.{◌≤◌};
 
 use crate::answer::{PruneAnswer, print_answer_with_fault};
-use crate::place::check_is_layout;
+use crate::untag::check_is_layout;
 use oci_command_line::PruneWords;
 use oci_digest::NoMemory;
 use oci_exit::{Ended, Form, Outcome, ProgramFault, finish_run, lock_folder};
