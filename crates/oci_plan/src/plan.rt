@@ -8,11 +8,22 @@ use std::marker::Model;
 
 /// The keys that a copy has to push, each with a number, and an order of the numbers in which each
 /// key follows the keys that it lists.
-#[derive(Debug, Drop)]
+#[derive(Debug)]
 pub struct Plan {
     keys: Vec<Key>,
     order: Order,
     skipped: Vec<Key>,
+}
+
+/// Written out, so that a proof has one call where it is dropped.
+impl Drop for Plan {
+    fn drop(self) {
+        let Plan {
+            keys: _keys,
+            order: _order,
+            skipped: _skipped,
+        } = self;
+    }
 }
 
 impl Model for Plan {

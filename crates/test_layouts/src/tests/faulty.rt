@@ -32,7 +32,6 @@ pub(crate) struct Change {
 
 /// A directory whose reads or puts fail, or whose file changes between reads. It is honest if no
 /// file changes.
-#[derive(Drop)]
 pub(crate) struct FaultyDir {
     dir: MemDir,
     failing: Failing,
@@ -42,6 +41,20 @@ pub(crate) struct FaultyDir {
     /// The number of puts so far.
     puts: u64,
     failures: u64,
+}
+
+/// Written out, so that a proof has one call where it is dropped.
+impl Drop for FaultyDir {
+    fn drop(self) {
+        let FaultyDir {
+            dir: _dir,
+            failing: _failing,
+            change: _change,
+            reads: _reads,
+            puts: _,
+            failures: _,
+        } = self;
+    }
 }
 
 impl FaultyDir {

@@ -81,10 +81,19 @@ impl<'a> Display for StepRow<'a> {
 }
 
 /// A directory, or the layout in it.
-#[derive(Drop)]
 struct Place<D: Dir> {
     files: Option<D>,
     held: Option<Layout<D>>,
+}
+
+/// Written out, so that a proof has one call where it is dropped.
+impl<D: Dir + Drop> Drop for Place<D> {
+    fn drop(self) {
+        let Place {
+            files: _files,
+            held: _held,
+        } = self;
+    }
 }
 
 impl<D: Dir + Drop> Place<D> {
