@@ -52,7 +52,7 @@ explain --json 5
 
 #[test]
 fn version(rt: HostRuntime) -> Result<(), Fail> {
-    assert_runs(&rt, "", "$ ocicp --version\nocicp 0.7.1\n")
+    assert_runs(&rt, "", "$ ocicp --version\nocicp 0.7.2\n")
 }
 
 /// The output of `copy --help`, without the spaces at the ends of lines.
