@@ -1,3 +1,6 @@
+ghost use Rattle.std.specs.Prelude.{◌≡◌, IfSome};
+ghost use Rattle.oci_command_line.specs.Explain.{before_space, Writes};
+
 use serde::Serialize;
 use std::fmt::{self, Display, Formatter, Write};
 
@@ -358,11 +361,15 @@ impl Display for Explanation {
 
 /// Returns the explanation of a number, which is written without leading zeros. `None` if no error
 /// has it.
-pub(crate) fn find_explanation(number: &str) -> Option<Explanation> {
-    let entry = REFUSALS
-        .split("\n\n")
-        .find(|entry| first_word(entry) == number)?;
-    parse_entry(entry)
+pub(crate) fn find_explanation(number: &str) -> Option<Explanation>
+    ensures number { IfSome result (λ found. Writes number.now found.number) }
+{
+    for entry in REFUSALS.split("\n\n") {
+        if first_word(entry) == number {
+            return parse_entry(entry);
+        }
+    }
+    None
 }
 
 /// Returns the first sentence of the meaning of an error number, without its full stop. `None` if
@@ -385,17 +392,21 @@ fn is_of(entry: &str, number: u8) -> bool {
 }
 
 /// The text before the first space.
-fn first_word(text: &str) -> &str {
+fn first_word(text: &str) -> &str
+    ensures { result.now ≡ before_space text.now }
+{
     match text.split_once(' ') {
         Some((first, _)) => first,
         None => text,
     }
 }
 
-/// Parses an entry of the table. `None` if its first line is not a number and a name.
-fn parse_entry(entry: &'static str) -> Option<Explanation> {
-    let (heading, text) = entry.split_once('\n')?;
-    let (number, name) = heading.split_once(' ')?;
+/// Parses an entry of the table. `None` if it does not begin with a number and a name.
+fn parse_entry(entry: &'static str) -> Option<Explanation>
+    ensures { IfSome result (λ found. Writes (before_space entry.now) found.number) }
+{
+    let (number, rest) = entry.split_once(' ')?;
+    let (name, text) = rest.split_once('\n')?;
     match number.parse::<u8>() {
         Ok(number) => Some(Explanation { number, name, text }),
         Err(_) => None,
