@@ -127,10 +127,8 @@ static READINGS: [Reading; 5] = [
 /// Returns a layout of one layer whose file has the first `file` bytes of a long layer, and the
 /// key.
 fn layer_in_file(alloc: Global, size: usize, file: usize) -> Result<(Layout<MemDir>, Key), Fail> {
-    let bytes = bytes_of(alloc, size, 0)?;
-    let key = key_of(alloc, first_layer(size), &bytes)?;
     let mut layout = created(alloc, MemDir::new(alloc))?;
-    push(alloc, &mut layout, &key, Bytes::from_vec(bytes)?)?;
+    let key = push_layer(alloc, &mut layout, size)?;
     save_named(&mut layout, &key, "layer")?;
     let mut dir = layout.into_dir();
     dir.put(&blob(alloc, &key)?, &bytes_of(alloc, file, 0)?)?;
@@ -223,18 +221,29 @@ impl<'r, R: AllocGlobal + Wait> Hooks for Calls<'r, R> {
 /// Pushes `foo` and an image into a store. The config of the image is `empty`, and its layer has
 /// one part and one byte. Returns the keys in this order, of the image last.
 fn push_image<D: Dest>(alloc: Global, store: &mut D) -> Result<Vec<Key>, Fail> {
-    let mut keys = keys(alloc, &[Foo, Empty])?;
     push_samples(alloc, store, &[Foo, Empty])?;
-    let bytes = bytes_of(alloc, PART + 1, 0)?;
-    let layer = key_of(alloc, first_layer(bytes.len()), &bytes)?;
-    push(alloc, store, &layer, Bytes::from_vec(bytes)?)?;
-    let manifest = image_of(alloc, &layer)?;
-    let key = manifest.key(alloc)?;
-    let Content { bytes, .. } = manifest;
-    push(alloc, store, &key, Bytes::from_vec(bytes.into_bytes())?)?;
+    let layer = push_layer(alloc, store, PART + 1)?;
+    let image = push_content(alloc, store, image_of(alloc, &layer)?)?;
+    let mut keys = keys(alloc, &[Foo, Empty])?;
     keys.push(layer)?;
-    keys.push(key)?;
+    keys.push(image)?;
     Ok(keys)
+}
+
+/// Pushes a layer of this many bytes. Returns its key.
+fn push_layer<D: Dest>(alloc: Global, store: &mut D, size: usize) -> Result<Key, Fail> {
+    let bytes = bytes_of(alloc, size, 0)?;
+    let key = key_of(alloc, first_layer(size), &bytes)?;
+    push(alloc, store, &key, Bytes::from_vec(bytes)?)?;
+    Ok(key)
+}
+
+/// Pushes a content. Returns its key.
+fn push_content<D: Dest>(alloc: Global, store: &mut D, content: Content) -> Result<Key, Fail> {
+    let key = content.key(alloc)?;
+    let Content { bytes, .. } = content;
+    push(alloc, store, &key, Bytes::from_vec(bytes.into_bytes())?)?;
+    Ok(key)
 }
 
 /// Returns an image with this layer.

@@ -59,20 +59,34 @@ fn removed<D: PrunableDir>(
     Ok(layout.remove_blob(key.digest())?)
 }
 
-/// Tags `foo` and removes the tag. Drops `foo` and its SHA-512 twin from the layout. Saves it and
-/// removes the file of `foo`.
+/// Creates a layout, tags `foo` and removes the tag. Drops `foo` and its SHA-512 twin from the
+/// layout, saves it, and removes the file of `foo`.
 fn pruned<D: PrunableDir + Drop>(alloc: Global, dir: D) -> Result<String, Fail> {
     let mut layout = created(alloc, dir)?;
     push_samples(alloc, &mut layout, &[Empty, Image0, Foo, FooBySha512])?;
-    layout.tag(&Foo.key(alloc)?, "foo")?;
-    let untagged = layout.untag("foo")?;
+    let untagged = tag_and_untag(&mut layout, &Foo.key(alloc)?)?;
     retain(&mut layout, &keys_of(alloc, &[Empty, Image0])?)?;
+    told_of_pruned(alloc, &mut layout, &untagged)
+}
+
+/// Tags a key and removes the tag. Returns the key that it named.
+fn tag_and_untag<D: Dir>(layout: &mut Layout<D>, key: &Key) -> Result<Key, Fail> {
+    layout.tag(key, "foo")?;
+    Ok(layout.untag("foo")?)
+}
+
+/// Saves a layout, and removes the file of `foo`. Returns what happened, and what is left.
+fn told_of_pruned<D: PrunableDir>(
+    alloc: Global,
+    layout: &mut Layout<D>,
+    untagged: &Key,
+) -> Result<String, Fail> {
     layout.save()?;
     layout.sync()?;
-    let held = removed(alloc, &mut layout, Empty)?;
-    let found = removed(alloc, &mut layout, Foo)?;
-    let again = removed(alloc, &mut layout, Foo)?;
-    let (summary, blobs) = (summary(alloc, &layout)?, blobs_of(alloc, &layout)?);
+    let held = removed(alloc, layout, Empty)?;
+    let found = removed(alloc, layout, Foo)?;
+    let again = removed(alloc, layout, Foo)?;
+    let (summary, blobs) = (summary(alloc, layout)?, blobs_of(alloc, layout)?);
     Ok(format!(in alloc; "{untagged} {summary} {held} {found} {again} {blobs}")?)
 }
 
@@ -91,15 +105,20 @@ fn pruned_layout(rt: HostRuntime) -> Result<(), Fail> {
 
 /// Removes the file of a tagged key and opens the layout again.
 fn absent<D: PrunableDir + Drop>(alloc: Global, dir: D) -> Result<String, Fail> {
-    let mut layout = created(alloc, dir)?;
-    push_samples(alloc, &mut layout, &[Empty, Image0])?;
-    save_named(&mut layout, &Image0.key(alloc)?, "v1")?;
-    let mut dir = layout.into_dir();
-    let path = blob(alloc, &Image0.key(alloc)?)?;
-    let found = dir.remove(path.as_str())?;
+    let key = Image0.key(alloc)?;
+    let mut dir = dir_of_image(alloc, dir, &key)?;
+    let found = dir.remove(&blob(alloc, &key)?)?;
     let layout = opened(alloc, dir)?;
     let (summary, absent) = (summary(alloc, &layout)?, listed(alloc, layout.absent())?);
     Ok(format!(in alloc; "{found} {summary} {absent}")?)
+}
+
+/// Creates a layout of an image in a directory and saves it with a name for the image.
+fn dir_of_image<D: PrunableDir + Drop>(alloc: Global, dir: D, key: &Key) -> Result<D, Fail> {
+    let mut layout = created(alloc, dir)?;
+    push_samples(alloc, &mut layout, &[Empty, Image0])?;
+    save_named(&mut layout, key, "v1")?;
+    Ok(layout.into_dir())
 }
 
 #[test]
@@ -122,11 +141,20 @@ fn absent_entry(rt: HostRuntime) -> Result<(), Fail> {
     Ok(fs::remove_dir_all(&rt, "absent")?)
 }
 
-/// Lists and removes the draft at a path. Tries to remove the index as one.
+/// Puts a draft at a path, and creates a layout. Lists and removes the draft.
 fn cleaned<D: PrunableDir + Drop>(alloc: Global, mut dir: D, path: &str) -> Result<String, Fail> {
     dir.put(path, b"abc")?;
     let mut layout = created(alloc, dir)?;
-    let drafts = leftovers_of(alloc, &layout)?;
+    told_of_cleaned(alloc, &mut layout, path)
+}
+
+/// Lists and removes the draft at a path. Tries to remove the index as one.
+fn told_of_cleaned<D: PrunableDir>(
+    alloc: Global,
+    layout: &mut Layout<D>,
+    path: &str,
+) -> Result<String, Fail> {
+    let drafts = leftovers_of(alloc, layout)?;
     let found = layout.remove_leftover(path)?;
     let again = layout.remove_leftover(path)?;
     let index = layout.remove_leftover("index.json")?;
