@@ -1,4 +1,5 @@
-"""The scripts `ocicp` and `build` over a repository of empty crates, with a stand-in for `rt`: what is run, what is built, and when."""
+"""The scripts `ocicp` and `build` over a repository of empty crates, with a stand-in for the toolchain: what is run, what is built, and
+when."""
 import hashlib
 import os
 import re
@@ -14,17 +15,36 @@ PROGRAM = """#!/bin/sh
 [ "$1" != --version ] || exec echo "ocicp 0.0.0"
 echo "%s with $*"
 """
-# Notes what it is asked for, and makes what rt would make, or refuses a crate.
-RT = r"""#!/usr/bin/env bash
-[[ $1 != version ]] || exec echo "a stand-in"
-name=${PWD##*/}
-echo "$name $1" >>"$ASKED"
+# Prints where the toolchain is.
+RT = """#!/bin/sh
+case $1 in
+  version) echo "a stand-in" ;;
+  doc) echo "%s/kit/START-HERE.md" ;;
+esac
+"""
+# Notes which crate it is asked for, and makes what it is to make of it, or refuses it.
+PROVER = r"""#!/usr/bin/env bash
+externs=" "
+while (($# > 0)); do
+  case $1 in
+    --crate-name) name=$2 ;;
+    --extern) externs+="$2 " ;;
+    -o) made=$2 ;;
+  esac
+  shift
+done
+echo "$name" >>"$ASKED"
 [[ $name != "$REFUSED" ]] || { echo "the prover refuses $name"; exit 1; }
 for library in $(sed -n "s/^$name://p" ../../crates.txt); do
-  [[ ! -d ../$library || -e ../$library/out/rlib/stamp ]] || { echo "$library is not proved"; exit 1; }
+  [[ $externs =~ \ $library=([^ ]*/$library.rlib)\  ]] || { echo "$library is not passed"; exit 1; }
+  [[ ! -d ../$library || -e ${BASH_REMATCH[1]} ]] || { echo "$library is not proved"; exit 1; }
 done
-mkdir -p out/rlib && touch out/rlib/stamp
-[[ $1 != run ]] || { printf '%s' "$BUILT" >out/ocicp && chmod +x out/ocicp; }
+touch "$made"
+"""
+# Makes the program of a file that the prover made.
+LINKER = r"""#!/usr/bin/env bash
+while [[ $1 != -o ]]; do shift; done
+[[ -e $3 ]] && printf '%s' "$BUILT" >"$2" && chmod +x "$2"
 """
 
 
@@ -37,18 +57,20 @@ def libraries():
 
 
 class Repository:
-    """A repository of empty crates, and what rt was asked for in it."""
+    """A repository of empty crates, and what the prover was asked for in it."""
 
     def __init__(self, room):
         self.room, self.used = room, libraries()
         os.mkdir(room)
-        for folder in "bin", "release", *("crates/%s/src/tests" % name for name in self.used):
+        for folder in "bin", "kit/bin", "release", *("crates/%s/src/tests" % name for name in self.used):
             os.makedirs("%s/%s" % (room, folder))
         for name in SCRIPTS:
             shutil.copy("%s/%s" % (TOP, name), "%s/%s" % (room, name))
         for name in self.used:
             self.change(name)
-        self.write("bin/rt", RT)
+        self.write("bin/rt", RT % room)
+        self.write("kit/bin/rattle", PROVER)
+        self.write("kit/bin/rattle-link", LINKER)
 
     def write(self, path, text):
         with open("%s/%s" % (self.room, path), "w") as file:
@@ -69,7 +91,7 @@ class Repository:
         return {it for it in self.every() if it == name or name in self.below(it)}
 
     def run(self, refused="", path=None):
-        """Runs the script: the crates that rt was asked for, in order, and how it ended."""
+        """Runs the script: the crates that the prover was asked for, in order, and how it ended."""
         asked = self.room + "/asked"
         open(asked, "w").close()
         environment = {"ASKED": asked, "REFUSED": refused, "BUILT": PROGRAM % "what was built"}
@@ -77,7 +99,7 @@ class Repository:
         ended = subprocess.run(["./ocicp", "these", "words"], cwd=self.room, env=environment, stdin=subprocess.DEVNULL,
                                capture_output=True, text=True, timeout=SECONDS)
         with open(asked) as file:
-            return [line.split()[0] for line in file], ended
+            return file.read().split(), ended
 
     def wrong(self, wanted, runs="what was built"):
         """What is wrong with a run that is to build these crates, each once and after those below it, and to run this program."""
@@ -86,8 +108,6 @@ class Repository:
             return "status %d, %s" % (ended.returncode, (ended.stdout + ended.stderr)[-300:])
         if sorted(asked) != sorted(wanted):
             return "it builds %s, and not %s" % (" ".join(asked), " ".join(sorted(wanted)))
-        if os.path.exists(self.room + "/out"):
-            return "folders of the build are left over"
         return self.wrong_lines(wanted, ended.stderr) if wanted else ended.stderr or None
 
     def wrong_lines(self, wanted, text):
