@@ -1,10 +1,13 @@
 """The scripts `ocicp` and `build` over a repository of empty crates, with a stand-in for the toolchain: what is run, what is built, and
 when."""
+import fcntl
 import hashlib
 import os
 import re
 import shutil
+import signal
 import subprocess
+import time
 
 from program import TOP, first
 
@@ -22,7 +25,7 @@ case $1 in
   doc) echo "%s/kit/START-HERE.md" ;;
 esac
 """
-# Notes which crate it is asked for, and makes what it is to make of it, or refuses it.
+# Notes which crate it is asked for, and makes what it is to make of it, or refuses it, or changes its sources, or never ends.
 PROVER = r"""#!/usr/bin/env bash
 externs=" "
 while (($# > 0)); do
@@ -35,6 +38,8 @@ while (($# > 0)); do
 done
 echo "$name" >>"$ASKED"
 [[ $name != "$REFUSED" ]] || { echo "the prover refuses $name"; exit 1; }
+[[ $name != "$CHANGED" ]] || echo // >>src/lib.rt
+[[ $name != "$ENDLESS" ]] || { echo "$$" >"$ASKED.process" && exec sleep infinity; }
 for library in $(sed -n "s/^$name://p" ../../crates.txt); do
   [[ $externs =~ \ $library=([^ ]*/$library.rlib)\  ]] || { echo "$library is not passed"; exit 1; }
   [[ ! -d ../$library || -e ${BASH_REMATCH[1]} ]] || { echo "$library is not proved"; exit 1; }
@@ -54,6 +59,31 @@ def libraries():
         lines = [line.split(":") for line in file if ":" in line]
     used = {name: words.split() for name, words in lines}
     return {name: [it for it in words if it in used] for name, words in used.items()}
+
+
+def wait_for(state):
+    """Waits until this is true, at most SECONDS, and returns what it was last."""
+    end = time.monotonic() + SECONDS
+    while not (is_so := state()) and time.monotonic() < end:
+        time.sleep(0.01)
+    return is_so
+
+
+def number_in(path):
+    """The number in a file, or 0 if there is none yet."""
+    try:
+        with open(path) as file:
+            return int(file.read() or 0)
+    except FileNotFoundError:
+        return 0
+
+
+def is_running(process):
+    try:
+        with open("/proc/%d/stat" % process) as file:
+            return file.read().rsplit(")", 1)[1].split()[0] != "Z"
+    except FileNotFoundError:
+        return False
 
 
 class Repository:
@@ -90,16 +120,40 @@ class Repository:
     def above(self, name):
         return {it for it in self.every() if it == name or name in self.below(it)}
 
-    def run(self, refused="", path=None):
-        """Runs the script: the crates that the prover was asked for, in order, and how it ended."""
-        asked = self.room + "/asked"
-        open(asked, "w").close()
-        environment = {"ASKED": asked, "REFUSED": refused, "BUILT": PROGRAM % "what was built"}
+    def begin(self, script, path=None, refused="", changed="", endless=""):
+        """Begins a script. The prover refuses the first of these crates, changes the second's sources, and never ends with the third."""
+        self.asked = self.room + "/asked"
+        open(self.asked, "w").close()
+        environment = {"ASKED": self.asked, "BUILT": PROGRAM % "what was built", "REFUSED": refused, "CHANGED": changed, "ENDLESS": endless}
         environment["PATH"] = path or "%s/bin:%s" % (self.room, os.environ["PATH"])
-        ended = subprocess.run(["./ocicp", "these", "words"], cwd=self.room, env=environment, stdin=subprocess.DEVNULL,
-                               capture_output=True, text=True, timeout=SECONDS)
-        with open(asked) as file:
-            return file.read().split(), ended
+        return subprocess.Popen([script, "these", "words"], cwd=self.room, env=environment, stdin=subprocess.DEVNULL,
+                                stdout=subprocess.PIPE, stderr=subprocess.PIPE, text=True)
+
+    def run(self, **conditions):
+        """Runs `ocicp`: the crates that the prover was asked for, in order, and how it ended."""
+        process = self.begin("./ocicp", **conditions)
+        out, err = process.communicate(timeout=SECONDS)
+        with open(self.asked) as file:
+            return file.read().split(), subprocess.CompletedProcess(process.args, process.returncode, out, err)
+
+    def wrong_refusal(self, wanted, text, **conditions):
+        """What is wrong with a run that is to ask for these crates, in order, and then to be refused with this text."""
+        asked, ended = self.run(**conditions)
+        right = (asked, ended.returncode, ended.stdout) == (wanted, 1, "") and text in ended.stderr
+        return None if right else "%s, status %d, %s" % (asked, ended.returncode, ended.stderr[-300:])
+
+    def wrong_stop(self, name):
+        """What is wrong with a build that is ended while it proves a crate, whose prover never ends: the prover has to end too."""
+        process = self.begin("./build", endless=name)
+        prover = wait_for(lambda: number_in(self.asked + ".process"))
+        process.send_signal(signal.SIGTERM)
+        process.communicate(timeout=SECONDS)
+        if not prover or process.returncode == 0:
+            return "prover %d, status %d" % (prover, process.returncode)
+        if wait_for(lambda: not is_running(prover)):
+            return None
+        os.kill(prover, signal.SIGKILL)
+        return "the prover goes on"
 
     def wrong(self, wanted, runs="what was built"):
         """What is wrong with a run that is to build these crates, each once and after those below it, and to run this program."""
@@ -143,10 +197,20 @@ def builds(here):
     here.change("oci_exit")
     yield "a crate has changed", here.wrong(here.above("oci_exit"))
     here.change("oci_pool")
-    asked, ended = here.run(refused="oci_copy")
-    refused = ended.returncode == 1 and ended.stdout == "" and "the prover refuses oci_copy\n" in ended.stderr
-    yield "a crate is refused", None if refused and asked == ["oci_pool", "oci_copy"] else "%s, %s" % (asked, ended.stderr[-300:])
+    yield "a crate is refused", here.wrong_refusal(["oci_pool", "oci_copy"], "the prover refuses oci_copy\n", refused="oci_copy")
+    changed = "build: the sources of oci_copy changed while it was proved: run this again\n"
+    yield "a crate changes while it is proved", here.wrong_refusal(["oci_copy"], changed, changed="oci_copy")
+    yield "a build is ended while it proves a crate", here.wrong_stop("oci_copy")
     yield "the same build goes on where it stopped", here.wrong(here.above("oci_copy"))
+
+
+def locks(here):
+    here.change("oci_copy")
+    os.mkdir(here.room + "/.git")
+    with open(here.room + "/.git/rt-ci.lock", "w") as lock:
+        fcntl.flock(lock, fcntl.LOCK_EX)
+        yield "rt ci is at work", here.wrong_refusal([], "build: rt ci works in this checkout")
+    yield "rt ci has ended", here.wrong(here.above("oci_copy"))
 
 
 def releases(here):
@@ -166,9 +230,7 @@ def releases(here):
     here.change("oci_copy")
     yield "a release of other sources", here.wrong(here.above("oci_copy"))
     here.change("oci_copy")
-    asked, ended = here.run(path="/usr/bin:/bin")
-    right = (asked, ended.returncode, ended.stdout) == ([], 1, "") and "there is no rt" in ended.stderr
-    yield "a release of other sources, without a toolchain", None if right else "%s, %s" % (asked, ended.stderr[-300:])
+    yield "a release of other sources, without a toolchain", here.wrong_refusal([], "there is no rt", path="/usr/bin:/bin")
 
 
 def wrong_minutes():
@@ -181,5 +243,6 @@ def wrong_minutes():
 def checks(room):
     here = Repository(room + "/repository")
     yield from builds(here)
+    yield from locks(here)
     yield from releases(here)
     yield "the minutes of a first build", first([wrong_minutes()])
