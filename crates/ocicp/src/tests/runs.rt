@@ -1,76 +1,60 @@
-//! Runs of the program, and their output.
+//! The program as a function over two writers.
 
-use crate::run::{run_words, run_words_on};
-use crate::tests::broken::Refusing;
-use crate::tests::contents::push_all;
+use crate::run::run_words;
 use oci_copy_commands::Host;
 use std::alloc::Global;
-use std::fmt::Write;
+use std::process::Abort;
 use std::test::Fail;
+use std::{env, fs, process};
 
-/// The whole output and the status of a run of the program.
-pub(crate) fn transcript<R: Host>(rt: &R, words: &str) -> Result<String, Fail> {
-    let words = words_of(rt.alloc(), words)?;
+/// The status and the output of a copy of `abc`, whose digest is that of FIPS 180-4.
+const COPIED: &str = "\
+0
+sha256:ba7816bf8f01cfea414140de5dae2223b00361a396177a9cb410ff61f20015ad 3 text/plain
+planned 1 pushed 1 skipped 0
+";
+
+/// The status and the error output of a copy of the same item twice.
+const REFUSED: &str = "1\nocicp: 30 AlreadyExists\n";
+
+/// A file is copied in memory. A second item with the same key is refused.
+#[test]
+fn runs_of_mem(rt: HostRuntime) -> Result<(), Fail> {
+    let root = env::temp_dir(&rt)?;
+    let id = process::id(rt.process());
+    let path = format!(in rt.alloc(); "{}/ocicp-abc-{id}.txt", root.display())?;
+    fs::write(&rt, path.as_str(), "abc")?;
+    assert_runs_of(&rt, path.as_str())?;
+    Ok(fs::remove_file(&rt, path.as_str())?)
+}
+
+fn assert_runs_of<R: Host + Abort>(rt: &R, path: &str) -> Result<(), Fail> {
+    let item = format!(in rt.alloc(); "text/plain={path}")?;
+    assert_run(rt, &["mem", item.as_str()], COPIED)?;
+    assert_run(rt, &["mem", item.as_str(), item.as_str()], REFUSED)
+}
+
+/// Runs the program on words, and compares its status and both outputs.
+fn assert_run<R: Host + Abort>(rt: &R, words: &[&str], wanted: &str) -> Result<(), Fail> {
+    let told = told(rt, words)?;
+    assert_eq!(rt; told.as_str(), wanted);
+    Ok(())
+}
+
+fn told<R: Host>(rt: &R, words: &[&str]) -> Result<String, Fail> {
+    let words = owned(rt.alloc(), words)?;
     let mut out = Vec::new(rt.alloc());
     let mut err = Vec::new(rt.alloc());
     let status = run_words(rt, &words, &mut out, &mut err);
-    told(rt.alloc(), &out, &err, status)
+    let out = str::from_utf8(&out)?;
+    let err = str::from_utf8(&err)?;
+    Ok(format!(in rt.alloc(); "{status}\n{out}{err}")?)
 }
 
-/// The error output of a run on a terminal, and a line feed. The clock stands still, so that a
-/// progress line is drawn at most once.
-pub(crate) fn drawn<R: Host>(rt: &R, words: &str) -> Result<String, Fail> {
-    let words = words_of(rt.alloc(), words)?;
-    let mut out = Vec::new(rt.alloc());
-    let mut err = Vec::new(rt.alloc());
-    run_words_on(&Refusing::nothing(rt), &words, true, &mut out, &mut err);
-    line_of(rt.alloc(), &err)
-}
-
-/// The written text, and a line feed.
-fn line_of(alloc: Global, written: &[u8]) -> Result<String, Fail> {
-    let written = str::from_utf8(written)?;
-    Ok(format!(in alloc; "{written}\n")?)
-}
-
-/// The words of a line.
-pub(crate) fn words_of(alloc: Global, line: &str) -> Result<Vec<String>, Fail> {
-    let mut words = Vec::new(alloc);
-    for word in line.split(' ') {
-        if !word.is_empty() {
-            words.push(word_of(alloc, word)?)?;
-        }
+fn owned(alloc: Global, words: &[&str]) -> Result<Vec<String>, Fail> {
+    let mut owned = Vec::new(alloc);
+    for word in words {
+        owned.push(String::from_str(alloc, word)?)?;
     }
-    Ok(words)
-}
-
-fn word_of(alloc: Global, word: &str) -> Result<String, Fail> {
-    if word == "''" {
-        Ok(String::new(alloc))
-    } else {
-        Ok(String::from_str(alloc, word)?)
-    }
-}
-
-/// The outputs and the status of a run, as a session has them.
-pub(crate) fn told(alloc: Global, out: &[u8], err: &[u8], status: u8) -> Result<String, Fail> {
-    let mut told = String::new(alloc);
-    push_told(
-        &mut told,
-        str::from_utf8(out)?,
-        str::from_utf8(err)?,
-        status,
-    )?;
-    Ok(told)
-}
-
-fn push_told(told: &mut String, out: &str, err: &str, status: u8) -> Result<(), Fail> {
-    told.push_str(out)?;
-    for line in err.split_inclusive('\n') {
-        push_all(told, &["! ", line])?;
-    }
-    if status != 0 {
-        writeln!(told, "? {status}")?;
-    }
-    Ok(())
+    Ok(owned)
 }
