@@ -130,6 +130,8 @@ class Commands:
             timer = threading.Timer(SECONDS, process.kill)
             timer.start()
             said = process.stderr.readline()
+            # (a process that another thread begins has the file too, until it runs the program)
+            fcntl.flock(lock, fcntl.LOCK_UN)
             os.close(lock)
             out, err = process.communicate()
             timer.cancel()

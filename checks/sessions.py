@@ -1,8 +1,8 @@
 """Runs the sessions of checks/sessions over the built program, each in a folder of its own. checks/sessions/README.md has their form."""
-import glob
 import hashlib
 import os
 import re
+from concurrent.futures import ThreadPoolExecutor
 from itertools import zip_longest
 
 from program import first
@@ -80,11 +80,16 @@ class Session(Commands):
 
 
 def checks(room):
-    library, contents, files = build(room), read_contents(), dict(sections("files.txt"))
-    for path in sorted(glob.glob(FOLDER + "*.session")):
-        subject = os.path.basename(path)
-        for name, commands in sections(subject):
-            folder = "%s/%s" % (room, name)
-            os.mkdir(folder)
-            wrong = Session(folder, library, contents, files).wrong(commands)
-            yield "%s: %s" % (subject, name), wrong if commands else "it has no commands"
+    shared = build(room), read_contents(), dict(sections("files.txt"))
+
+    def result(file, name, commands):
+        folder = "%s/%s" % (room, name)
+        os.mkdir(folder)
+        return "%s: %s" % (file, name), Session(folder, *shared).wrong(commands) if commands else "it has no commands"
+
+    files = sorted(it for it in os.listdir(FOLDER) if it.endswith(".session"))
+    found = [(file, *section) for file in files for section in sections(file)]
+    yield "%d sessions" % len(found), None if found else "there is nothing to run"
+    # Most of the time they wait for the program.
+    with ThreadPoolExecutor(os.cpu_count()) as pool:
+        yield from pool.map(result, *zip(*found))
