@@ -1,7 +1,8 @@
 """Checks of the built program that no test of a crate can make. Usage: python3 checks [NAME..]
 
-Each file beside this one that has a function `checks` is run, or those that are named. The function is handed a new folder, and
-gives the name of each check and what was wrong, or none. The last line says how many passed and how many failed.
+Each file beside this one is a check, and all are run, or those that are named. Its function `checks` takes a new folder, and yields the
+name of each check and the problem that it found, or None. The last line says how many passed and how many failed. What several checks
+use is in support/.
 """
 import importlib
 import os
@@ -13,25 +14,20 @@ import tempfile
 import time
 
 HERE = os.path.dirname(os.path.abspath(__file__))
-# A run that would take all memory of the machine is refused it.
+# The most memory that a run may take.
 MEMORY = 8 << 30
-# All together are to take no longer than this. Each file bounds how many runs it makes.
+# The time in which all of them should end. Each file bounds the number of its runs.
 SECONDS = 180
 ENDED = re.compile(r"(\d+) passed, (\d+) failed\n")
 
 
 def names():
-    """The names of the files beside this one that have checks."""
-    found = []
-    for file in sorted(os.listdir(HERE)):
-        if file.endswith(".py"):
-            with open(os.path.join(HERE, file)) as source:
-                found += [file[:-3]] if "\ndef checks(" in source.read() else []
-    return found
+    """Return the names of the files beside this one."""
+    return sorted(file[:-3] for file in os.listdir(HERE) if file.endswith(".py") and file != "__main__.py")
 
 
 def results(name):
-    """The checks of a file. One that stops the file counts as failed."""
+    """Yield the results of a file's checks. An exception counts as a failed check."""
     with tempfile.TemporaryDirectory(prefix="ocicp-checks-") as folder:
         try:
             module = importlib.import_module(name)
@@ -43,7 +39,7 @@ def results(name):
 
 
 def check(name):
-    """Runs the checks of a file: how many passed and how many failed."""
+    """Run the checks of a file, and return how many passed and how many failed."""
     resource.setrlimit(resource.RLIMIT_AS, (MEMORY, resource.getrlimit(resource.RLIMIT_AS)[1]))
     counts = [0, 0]
     for label, wrong in results(name):
@@ -53,7 +49,7 @@ def check(name):
 
 
 def check_apart(name):
-    """The same in a process of its own: the most memory that a run had counts what the process had from which it was started."""
+    """Do the same in a process of its own, since the memory of a run includes the memory of the process that started it."""
     began = time.monotonic()
     command = [sys.executable, "-B", HERE, name]
     with subprocess.Popen(command, stdout=subprocess.PIPE, text=True) as process:

@@ -6,11 +6,12 @@ import shutil
 import subprocess
 import tarfile
 
-from harmful_folders import CONTENTS, FROM, PLAIN, PLAIN_TAGS, answers_to, fresh, read, wrong_copy
-from layouts import BAR, E, FOO, I1, LAYER, M2, M3, S, Content, blob, digits, image, index, write_layout
-from odd_archives import PLACES, allowed, damaged, each, headers_for_long_names
-from program import first, leftovers, run, told, wrong_layout
-from tar_files import BLOCK, END, base256, extended, header, member
+from support.files import read
+from support.harms import CONTENTS, FROM, PLAIN, PLAIN_TAGS, answers_to, fresh, wrong_copy
+from support.layouts import BAR, E, FOO, I1, LAYER, M2, M3, S, Content, blob, digits, image, index, write_layout
+from support.odd_archives import PLACES, allowed, damaged, each, headers_for_long_names
+from support.program import NOBODY, first, leftovers, run, told, wrong_layout
+from support.tar_files import BLOCK, END, base256, extended, header, member, pack
 
 # `SRC` stands for the folder or the archive, and `DST` for the folder that is copied into.
 LOOKS = [
@@ -53,7 +54,6 @@ LONG_LAYER = Content(LAYER, b"long " * 20000, "sha512")
 LONG = image([LONG_LAYER])._replace(algorithm="sha512")
 OTHER_FILE = b'[{"Config":"of no matter here"}]'
 HUGE = 1 << 40
-NOBODY = {"user": 65534, "group": 65534, "extra_groups": []}
 
 
 def write(path, written):
@@ -155,12 +155,6 @@ def by_archivers(room):
             yield "%s of %s, %s" % (form, program, " ".join(names)), wrong_archive(room, "made.tar", folder, ALL)
     os.symlink("made.tar", room + "/link.tar")
     yield "a link to an archive", wrong_archive(room, "link.tar", folder, ALL)
-
-
-def pack(path, folder, names, form):
-    with tarfile.open(path, "w", format=form) as archive:
-        for name in names:
-            archive.add("%s/%s" % (folder, name), name)
 
 
 def by_hand(room):

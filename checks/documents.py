@@ -4,7 +4,7 @@ import glob
 import os
 import re
 
-from program import TOP, first
+from support.program import TOP, first
 
 DOCUMENTS = ["README.md", "CHANGELOG.md"]
 DOCUMENTS += sorted(os.path.relpath(path, TOP) for path in glob.glob(TOP + "/docs/*.md"))

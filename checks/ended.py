@@ -4,14 +4,14 @@ import resource
 import shutil
 import signal
 
-import shim
-from layouts import BAR, E, FOO, LAYER, M2, Content, blob, image, key, write_layout
-from program import first, leftovers, run, told, wrong_layout
+from support import shim
+from support.layouts import BAR, E, FOO, LAYER, M2, Content, blob, image, key, write_layout
+from support.program import first, leftovers, run, told, wrong_layout
 
 # Of so many kills of a large copy, spread over its time, so many are to come while it runs.
 KILLS, ENDED = 20, 5
-# A small copy makes at most so many changes, and is killed before each. So many kills are to leave a file that is not whole.
-CHANGES, HALF = 100, 3
+# A small copy is killed before each of its changes. So many kills are to leave a file that is not whole.
+HALF = 3
 MEGABYTE = 1 << 20
 LAYERS = [Content(LAYER, b"%7d\n" % number * (MEGABYTE // 8)) for number in range(40)]
 # Layers are copied in parts of a megabyte: these have three.
@@ -22,17 +22,6 @@ SOURCES = {
     "long": [E, *LONG, image(LONG)],
 }
 OLD = {"old": BAR}
-
-# Each change is marked, and the process killed before one of them.
-SHIM = shim.CHANGES + r"""
-static int on_change(const char *path) {
-  static int count;
-  mark();
-  if (__atomic_add_fetch(&count, 1, __ATOMIC_SEQ_CST) == atoi(getenv("LAST_CHANGE"))) kill(getpid(), SIGKILL);
-  return 0;
-}
-"""
-
 
 class Copy:
     """A copy of one of the sources, whose last content is the image, into a destination that has old contents or is not there."""
@@ -88,7 +77,7 @@ def killed_by_time(copy):
 def killed_by_change(copy, library, what):
     """Kills a copy before each change that it makes to a file or folder."""
     words, half = ["copy", "--workers", "1", *copy.words[1:]], 0
-    for number in range(1, CHANGES + 1):
+    for number in range(1, shim.MOST + 1):
         copy.fresh()
         made, ended = shim.run_marked(library, words, copy.room, {"LAST_CHANGE": str(number)})
         if made < number:
@@ -96,7 +85,7 @@ def killed_by_change(copy, library, what):
         half += copy.leftovers() is not None
         wrong = None if ended.status == -signal.SIGKILL else "it was not killed: " + told(ended)
         yield "%s, killed before change %d" % (what, number), first([wrong, copy.wrong_state(), copy.wrong_again()])
-    yield "%s makes at most %d changes" % (what, CHANGES), None if made < number else "it makes more"
+    yield "%s makes at most %d changes" % (what, shim.MOST), None if made < number else "it makes more"
     yield "%d of these kills left a file that is not whole" % half, None if half >= HALF else "too few"
 
 
@@ -120,7 +109,7 @@ def exists(copy, content):
 
 
 def checks(room):
-    library = shim.built(room, "kill", SHIM)
+    library = shim.built(room, "kill", shim.KILLS)
     for source, contents in SOURCES.items():
         write_layout("%s/%s" % (room, source), contents, {"new": contents[-1]})
     yield from killed_by_change(Copy(room, "small", OLD), library, "a copy into a layout")

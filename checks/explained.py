@@ -3,7 +3,8 @@ docs/refusals.md lists them and README.md uses them."""
 import glob
 import re
 
-from program import TOP, first, run, told
+from support.program import TOP, first, run, told
+from support.tables import table
 
 # A number is a byte.
 NUMBERS = range(256)
@@ -11,14 +12,6 @@ NUMBERS = range(256)
 PROGRAM = {"ProgramFault": "ocicp"}
 # A fault's type, or the number and the name with which a fault is printed.
 DECLARED = re.compile(r'pub enum (\w+)|#\[error\("(\d+) (\w+)')
-
-
-def table(path, heading):
-    """The rows of the first table below a heading, each a list of its cells."""
-    with open(TOP + path) as file:
-        below = file.read().split(heading + "\n", 1)[1]
-    rows = re.search(r"^\|.*?(?=^$|\Z)", below, re.M | re.S).group().splitlines()[2:]
-    return [[cell.strip() for cell in row.strip("|").split("|")] for row in rows]
 
 
 def declared():

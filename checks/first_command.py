@@ -9,7 +9,7 @@ import signal
 import subprocess
 import time
 
-from program import TOP, first
+from support.program import TOP, first
 
 SECONDS = 60
 SCRIPTS = ["ocicp", "build", "crates.txt", "HANDLES", "release/sum", "release/describe"]

@@ -1,14 +1,12 @@
 """Copies from and into layouts in which something stands in the place of a file that would harm a careless reader."""
 import os
 import re
-import shutil
 import stat
 
-from layouts import BAR, E, FOO, M2, blob, image, key, write_layout
-from program import first, leftovers, run, told, wrong_layout
-
-SECONDS, KILOBYTES = 1, 32 << 10
-SECRET = b"known to its owner alone"
+from support.files import files, read
+from support.harms import CONTENTS, FROM, OLD_IMAGE, PLAIN, PLAIN_TAGS, SECRET, answers_to, fresh, wrong_copy
+from support.layouts import BAR, E, FOO, M2, blob, key
+from support.program import first, leftovers, run, told, wrong_layout
 
 
 def device(path):
@@ -37,34 +35,6 @@ HARMS = {
     "a link to nothing": lambda path: os.symlink("nothing", path),
 }
 
-# What a copy from a layout has to answer with each harm in the place of a file. What is not named here is no regular file, or is a
-# link in the place of a file that no digest checks. An empty answer is success.
-LEAF = {
-    "": ["88 Fetch KEY 22 Device"],
-    "a link to itself": ["74 Device", "88 Fetch KEY 22 Device"],
-    "a sparse file of 1 TB": ["88 Fetch KEY 21 Corrupt"],
-    "a link to another file": ["88 Fetch KEY 21 Corrupt"],
-    "a link to nothing": ["81 Plan 53 NotFound KEY"],
-}
-FROM = {
-    "oci-layout": {
-        "": ["74 Device"],
-        "a sparse file of 1 TB": ["memory", "71 BadLayoutFile"],
-    },
-    "index.json": {
-        "": ["74 Device"],
-        "a sparse file of 1 TB": ["memory", "73 BadIndex 10 NotJson"],
-    },
-    "the manifest": {
-        "": ["74 Device"],
-        "a sparse file of 1 TB": ["75 Corrupt KEY"],
-        "a link to another file": ["75 Corrupt KEY"],
-        "a link to nothing": ["36 UnknownReference"],
-    },
-    "the config": LEAF,
-    "the layer": LEAF,
-}
-
 # The same of a copy into a layout. A link in the place of a new layer is replaced, and not followed. An old layer is not read by a
 # copy, and is held where a file of its name is there; without one the destination is not closed.
 INTO = {
@@ -75,9 +45,6 @@ INTO = {
     "a new layer": {"": [""], "a folder": ["82 Push KEY 43 Device"]},
 }
 
-# What a destination has, and its tags. One that is harmed has an image too.
-PLAIN, PLAIN_TAGS = [BAR], {"layer": BAR}
-OLD_IMAGE = image([BAR])
 OLD, TAGS = [E, BAR, OLD_IMAGE], {"layer": BAR, "old": OLD_IMAGE}
 NEW = [FOO, M2]
 # The tags and blobs that are there after a copy into such a layout that succeeded, where these are not all.
@@ -87,14 +54,6 @@ VERIFIED = {
     "a sparse file of 1 TB": "corrupt %s\nheld 5\n" % key(BAR),
     "a link to another file": "corrupt %s\nheld 5\n" % key(BAR),
 }
-CONTENTS = {
-    "the manifest": M2,
-    "the config": E,
-    "the layer": FOO,
-    "an old manifest": OLD_IMAGE,
-    "an old layer": BAR,
-    "a new layer": FOO,
-}
 
 
 def harmed(folder, file, harm):
@@ -103,56 +62,6 @@ def harmed(folder, file, harm):
     if os.path.exists(path):
         os.remove(path)
     HARMS[harm](path)
-
-
-def fresh(folder, old, tags):
-    """A source with an image, and a destination with old contents."""
-    shutil.rmtree(folder, ignore_errors=True)
-    os.mkdir(folder)
-    with open(folder + "/secret", "wb") as file:
-        file.write(SECRET)
-    write_layout(folder + "/source", [E, FOO, M2], {"new": M2})
-    write_layout(folder + "/copied", old, tags)
-
-
-def answers_to(table, file, harm):
-    """What a table wants as the answer."""
-    found = table[file].get(harm, table[file][""])
-    return [it.replace("KEY", key(CONTENTS.get(file, E))).replace("HOLDER", key(OLD_IMAGE)) for it in found]
-
-
-def wrong_copy(folder, wanted):
-    """What is wrong with the copy's answer, its time and its memory. The answer is to be one of those that are wanted."""
-    ended = run(["copy", "source", "new", "copied"], folder)
-    statuses = {"ocicp: %s\n" % it if it else "": 3 if it == "memory" else 1 if it else 0 for it in wanted}
-    if ended.status < 0:
-        return "it had not ended after %.0f seconds" % ended.seconds
-    if ended.status != statuses.get(ended.err):
-        return "%s, and not %s" % (told(ended), " or ".join(it or "success" for it in wanted))
-    if ended.seconds > SECONDS:
-        return "it took %.1f s" % ended.seconds
-    if ended.kilobytes > KILOBYTES:
-        return "it took %d KB" % ended.kilobytes
-
-
-def files(folder):
-    """Each path below a folder, with its bytes, where a link leads, or else its kind. What is large or no file is not read."""
-    found = {}
-    for at, folders, names in os.walk(folder):
-        for name in [*folders, *names]:
-            path = os.path.join(at, name)
-            state = os.lstat(path)
-            found[os.path.relpath(path, folder)] = (
-                os.readlink(path) if stat.S_ISLNK(state.st_mode)
-                else read(path) if stat.S_ISREG(state.st_mode) and state.st_size <= KILOBYTES
-                else (stat.S_IFMT(state.st_mode), stat.S_ISREG(state.st_mode) and state.st_size)
-            )
-    return found
-
-
-def read(path):
-    with open(path, "rb") as file:
-        return file.read()
 
 
 def wrong_secret(folder):

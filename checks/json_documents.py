@@ -9,12 +9,12 @@ import shutil
 import tarfile
 from itertools import accumulate
 
-import prune
-from archives import pack
-from json_rooms import Rooms
-from layouts import BAR, E, FOO, IMAGE, LAYER, M2, M3, S, Content, descriptor, digits, image, write_layout
-from program import TOP, first, run, told
-from pruning import Held
+from support import prune_cases
+from support.json_rooms import Rooms
+from support.layouts import BAR, E, FOO, IMAGE, LAYER, M2, M3, S, Content, descriptor, digits, image, write_layout
+from support.program import TOP, first, run, told
+from support.pruning import Held
+from support.tar_files import pack
 
 LAYOUTS = 40
 # `L` stands for the layout or an archive of it, `M` for another layout, and `N` for a folder that is not there.
@@ -53,16 +53,16 @@ def write_others(folder):
 
 
 def write_case(case, folder):
-    prune.write_case(folder + "/layout", case)
+    prune_cases.write_case(folder + "/layout", case)
     write_others(folder)
 
 
 def write_random(seed, folder):
     chance = random.Random(seed)
-    prune.write_random(folder + "/layout", chance)
+    prune_cases.write_random(folder + "/layout", chance)
     write_others(folder)
     if chance.random() < 0.5:
-        prune.write_random(folder + "/other", chance)
+        prune_cases.write_random(folder + "/other", chance)
 
 
 def wrong_layout(room, make):
@@ -77,9 +77,9 @@ def wrong_layout(room, make):
 
 
 def by_hand(room):
-    cases = [("%s/%d" % (room, number), functools.partial(write_case, case)) for number, case in enumerate(prune.CASES.values())]
+    cases = [("%s/%d" % (room, number), functools.partial(write_case, case)) for number, case in enumerate(prune_cases.CASES.values())]
     with multiprocessing.Pool() as pool:
-        yield from zip(prune.CASES, pool.starmap(wrong_layout, cases))
+        yield from zip(prune_cases.CASES, pool.starmap(wrong_layout, cases))
 
 
 def at_random(room):

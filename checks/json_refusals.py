@@ -7,17 +7,15 @@ import re
 import shutil
 import subprocess
 
-import refusals
-import shim
-from explained import table
-from json_lines import CARRIED, MEMORY
-from json_rooms import CHANGES, Rooms, run_long, with_json
-from layouts import BAR, E, FOO, I1, IMAGE, M2, M3, S, Content, blob, descriptor, image, write_layout
-from odd_archives import damaged
-from program import PROGRAM, SECONDS, Ended, run, told
-from prune_refused import KEEPS
-from refused_memory import refused_in_turn
-from terminal import run_on_terminal
+from support import refused_malloc, shim
+from support.json_lines import CARRIED, MEMORY
+from support.json_rooms import CHANGES, Rooms, run_long, with_json
+from support.layouts import BAR, E, FOO, I1, IMAGE, M2, M3, S, Content, blob, descriptor, image, write_layout
+from support.odd_archives import damaged
+from support.program import PROGRAM, SECONDS, Ended, run, told
+from support.refused_malloc import refused_in_turn
+from support.tables import table
+from support.terminal import run_on_terminal
 
 ALL, TAGS = [E, FOO, BAR, M2, M3, I1, S], {"new": I1, "one": M2, "sig": S}
 LARGE = Content(IMAGE, M2.bytes + b" " * (4 << 20))
@@ -241,13 +239,13 @@ def wrong_refused(words, library, room, nth):
     wanted = unhurt(words, folder)
     if words[0] in CHANGES:
         fresh(folder)
-    refused, ended = refusals.run_refused(library, nth, words, folder)
+    refused, ended = refused_malloc.run_refused(library, nth, words, folder)
     right = ended[:3] == wanted[:3] or refused and ended[:3] == (3, "", MEMORY)
     return refused, None if right else "request %d: %s" % (nth, told(ended))
 
 
 def of_memory(room):
-    library = refusals.build(room)
+    library = refused_malloc.build(room)
     for number, command in enumerate(REFUSED):
         count, complaint = refused_in_turn(tuple(with_json(command.split())), library, "%s/%d" % (room, number), wrong_refused)
         yield "%s, %d requests refused in turn" % (command, count), complaint
@@ -255,7 +253,7 @@ def of_memory(room):
 
 def checks(room):
     refused = Refused(room + "/rooms")
-    library = shim.built(room, "keep", KEEPS)
+    library = shim.built(room, "keep", shim.KEEPS)
     for group in damages, archives, others, functools.partial(outside, library=library):
         yield from group(refused)
     yield "these refusals are seen", None if refused.numbers == NUMBERS else "and not %s" % sorted(refused.numbers ^ NUMBERS)

@@ -5,9 +5,9 @@ import shutil
 import signal
 import subprocess
 
-import shim
-from layouts import BAR, E, FOO, LAYER, M2, Content, digits, key, write_layout
-from program import PROGRAM, first, wrong_layout
+from support import shim
+from support.layouts import BAR, E, FOO, LAYER, M2, Content, digits, key, write_layout
+from support.program import PROGRAM, first, wrong_layout
 
 # A command makes at most so many changes, and is stopped before each.
 CHANGES = 100

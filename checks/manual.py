@@ -3,8 +3,8 @@ import os
 import shutil
 import subprocess
 
-from layouts import E, FOO, M2, write_layout
-from program import PROGRAM, TOP
+from support.layouts import E, FOO, M2, write_layout
+from support.program import PROGRAM, TOP
 
 SECONDS = 60
 FILES = ["ocicp.1", "completions/ocicp.bash", "completions/_ocicp"]

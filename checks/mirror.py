@@ -3,12 +3,11 @@ import os
 import shutil
 import signal
 
-import shim
-from ended import CHANGES, SHIM
-from harmful_folders import files
-from layouts import BAR, E, FOO, I1, LAYER, M2, M3, S, Content, blob, image, index, key, write_layout
-from program import first, run, told
-from pruning import Held, Prune, stamps
+from support import shim
+from support.files import files, stamps
+from support.layouts import BAR, E, FOO, I1, LAYER, M2, M3, S, Content, blob, image, key, write_layout
+from support.program import first, run, told
+from support.pruning import Held, Prune
 
 OLD = Content(LAYER, b"old layer")
 OLD_IMAGE, OF_OLD = image([BAR, OLD]), image([], subject=image([BAR, OLD]))
@@ -120,7 +119,7 @@ def killed(room, library):
     fresh(room, source, mirror)
     shutil.copytree(room + "/mirror", room + "/turn")
     in_turn(room, "turn")
-    for number in range(1, CHANGES + 1):
+    for number in range(1, shim.MOST + 1):
         fresh(room, source, mirror)
         made, ended = shim.run_marked(library, ["copy", "--all", "--prune", "source", "mirror"], room, {"LAST_CHANGE": str(number)})
         if made < number:
@@ -134,11 +133,11 @@ def killed(room, library):
             None if again.status == 0 else told(again),
             None if files(room + "/mirror") == files(room + "/turn") else "the same mirror again leaves something else",
         ])
-    yield "the mirror makes between 10 and %d changes" % CHANGES, None if 10 < number < CHANGES else "it makes %d" % (number - 1)
+    yield "the mirror makes between 10 and %d changes" % shim.MOST, None if 10 < number < shim.MOST else "it makes %d" % (number - 1)
 
 
 def checks(room):
-    renames, kill = shim.built(room, "renames", RENAMES), shim.built(room, "kill", SHIM)
+    renames, kill = shim.built(room, "renames", RENAMES), shim.built(room, "kill", shim.KILLS)
     for number, group in enumerate([lambda at: mirrored(at, renames), refused, lambda at: killed(at, kill)]):
         folder = "%s/%d" % (room, number)
         os.mkdir(folder)

@@ -1,5 +1,5 @@
 """Words that are not UTF-8: the command line is invalid, whatever it asks for."""
-from program import run, told
+from support.program import run, told
 
 
 def checks(room):

@@ -4,10 +4,10 @@ import os
 import re
 from concurrent.futures import ThreadPoolExecutor
 
-import shim
-from layouts import E, FOO, LAYER, Content, blob, descriptor, image, key, write_layout
-from program import first, run, told
-from terminal import run_on_terminal
+from support import shim
+from support.layouts import E, FOO, LAYER, Content, blob, descriptor, image, key, write_layout
+from support.program import first, run, told
+from support.terminal import run_on_terminal
 
 # A run that takes longer is killed.
 SECONDS = 30

@@ -1,23 +1,16 @@
 """Prunes that are ended half-way, that cannot change a file, and that run beside copies. No tag loses anything, and the same prune,
 made again, finishes. Wants `cc`."""
-import os
 import re
 import resource
 import shutil
 import signal
 from concurrent.futures import ThreadPoolExecutor
 
-import shim
-from ended import CHANGES, SHIM
-from harmful_folders import files
-from layouts import BAR, E, FOO, I1, LAYER, M2, M3, S, Content, blob, image, index, key, write_layout
-from program import first, leftovers, run, told, wrong_layout
-from pruning import Prune
-
-OLD = Content(LAYER, b"old layer")
-OLD_IMAGE = image([BAR, OLD])
-CONTENTS, TAGS, UNTAGGED = [E, FOO, BAR, OLD, M2, M3, I1, OLD_IMAGE, S], {"new": M2, "also": S}, [I1, OLD_IMAGE]
-STRAYS = ["blobs/sha256/%064x" % 1, "blobs/sha256/%s.0123456789abcdef.new" % ("f" * 64), "index.json.0123456789abcdef.new"]
+from support import shim
+from support.files import files
+from support.layouts import E, FOO, LAYER, M2, S, Content, image, key, write_layout
+from support.program import first, leftovers, run, told, wrong_layout
+from support.prune_layout import CONTENTS, TAGS, UNTAGGED, Layout
 
 # Each change is noted: the path of each file that is opened, renamed to or removed.
 NOTES = shim.CHANGES + r"""
@@ -42,70 +35,10 @@ IMAGES = {"image-%d" % number: image([layer]) for number, layer in enumerate(LAY
 WAITS = re.compile(r"(ocicp: waiting for another process that writes into copied\n)?")
 
 
-class Layout:
-    """A layout that is pruned again and again. Without `untagged` no held key goes, so that `index.json` is not written."""
-
-    def __init__(self, room, untagged):
-        self.room, self.untagged = room, untagged
-        self.fresh()
-        self.prune = Prune(room + "/layout")
-        self.before = files(room + "/layout")
-        self.whole = run(["prune", "layout"], room)
-        self.after = files(room + "/layout")
-
-    def fresh(self):
-        """Puts the layout into the state that it has before."""
-        shutil.rmtree(self.room + "/layout", ignore_errors=True)
-        write_layout(self.room + "/layout", CONTENTS if self.untagged else [E, FOO, M2, S], TAGS, self.untagged)
-        for path in STRAYS:
-            with open("%s/layout/%s" % (self.room, path), "w") as file:
-                file.write("stray")
-
-    def gone(self):
-        """The files that are gone."""
-        return sorted(set(self.before) - set(files(self.room + "/layout")))
-
-    def saved(self):
-        return files(self.room + "/layout")["index.json"] == self.after["index.json"]
-
-    def wrong_whole(self):
-        """What is wrong with a prune that was not ended, and with what it left."""
-        return first([
-            None if self.whole[:3] == (0, self.prune.out, "") else told(self.whole),
-            None if self.gone() == self.prune.gone else "these files are gone: %s" % self.gone(),
-            wrong_layout(self.room, "layout", self.prune.kept, TAGS),
-        ])
-
-    def wrong_state(self):
-        """What is wrong with the layout when a prune has not finished. It holds what it did, or what is to be kept, and has each file of
-        that; no file is gone before the index is saved."""
-        held = self.prune.kept if self.saved() else self.prune.held.keys
-        return first([
-            wrong_layout(self.room, "layout", held, TAGS),
-            None if self.saved() or not self.gone() else "a file is gone before the index is saved",
-            None if set(self.gone()) <= set(self.prune.gone) else "these files are gone: %s" % self.gone(),
-        ])
-
-    def wrong_again(self):
-        """What is wrong with the same prune, made again: it leaves what one leaves that was not ended."""
-        prune = Prune(self.room + "/layout")
-        ended = run(["prune", "layout"], self.room)
-        return first([
-            None if ended[:3] == (0, prune.out, "") else "the same prune again: " + told(ended),
-            None if files(self.room + "/layout") == self.after else "the same prune again leaves something else",
-        ])
-
-
-def wrong_without(layout, name):
-    """What is wrong with a layout from which a tag was removed, and nothing else."""
-    others = {it: TAGS[it] for it in TAGS if it != name}
-    return wrong_layout(layout.room, "layout", layout.prune.held.keys, others)
-
-
 def killed(layout, library, what):
     """Kills a prune before each change that it makes."""
     halves = 0
-    for number in range(1, CHANGES + 1):
+    for number in range(1, shim.MOST + 1):
         layout.fresh()
         made, ended = shim.run_marked(library, ["prune", "layout"], layout.room, {"LAST_CHANGE": str(number)})
         if made < number:
@@ -113,7 +46,7 @@ def killed(layout, library, what):
         halves += 0 < len(layout.gone()) < len(layout.prune.gone)
         wrong = None if ended.status == -signal.SIGKILL else "it was not killed: " + told(ended)
         yield "%s, killed before change %d" % (what, number), first([wrong, layout.wrong_state(), layout.wrong_again()])
-    yield "%s makes at most %d changes" % (what, CHANGES), None if made < number else "it makes more"
+    yield "%s makes at most %d changes" % (what, shim.MOST), None if made < number else "it makes more"
     yield "%d of these kills left some of the files" % halves, None if halves == len(layout.prune.gone) - 1 else "and not one less than go"
 
 
@@ -149,7 +82,7 @@ def wrong_refused(layout, ended):
 def without_room(layout, library, what):
     """Refuses each change of a prune in turn."""
     nothing = 0
-    for number in range(1, CHANGES + 1):
+    for number in range(1, shim.MOST + 1):
         layout.fresh()
         made, ended = shim.run_marked(library, ["prune", "layout"], layout.room, {"REFUSED_CHANGE": str(number)})
         if made < number:
@@ -201,7 +134,7 @@ def wrong_beside(room):
 
 
 def checks(room):
-    kill, full, notes = (shim.built(room, name, source) for name, source in (("kill", SHIM), ("full", FULL), ("notes", NOTES)))
+    kill, full, notes = (shim.built(room, name, source) for name, source in (("kill", shim.KILLS), ("full", FULL), ("notes", NOTES)))
     for what, untagged in ("a prune", UNTAGGED), ("a prune of files alone", []):
         layout = Layout(room, untagged)
         yield "%s that is not ended" % what, layout.wrong_whole()

@@ -6,10 +6,10 @@ is to have, the tags have lost nothing, and the same command, made again with al
 import functools
 import os
 
-import refusals
-from program import first, run, told
-from prune_ended import TAGS, UNTAGGED, Layout, wrong_without
-from refused_memory import refused_in_turn
+from support import refused_malloc
+from support.program import first, run, told, wrong_layout
+from support.prune_layout import TAGS, UNTAGGED, Layout
+from support.refused_malloc import refused_in_turn
 
 
 @functools.lru_cache(maxsize=None)
@@ -22,7 +22,7 @@ def wrong_prune(untagged, library, room, nth):
     """Refuses the nth request of a prune: whether it made so many, and what is wrong with it and with what it left."""
     layout = layout_of("%s/%d" % (room, os.getpid()), untagged)
     layout.fresh()
-    refused, ended = refusals.run_refused(library, nth, ["prune", "layout"], layout.room)
+    refused, ended = refused_malloc.run_refused(library, nth, ["prune", "layout"], layout.room)
     is_memory = refused and (ended.status, ended.err) == (3, "ocicp: memory\n")
     complaint = first([
         None if ended[:3] == layout.whole[:3] or is_memory else told(ended),
@@ -32,11 +32,17 @@ def wrong_prune(untagged, library, room, nth):
     return refused, complaint and "request %d: %s" % (nth, complaint)
 
 
+def wrong_without(layout, name):
+    """What is wrong with a layout from which a tag was removed, and nothing else."""
+    others = {it: TAGS[it] for it in TAGS if it != name}
+    return wrong_layout(layout.room, "layout", layout.prune.held.keys, others)
+
+
 def wrong_untag(name, library, room, nth):
     """The same of the removal of a tag."""
     layout = layout_of("%s/%d" % (room, os.getpid()), tuple(UNTAGGED))
     layout.fresh()
-    refused, ended = refusals.run_refused(library, nth, ["untag", "layout", name], layout.room)
+    refused, ended = refused_malloc.run_refused(library, nth, ["untag", "layout", name], layout.room)
     is_done = ended.status == 0 and ended.out and not ended.err
     is_memory = refused and ended[:3] == (3, "", "ocicp: memory\n")
     again = run(["untag", "layout", name], layout.room)
@@ -51,7 +57,7 @@ def wrong_untag(name, library, room, nth):
 
 
 def checks(room):
-    library = refusals.build(room)
+    library = refused_malloc.build(room)
     cases = {
         "a prune": (tuple(UNTAGGED), wrong_prune),
         "a prune of files alone": ((), wrong_prune),

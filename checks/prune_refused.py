@@ -6,12 +6,11 @@ import shutil
 import subprocess
 import tarfile
 
-import shim
-from archives import NOBODY
-from harmful_folders import files
-from layouts import BAR, E, FOO, I1, LAYER, M2, M3, S, Content, blob, digits, image, index, key, write_layout
-from program import PROGRAM, first, run, told
-from pruning import Prune, stamps
+from support import shim
+from support.files import files, stamps, wrong_refusal
+from support.layouts import BAR, E, FOO, I1, LAYER, M2, M3, S, Content, blob, digits, index, key, write_layout
+from support.program import NOBODY, PROGRAM, first, run, told
+from support.pruning import Prune
 
 SECONDS = 10
 A = Content(LAYER, b"a layer")
@@ -44,16 +43,6 @@ DAMAGED = {
     "no config": (M2._replace(bytes=b"{}"), b"{}", "77 BadManifest %s 12 NoConfig" % key(M2._replace(bytes=b"{}"))),
 }
 
-# The removal of one file is refused.
-KEEPS = shim.CHANGES + r"""
-static int on_change(const char *path) {
-  const char *kept = getenv("KEPT");
-  size_t length = path ? strlen(path) : 0, end = strlen(kept);
-  return length >= end && strcmp(path + length - end, kept) == 0 ? EACCES : 0;
-}
-"""
-
-
 def fresh(room, contents, tags, untagged=(), strays=STRAYS):
     """Makes a layout that has files which a prune removes."""
     shutil.rmtree(room + "/layout", ignore_errors=True)
@@ -62,16 +51,6 @@ def fresh(room, contents, tags, untagged=(), strays=STRAYS):
     for number, path in enumerate(strays):
         with open("%s/layout/%s" % (room, path), "wb") as file:
             file.write(b"x" * number)
-
-
-def wrong_refusal(room, words, line, status=1):
-    """What is wrong with how a command is refused, which is to change nothing."""
-    before, when = files(room), stamps(room)
-    ended = run(words, room)
-    return first([
-        None if ended[:3] == (status, "", "ocicp: %s\n" % line) else "%s: %s; and not %s" % (" ".join(words), told(ended), line),
-        None if files(room) == before and stamps(room) == when else "%s: something has changed" % " ".join(words),
-    ])
 
 
 def prunes(room):
@@ -221,7 +200,7 @@ def wrong_later(room):
 
 def not_removed(room):
     """Files that cannot be removed, one by one and all of a folder."""
-    library = shim.built(room, "keep", KEEPS)
+    library = shim.built(room, "keep", shim.KEEPS)
     for path in [*STRAYS, blob(BAR), blob(M3)]:
         fresh(room, ALL, {"new": M2}, [M3])
         prune = Prune(room + "/layout")

@@ -3,9 +3,9 @@
 A library answers EROFS to each call that would change something below one folder. What reads makes no such call, and answers as it
 does elsewhere. A copy into that folder is refused, as `untag` is, and the layout stays.
 """
-import shim
-from layouts import BAR, E, FOO, I1, LAYER, M2, M3, S, Content, key, write_layout
-from program import first, leftovers, run, told, wrong_layout
+from support import shim
+from support.layouts import BAR, E, FOO, I1, LAYER, M2, M3, S, Content, key, write_layout
+from support.program import first, leftovers, run, told, wrong_layout
 
 # Each call that is refused is marked.
 SHIM = shim.CHANGES + r"""

@@ -5,7 +5,7 @@ import re
 import shutil
 import subprocess
 
-from program import PROGRAM, TOP
+from support.program import PROGRAM, TOP
 
 SECONDS = 60
 README = "README.md"

@@ -3,22 +3,19 @@
 Such a run ends with status 3 and `ocicp: memory`, or answers as if nothing had been refused. Its destination is then whole, with its
 old names, and the same command, made again with all memory, finishes.
 """
-import functools
-import multiprocessing
 import os
 import shutil
 import tarfile
 from collections import namedtuple
 
-import refusals
-from layouts import BAR, E, FOO, I1, I3, I4, LAYER, M2, M3, S, Content, blob, write_layout
-from program import first, leftovers, run, told, wrong_layout
+from support import refused_malloc
+from support.layouts import BAR, E, FOO, I1, I3, I4, LAYER, M2, M3, S, Content, blob, write_layout
+from support.program import first, leftovers, run, told, wrong_layout
+from support.refused_malloc import refused_in_turn
 
 OLD = Content(LAYER, b"old")
 TWO_IMAGES = [E, FOO, BAR, M2, M3, I1]
 REFERRERS = [E, FOO, M2, S, I3, I4]
-# A batch ends where one of its runs made fewer requests. A command that makes more than so many is not looked at whole.
-BATCH, MOST = 64, 4096
 
 # A command, what its source holds and names, and what its destination names before; none where there is no destination.
 Case = namedtuple("Case", "words contents names old", defaults=[{}])
@@ -61,13 +58,13 @@ def wrong_destination(folder, case, is_done):
     return wrong_layout(folder, "copied", case.old.values(), case.old)
 
 
-def wrong_run(case, shim, room, nth):
+def wrong_run(case, library, room, nth):
     """Refuses the nth request of a command: whether it made so many, and what is wrong with it and with what it left."""
     folder = "%s/%d" % (room, os.getpid())
     fresh(folder, case)
     unhurt = run(case.words, folder)
     fresh(folder, case)
-    refused, ended = refusals.run_refused(shim, nth, case.words, folder)
+    refused, ended = refused_malloc.run_refused(library, nth, case.words, folder)
     is_done = ended[:3] == unhurt[:3] and ended.status == 0
     complaint = None if is_done or refused and ended[:3] == (3, "", "ocicp: memory\n") else told(ended)
     if case.words[0] == "copy":
@@ -79,21 +76,8 @@ def wrong_run(case, shim, room, nth):
     return refused, complaint and "request %d: %s" % (nth, complaint)
 
 
-def refused_in_turn(case, shim, room, wrong=wrong_run):
-    """Refuses each request of a command in turn: how many it makes, and the first thing that is wrong, which `wrong` finds."""
-    os.mkdir(room)
-    with multiprocessing.Pool() as pool:
-        for start in range(1, MOST, BATCH):
-            runs = pool.map(functools.partial(wrong, case, shim, room), range(start, start + BATCH), 4)
-            complaint = first(it for _, it in runs)
-            if complaint or not all(refused for refused, _ in runs):
-                count = start - 1 + sum(refused for refused, _ in runs)
-                return count, complaint or (None if count else "nothing was refused")
-    return MOST, "it makes more requests than these"
-
-
 def checks(room):
-    shim = refusals.build(room)
+    library = refused_malloc.build(room)
     for number, (name, case) in enumerate(CASES.items()):
-        count, complaint = refused_in_turn(case, shim, "%s/%d" % (room, number))
+        count, complaint = refused_in_turn(case, library, "%s/%d" % (room, number), wrong_run)
         yield "%s, %d requests refused in turn" % (name, count), complaint

@@ -13,8 +13,8 @@ import os
 import re
 from collections import namedtuple
 
-import refusals
-from program import TOP, first, told
+from support import refused_malloc
+from support.program import TOP, first, told
 
 PROGRAM = TOP + "/crates/test_memory/out/test_memory"
 # A batch ends where one of its runs made fewer requests.
@@ -147,7 +147,7 @@ def wrong_line(name, line, refused):
 
 def refuse(name, shim, room, nth):
     """Refuses the nth request: whether there were so many, whether a call told of it, and what is wrong."""
-    refused, ended = refusals.run_refused(shim, nth, [name], room, program=PROGRAM)
+    refused, ended = refused_malloc.run_refused(shim, nth, [name], room, program=PROGRAM)
     if refused and ended.status == 1 and ended.out == "" and NOT_BEGUN.fullmatch(ended.err):
         return True, False, None
     start = name + ": "
@@ -175,7 +175,7 @@ def checks(room):
     if not os.access(PROGRAM, os.X_OK):
         yield "all", "%s is not built: `rt run` in crates/test_memory builds it" % PROGRAM
         return
-    shim = refusals.build(room)
+    shim = refused_malloc.build(room)
     for name in CASES:
         count, telling, complaint = refused_in_turn(name, shim, room)
         yield "%s, %d requests refused in turn, of which a call told of %d" % (name, count, telling), complaint

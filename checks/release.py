@@ -3,7 +3,7 @@ import os
 import shutil
 import subprocess
 
-from program import TOP
+from support.program import TOP
 
 RT = '#!/bin/sh\necho "%s"\n'
 TOOLCHAIN = "a stand-in"

@@ -4,8 +4,8 @@ import re
 import shutil
 from concurrent.futures import ThreadPoolExecutor
 
-from layouts import BAR, E, LAYER, Content, image, key, write_layout
-from program import first, leftovers, run, told, wrong_layout
+from support.layouts import BAR, E, LAYER, Content, image, key, write_layout
+from support.program import first, leftovers, run, told, wrong_layout
 
 RUNS = 20
 LAYERS = [Content(LAYER, b"layer %d" % number) for number in range(RUNS)]

@@ -2,8 +2,8 @@
 import os
 import shutil
 
-from layouts import BAR, E, FOO, M2, blob, digits, key, write_layout
-from program import first, run, told
+from support.layouts import BAR, E, FOO, M2, blob, digits, key, write_layout
+from support.program import first, run, told
 
 BLOB256, BLOB512 = digits(BAR), "f7" * 64
 DRAFT = "0123456789abcdef"

@@ -1,11 +1,7 @@
 """Refusals on a terminal: a second line says what the last number of the first one means. Through a pipe there is no such line."""
-import os
-import pty
-import subprocess
-import threading
-
-from layouts import E, FOO, M2, write_layout
-from program import PROGRAM, SECONDS, run
+from support.layouts import E, FOO, M2, write_layout
+from support.program import run
+from support.terminal import run_on_terminal
 
 UNKNOWN = "The layout has no tag with this name, and no blob with this digest"
 NO_VERSION = "The file `oci-layout` is not a JSON object with a text `imageLayoutVersion`"
@@ -19,37 +15,6 @@ CASES = [
     ("copy source one spoiled", "71 BadLayoutFile", "spoiled", NO_VERSION, 71),
     ("mem abc.txt", "92 BadItem abc.txt", None, "The named item of `ocicp mem` has no `=`", 92),
 ]
-
-
-def read_all(terminal):
-    """What is written to a terminal until no process has it open any more."""
-    written = b""
-    try:
-        while part := os.read(terminal, 4096):
-            written += part
-    except OSError:
-        pass
-    return written.decode().replace("\r\n", "\n")
-
-
-def run_on_terminal(words, folder, seconds=SECONDS, shows_output=False, **how):
-    """The status of a run whose error output is a terminal, with `shows_output` its output too, and what it wrote there. A run that takes
-    longer is killed. `how` goes to `subprocess.Popen`."""
-    terminal, end = pty.openpty()
-    try:
-        out = end if shows_output else subprocess.DEVNULL
-        process = subprocess.Popen([PROGRAM, *words], cwd=folder, stdin=subprocess.DEVNULL, stdout=out, stderr=end, **how)
-    finally:
-        os.close(end)
-    timer = threading.Timer(seconds, process.kill)
-    timer.start()
-    try:
-        # (while it runs, since a terminal that nobody reads holds only some kilobytes)
-        written = read_all(terminal)
-        return process.wait(), written
-    finally:
-        timer.cancel()
-        os.close(terminal)
 
 
 def checks(room):

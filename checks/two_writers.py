@@ -9,9 +9,9 @@ import signal
 import subprocess
 from concurrent.futures import ThreadPoolExecutor
 
-import shim
-from layouts import E, LAYER, Content, image, key, write_layout
-from program import first, run, told
+from support import shim
+from support.layouts import E, LAYER, Content, image, key, write_layout
+from support.program import first, run, told
 
 RUNS, TRIES = 20, 3
 # A copy makes at most so many changes, and is stopped before each.

@@ -3,13 +3,11 @@ import os
 import shutil
 import signal
 
-import shim
-from ended import CHANGES, SHIM
-from harmful_folders import files
-from layouts import BAR, E, FOO, I1, LAYER, M2, M3, S, Content, blob, digits, key, write_layout
-from program import first, run, told
-from prune_refused import wrong_refusal
-from pruning import Held
+from support import shim
+from support.files import files, wrong_refusal
+from support.layouts import BAR, E, FOO, I1, LAYER, M2, M3, S, Content, blob, digits, key, write_layout
+from support.program import first, run, told
+from support.pruning import Held
 
 CONTENTS = [E, FOO, BAR, M2, M3, I1, S]
 TAGS = {"both": I1, "one": M2, "again": M2, "layer": BAR, "sha256:" + digits(M3): S, "a longer name, with spaces: \u00e9": M3}
@@ -69,9 +67,9 @@ def refused(room):
 
 def killed(room):
     """Kills the removal of a tag before each change that it makes."""
-    library = shim.built(room, "kill", SHIM)
+    library = shim.built(room, "kill", shim.KILLS)
     without = {name: TAGS[name] for name in TAGS if name != "one"}
-    for number in range(1, CHANGES + 1):
+    for number in range(1, shim.MOST + 1):
         fresh(room)
         made, ended = shim.run_marked(library, ["untag", "layout", "one"], room, {"LAST_CHANGE": str(number)})
         if made < number:
@@ -85,7 +83,7 @@ def killed(room):
             None if again.status == (0 if found == lines(TAGS) else 1) else told(again),
             None if tags(room) == lines(without) else "tags: %s" % (tags(room),),
         ])
-    yield "between 3 and %d changes" % CHANGES, None if 3 < number < CHANGES else "%d changes" % (number - 1)
+    yield "between 3 and %d changes" % shim.MOST, None if 3 < number < shim.MOST else "%d changes" % (number - 1)
 
 
 def absent(room):

@@ -1,7 +1,7 @@
 """How many threads a copy starts: where no number of workers is given, as many as for three. Wants `cc`."""
-import shim
-from layouts import BAR, E, FOO, I1, M2, M3, write_layout
-from program import run, told
+from support import shim
+from support.layouts import BAR, E, FOO, I1, M2, M3, write_layout
+from support.program import told
 
 SHIM = r"""
 #define _GNU_SOURCE

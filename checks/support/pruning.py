@@ -5,8 +5,8 @@ import re
 import stat
 from collections import namedtuple
 
-from harmful_folders import read
-from layouts import ARTIFACT, DOCKER_IMAGE, DOCKER_LIST, IMAGE, INDEX, NAME
+from support.files import read
+from support.layouts import ARTIFACT, DOCKER_IMAGE, DOCKER_LIST, IMAGE, INDEX, NAME
 
 # The members of each kind of manifest that list contents.
 MEMBERS = {
@@ -128,13 +128,3 @@ def files_of(folder):
             mode = os.lstat(at + name).st_mode
             if stat.S_ISREG(mode) or stat.S_ISLNK(mode):
                 yield place + name
-
-
-def stamps(folder):
-    """Each path below a folder, with the number of its file, its length, its mode and when it was last changed."""
-    found = {}
-    for at, folders, names in os.walk(folder):
-        for name in [".", *folders, *names]:
-            state = os.lstat(os.path.join(at, name))
-            found[os.path.relpath(os.path.join(at, name), folder)] = (state.st_ino, state.st_size, state.st_mode, state.st_mtime_ns)
-    return found

@@ -35,15 +35,31 @@ def listing(contents):
     return "[%s]" % ",".join(map(descriptor, contents))
 
 
-def image(layers, subject=None):
-    """An image with an empty config."""
+def image(layers, subject=None, number=None):
+    """Return an image with an empty config. A number tells it from other images of the same layers."""
     text = '{"schemaVersion":2,"mediaType":"%s","config":%s,"layers":%s' % (IMAGE, descriptor(E), listing(layers))
-    return Content(IMAGE, (text + (',"subject":' + descriptor(subject) if subject else "") + "}").encode())
+    text += ',"subject":' + descriptor(subject) if subject else ""
+    text += ',"annotations":{"number":"%d"}' % number if number is not None else ""
+    return Content(IMAGE, (text + "}").encode())
 
 
 def index(contents, subject=None):
     text = '{"schemaVersion":2,"manifests":%s' % listing(contents)
     return Content(INDEX, (text + (',"subject":' + descriptor(subject) if subject else "") + "}").encode())
+
+
+def wide_index(count):
+    """Return so many layers, and an index of them."""
+    layers = [Content(LAYER, b"%d" % number) for number in range(count)]
+    return [*layers, index(layers)]
+
+
+def chain(count):
+    """Return an empty config and so many images, each with the one before as its subject."""
+    contents = [E, image([])]
+    for _ in range(count - 1):
+        contents.append(image([], subject=contents[-1]))
+    return contents
 
 
 E = Content(EMPTY, b"{}")
@@ -60,6 +76,14 @@ I4 = index([I3])
 def blob(content):
     """Where the file of a content lies in a layout."""
     return "blobs/%s/%s" % (content.algorithm, digits(content))
+
+
+def write_items(folder, contents):
+    """Write each content into a file of its own, and return the items of `ocicp mem` that name these files."""
+    for number, content in enumerate(contents):
+        with open("%s/%d" % (folder, number), "wb") as file:
+            file.write(content.bytes)
+    return ["%s=%d" % (content.media_type, number) for number, content in enumerate(contents)]
 
 
 def write_layout(folder, contents, names, untagged=()):

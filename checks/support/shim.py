@@ -2,7 +2,7 @@
 import os
 import subprocess
 
-from program import PROGRAM, run
+from support.program import PROGRAM, run
 
 # Calls `on_change` before each call that would change a file or a folder, with the path, or with none for a write to an open file; and
 # before each call that waits for the disk, with SYNC. What it answers is the error of that call; 0 lets the call through.
@@ -83,6 +83,27 @@ static int on_change(const char *path) {
   return 0;
 }
 """
+
+# Each change is marked, and the process killed before one of them.
+KILLS = CHANGES + r"""
+static int on_change(const char *path) {
+  static int count;
+  mark();
+  if (__atomic_add_fetch(&count, 1, __ATOMIC_SEQ_CST) == atoi(getenv("LAST_CHANGE"))) kill(getpid(), SIGKILL);
+  return 0;
+}
+"""
+
+# The removal of one file is refused.
+KEEPS = CHANGES + r"""
+static int on_change(const char *path) {
+  const char *kept = getenv("KEPT");
+  size_t length = path ? strlen(path) : 0, end = strlen(kept);
+  return length >= end && strcmp(path + length - end, kept) == 0 ? EACCES : 0;
+}
+"""
+# No command that is killed before each of its changes makes more of them.
+MOST = 100
 
 
 def built(folder, name, source):

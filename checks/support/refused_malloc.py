@@ -1,6 +1,13 @@
 """Runs the program with one request for memory refused: the nth call of malloc, calloc or realloc. Wants `cc`."""
-import shim
+import functools
+import multiprocessing
+import os
 
+from support import shim
+from support.program import first
+
+# A batch ends where one of its runs made fewer requests. A command that makes more than MOST is not looked at whole.
+BATCH, MOST = 64, 4096
 
 SHIM = r"""
 #define _GNU_SOURCE
@@ -44,3 +51,16 @@ def run_refused(library, nth, words, folder, **how):
     """Runs a command with the nth request refused: whether it made so many, and how it ended. `how` goes to `run`."""
     marks, ended = shim.run_marked(library, words, folder, {"REFUSED_REQUEST": str(nth)}, **how)
     return marks > 0, ended
+
+
+def refused_in_turn(case, library, room, wrong):
+    """Refuses each request of a command in turn: how many it makes, and the first thing that is wrong, which `wrong` finds."""
+    os.mkdir(room)
+    with multiprocessing.Pool() as pool:
+        for start in range(1, MOST, BATCH):
+            runs = pool.map(functools.partial(wrong, case, library, room), range(start, start + BATCH), 4)
+            complaint = first(it for _, it in runs)
+            if complaint or not all(refused for refused, _ in runs):
+                count = start - 1 + sum(refused for refused, _ in runs)
+                return count, complaint or (None if count else "nothing was refused")
+    return MOST, "it makes more requests than these"

@@ -5,9 +5,9 @@ import shutil
 import subprocess
 import time
 
-import json_lines
-from harmful_folders import files
-from program import PROGRAM, SECONDS, Ended, told
+from support import json_lines
+from support.files import files
+from support.program import PROGRAM, SECONDS, Ended, told
 
 FORMS = ["lines", "json"]
 CHANGES = ["copy", "untag", "prune"]

@@ -2,7 +2,7 @@
 import json
 import os
 
-from pruning import Held, Key
+from support.pruning import Held, Key
 
 DESCRIPTOR = {"mediaType": str, "digest": str, "size": int}
 # A sum over this is a text.

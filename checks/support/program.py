@@ -6,12 +6,15 @@ import threading
 import time
 from collections import namedtuple
 
-from layouts import blob, key
+from support.layouts import blob, key
 
-TOP = os.path.dirname(os.path.dirname(os.path.abspath(__file__)))
+TOP = os.path.dirname(os.path.dirname(os.path.dirname(os.path.abspath(__file__))))
 PROGRAM = os.environ.get("OCICP", TOP + "/crates/ocicp/out/ocicp")
 # A run that takes longer is killed, and its status is then -9.
 SECONDS = 10
+
+# Another user, who may do less than root, for `run`.
+NOBODY = {"user": 65534, "group": 65534, "extra_groups": []}
 
 # `kilobytes` is the most memory that the run had at one time.
 Ended = namedtuple("Ended", "status out err seconds kilobytes")

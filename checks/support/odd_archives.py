@@ -5,8 +5,8 @@ import gzip
 import lzma
 import os
 
-from layouts import FOO, blob, digits
-from tar_files import (
+from support.layouts import FOO, blob, digits
+from support.tar_files import (
     BLOCK, END, GNU, V7, base256, comment_of, extended, header, long_name, member, old_sparse, octal, pax_sparse, record,
 )
 

@@ -1,0 +1,80 @@
+"""Copies from a layout in which something that would harm a careless reader is in the place of a file, and how each has to end."""
+import os
+import shutil
+
+from support.layouts import BAR, E, FOO, M2, image, key, write_layout
+from support.program import run, told
+
+SECONDS, KILOBYTES = 1, 32 << 10
+# The bytes of a file that belongs to no layout.
+SECRET = b"known to its owner alone"
+# The contents and the tags of a destination.
+PLAIN, PLAIN_TAGS = [BAR], {"layer": BAR}
+# The image that a destination has if it is harmed itself.
+OLD_IMAGE = image([BAR])
+CONTENTS = {
+    "the manifest": M2,
+    "the config": E,
+    "the layer": FOO,
+    "an old manifest": OLD_IMAGE,
+    "an old layer": BAR,
+    "a new layer": FOO,
+}
+
+# What a copy from a layout has to answer with each harm in the place of a file. What is not named here is no regular file, or is a
+# link in the place of a file that no digest checks. An empty answer is success.
+LEAF = {
+    "": ["88 Fetch KEY 22 Device"],
+    "a link to itself": ["74 Device", "88 Fetch KEY 22 Device"],
+    "a sparse file of 1 TB": ["88 Fetch KEY 21 Corrupt"],
+    "a link to another file": ["88 Fetch KEY 21 Corrupt"],
+    "a link to nothing": ["81 Plan 53 NotFound KEY"],
+}
+FROM = {
+    "oci-layout": {
+        "": ["74 Device"],
+        "a sparse file of 1 TB": ["memory", "71 BadLayoutFile"],
+    },
+    "index.json": {
+        "": ["74 Device"],
+        "a sparse file of 1 TB": ["memory", "73 BadIndex 10 NotJson"],
+    },
+    "the manifest": {
+        "": ["74 Device"],
+        "a sparse file of 1 TB": ["75 Corrupt KEY"],
+        "a link to another file": ["75 Corrupt KEY"],
+        "a link to nothing": ["36 UnknownReference"],
+    },
+    "the config": LEAF,
+    "the layer": LEAF,
+}
+
+
+def fresh(folder, old, tags):
+    """A source with an image, and a destination with old contents."""
+    shutil.rmtree(folder, ignore_errors=True)
+    os.mkdir(folder)
+    with open(folder + "/secret", "wb") as file:
+        file.write(SECRET)
+    write_layout(folder + "/source", [E, FOO, M2], {"new": M2})
+    write_layout(folder + "/copied", old, tags)
+
+
+def answers_to(table, file, harm):
+    """What a table wants as the answer."""
+    found = table[file].get(harm, table[file][""])
+    return [it.replace("KEY", key(CONTENTS.get(file, E))).replace("HOLDER", key(OLD_IMAGE)) for it in found]
+
+
+def wrong_copy(folder, wanted):
+    """What is wrong with the copy's answer, its time and its memory. The answer is to be one of those that are wanted."""
+    ended = run(["copy", "source", "new", "copied"], folder)
+    statuses = {"ocicp: %s\n" % it if it else "": 3 if it == "memory" else 1 if it else 0 for it in wanted}
+    if ended.status < 0:
+        return "it had not ended after %.0f seconds" % ended.seconds
+    if ended.status != statuses.get(ended.err):
+        return "%s, and not %s" % (told(ended), " or ".join(it or "success" for it in wanted))
+    if ended.seconds > SECONDS:
+        return "it took %.1f s" % ended.seconds
+    if ended.kilobytes > KILOBYTES:
+        return "it took %d KB" % ended.kilobytes

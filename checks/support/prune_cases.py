@@ -1,0 +1,139 @@
+"""Layouts to prune: made by hand, each with what goes, and made at random."""
+import os
+import shutil
+from collections import namedtuple
+
+from support.layouts import (
+    ARTIFACT, BAR, DOCKER_IMAGE, DOCKER_LIST, E, FOO, I1, IMAGE, INDEX, LAYER, M2, M3, S, Content, blob, descriptor, image, index, write_layout,
+)
+
+GZIP, FOREIGN = LAYER + "+gzip", "application/vnd.oci.image.layer.nondistributable.v1.tar"
+DRAFT = ".0123456789abcdef.new"
+STRAY, ZEROS = "blobs/sha256/" + "0" * 63 + "1", "0" * 64
+
+# Layers and images that no other sample has, and what refers to them.
+A, B, OLD = Content(LAYER, b"a layer"), Content(LAYER, b"b layer"), Content(LAYER, b"old layer")
+A_ZIPPED, LONG = A._replace(media_type=GZIP), A._replace(algorithm="sha512")
+OLD_IMAGE = image([A, OLD])
+LONG_IMAGE, OLD_LONG = image([LONG]), image([B], subject=M3)._replace(algorithm="sha512")
+SIGNED = image([B], subject=S)
+BILL = index([SIGNED], subject=S)
+OF_OLD, OF_BOTH = image([B], subject=OLD_IMAGE), image([], subject=I1)
+ALL = [E, FOO, B, M2]
+# (each refers to the one before)
+CHAIN = [M2]
+for _ in range(60):
+    CHAIN.append(image([], subject=CHAIN[-1]))
+
+# A layout: its contents, its tags, and what else is listed in its index; other files, each with its text; what goes, and what goes also
+# with --no-referrers, of contents and of files; contents of which the file stays, since another one has it; and whether all is there
+# that is kept.
+Case = namedtuple("Case", "contents tags untagged files goes referrers shared is_whole", defaults=[[], {}, [], [], [], True])
+CASES = {
+    "all is tagged": Case([E, FOO, BAR, M2, M3, I1], {"both": I1}),
+    "a layer is tagged": Case([FOO, BAR], {"layer": FOO}, [BAR], goes=[BAR]),
+    "an image without a tag": Case([E, FOO, M2, A, OLD, OLD_IMAGE], {"new": M2}, [OLD_IMAGE], goes=[A, OLD, OLD_IMAGE]),
+    "images that share a layer": Case([E, FOO, BAR, M2, M3], {"new": M2}, [M3], goes=[BAR, M3]),
+    "an index without a tag, of an image with one": Case([E, FOO, BAR, M2, M3, I1], {"new": M2}, [I1], goes=[BAR, M3, I1]),
+    "a layer without a tag that an image lists": Case([E, FOO, BAR, M2], {"new": M2}, [FOO, BAR], goes=[BAR]),
+    "two tags of one image": Case([E, FOO, BAR, M2, M3], {"a": M2, "b": M2}, [M3], goes=[BAR, M3]),
+    "one digest by two media types": Case([E, A, image([A]), image([A_ZIPPED])], {"new": image([A])}, [image([A_ZIPPED])],
+                                          goes=[A_ZIPPED, image([A_ZIPPED])], shared=[A]),
+    "an image also as a layer": Case([E, FOO, M2], {"layer": M2._replace(media_type=LAYER)}, [M2], goes=[E, FOO, M2],
+                                    shared=[M2]),
+    "one digest by two media types, without a tag": Case([E, FOO, M2, A], {"new": M2}, [A, A_ZIPPED], goes=[A, A_ZIPPED]),
+    "referrers of referrers": Case([*ALL, S, SIGNED, BILL], {"new": M2}, [S, BILL], referrers=[S, B, SIGNED, BILL]),
+    "a chain of referrers": Case([E, FOO, *CHAIN], {"new": M2}, [CHAIN[-1]], referrers=CHAIN[1:]),
+    "the other end of a chain of referrers": Case([E, FOO, *CHAIN], {"last": CHAIN[-1]}),
+    "a chain of referrers without a tag": Case([E, FOO, *CHAIN, A], {"layer": A}, [CHAIN[-1]], goes=[E, FOO, *CHAIN]),
+    "a referrer that is tagged": Case([*ALL, S, SIGNED], {"signature": S}, [M2, SIGNED], referrers=[B, SIGNED]),
+    "what refers to an image without a tag": Case([*ALL, A, OLD, OLD_IMAGE, OF_OLD], {"new": M2}, [OLD_IMAGE, OF_OLD],
+                                                  goes=[A, B, OLD, OLD_IMAGE, OF_OLD]),
+    "what refers to an image of a tagged index": Case([E, FOO, BAR, M2, M3, I1, S], {"both": I1}, [S], referrers=[S]),
+    "what refers to an index without a tag": Case([E, FOO, BAR, M2, M3, I1, OF_BOTH], {"new": M2}, [OF_BOTH], goes=[BAR, M3, I1, OF_BOTH]),
+    "an index lists what refers to its image": Case([*ALL, S, SIGNED, index([SIGNED])], {"new": M2}, [index([SIGNED])],
+                                                    goes=[index([SIGNED])], referrers=[S, B, SIGNED]),
+    "a subject that is not there": Case([E, B, OLD_LONG, FOO, M2], {"new": M2}, [OLD_LONG], goes=[B, OLD_LONG]),
+    "digests of sha512": Case([E, A, LONG, LONG_IMAGE, FOO, BAR, M3, B, OLD_LONG], {"new": LONG_IMAGE}, [OLD_LONG],
+                              {blob(OLD._replace(algorithm="sha512")): b"old", blob(A): A.bytes},
+                              goes=[FOO, BAR, M3, B, OLD_LONG, blob(OLD._replace(algorithm="sha512")), blob(A)]),
+    "blobs that nothing lists": Case([E, FOO, M2], {"new": M2}, [], {STRAY: b"stray", blob(BAR): BAR.bytes}, goes=[STRAY, blob(BAR)]),
+    "a layer that is not there": Case([E, FOO, M3], {"new": M3}, [], {STRAY: b""}, goes=[STRAY], is_whole=False),
+    "a config that is not there": Case([FOO, M2, BAR], {"new": M2}, [BAR], goes=[BAR], is_whole=False),
+    "a layer with other bytes": Case([E, M2], {"new": M2}, [], {blob(FOO): b"other"}, is_whole=False),
+    "an index without a tag lists what is not there": Case([E, FOO, M2, I1], {"new": M2}, [I1], goes=[I1]),
+    "drafts": Case([E, FOO, M2], {"new": M2}, [], {
+        it + DRAFT: b"draft" for it in ("index.json", "oci-layout", blob(FOO), blob(BAR), STRAY, "blobs/sha512/" + "f" * 128)
+    }, goes=[it + DRAFT for it in ("index.json", "oci-layout", blob(FOO), blob(BAR), STRAY, "blobs/sha512/" + "f" * 128)]),
+    "files with other names": Case([E, FOO, M2], {"new": M2}, [], {it: b"other" for it in [
+        "blobs/" + ZEROS, "blobs/sha384/" + ZEROS, "blobs/sha256/other", "blobs/sha256/" + ZEROS[1:], "blobs/sha256/%s0" % ZEROS,
+        "blobs/sha256/%sF" % ZEROS[1:], "blobs/sha256/%sg" % ZEROS[1:], "blobs/sha256/sha256:" + ZEROS, "blobs/sha256/%s." % ZEROS,
+        "blobs/sha256/%s\n" % ZEROS, "blobs/sha256/%s\udcff" % ZEROS[1:], "blobs/sha256/" + ZEROS * 2, "blobs/sha512/" + ZEROS,
+        "blobs/sha256/%s.new" % ZEROS, "blobs/sha256/%s.0.new" % ZEROS, "blobs/sha256/other" + DRAFT, "blobs/index.json" + DRAFT,
+        "other" + DRAFT, "manifest.json", "sha256/" + ZEROS, ZEROS,
+    ]}),
+    "folders in the place of blobs": Case([E, FOO, M2], {"new": M2}, [], {
+        "%s/%s" % (STRAY, ZEROS): b"in", "blobs/sha256/%s/in" % ZEROS: b"in", "index.json%s/in" % DRAFT: b"in", "blobs/sha512/in/in": b"in",
+    }),
+    "a layer that is not distributed": Case([E, FOO, image([FOO]), image([FOO._replace(media_type=FOREIGN), BAR])],
+                                            {"new": image([FOO._replace(media_type=FOREIGN), BAR])}, [image([FOO])],
+                                            goes=[FOO, image([FOO])], is_whole=False),
+}
+
+
+def write_case(folder, case):
+    shutil.rmtree(folder, ignore_errors=True)
+    write_layout(folder, case.contents, case.tags, case.untagged)
+    for path, written in case.files.items():
+        os.makedirs(os.path.dirname("%s/%s" % (folder, path)), exist_ok=True)
+        with open("%s/%s" % (folder, path), "wb") as file:
+            file.write(written)
+
+
+# By kind, the members of a manifest: whether each is one content or a list of them, and whether it may be absent.
+SHAPES = {
+    IMAGE: [("subject", "one", True), ("config", "one", False), ("layers", "list", True)],
+    INDEX: [("subject", "one", True), ("manifests", "list", True)],
+    DOCKER_IMAGE: [("config", "one", False), ("layers", "list", True)],
+    DOCKER_LIST: [("manifests", "list", True)],
+    ARTIFACT: [("subject", "one", True), ("blobs", "list", True)],
+}
+
+
+def random_manifest(chance, contents, number):
+    kind = chance.choice([*SHAPES])
+    members = ['"number":%d' % chance.choice([number, 0])]
+    # (a kind without a subject may have a member of this name, which counts for nothing)
+    for name, shape, is_optional in SHAPES[kind] + [("subject", "one", True)] * (kind in (DOCKER_IMAGE, DOCKER_LIST)):
+        if is_optional and chance.random() < 0.2:
+            continue
+        listed = [descriptor(chance.choice(contents)) for _ in range(chance.randrange(3) if shape == "list" else 1)]
+        members.append('"%s":%s' % (name, "[%s]" % ",".join(listed) if shape == "list" else listed[0]))
+    return Content(kind, ("{%s}" % ",".join(members)).encode(), chance.choice(["sha256"] * 4 + ["sha512"]))
+
+
+def random_contents(chance):
+    """Leaves of few bytes and media types, and manifests of them and of each other."""
+    leaves = [Content(chance.choice([LAYER, GZIP]), b"%d" % chance.randrange(3), chance.choice(["sha256", "sha512"])) for _ in range(4)]
+    contents = list(dict.fromkeys(leaves))
+    for number in range(chance.randrange(1, 9)):
+        contents.append(random_manifest(chance, contents, number))
+        if chance.random() < 0.1:
+            # (the same bytes by another media type)
+            contents.append(contents[-1]._replace(media_type=LAYER))
+    return list(dict.fromkeys(contents))
+
+
+def write_random(folder, chance):
+    contents = random_contents(chance)
+    manifests = [it for it in contents if it.media_type in SHAPES] or contents
+    shutil.rmtree(folder, ignore_errors=True)
+    tagged = {name: chance.choice(manifests) for name in "abc"[: chance.choice([0, 1, 1, 1, 2, 3])]}
+    untagged = [it for it in contents if chance.random() < 0.5]
+    lost = [it for it in contents if chance.random() < (0.02 if it.media_type in SHAPES else 0.1) and it not in untagged]
+    here = [it for it in contents if blob(it) not in set(map(blob, lost))]
+    write_layout(folder, here, tagged, untagged)
+    for number in range(chance.randrange(3)):
+        stray = "%s/blobs/sha256/%064x" % (folder, chance.randrange(1 << 256))
+        with open(stray + chance.choice(["", "", DRAFT, ".old"]), "wb") as file:
+            file.write(b"x" * number)

@@ -1,0 +1,66 @@
+"""A layout that is pruned again and again, and its states between a prune that is ended or refused and the next one."""
+import shutil
+
+from support.files import files
+from support.layouts import BAR, E, FOO, I1, LAYER, M2, M3, S, Content, image, write_layout
+from support.program import first, run, told, wrong_layout
+from support.pruning import Prune
+
+OLD = Content(LAYER, b"old layer")
+OLD_IMAGE = image([BAR, OLD])
+CONTENTS, TAGS, UNTAGGED = [E, FOO, BAR, OLD, M2, M3, I1, OLD_IMAGE, S], {"new": M2, "also": S}, [I1, OLD_IMAGE]
+STRAYS = ["blobs/sha256/%064x" % 1, "blobs/sha256/%s.0123456789abcdef.new" % ("f" * 64), "index.json.0123456789abcdef.new"]
+
+
+class Layout:
+    """A layout that is pruned again and again. Without `untagged` no held key goes, so that `index.json` is not written."""
+
+    def __init__(self, room, untagged):
+        self.room, self.untagged = room, untagged
+        self.fresh()
+        self.prune = Prune(room + "/layout")
+        self.before = files(room + "/layout")
+        self.whole = run(["prune", "layout"], room)
+        self.after = files(room + "/layout")
+
+    def fresh(self):
+        """Puts the layout into the state that it has before."""
+        shutil.rmtree(self.room + "/layout", ignore_errors=True)
+        write_layout(self.room + "/layout", CONTENTS if self.untagged else [E, FOO, M2, S], TAGS, self.untagged)
+        for path in STRAYS:
+            with open("%s/layout/%s" % (self.room, path), "w") as file:
+                file.write("stray")
+
+    def gone(self):
+        """The files that are gone."""
+        return sorted(set(self.before) - set(files(self.room + "/layout")))
+
+    def saved(self):
+        return files(self.room + "/layout")["index.json"] == self.after["index.json"]
+
+    def wrong_whole(self):
+        """What is wrong with a prune that was not ended, and with what it left."""
+        return first([
+            None if self.whole[:3] == (0, self.prune.out, "") else told(self.whole),
+            None if self.gone() == self.prune.gone else "these files are gone: %s" % self.gone(),
+            wrong_layout(self.room, "layout", self.prune.kept, TAGS),
+        ])
+
+    def wrong_state(self):
+        """What is wrong with the layout when a prune has not finished. It holds what it did, or what is to be kept, and has each file of
+        that; no file is gone before the index is saved."""
+        held = self.prune.kept if self.saved() else self.prune.held.keys
+        return first([
+            wrong_layout(self.room, "layout", held, TAGS),
+            None if self.saved() or not self.gone() else "a file is gone before the index is saved",
+            None if set(self.gone()) <= set(self.prune.gone) else "these files are gone: %s" % self.gone(),
+        ])
+
+    def wrong_again(self):
+        """What is wrong with the same prune, made again: it leaves what one leaves that was not ended."""
+        prune = Prune(self.room + "/layout")
+        ended = run(["prune", "layout"], self.room)
+        return first([
+            None if ended[:3] == (0, prune.out, "") else "the same prune again: " + told(ended),
+            None if files(self.room + "/layout") == self.after else "the same prune again leaves something else",
+        ])
