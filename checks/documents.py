@@ -6,11 +6,12 @@ import re
 
 from support.program import TOP, first
 
-DOCUMENTS = ["README.md", "CHANGELOG.md"]
+CHANGELOG = "CHANGELOG.md"
+DOCUMENTS = ["README.md", CHANGELOG]
 DOCUMENTS += sorted(os.path.relpath(path, TOP) for path in glob.glob(TOP + "/docs/*.md"))
 LINK = re.compile(r"\[[^]]*\]\(([^)\s]+)\)")
 # A path from the top of the repository, without a pattern in it.
-PATH = re.compile(r"`((?:crates|checks|bench|docs|release|examples)/[\w./-]*)`")
+PATH = re.compile(r"`((?:crates|checks|bench|docs|release|examples|tools)/[\w./-]*)`")
 # Folders of what a build makes.
 BUILT = "/out/"
 CALLS = "| Crate | Functions, each called by the one before |"
@@ -27,8 +28,14 @@ def prose(path):
     return re.sub(r"^```.*?^```$", "", read(path), flags=re.M | re.S)
 
 
+def named_paths(document):
+    """Return the paths that a document names. In the changelog only the newest version counts, since files are moved."""
+    text = prose(document)
+    return PATH.findall(text.split("\n## ")[1] if document == CHANGELOG else text)
+
+
 def anchors(path):
-    """The names of a document's sections, as links have them."""
+    """Return the names of a document's sections, as links have them."""
     titles = re.findall(r"^#+ (.*)$", prose(path), re.M)
     return {re.sub(r"[^\w -]", "", title).lower().replace(" ", "-") for title in titles}
 
@@ -73,8 +80,6 @@ def wrong_calls():
 
 def checks(room):
     for document in DOCUMENTS:
-        text = prose(document)
-        links, paths = LINK.findall(text), PATH.findall(text)
-        yield "links of " + document, first(wrong_link(document, target) for target in links)
-        yield "paths of " + document, first(wrong_path(path) for path in paths)
+        yield "links of " + document, first(wrong_link(document, target) for target in LINK.findall(prose(document)))
+        yield "paths of " + document, first(wrong_path(path) for path in named_paths(document))
     yield "the way of a layer", wrong_calls()

@@ -1,4 +1,4 @@
-"""The manual page and the completions: whether they are what docs/manual makes, and what the shells do with them."""
+"""The manual page and the completions: whether they are what tools/manual makes, and what the shells do with them."""
 import os
 import shutil
 import subprocess
@@ -65,10 +65,10 @@ def checks(room):
     os.symlink(PROGRAM, room + "/bin/ocicp")
     open(room + "/file", "w").close()
     write_layout(room + "/source", [E, FOO, M2], {"v1": M2, "v2": M2, HARMFUL: M2})
-    said = printed([TOP + "/docs/manual", room], room)
+    said = printed([TOP + "/tools/manual", room], room)
     for file in FILES:
         same = not said and read("%s/%s" % (room, file)) == read("%s/docs/%s" % (TOP, file))
-        yield "docs/%s is up to date" % file, None if same else said or "docs/manual makes another one: run it"
+        yield "docs/%s is up to date" % file, None if same else said or "tools/manual makes another one: run it"
     for file, words in LINTS:
         if shutil.which(words[0]):
             yield "%s of docs/%s" % (" ".join(words), file), printed([*words, file], room) or None

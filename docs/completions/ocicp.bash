@@ -1,4 +1,4 @@
-# Completes the words of ocicp in bash. docs/manual makes this file from the help texts of the program.
+# Completes the words of ocicp in bash. tools/manual makes this file from the help texts of the program.
 _ocicp() {
   local word=${COMP_WORDS[COMP_CWORD]} flags='' valued='' last='' kinds=() words=() at line
   COMPREPLY=()
