@@ -1,8 +1,8 @@
 """Checks of the built program that no test of a crate can make. Usage: python3 checks [NAME..]
 
-Each file beside this one is a check, and all are run, or those that are named. Its function `checks` takes a new folder, and yields the
-name of each check and the problem that it found, or None. The last line says how many passed and how many failed. What several checks
-use is in support/.
+Each file beside this one is a check. Without a NAME all of them are run. The function `checks` of a file takes a new folder, and yields the
+name of each check and the problem that it found, or None. The last line says how many passed and how many failed. The package `support` has
+the code that several checks use.
 """
 import importlib
 import os
@@ -16,7 +16,7 @@ import time
 HERE = os.path.dirname(os.path.abspath(__file__))
 # The most memory that a run may take.
 MEMORY = 8 << 30
-# The time in which all of them should end. Each file bounds the number of its runs.
+# The time in which all should end. Each file bounds the number of its runs.
 SECONDS = 180
 ENDED = re.compile(r"(\d+) passed, (\d+) failed\n")
 

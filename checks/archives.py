@@ -1,4 +1,4 @@
-"""Tar archives in the place of folders: each command answers as it does of the folder, and what is damaged is refused."""
+"""Tar archives in the place of folders: each command prints the same as for the folder, and damaged archives are refused."""
 import functools
 import hashlib
 import os
@@ -13,7 +13,7 @@ from support.odd_archives import PLACES, allowed, damaged, each, headers_for_lon
 from support.program import NOBODY, first, leftovers, run, told, wrong_layout
 from support.tar_files import BLOCK, END, base256, extended, header, member, pack
 
-# `SRC` stands for the folder or the archive, and `DST` for the folder that is copied into.
+# `SRC` is the folder or the archive, and `DST` the folder to copy into.
 LOOKS = [
     "tags SRC",
     "verify SRC",
@@ -31,7 +31,7 @@ COPIES = [
     "copy --referrers --workers 3 SRC new DST",
 ]
 ALL = [*LOOKS, *COPIES, "copy --dry-run SRC new DST", "copy --all --referrers --dry-run SRC DST"]
-# For archives of which there are many. (By one worker, since a copy by more that is refused may leave one or another blob.)
+# The commands for archives of which there are many. (By one worker, since a refused copy by more may leave one or another blob.)
 FEW = ["verify SRC", "copy --all --workers 1 SRC DST"]
 REFUSED = ["tags SRC", "copy --all SRC DST"]
 ONTO_FILES = [
@@ -67,25 +67,25 @@ def write_short(folder):
 
 
 def write_long(folder):
-    """A layout that has also an image by digests of sha512."""
+    """Write a layout that also has an image with SHA-512 digests."""
     write_layout(folder, [*CONTENTS_OF_SHORT, LONG_LAYER, LONG], {**TAGS_OF_SHORT, "long": LONG})
     write(folder + "/manifest.json", OTHER_FILE)
 
 
 def sums(folder):
-    """The files below a folder, each with the sum of its bytes, or none if there is no such folder."""
+    """Return the files below a folder, each with the sum of its bytes, or None if there is no such folder."""
     paths = [os.path.join(at, name) for at, _, names in os.walk(folder) for name in names]
     return {os.path.relpath(it, folder): hashlib.sha256(read(it)).hexdigest() for it in paths} if os.path.isdir(folder) else None
 
 
 def files_of(folder):
-    """The files of a layout, each with its path in it: those at its root, and then the blobs."""
+    """Return the files of a layout, each with its path in it: first the files at its root, then the blobs."""
     paths = sorted(sums(folder), key=lambda it: (it.startswith("blobs"), it))
     return [(it.encode(), read("%s/%s" % (folder, it))) for it in paths]
 
 
 def answer(room, source, command):
-    """How a command with this source ended, and the files that it copied."""
+    """Run a command with this source, and return its end and the files that it copied."""
     shutil.rmtree(room + "/copied", ignore_errors=True)
     named = {"SRC": source, "DST": "copied"}
     ended = run([named.get(it, it) for it in command.split()], room)
@@ -105,7 +105,7 @@ def wrong_command(room, archive, folder, command):
 
 
 def wrong_archive(room, archive, folder, commands):
-    """What is wrong with an archive of which each command is to answer as of the folder. It stays as it was."""
+    """Return the problem with an archive, or None. Each command is to print the same for it as for the folder, and not to change it."""
     before = read("%s/%s" % (room, archive))
     return first([
         first(wrong_command(room, archive, folder, it) for it in commands),
@@ -119,7 +119,7 @@ def wrong_by_hand(room, written, folder):
 
 
 def wrong_refusal(room, written, line, commands=REFUSED):
-    """What is wrong with how an archive is refused, which is to be with this line or with one of these, and to change nothing."""
+    """Return the problem with the refusal of an archive, or None. It is to print this line, or one of these, and to change nothing."""
     write(room + "/by-hand.tar", written)
     lines = [line] if isinstance(line, str) else line
     for command in commands:
@@ -132,7 +132,7 @@ def wrong_refusal(room, written, line, commands=REFUSED):
 
 
 def wrong_folder(room, folder):
-    """What is wrong with a folder of which each command is to succeed."""
+    """Return the problem with a folder for which each command is to succeed, or None."""
     for command in ALL:
         ended, files = answer_of_folder(room, folder, command)
         if ended.status or ended.err or not ended.out or bool(files) != (command in COPIES):
@@ -140,7 +140,7 @@ def wrong_folder(room, folder):
 
 
 def by_archivers(room):
-    """Archives of GNU tar and of Python, of the folder itself and of the names in it."""
+    """Check archives that GNU tar and Python make, of the folder itself and of the names in it."""
     is_gnu = shutil.which("tar") and b"GNU tar" in subprocess.run(["tar", "--version"], capture_output=True).stdout
     if not is_gnu:
         yield "archives of GNU tar are not looked at, since it is not here", None
@@ -158,7 +158,7 @@ def by_archivers(room):
 
 
 def by_hand(room):
-    """Archives that no archiver makes, of a layout and of layouts that lack a file or have another one."""
+    """Check archives that no archiver makes, of a layout and of layouts that lack a file or have another one."""
     files = files_of(room + "/short")
     for label, written in allowed(files):
         yield label, wrong_by_hand(room, written, "short")
@@ -179,7 +179,7 @@ def by_hand(room):
 
 
 def changed_folder(room, path, content):
-    """The name of a new folder of the short layout in which a file is gone or has this content."""
+    """Write the short layout into a new folder, without a file or with other content in it, and return the folder's name."""
     name = ("%s %s" % (path, content)).replace("/", " ")
     write_short("%s/%s" % (room, name))
     changed = "%s/%s/%s" % (room, name, path)
@@ -190,8 +190,8 @@ def changed_folder(room, path, content):
 
 
 def wrong_place(room, file, make, harm="a folder", length=0):
-    """What is wrong with a copy from an archive in which something that `make` makes is last and in the place of a file, and is to act
-    as that harm does. So many zeros follow it."""
+    """Return the problem with a copy from an archive, or None. At its end it has a member in the place of a file, which `make` makes and
+    which is to act like that harm. This number of zeros follows it."""
     fresh(room, PLAIN, PLAIN_TAGS)
     path = (blob(CONTENTS[file]) if file in CONTENTS else file).encode()
     files = dict(files_of(room + "/source"))
@@ -207,7 +207,7 @@ def wrong_place(room, file, make, harm="a folder", length=0):
 
 
 def places(room):
-    """Archives in which what is no file, or a huge one, is in the place of a file."""
+    """Check archives that have no regular file, or a huge one, in the place of a file."""
     for file in FROM:
         for what, make in PLACES.items():
             yield "%s in the place of %s" % (what, file), wrong_place(room + "/room", file, make)
@@ -216,7 +216,7 @@ def places(room):
 
 
 def huge(room):
-    """Archives that have a member of 1 TB before all others."""
+    """Check archives that have a member of 1 TB before all others."""
     files = each(files_of(room + "/short"))
     sizes = {"base 256": header(b"other", base256(HUGE)), "pax": extended((b"size", b"%d" % HUGE)) + header(b"other")}
     for label, start in sizes.items():
@@ -233,7 +233,8 @@ def huge(room):
 
 
 def refused(room):
-    """Damaged archives, files that are none, and one that cannot be read. What is no file is a folder without a layout."""
+    """Check damaged archives, files that are no archives, and a file that cannot be read. If it is not a regular file, it counts as a
+    folder without a layout."""
     for label, written, line in damaged(files_of(room + "/short")):
         yield label, wrong_refusal(room, written, line)
     yield "each command with a damaged archive", wrong_refusal(room, b"no archive", "100 NotArchive", ALL)
@@ -245,7 +246,7 @@ def refused(room):
 
 
 def unreadable(room):
-    """The check of a file that may not be read, as another user if this one may read each file."""
+    """Check a file that may not be read, as another user if this one may read every file."""
     path = room + "/unreadable.tar"
     write(path, END)
     os.chmod(path, 0)
@@ -258,7 +259,7 @@ def unreadable(room):
 
 
 def onto_files(room):
-    """Copies onto files, of which none is changed, whatever the source is."""
+    """Check that copies onto files change none of them, whatever the source is."""
     archive = each(files_of(room + "/short")) + END
     for name, written in ("kept.tar", archive), ("kept", b"a text\n"), ("empty", b""), ("broken.tar", b"no archive"):
         write("%s/%s" % (room, name), written)
@@ -278,7 +279,7 @@ def wrong_onto(room, path, command):
 
 
 def by_workers(room):
-    """An archive of many layers that are read at once."""
+    """Check an archive of many layers that are read at once."""
     layers = [Content(LAYER, os.urandom(300 << 10)) for _ in range(50)]
     images = [image(layers[start:start + 10]) for start in range(0, 50, 10)]
     write_layout(room + "/many", [E, *layers, *images, index(images)], {"new": index(images)})
@@ -292,6 +293,6 @@ def checks(room):
     write_long(room + "/long")
     for folder in "short", "long":
         yield "the folder %s itself" % folder, wrong_folder(room, folder)
-    # (`places` before all that makes this process large: the memory of a run counts what its parent has)
+    # (`places` first, before this process becomes large, since the memory of a run includes the memory of its parent)
     for group in places, by_archivers, by_hand, huge, refused, onto_files, by_workers:
         yield from group(room)

@@ -12,7 +12,7 @@ DOCUMENTS += sorted(os.path.relpath(path, TOP) for path in glob.glob(TOP + "/doc
 LINK = re.compile(r"\[[^]]*\]\(([^)\s]+)\)")
 # A path from the top of the repository, without a pattern in it.
 PATH = re.compile(r"`((?:crates|checks|bench|docs|release|examples|tools)/[\w./-]*)`")
-# Folders of what a build makes.
+# Folders that a build makes.
 BUILT = "/out/"
 CALLS = "| Crate | Functions, each called by the one before |"
 STANDARD = "std"
@@ -24,7 +24,7 @@ def read(path):
 
 
 def prose(path):
-    """A document without its fenced blocks."""
+    """Return a document without its fenced blocks."""
     return re.sub(r"^```.*?^```$", "", read(path), flags=re.M | re.S)
 
 
@@ -41,7 +41,7 @@ def anchors(path):
 
 
 def wrong_link(document, target):
-    """What is wrong with a link of a document, or none. Links into the network are not followed."""
+    """Return the problem with a link of a document, or None. Links into the network are not followed."""
     if re.match(r"\w+:", target):
         return None
     path, _, anchor = target.partition("#")
@@ -53,19 +53,19 @@ def wrong_link(document, target):
 
 
 def wrong_path(path):
-    """What is wrong with a path that a document names. One that a build makes need not be there."""
+    """Return the problem with a path that a document names, or None. The path of something that a build makes need not exist."""
     if BUILT not in path and not os.path.exists(os.path.join(TOP, path)):
         return "there is no %s" % path
 
 
 def sources(crate):
-    """The sources of a crate as one text."""
+    """Return the sources of a crate as one text."""
     paths = glob.glob("%s/crates/%s/src/**/*.rt" % (TOP, crate), recursive=True)
     return "\n".join(read(path) for path in paths)
 
 
 def wrong_calls():
-    """The first function of the table in docs/map.md that its crate does not have."""
+    """Return a message about the first function of the table in docs/map.md that its crate does not have, or None."""
     rows = read("docs/map.md").split(CALLS, 1)[1].split("\n\n", 1)[0].splitlines()[2:]
     for crate, functions, *_ in (row.strip("|").split("|") for row in rows):
         crate = crate.strip(" `")

@@ -8,9 +8,9 @@ from support import shim
 from support.layouts import BAR, E, FOO, LAYER, M2, Content, blob, image, key, write_layout
 from support.program import first, leftovers, run, told, wrong_layout
 
-# Of so many kills of a large copy, spread over its time, so many are to come while it runs.
+# The number of kills of a large copy, spread over its time, and how many of them at least have to happen while it runs.
 KILLS, ENDED = 20, 5
-# A small copy is killed before each of its changes. So many kills are to leave a file that is not whole.
+# A small copy is killed before each of its changes. At least this number of kills has to leave a file that is not whole.
 HALF = 3
 MEGABYTE = 1 << 20
 LAYERS = [Content(LAYER, b"%7d\n" % number * (MEGABYTE // 8)) for number in range(40)]
@@ -33,7 +33,7 @@ class Copy:
         self.words = ["copy", source, "new", "copied"]
 
     def fresh(self):
-        """Puts the destination into the state that it has before."""
+        """Restore the destination to its state before the copy."""
         shutil.rmtree(self.room + "/copied", ignore_errors=True)
         if self.old:
             write_layout(self.room + "/copied", self.old.values(), self.old)
@@ -45,7 +45,7 @@ class Copy:
         return wrong_layout(self.room, "copied", [*self.old.values(), *self.contents], {**self.old, "new": self.image})
 
     def wrong_state(self):
-        """What is wrong with the destination after the copy did not finish. It may have been saved by then."""
+        """Return the problem with the destination after a copy that did not finish, or None. The copy may have been saved by then."""
         if not self.old and not os.path.exists(self.room + "/copied/oci-layout"):
             return None
         old = self.wrong_old()
@@ -55,7 +55,7 @@ class Copy:
         return leftovers(self.room + "/copied", [*self.old.values(), *self.contents])
 
     def wrong_again(self):
-        """What is wrong with the same copy, made again: it brings all, and nothing else is left."""
+        """Repeat the copy, and return the problem with it, or None. It is to copy everything, and to leave nothing else behind."""
         ended = run(self.words, self.room, seconds=30)
         if ended.status != 0 or ended.err or not ended.out.startswith("copied %s\n" % key(self.image)):
             return "the same copy again: " + told(ended)
@@ -63,7 +63,7 @@ class Copy:
 
 
 def killed_by_time(copy):
-    """Kills a copy at several moments of its time."""
+    """Kill a copy at several moments of its time."""
     copy.fresh()
     whole = run(copy.words, copy.room, seconds=60).seconds
     killed = 0
@@ -75,7 +75,7 @@ def killed_by_time(copy):
 
 
 def killed_by_change(copy, library, what):
-    """Kills a copy before each change that it makes to a file or folder."""
+    """Kill a copy before each change that it makes to a file or folder."""
     words, half = ["copy", "--workers", "1", *copy.words[1:]], 0
     for number in range(1, shim.MOST + 1):
         copy.fresh()
@@ -90,10 +90,11 @@ def killed_by_change(copy, library, what):
 
 
 def short_of_room(copy, most, wanted):
-    """What is wrong after a copy that can write no file of more than so many bytes, and is to be refused with one of these lines."""
+    """Return the problem after a copy that can write no file of more than MOST bytes, or None. It is to be refused with one of these
+    lines."""
     copy.fresh()
     limit = lambda: resource.setrlimit(resource.RLIMIT_FSIZE, (most, most))
-    # Python ignores the signal of this limit, and so does the program then: it is told by the system that it cannot write.
+    # Python ignores the signal of this limit, and then the program does too. The system returns an error for the write.
     ended = run(copy.words, copy.room, preexec_fn=limit, restore_signals=False)
     return first([
         None if ended.status == 1 and ended.err in ["ocicp: %s\n" % it for it in wanted] else "without room: " + told(ended),
@@ -116,6 +117,6 @@ def checks(room):
     yield from killed_by_change(Copy(room, "small", {}), library, "a copy into a folder that is not there")
     yield from killed_by_time(Copy(room, "large", OLD))
     for source, most in ("large", 0), ("large", 10), ("large", 1000), ("large", MEGABYTE - 1), ("long", 3 * MEGABYTE // 2):
-        # (what is too large for the limit; of a copy by workers any of it may be refused first)
+        # (the contents that are too large for the limit; if workers copy, any of these may be refused first)
         wanted = ["82 Push %s 43 Device" % key(it) for it in SOURCES[source] if len(it.bytes) > most]
         yield "no room for files of more than %d bytes" % most, short_of_room(Copy(room, source, OLD), most, wanted)

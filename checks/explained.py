@@ -10,12 +10,12 @@ from support.tables import table
 NUMBERS = range(256)
 # The fault of the program, as docs/refusals.md calls it.
 PROGRAM = {"ProgramFault": "ocicp"}
-# A fault's type, or the number and the name with which a fault is printed.
+# A fault's type, or the number and the name that a fault prints.
 DECLARED = re.compile(r'pub enum (\w+)|#\[error\("(\d+) (\w+)')
 
 
 def declared():
-    """The type and the name of each fault in the crates, after its number."""
+    """Yield the number of each fault in the crates, with its type and its name."""
     for path in sorted(glob.glob(TOP + "/crates/*/src/**/*.rt", recursive=True)):
         with open(path) as file:
             for above, number, name in DECLARED.findall(file.read()):
@@ -25,7 +25,7 @@ def declared():
 
 
 def listed():
-    """The same in docs/refusals.md, where a cell has the type before the name if it is another than above."""
+    """Yield the same from docs/refusals.md. A cell has the type before the name if it is another than in the row above."""
     for row in table("/docs/refusals.md", "# Refusals"):
         *above, name = row[1].split()
         kind = above[0].strip("`") if above else kind
@@ -33,15 +33,15 @@ def listed():
 
 
 def used():
-    """The numbers in the error lines of README.md, each with the name after it, or none."""
+    """Yield the numbers in the error lines of README.md, each with the name after it, or None."""
     for row in table("/README.md", "## Errors"):
         for line in re.findall(r"`([^`]*)`", row[1]):
             yield from re.findall(r"(\d+)(?: ([A-Z]\w*[a-z]\w*))?", line)
 
 
 def wrong_list(faults, rows):
-    """What is wrong with the rows of docs/refusals.md, which are to be the faults of the crates, each once. A number that two
-    types have is to have one name."""
+    """Return the problem with the rows of docs/refusals.md, or None. They are to be the faults of the crates, each once. If two types have
+    one number, it is to have one name."""
     names = {number: name for number, _, name in rows}
     twice = [it for it in rows if rows.count(it) > 1 or names[it[0]] != it[2]]
     missing, extra = sorted(set(faults) - set(rows)), sorted(set(rows) - set(faults))
@@ -54,7 +54,7 @@ def wrong_list(faults, rows):
 
 
 def wrong_explanation(number, name, folder):
-    """What is wrong with the answer of `explain` for a number that has this name, or none where no refusal has it."""
+    """Return the problem with the output of `explain`, or None. The number has this name, or is not used if the name is None."""
     ended = run(["explain", str(number)], folder)
     if name is None:
         right = ended.status == 2 and not ended.out
@@ -66,7 +66,7 @@ def wrong_explanation(number, name, folder):
 
 
 def wrong_use(number, name, names):
-    """What is wrong with a number in README.md, and the name after it."""
+    """Return the problem with a number in README.md and the name after it, or None."""
     if int(number) not in names:
         return "README.md has %s, docs/refusals.md does not" % number
     if name and names[int(number)] != name:

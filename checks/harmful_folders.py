@@ -1,4 +1,4 @@
-"""Copies from and into layouts in which something stands in the place of a file that would harm a careless reader."""
+"""Copies from and into layouts that have something in the place of a file that would harm a careless reader."""
 import os
 import re
 import stat
@@ -10,12 +10,12 @@ from support.program import first, leftovers, run, told, wrong_layout
 
 
 def device(path):
-    """Makes /dev/zero anew, which root alone may do, and not everywhere."""
+    """Make a copy of /dev/zero, which only root may do, and not everywhere."""
     os.mknod(path, stat.S_IFCHR | 0o666, os.makedev(1, 5))
 
 
 def elsewhere(path):
-    """Links to the file `secret`, which lies beside the layouts."""
+    """Link to the file `secret` beside the layouts."""
     os.symlink(re.sub("/(source|copied)/.*", "/secret", path), path)
 
 
@@ -35,8 +35,8 @@ HARMS = {
     "a link to nothing": lambda path: os.symlink("nothing", path),
 }
 
-# The same of a copy into a layout. A link in the place of a new layer is replaced, and not followed. An old layer is not read by a
-# copy, and is held where a file of its name is there; without one the destination is not closed.
+# The answers of a copy into such a layout. A link in the place of a new layer is replaced, and not followed. A copy does not read an old
+# layer, and holds it if there is a file with its name; otherwise the destination is not closed.
 INTO = {
     "oci-layout": FROM["oci-layout"],
     "index.json": FROM["index.json"],
@@ -47,9 +47,9 @@ INTO = {
 
 OLD, TAGS = [E, BAR, OLD_IMAGE], {"layer": BAR, "old": OLD_IMAGE}
 NEW = [FOO, M2]
-# The tags and blobs that are there after a copy into such a layout that succeeded, where these are not all.
+# The tags and blobs after a copy into such a layout that succeeded, if these are not all.
 LEFT = {"an old manifest": ({"layer": BAR}, [BAR, E, *NEW])}
-# What `verify` says then of an old layer that is no regular file or has other bytes.
+# The findings of `verify` if an old layer is no regular file or has other bytes.
 VERIFIED = {
     "a sparse file of 1 TB": "corrupt %s\nheld 5\n" % key(BAR),
     "a link to another file": "corrupt %s\nheld 5\n" % key(BAR),
@@ -57,7 +57,7 @@ VERIFIED = {
 
 
 def harmed(folder, file, harm):
-    """Puts the harm into the place of a file."""
+    """Put the harm in the place of a file."""
     path = "%s/%s" % (folder, blob(CONTENTS[file]) if file in CONTENTS else file)
     if os.path.exists(path):
         os.remove(path)
@@ -65,7 +65,7 @@ def harmed(folder, file, harm):
 
 
 def wrong_secret(folder):
-    """What is wrong with the file that belongs to no layout: it is as it was, and no layout has its bytes."""
+    """Return the problem with the file that belongs to no layout, or None. It is to be unchanged, and no layout to have its bytes."""
     if read(folder + "/secret") != SECRET:
         return "a file of no layout was written to"
     for path, found in files(folder + "/copied").items():
@@ -74,7 +74,7 @@ def wrong_secret(folder):
 
 
 def wrong_from(folder, file, harm):
-    """What is wrong with a copy from a layout that has the harm in the place of a file."""
+    """Return the problem with a copy from a layout that has the harm in the place of a file, or None."""
     fresh(folder, PLAIN, PLAIN_TAGS)
     harmed(folder + "/source", file, harm)
     return first([
@@ -86,7 +86,7 @@ def wrong_from(folder, file, harm):
 
 
 def wrong_into(folder, file, harm):
-    """What is wrong with a copy into a layout that has the harm in the place of a file. A refused one changes no file."""
+    """Return the problem with a copy into a layout that has the harm in the place of a file, or None. A refused copy changes no file."""
     fresh(folder, OLD, TAGS)
     harmed(folder + "/copied", file, harm)
     before = files(folder + "/copied")
@@ -104,7 +104,7 @@ def wrong_into(folder, file, harm):
 
 
 def wrong_held(folder, harm):
-    """What is wrong with a destination in which an old layer is held that is no regular file or has other bytes."""
+    """Return the problem with a destination that holds an old layer which is no regular file or has other bytes, or None."""
     lines = ["%s %s\n" % (name, key(it)) for name, it in sorted({**TAGS, "new": M2}.items())]
     tags, verified = run(["tags", "copied"], folder), run(["verify", "copied"], folder)
     wanted = (1, VERIFIED[harm], "") if harm in VERIFIED else (1, "", "ocicp: 22 Device\n")
@@ -115,7 +115,7 @@ def wrong_held(folder, harm):
 
 
 def harms(room):
-    """The harms that can be made here, and the names of the others."""
+    """Return the harms that can be made here, and the names of the others."""
     made, others = [], []
     for harm, make in HARMS.items():
         try:

@@ -17,7 +17,7 @@ from support.pruning import Held
 from support.tar_files import pack
 
 LAYOUTS = 40
-# `L` stands for the layout or an archive of it, `M` for another layout, and `N` for a folder that is not there.
+# `L` is the layout or an archive of it, `M` another layout, and `N` a folder that does not exist.
 OF_REFERENCES = ["resolve L REF", "predecessors L REF", "tree L REF", "tree --referrers L REF", "copy --dry-run L REF M"]
 LOOKS = ["tags L", "verify L", "copy --dry-run --all --referrers L M", "copy --dry-run --all --descend L N", *OF_REFERENCES]
 # (by one worker, since a copy by more that is refused may leave one or another blob)
@@ -37,7 +37,7 @@ OF_TEXTS = [
 # The greatest size, and sums of sizes: the greatest that 64 bits hold, and others.
 MOST = (1 << 63) - 1
 TOTALS = [(1 << 64) - 1, 1 << 64, 3 * MOST - 1]
-# A chain of so many images, and how deep a document may be nested.
+# The number of images in a chain, and how deep a document may be nested.
 DEPTH, NESTED = 3000, 5
 EXAMPLE = TOP + "/examples/hello"
 
@@ -47,7 +47,7 @@ def words_of(command, **named):
 
 
 def write_others(folder):
-    """Beside a layout, an archive of it and another layout."""
+    """Write an archive of the layout and another layout beside it."""
     pack(folder + "/layout.tar", folder + "/layout", ["."], tarfile.GNU_FORMAT)
     write_layout(folder + "/other", [E, FOO, BAR, M2, M3, S], {"a": M2, "old": M3, "z": M3}, [S])
 
@@ -66,7 +66,7 @@ def write_random(seed, folder):
 
 
 def wrong_layout(room, make):
-    """What is wrong with the documents about a layout and its archive, and with those of the commands that change it."""
+    """Return the problem with the documents about a layout and its archive, or with those of the commands that change it, or None."""
     rooms = Rooms(room, make)
     tag = min(Held(rooms.folders[0] + "/layout").tags, default="nope")
     named = {"M": "other", "N": "new", "TAG": tag, "DIGEST": "sha256:" + digits(E)}
@@ -100,7 +100,7 @@ def example(room):
 
 
 def write_texts(folder):
-    """A layout with odd tags, media types and artifact types, and files of such names."""
+    """Write a layout with odd tags, media types and artifact types, and files with such names."""
     layers = [Content(text, b"layer %d" % number) for number, text in enumerate(TEXTS)]
     images = [odd_image(text, layer) for text, layer in zip(TEXTS, layers)]
     signatures = [odd_image(text, layers[0], subject=images[0]) for text in TEXTS]
@@ -126,7 +126,7 @@ def texts(room):
         yield "the text %r" % text, first([
             *(rooms.wrong(words_of(it, L="layout", M="mirror", TEXT=text)) for it in OF_TEXTS),
             rooms.wrong(["mem", "%s=%s" % (text, name)]),
-            # (refused, with the text in what the refusal carries)
+            # (refused, with the text in a value that the refusal carries)
             *(rooms.wrong(it) for it in [["mem", text], ["mem", "type=%s/%s" % (name, text)], ["copy", "layout", text, name],
                                          ["prune", name], ["untag", name, text], ["resolve", name, text]]),
         ])
@@ -135,16 +135,16 @@ def texts(room):
 
 
 def image_of(sizes):
-    """An image of layers that state these sizes."""
+    """Return an image of layers that state these sizes, and the names of their files."""
     layers = [{"mediaType": LAYER, "digest": "sha256:%064x" % number, "size": size} for number, size in enumerate(sizes, 1)]
     value = {"schemaVersion": 2, "config": json.loads(descriptor(E)), "layers": layers}
     return Content(IMAGE, json.dumps(value).encode()), [it["digest"][len("sha256:"):] for it in layers]
 
 
 def write_sum(total, folder):
-    """An image that has with its blobs so many bytes, by their sizes."""
+    """Write a layout of an image that has this number of bytes, with its blobs, by the sizes that it states."""
     largest = [MOST] * ((total - 1000) // (MOST + 1))
-    # (the last size has as many digits as the others, so that the image is as long)
+    # (the last size has as many digits as the others, so the image has the same length)
     rest = total - sum(largest) - len(E.bytes) - len(image_of([*largest, MOST])[0].bytes)
     made, names = image_of([*largest, rest])
     write_layout(folder + "/layout", [E, made], {"new": made})
@@ -161,7 +161,7 @@ def sums(room):
 
 
 def write_chain(folder):
-    """Images of which each refers to the one before, and has a tag."""
+    """Write a layout of images, each with a tag and with the one before as its subject."""
     images = [M2]
     for _ in range(DEPTH):
         images.append(image([], subject=images[-1]))
@@ -169,7 +169,7 @@ def write_chain(folder):
 
 
 def chain(room):
-    """Documents about a deep graph are not nested more deeply."""
+    """Check that documents about a deep graph are not nested more deeply."""
     rooms = Rooms(room, write_chain)
     for command in ["tags L", "tree L %d" % DEPTH, "tree --referrers L 0", "copy --dry-run L %d M" % DEPTH, "copy --all L M",
                     "prune --no-referrers M"]:

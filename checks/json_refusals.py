@@ -1,4 +1,4 @@
-"""The documents of refusals: each has what the line has, and is the last line of the error output. Wants `cc`."""
+"""The documents of refusals: each has the values of the line, and is the last line of the error output. Wants `cc`."""
 import fcntl
 import functools
 import json
@@ -23,13 +23,13 @@ STRAY, DRAFT = "blobs/sha256/%064x" % 1, "index.json.0123456789abcdef.new"
 # Manifests that cannot be read.
 BAD = ["[", "[]", "{}", '{"config":1}', '{"config":%s,"layers":1}' % descriptor(E),
        '{"config":%s,"layers":[%s,{}]}' % (descriptor(E), descriptor(FOO))]
-# What is in the place of a file of the layout `bad`: bytes, a folder, or nothing.
+# The thing in the place of a file of the layout `bad`: bytes, a folder, or nothing.
 HARMED = [
     *((name, it) for name in ("oci-layout", "index.json") for it in (None, "a folder", b"[", b"[]", b"{}")),
     ("oci-layout", b'{"imageLayoutVersion":"2"}'), ("index.json", b'{"manifests":[1]}'),
     *((blob(content), it) for content in (M2, FOO) for it in (None, "a folder", b"{}")),
 ]
-# Commands with that layout, as what is read and as what is written into.
+# Commands that read that layout, or write into it.
 OF_BAD = [
     "tags bad", "verify bad", "resolve bad one", "predecessors bad one", "tree --referrers bad one", "copy --dry-run bad one other",
     "copy --workers 1 --progress bad one other", "copy --dry-run good one bad", "copy --workers 1 --all good bad", "prune --dry-run bad",
@@ -44,14 +44,14 @@ NUMBERS = {*range(10, 15), 21, 22, 30, 33, 35, 36, 43, 53, 54, *range(70, 76), 7
 
 
 def write_good(folder):
-    """A layout, another one, and files that are none."""
+    """Write a layout, another one, and files that are no layouts."""
     write_layout(folder + "/good", ALL, TAGS)
     write_layout(folder + "/other", [E, BAR, image([BAR])], {"old": image([BAR])})
     write_files({"file": b"a text", "good/" + STRAY: b"stray", "good/" + DRAFT: b"draft"}, folder)
 
 
 def write_bad(path, written, folder):
-    """The same, and a layout in which a file is gone or has other bytes, or a folder is in its place."""
+    """Write the same, and a layout in which a file is missing, has other bytes, or is a folder."""
     write_good(folder)
     write_layout(folder + "/bad", ALL, TAGS)
     path = "%s/bad/%s" % (folder, path)
@@ -70,7 +70,7 @@ class Refused:
         self.room, self.numbers = room, set()
 
     def wrong(self, make, commands, run=run_long):
-        """What is wrong with these commands, each a list of words, in rooms that are filled anew."""
+        """Return the problem with these commands, each a list of words, in rooms that are filled anew, or None."""
         rooms = Rooms(self.room, make)
         for words in commands:
             complaint = rooms.wrong(words, run)
@@ -82,7 +82,7 @@ class Refused:
 
 
 def damages(refused):
-    """Layouts that are damaged."""
+    """Check layouts that are damaged."""
     for path, written in HARMED:
         wrong = refused.wrong(functools.partial(write_bad, path, written), [it.split() for it in OF_BAD])
         yield "%s in the place of %s" % ("nothing" if written is None else written, path), wrong
@@ -98,7 +98,7 @@ def write_manifest(content, folder):
 
 
 def archives(refused):
-    """Archives that are damaged."""
+    """Check archives that are damaged."""
     found = {"%d.tar" % number: written for number, (_, written, _) in enumerate(damaged([(b"oci-layout", b"{}"), (b"index.json", b"{}")]))}
     yield "%d damaged archives" % len(found), refused.wrong(functools.partial(write_files, found), [["tags", it] for it in found])
 
@@ -110,7 +110,7 @@ def write_files(files, folder):
 
 
 def others(refused):
-    """References, items, files in the place of folders, and what a prune and a copy refuse."""
+    """Check references, items, files in the place of folders, and other refusals of a prune and a copy."""
     for reference in "", "nope", "sha256:" + "0" * 64:
         commands = [[reference if it == "REF" else it for it in command.split()] for command in REFERENCES]
         yield "the reference %r" % reference, refused.wrong(write_good, commands)
@@ -135,7 +135,7 @@ def write_occupied(folder):
 
 
 def outside(refused, library):
-    """Refusals whose cause is outside of the layouts: locks, files that cannot be changed, and an output that cannot be written."""
+    """Check refusals with a cause outside the layouts: locks, files that cannot be changed, and an output that cannot be written."""
     for path in STRAY, DRAFT, blob(BAR):
         environment = dict(os.environ, LD_PRELOAD=library, KEPT="good/" + path)
         keeping = lambda words, folder: run(words, folder, env=environment)
@@ -167,7 +167,7 @@ def run_locked(words, folder):
 
 
 def run_waiting(words, folder):
-    """Runs a command that has to wait for a lock until it says so."""
+    """Run a command that has to wait for a lock, until it says so."""
     opened = lock(folder)
     pipes = {"stdin": subprocess.DEVNULL, "stdout": subprocess.PIPE, "stderr": subprocess.PIPE}
     with subprocess.Popen([PROGRAM, *words], cwd=folder, text=True, **pipes) as process:
@@ -178,7 +178,7 @@ def run_waiting(words, folder):
 
 
 def wrong_table():
-    """What is wrong with the table of docs/json.md, which has the numbers that carry each member."""
+    """Return the problem with the table of docs/json.md, or None. It has the numbers that carry each member."""
     listed, carried = {}, {}
     for members, numbers in table("/docs/json.md", "## Refusals"):
         listed.update(dict.fromkeys(re.findall(r"`(\w+)`", members), {*map(int, re.findall(r"\d+", numbers))}))
@@ -189,7 +189,7 @@ def wrong_table():
 
 
 def on_terminal(room):
-    """On a terminal too the document is all, after what the line of progress was."""
+    """Check that on a terminal too only the document is printed, after the line of progress."""
     write_good(room)
     for command in "tags good", "resolve good nope", "tags other/blobs", "copy good nope other", "copy --all good new", "verify good":
         words = with_json(command.split())
@@ -199,7 +199,7 @@ def on_terminal(room):
 
 
 def plain(room):
-    """What stays text."""
+    """Check the output that stays text."""
     write_good(room)
     for words in ["--json"], ["tags"], ["tags", "good", "more"], ["nope"], ["explain", "5"], ["copy", "good", "one"], [b"\xff"]:
         ended = run([*words, "--json"], room)
@@ -210,7 +210,7 @@ def plain(room):
         yield "%s --json --help" % command, None if ended[:3] == wanted[:3] and ended.status == 0 else told(ended)
 
 
-# Commands of which each request for memory is refused in turn.
+# Commands for which each request for memory is refused in turn.
 REFUSED = [
     "tags good", "tree --referrers good one", "verify bad", "explain 36", "mem a=file b=file", "copy --all --prune --workers 1 good other",
     "untag good one", "prune good", "resolve good nope", "copy bad one other", "tags file",
@@ -227,14 +227,14 @@ def fresh(folder):
 
 @functools.lru_cache(maxsize=None)
 def unhurt(words, folder):
-    """How a command ends with all memory."""
+    """Run a command with all memory, and return its end."""
     fresh(folder)
     return run(words, folder)
 
 
 def wrong_refused(words, library, room, nth):
-    """Refuses the nth request: whether there were so many, and what is wrong with the run, which is to end as with all memory or
-    with status 3 and a document that says so, and without a part of another one."""
+    """Refuse the nth request, and return whether there were that many, and the problem with the run, or None. It is to end as with all
+    memory, or with status 3 and a document that says so, and without a part of another document."""
     folder = "%s/%d" % (room, os.getpid())
     wanted = unhurt(words, folder)
     if words[0] in CHANGES:

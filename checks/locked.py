@@ -9,12 +9,12 @@ from support import shim
 from support.layouts import BAR, E, FOO, LAYER, M2, Content, digits, key, write_layout
 from support.program import PROGRAM, first, wrong_layout
 
-# A command makes at most so many changes, and is stopped before each.
+# A command is stopped before each of its changes, of which there are at most this many.
 CHANGES = 100
 SECONDS = 10
-# What is held without a tag, and goes by a prune.
+# Contents that are held without a tag, so that a prune removes them.
 OTHER = Content(LAYER, b"other")
-# By command, what is held when it is done, and the tags.
+# By command: the contents that are held at its end, and the tags.
 COPY = ["copy", "--workers", "1", "source", "new", "copied"]
 COPIED = [BAR, OTHER, E, FOO, M2], {"old": BAR, "new": M2}
 COMMANDS = {
@@ -37,7 +37,7 @@ def opened(room):
 
 
 def is_free(room):
-    """Whether nobody has the lock."""
+    """Return whether nobody has the lock."""
     folder = opened(room)
     try:
         fcntl.flock(folder, fcntl.LOCK_EX | fcntl.LOCK_NB)
@@ -49,7 +49,7 @@ def is_free(room):
 
 
 def held_at_each(room, library, what):
-    """Stops a command before each of its changes, and tries to take the lock."""
+    """Stop a command before each of its changes, and try to take the lock."""
     words, done = COMMANDS[what]
     for number in range(1, CHANGES + 1):
         fresh(room)
@@ -68,7 +68,8 @@ def held_at_each(room, library, what):
 
 
 def wrong_wait(room):
-    """What is wrong with a copy that has to wait: until it has the lock it changes nothing, and removes no draft of another copy."""
+    """Return the problem with a copy that has to wait, or None. Before it has the lock it is to change nothing, and to remove no draft of
+    another copy."""
     fresh(room)
     draft = "%s/copied/blobs/sha256/%s.0123456789abcdef.new" % (room, digits(FOO))
     open(draft, "w").close()

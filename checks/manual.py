@@ -1,4 +1,4 @@
-"""The manual page and the completions: whether they are what tools/manual makes, and what the shells do with them."""
+"""The manual page and the completions: they are what tools/manual makes, and the shells can use them."""
 import os
 import shutil
 import subprocess
@@ -8,7 +8,7 @@ from support.program import PROGRAM, TOP
 
 SECONDS = 60
 FILES = ["ocicp.1", "completions/ocicp.bash", "completions/_ocicp"]
-# Commands that print what is wrong with a file. Those that are not installed are left out.
+# Commands that print the problems with a file. Commands that are not installed are not run.
 LINTS = [
     ("ocicp.1", ["groff", "-man", "-Tutf8", "-ww", "-z"]),
     ("completions/ocicp.bash", ["bash", "-n"]),
@@ -17,7 +17,7 @@ LINTS = [
 # A tag that leaves a file if a shell runs it.
 HARMFUL = "$(touch ran)"
 TAGS = [r"\$\(touch\ ran\)", "v1", "v2"]
-# The words of a command line after `ocicp`, and what the last one is completed to.
+# The words of a command line after `ocicp`, and the completions of the last one.
 COMPLETED = [
     (["co"], ["copy"]),
     (["--v"], ["--version"]),
@@ -48,7 +48,7 @@ def read(path):
 
 
 def printed(words, room):
-    """What a command prints on both outputs, with the program that is checked as `ocicp`."""
+    """Return the text that a command prints on both outputs. Its `ocicp` is the program under test."""
     environment = {**os.environ, "OCICP": PROGRAM, "PATH": "%s/bin:%s" % (room, os.environ["PATH"])}
     return subprocess.run(words, cwd=room, env=environment, stdin=subprocess.DEVNULL, stdout=subprocess.PIPE,
                           stderr=subprocess.STDOUT, timeout=SECONDS, text=True).stdout

@@ -42,7 +42,7 @@ def fresh(room, source, mirror):
 
 
 def in_turn(room, folder):
-    """Mirrors into a folder by three commands, and returns what one command is to print."""
+    """Mirror into a folder by three commands, and return the text that the one command is to print."""
     copied = run(["copy", "--all", "source", folder], room)
     assert copied.status == 0, told(copied)
     tags, wanted = Held("%s/%s" % (room, folder)).tags, Held(room + "/source").tags
@@ -56,7 +56,7 @@ def in_turn(room, folder):
 
 
 def mirrored(room, library):
-    """Each source into each mirror."""
+    """Copy each source into each mirror."""
     for source in SOURCES:
         for mirror in MIRRORS:
             fresh(room, SOURCES[source], MIRRORS[mirror])
@@ -77,7 +77,7 @@ def mirrored(room, library):
 
 
 def wrong_refusal(room, words, line):
-    """What is wrong with a mirror that is to be refused with this line, and to change nothing."""
+    """Return the problem with a mirror that is to be refused with this line, and to change nothing, or None."""
     before = stamps(room + "/mirror")
     ended = run(["copy", "--all", "--prune", *words, "source", "mirror"], room)
     return first([
@@ -114,7 +114,7 @@ def refused(room):
 
 
 def killed(room, library):
-    """Kills a mirror before each change that it makes: each tag that is there, and all that it reaches, is there."""
+    """Kill a mirror before each change that it makes, and check that each tag, and everything that it reaches, is there."""
     source, mirror = SOURCES["two images and their index"], MIRRORS["old images with other tags"]
     fresh(room, source, mirror)
     shutil.copytree(room + "/mirror", room + "/turn")

@@ -11,7 +11,7 @@ from support.terminal import run_on_terminal
 
 # A run that takes longer is killed.
 SECONDS = 30
-# The bytes that the disk gives in a second. The layer takes two seconds.
+# The bytes that the disk returns in a second. The layer takes two seconds.
 SPEED = 5 << 19
 LONG = Content(LAYER, b"%7d\n" % 0 * (5 << 17))
 IMAGE = image([FOO, LONG])
@@ -55,7 +55,7 @@ REFUSED_AS_JSON = document({"error": [
     {"number": 88, "name": "Fetch", "descriptor": described(LONG)},
     {"number": 21, "name": "Corrupt"},
 ]})
-# The words, the status, and what is printed below the line when it was erased. `*` is for a sentence about the refusal.
+# The words, the status, and the text below the line when it was erased. `*` is for a sentence about the refusal.
 CASES = [
     ("copy source one copied", 0, COPIED),
     ("copy --json source one as_json", 0, COPIED_AS_JSON),
@@ -64,7 +64,7 @@ CASES = [
     ("copy spoiled one refused", 1, REFUSED + "* Run `ocicp explain 21` for what to do.\n"),
     ("copy --json spoiled one refused_as_json", 1, REFUSED_AS_JSON),
 ]
-# What is printed in place of all that where the error output is a pipe: the output and the error output.
+# The output and the error output if the error output is a pipe.
 PIPED = [
     ("copy source one piped", COPIED, ""),
     ("verify spoiled", CORRUPT, ""),
@@ -72,19 +72,19 @@ PIPED = [
 
 
 def shown(size):
-    """The bytes that a size in the line stands for, as near as it tells."""
+    """Return the bytes that a size in the line stands for, as exactly as it shows."""
     number, unit = size.split()
     return float(number) * UNITS[unit]
 
 
 def wrong_growth(name, values, whole):
-    """What is wrong with a number that is never to fall, and never to be more than the whole."""
+    """Return the problem with a number that is never to fall or to exceed the whole, or None."""
     if values != sorted(values) or values[-1] > whole:
         return "%s of %s: %s" % (name, whole, values)
 
 
 def wrong_time(_blobs, _all_blobs, arrived, whole, rate, minutes, seconds):
-    """What is wrong with the time of a line that has one: it is to fit the other numbers, as near as these tell."""
+    """Return the problem with the time of a line, or None. It is to fit the other numbers, as exactly as they show."""
     rate, time = shown(rate), 60 * int(minutes or 0) + int(seconds)
     wanted = (shown(whole) - shown(arrived)) / rate
     if rate > 2 * SPEED or abs(time - wanted) > 1 + wanted / 10 + 100000 / rate:
@@ -92,7 +92,7 @@ def wrong_time(_blobs, _all_blobs, arrived, whole, rate, minutes, seconds):
 
 
 def wrong_lines(lines):
-    """What is wrong with the lines that were drawn one over the other, each as its parts."""
+    """Return the problem with the lines that were drawn one over the other, each as its parts, or None."""
     if not lines:
         return "no line was drawn"
     blobs, arrived = [int(line[0]) for line in lines], [shown(line[2]) for line in lines]
@@ -110,7 +110,7 @@ def wrong_lines(lines):
 
 
 def wrong_on_terminal(found, status, wanted):
-    """What is wrong with a run on a terminal: the line is drawn, and erased before anything else is printed."""
+    """Return the problem with a run on a terminal, or None. The line is to be drawn, and erased before anything else is printed."""
     lines, erased, rest = found[1].partition(ERASURE)
     parts = [line.groups() for line in LINE.finditer(lines)]
     begin, _, end = wanted.partition("*")

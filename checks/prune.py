@@ -1,4 +1,4 @@
-"""What `prune` keeps, removes and prints, of layouts made by hand and at random, against the rules as `pruning.py` has them."""
+"""The contents that `prune` keeps, removes and prints, for layouts made by hand and at random, by the rules in support/pruning.py."""
 import functools
 import multiprocessing
 import os
@@ -13,12 +13,12 @@ from support.pruning import Held, Prune, text
 
 LAYOUTS = 300
 def paths(goes):
-    """The files of contents and of paths."""
+    """Return the files of contents and of paths."""
     return {it if isinstance(it, str) else blob(it) for it in goes}
 
 
 def wrong_rules(folder, case, prune, flags):
-    """What is wrong with what the rules say of a case, which says itself what goes."""
+    """Return the problem with the answer of the rules to a case, or None. The case states itself which contents and files go."""
     goes = case.goes + (case.referrers if flags else [])
     removed = {key(it) for it in goes if isinstance(it, Content)}
     if set(map(text, prune.removed)) != removed:
@@ -28,7 +28,7 @@ def wrong_rules(folder, case, prune, flags):
 
 
 def wrong_answer(folder, words, prune):
-    """What is wrong with what a prune printed."""
+    """Return the problem with the output of a prune, or None."""
     ended = run(["prune", *words, "layout"], folder)
     if prune.refusals:
         lines = ["ocicp: %s\n" % it for it in prune.refusals]
@@ -40,7 +40,8 @@ def wrong_answer(folder, words, prune):
 
 
 def wrong_left(folder, prune, before):
-    """What is wrong with what a prune left: only the files that go are gone, and `index.json` is another one only if a held key goes."""
+    """Return the problem with the files after a prune, or None. Only the files that go are to be gone, and `index.json` may only change if
+    a held key goes."""
     layout = folder + "/layout"
     left = files(layout)
     wanted = {path: it for path, it in before.items() if path not in prune.gone}
@@ -57,7 +58,7 @@ def wrong_left(folder, prune, before):
 
 
 def wrong_prune(folder, flags, is_whole=True):
-    """What is wrong with a prune of a layout: first with --dry-run, which changes nothing, then itself, then once more."""
+    """Return the problem with a prune of a layout, or None: first with --dry-run, which changes nothing, then without, then once more."""
     layout = folder + "/layout"
     prune = Prune(layout, keeps_referrers=not flags)
     before, when = files(layout), stamps(layout)
@@ -76,7 +77,8 @@ def wrong_prune(folder, flags, is_whole=True):
 
 
 def wrong_answers(folder, prune):
-    """What is wrong with the answers of the commands that read, after a prune: each tag is what it was, and all that is kept is good."""
+    """Return the problem with the output of commands that read after a prune, or None. Each tag is to be as it was, and everything kept to
+    be good."""
     tags, verified = run(["tags", "layout"], folder), run(["verify", "layout"], folder)
     lines = ["%s %s\n" % (name, text(key)) for name, key in sorted(prune.held.tags.items())]
     return first([
@@ -86,7 +88,7 @@ def wrong_answers(folder, prune):
 
 
 def wrong_again(folder, flags, count, prune):
-    """What is wrong with a prune after which there is nothing to remove."""
+    """Return the problem with a prune that has nothing left to remove, or None."""
     if prune.out != "kept %d removed 0 files 0 bytes 0\n" % count:
         return "there is more to remove: " + prune.out
     when = stamps(folder + "/layout")
@@ -104,7 +106,7 @@ def by_hand(room):
 
 
 def links(room):
-    """Links in the places of blobs. Each is removed itself, and what it leads to stays."""
+    """Check links in the places of blobs. Each is removed itself, and its target stays."""
     write_case(room + "/layout", Case([E, FOO, M2, M3], {"new": M2}, [M3]))
     targets = {"to a file": "secret", "to a folder": "room", "to nothing": "nothing", "to a blob": "layout/" + blob(FOO)}
     with open(room + "/secret", "wb") as file:
@@ -125,7 +127,7 @@ def links(room):
 
 
 def others(room):
-    """What is neither a file nor a link has the name of a blob, and stays."""
+    """Check that something with the name of a blob stays if it is neither a file nor a link."""
     write_case(room + "/layout", Case([E, FOO, M2], {"new": M2}))
     os.mkfifo("%s/layout/blobs/sha256/%s" % (room, ZEROS))
     os.mkfifo("%s/layout/index.json%s" % (room, DRAFT))
@@ -134,7 +136,8 @@ def others(room):
 
 
 def wrong_random(room, seed):
-    """What is wrong with a prune of a layout that a seed makes, and whether it was not refused, removed something, and kept what refers."""
+    """Return the problem with a prune of a layout that a seed makes, or None, and whether it was not refused, removed something, and kept
+    referrers."""
     folder = "%s/%d" % (room, os.getpid())
     os.makedirs(folder, exist_ok=True)
     chance = random.Random(seed)

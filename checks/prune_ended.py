@@ -36,7 +36,7 @@ WAITS = re.compile(r"(ocicp: waiting for another process that writes into copied
 
 
 def killed(layout, library, what):
-    """Kills a prune before each change that it makes."""
+    """Kill a prune before each change that it makes."""
     halves = 0
     for number in range(1, shim.MOST + 1):
         layout.fresh()
@@ -51,8 +51,8 @@ def killed(layout, library, what):
 
 
 def wrong_order(layout, library):
-    """What is wrong with the order of the changes: the new index is in its place and on the disk, with the folder, before a file goes.
-    An index that is not written is on the disk too."""
+    """Return the problem with the order of the changes, or None. The new index is to be in its place and on the disk, with the folder,
+    before a file is removed. An index that is not written is to be on the disk too."""
     layout.fresh()
     text, ended = shim.run_noted(library, ["prune", "layout"], layout.room)
     notes = [it.replace("layout/", "") for it in text.splitlines()]
@@ -69,7 +69,7 @@ def wrong_order(layout, library):
 
 
 def wrong_refused(layout, ended):
-    """What is wrong with a prune of which one change was refused: nothing is removed, or all but one file."""
+    """Return the problem with a prune for which one change was refused, or None. It removes nothing, or all files but one."""
     left = sorted(set(layout.prune.gone) - set(layout.gone()))
     if left == layout.prune.gone:
         wanted = [(1, "", "ocicp: 74 Device\n")]
@@ -80,7 +80,7 @@ def wrong_refused(layout, ended):
 
 
 def without_room(layout, library, what):
-    """Refuses each change of a prune in turn."""
+    """Refuse each change of a prune in turn."""
     nothing = 0
     for number in range(1, shim.MOST + 1):
         layout.fresh()
@@ -94,7 +94,7 @@ def without_room(layout, library, what):
 
 
 def wrong_limit(layout):
-    """What is wrong with a prune that can write no file."""
+    """Return the problem with a prune that can write no file, or None."""
     layout.fresh()
     limit = lambda: resource.setrlimit(resource.RLIMIT_FSIZE, (0, 0))
     ended = run(["prune", "layout"], layout.room, preexec_fn=limit, restore_signals=False)
@@ -106,7 +106,7 @@ def wrong_limit(layout):
 
 
 def copy_or_prune(room, name):
-    """Copies an image, or prunes: what is wrong with the answer."""
+    """Copy an image, or prune, and return the problem with the output, or None."""
     words, wanted = ["prune", "copied"], r"(removed.*\n)*kept \d+ removed \d+ files \d+ bytes \d+\n"
     if name in IMAGES:
         words, wanted = ["copy", "source", name, "copied"], r"copied %s\n(.*\n)*" % re.escape(key(IMAGES[name]))
@@ -116,7 +116,8 @@ def copy_or_prune(room, name):
 
 
 def wrong_beside(room):
-    """What is wrong with copies and prunes at once in one folder: each image is there, and nothing else but what was tagged before."""
+    """Return the problem with copies and prunes at once in one folder, or None. Each image is to be there, and otherwise only the contents
+    that were tagged before."""
     shutil.rmtree(room, ignore_errors=True)
     write_layout(room + "/source", [E, *LAYERS, *IMAGES.values()], IMAGES)
     # (a layer that one of the images has is there before, and nothing needs it yet)

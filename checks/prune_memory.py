@@ -1,7 +1,7 @@
-"""Prunes and removals of tags of which each request for memory is refused in turn.
+"""Prunes and removals of tags for which each request for memory is refused in turn.
 
-Such a run ends with status 3 and `ocicp: memory`, or as if nothing had been refused. The layout has then what it had before or what it
-is to have, the tags have lost nothing, and the same command, made again with all memory, finishes. Wants `cc`.
+Such a run ends with status 3 and `ocicp: memory`, or as if nothing had been refused. Then the layout is as before or as after the command,
+no tag has lost anything, and the same command, repeated with all memory, succeeds. Wants `cc`.
 """
 import functools
 import os
@@ -19,7 +19,7 @@ def layout_of(folder, untagged):
 
 
 def wrong_prune(untagged, library, room, nth):
-    """Refuses the nth request of a prune: whether it made so many, and what is wrong with it and with what it left."""
+    """Refuse the nth request of a prune, and return whether it made that many, and the problem with it or with the layout, or None."""
     layout = layout_of("%s/%d" % (room, os.getpid()), untagged)
     layout.fresh()
     refused, ended = refused_malloc.run_refused(library, nth, ["prune", "layout"], layout.room)
@@ -33,13 +33,13 @@ def wrong_prune(untagged, library, room, nth):
 
 
 def wrong_without(layout, name):
-    """What is wrong with a layout from which a tag was removed, and nothing else."""
+    """Return the problem with a layout from which a tag was removed, and nothing else, or None."""
     others = {it: TAGS[it] for it in TAGS if it != name}
     return wrong_layout(layout.room, "layout", layout.prune.held.keys, others)
 
 
 def wrong_untag(name, library, room, nth):
-    """The same of the removal of a tag."""
+    """Do the same with the removal of a tag."""
     layout = layout_of("%s/%d" % (room, os.getpid()), tuple(UNTAGGED))
     layout.fresh()
     refused, ended = refused_malloc.run_refused(library, nth, ["untag", "layout", name], layout.room)

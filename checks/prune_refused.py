@@ -22,7 +22,7 @@ REFERRER, LACKING = index([M3], subject=M2), index([I1, S])
 PRUNES = [["prune", *flags, "layout"] for flags in ([], ["--dry-run"], ["--no-referrers"], ["--dry-run", "--no-referrers"], ["--no-wait"])]
 ALL = [E, FOO, BAR, M2, M3, A]
 
-# By what a prune is refused: the contents, the tags, what else is listed in the index, and the line of the refusal.
+# The causes of a refused prune, each with the contents, the tags, the other entries of the index, and the line of the refusal.
 REFUSED = {
     "no tag": (ALL, {}, [M2, M3], "97 NoTags"),
     "an empty layout": ([], {}, [], "97 NoTags"),
@@ -35,7 +35,7 @@ REFUSED = {
     "an index in an index that lacks an image": ([E, FOO, M2, I1, index([I1])], {"new": index([I1])}, [], "96 Unknown " + key(M3)),
     "an image that lacks its subject": ([E, S], {"new": S}, [], "96 Unknown " + key(M2)),
 }
-# What a manifest holds that is damaged, and by what each command that opens the layout is refused.
+# The damage to a manifest, and the refusal of each command that opens the layout.
 DAMAGED = {
     "other bytes": (M2, M2.bytes.replace(b"2", b"3"), "75 Corrupt " + key(M2)),
     "fewer bytes": (M2, M2.bytes[:-1], "75 Corrupt " + key(M2)),
@@ -44,7 +44,7 @@ DAMAGED = {
 }
 
 def fresh(room, contents, tags, untagged=(), strays=STRAYS):
-    """Makes a layout that has files which a prune removes."""
+    """Write a layout with files that a prune removes."""
     shutil.rmtree(room + "/layout", ignore_errors=True)
     write_layout(room + "/layout", contents, tags, untagged)
     os.makedirs(room + "/layout/blobs/sha512", exist_ok=True)
@@ -70,14 +70,14 @@ def prunes(room):
 
 
 def wrong_done(room, flags):
-    """What is wrong with a prune that is not refused."""
+    """Return the problem with a prune that is not to be refused, or None."""
     prune = Prune(room + "/layout", keeps_referrers=not flags)
     ended = run(["prune", *flags, "layout"], room)
     return None if not prune.refusals and ended[:3] == (0, prune.out, "") else told(ended)
 
 
 def linked(room):
-    """Layouts whose blobs another layout has too."""
+    """Check layouts that share their blobs with another layout."""
     for link in LINKED:
         fresh(room, ALL, {"new": M2}, [M3])
         shutil.rmtree(room + "/shared", ignore_errors=True)
@@ -93,7 +93,7 @@ def linked(room):
 
 
 def no_layouts(room):
-    """What is no layout, or no folder."""
+    """Check paths that are no layouts, or no folders."""
     fresh(room, ALL, {"new": M2})
     with tarfile.open(room + "/layout.tar", "w") as archive:
         archive.add(room + "/layout", ".")
@@ -109,7 +109,7 @@ def no_layouts(room):
 
 
 def locked(room):
-    """Commands on a folder that another process has locked."""
+    """Check commands on a folder that another process has locked."""
     fresh(room, ALL, {"new": M2, "old": M3}, [A])
     shutil.copytree(room + "/layout", room + "/source")
     folder = os.open(room + "/layout", os.O_RDONLY | os.O_DIRECTORY)
@@ -136,7 +136,7 @@ def locked(room):
 
 
 def wrong_wait(room, words, out):
-    """What is wrong with a command that has to wait: until it has the lock it changes nothing."""
+    """Return the problem with a command that has to wait, or None. Before it has the lock it is to change nothing."""
     when = stamps(room)
     folder = os.open(room + "/layout", os.O_RDONLY | os.O_DIRECTORY)
     fcntl.flock(folder, fcntl.LOCK_EX)
@@ -154,7 +154,7 @@ def wrong_wait(room, words, out):
 
 
 def written(room):
-    """Drafts that other processes are writing, which are locked: they stay, and are not counted."""
+    """Check drafts that other processes are writing and have locked: they stay, and are not counted."""
     fresh(room, ALL, {"new": M2}, [M3])
     drafts = ["blobs/sha256/%s.%s.new" % (digits(it), "f" * 16) for it in (M2, A)] + [STRAYS[-1]]
     opened = [open("%s/layout/%s" % (room, it), "w") for it in drafts]
@@ -171,7 +171,7 @@ def written(room):
 
 
 def wrong_kept(room, prune, kept, how):
-    """What is wrong with a prune that cannot remove these files: the others are gone, and it says which these are."""
+    """Return the problem with a prune that cannot remove these files, or None. It is to remove the others, and to name these."""
     before = files(room + "/layout")
     ended = how(["prune", "layout"])
     left = files(room + "/layout")
@@ -188,7 +188,7 @@ def wrong_kept(room, prune, kept, how):
 
 
 def wrong_later(room):
-    """What is wrong with a prune after one that could not remove all."""
+    """Return the problem with a prune after one that could not remove all files, or None."""
     prune = Prune(room + "/layout")
     ended, verified = run(["prune", "layout"], room), run(["verify", "layout"], room)
     return first([
@@ -199,7 +199,7 @@ def wrong_later(room):
 
 
 def not_removed(room):
-    """Files that cannot be removed, one by one and all of a folder."""
+    """Check files that cannot be removed, one by one and all files of a folder."""
     library = shim.built(room, "keep", shim.KEEPS)
     for path in [*STRAYS, blob(BAR), blob(M3)]:
         fresh(room, ALL, {"new": M2}, [M3])
@@ -212,7 +212,7 @@ def not_removed(room):
 
 
 def unwritable(room):
-    """The check of a folder that may only be read, as another user if this one may write into each folder."""
+    """Check a folder that may only be read, as another user if this one may write into every folder."""
     folder = room + "/layout/blobs/sha256"
     os.chmod(folder, 0o555)
     user = NOBODY if os.access(folder, os.W_OK) else {}

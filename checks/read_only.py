@@ -1,7 +1,7 @@
 """Commands over a layout on a file system that may only be read. Wants `cc`.
 
-A library answers EROFS to each call that would change something below one folder. What reads makes no such call, and answers as it
-does elsewhere. A copy into that folder is refused, as `untag` is, and the layout stays.
+A library returns EROFS from each call that would change something below one folder. A command that reads makes no such call, and prints the
+same as elsewhere. A copy into that folder is refused, as `untag` is, and the layout stays.
 """
 from support import shim
 from support.layouts import BAR, E, FOO, I1, LAYER, M2, M3, S, Content, key, write_layout
@@ -37,7 +37,7 @@ READING = [
 
 
 def wrong_read(library, words, room, usual):
-    """What is wrong with a command that reads, which is to answer as it does over a folder that may be written."""
+    """Return the problem with a command that reads, or None. It is to print the same as over a folder that may be written."""
     refused, ended = shim.run_marked(library, words, room, {"READ_ONLY": "source"})
     return first([
         None if usual.status == 0 and usual.out else "without the library: " + told(usual),
@@ -47,7 +47,7 @@ def wrong_read(library, words, room, usual):
 
 
 def wrong_write(library, words, room, wanted):
-    """What is wrong with a command that would change the folder."""
+    """Return the problem with a command that would change the folder, or None."""
     refused, ended = shim.run_marked(library, words, room, {"READ_ONLY": "source"})
     return first([
         None if ended[:3] == (1, "", wanted) else told(ended),

@@ -1,5 +1,5 @@
-"""Runs each fenced command of the README, and of docs/json.md, in a copy of the folder, and compares what those of the sessions print.
-Code in the README is to be the example that it names."""
+"""Runs each fenced command of the README, and of docs/json.md, in a copy of the folder, and compares the output with that of the sessions.
+Code in the README has to be the example that it names."""
 import os
 import re
 import shutil
@@ -13,18 +13,19 @@ DOCUMENTS = [README, "docs/json.md"]
 EXAMPLE = "/crates/example_copy/src/main.rt"
 # Comes after the output of each command. No README has it.
 END = "== that was it =="
-# What a stranger's clone has and a session does not need.
+# Parts of a clone that a session does not need.
 LARGE = shutil.ignore_patterns("crates", ".git", "out", "ocicp")
 
 
 def blocks(document=README):
-    """The fenced blocks of a document, each with its kind: `console` for a session, `sh` for commands alone, `rust` for the example."""
+    """Return the fenced blocks of a document, each with its kind: `console` for a session, `sh` for commands alone, `rust` for the
+    example."""
     with open("%s/%s" % (TOP, document)) as file:
         return re.findall(r"^```(\w*)\n(.*?)^```$", file.read(), re.M | re.S)
 
 
 def sessions(document):
-    """The sessions of a document: each a list of commands and the lines that each is to print."""
+    """Yield the sessions of a document, each a list of commands with the lines that each is to print."""
     for block in [text for kind, text in blocks(document) if kind == "console"]:
         session = []
         for line in block.splitlines():
@@ -38,7 +39,7 @@ def sessions(document):
 
 
 def printed(commands, folder):
-    """The lines that each command prints, on both outputs, in one shell."""
+    """Return the lines that each command prints, on both outputs, in one shell."""
     script = "".join('%s\n(status=$?; echo "%s"; exit $status)\n' % (command, END) for command in commands)
     ran = subprocess.run(["bash", "-c", "exec 2>&1\n" + script], cwd=folder, stdin=subprocess.DEVNULL, timeout=SECONDS,
                          stdout=subprocess.PIPE, text=True, env={**os.environ, "HOME": os.path.dirname(folder)})
@@ -59,7 +60,7 @@ def checks(room):
 
 
 def wrong_sessions(document, folder):
-    """Runs the sessions of a document, one after the other."""
+    """Run the sessions of a document, one after the other."""
     found = list(sessions(document))
     if not found:
         yield "sessions", "%s has none" % document
@@ -72,7 +73,7 @@ def wrong_sessions(document, folder):
 
 
 def commands_alone(folder):
-    """Runs the commands that stand without what they print."""
+    """Run the commands for which no output is shown."""
     found = [line for kind, text in blocks() if kind == "sh" for line in text.splitlines()]
     if not found:
         yield "commands", "README.md has none"
@@ -80,7 +81,7 @@ def commands_alone(folder):
     if others:
         yield "blocks", "nothing runs those of the kinds %s" % others
     for command in found:
-        # (`./test` is what runs this, and `./build` takes as long: they cannot be run here)
+        # (`./test` runs this file, and `./build` takes 25 minutes)
         if command in ("./build", "./test"):
             yield "$ " + command, None if os.access(TOP + command[1:], os.X_OK) else "there is no such script"
             continue
@@ -89,14 +90,14 @@ def commands_alone(folder):
 
 
 def wrong_code():
-    """What is wrong with the code of the README, which is to be the whole example."""
+    """Return the problem with the code of the README, which is to be the whole example, or None."""
     with open(TOP + EXAMPLE) as file:
         found = [text for kind, text in blocks() if kind == "rust"]
         return None if found == [file.read()] else "it is not what %s has" % EXAMPLE[1:]
 
 
 def difference(lines, wanted, document):
-    """The first line that differs."""
+    """Return a message about the first line that differs."""
     for line, other in zip([*lines, "no more"], [*wanted, "no more"]):
         if line != other:
             return "it prints %r where %s has %r" % (line, document, other)

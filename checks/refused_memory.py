@@ -1,7 +1,7 @@
-"""Commands of which each request for memory is refused in turn.
+"""Commands for which each request for memory is refused in turn.
 
-Such a run ends with status 3 and `ocicp: memory`, or answers as if nothing had been refused. Its destination is then whole, with its
-old names, and the same command, made again with all memory, finishes.
+Such a run ends with status 3 and `ocicp: memory`, or as if nothing had been refused. Then the destination is whole, with its old names, and
+the same command, repeated with all memory, succeeds.
 """
 import os
 import shutil
@@ -17,7 +17,7 @@ OLD = Content(LAYER, b"old")
 TWO_IMAGES = [E, FOO, BAR, M2, M3, I1]
 REFERRERS = [E, FOO, M2, S, I3, I4]
 
-# A command, what its source holds and names, and what its destination names before; none where there is no destination.
+# A command, the contents and the tags of its source, and the tags of its destination before, or none if there is no destination.
 Case = namedtuple("Case", "words contents names old", defaults=[{}])
 COPY = ["source", "new", "copied"]
 CASES = {
@@ -32,7 +32,7 @@ CASES = {
 
 
 def fresh(folder, case):
-    """Puts the destination into the state that it has before the command."""
+    """Restore the destination to its state before the command."""
     shutil.rmtree(folder + "/copied", ignore_errors=True)
     if not os.path.exists(folder):
         os.mkdir(folder)
@@ -45,7 +45,7 @@ def fresh(folder, case):
 
 
 def wrong_destination(folder, case, is_done):
-    """What is wrong with the destination, which has what it had before or, where the command is done, all."""
+    """Return the problem with the destination, or None. It is to have its old contents or, if the command is done, all contents."""
     whole = [*case.old.values(), *case.contents]
     done = first([
         wrong_layout(folder, "copied", whole, {**case.old, "new": case.names["new"]}),
@@ -59,7 +59,8 @@ def wrong_destination(folder, case, is_done):
 
 
 def wrong_run(case, library, room, nth):
-    """Refuses the nth request of a command: whether it made so many, and what is wrong with it and with what it left."""
+    """Refuse the nth request of a command, and return whether it made that many, and the problem with it or with the destination, or
+    None."""
     folder = "%s/%d" % (room, os.getpid())
     fresh(folder, case)
     unhurt = run(case.words, folder)

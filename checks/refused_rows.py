@@ -1,11 +1,11 @@
-"""Calls of the library of which each request for memory is refused in turn.
+"""Calls of the library for which each request for memory is refused in turn.
 
-The program `test_memory` makes a copy between stores in memory, a layout in memory, or a copy into a live store that is looked at. A
-copy is made twice, and any other call that is refused once more; then a line tells what each call answered and what the destination
-was then. What it tells with all memory is known. Where one request is refused, it tells the same, or that one call found no memory,
-or it ends without a line, since something else found none. The destination is closed each time and has what it had before, and the
-same call, made again, finishes. There are two exceptions: where the file `oci-layout` stands, no layout is made (78), so it is opened;
-and a live store to which a publication was refused takes nothing more (82 with 44), and what is copied out is what it had.
+The program `test_memory` makes a copy between stores in memory, a layout in memory, or a copy into a live store with a look. It makes a
+copy twice, and repeats any other call that is refused. Then it prints a line with the result of each call and the state of the destination.
+The line with all memory is known. If one request is refused, the line is the same, or one call reports a memory error, or there is no line,
+since something else had no memory. The destination is always closed and has its old contents, and the same call, repeated, succeeds. There
+are two exceptions: if the file `oci-layout` exists, no layout is made (78), so it is opened; and a live store that was refused a
+publication takes nothing more (82 with 44), and is copied out with its old contents.
 """
 import functools
 import multiprocessing
@@ -17,9 +17,9 @@ from support import refused_malloc
 from support.program import TOP, first, told
 
 PROGRAM = TOP + "/crates/test_memory/out/test_memory"
-# A batch ends where one of its runs made fewer requests.
+# A batch ends the search if one of its runs made fewer requests.
 BATCH = 64
-# Want of memory in a push, a reference, a live store, a layout and a copy, and in a fetch; 46 and 47 are those of a look.
+# The memory errors of a push, a reference, a live store, a layout, a copy and a fetch. A look has 46 and 47.
 FAULT = re.compile(r"23 Memory|34 Memory|38 Memory|46 Unavailable|47 Memory|48 Memory|76 Memory|86 Memory")
 # A run that is refused memory for anything else ends with this on standard error.
 NOT_BEGUN = re.compile(r"error: (AllocError|AllocFailed \{ \.\. \}|Kind\(OutOfMemory\)|\"no memory for the \w+\")\n")
@@ -40,7 +40,7 @@ ROUND_TRIP = re.compile(
     "(?:36 UnknownReference|38 Memory) 35 EmptyReference create (?:78 AlreadyLayout|76 Memory)".format(COPY)
 )
 
-# What a copy answered: its report, or none and its refusal; and how many entries there then were.
+# The result of a copy: its report, or None and its refusal; and the number of entries after it.
 Copied = namedtuple("Copied", "report refusal entries")
 # Some copies: how many keys they bring, of how many roots, to how many entries that are there before.
 Copies = namedtuple("Copies", "keys roots old")
@@ -52,19 +52,19 @@ def copied(groups):
 
 
 def is_all(copies, report):
-    """Whether a report is that of a copy that brought all keys."""
+    """Return whether a report is of a copy of all keys."""
     return report == (copies.keys, copies.keys, 0)
 
 
 def is_rest(copies, held, report):
-    """Whether a report is that of a copy that found so many of the keys, and brought the others, the last root among them."""
+    """Return whether a report is of a copy that found this number of the keys, and copied the others, the last root among them."""
     planned, pushed, skipped = report
     rest = copies.keys - held
     return planned == pushed == rest and (skipped < copies.roots if rest else skipped == copies.roots)
 
 
 def is_right(copies, once, again, halts=False):
-    """Whether two copies, one after the other, answered as they should where one request was refused."""
+    """Return whether two copies, one after the other, reported as they should if one request was refused."""
     most = copies.old + copies.keys
     if not copies.old <= once.entries <= again.entries <= most:
         return False
@@ -84,7 +84,7 @@ def is_right_in_memory(copies, line):
 
 
 def is_right_round_trip(copies, line):
-    """A copy that is refused is made again, and one that is not is not."""
+    """Return whether a refused call was repeated, and no other call."""
     found = ROUND_TRIP.fullmatch(line)
     if not found:
         return False
@@ -96,7 +96,8 @@ def is_right_round_trip(copies, line):
 
 
 def is_right_live(copies, line):
-    """The look has what is published at each moment, so that its list never becomes shorter; and it has the config if that came."""
+    """Return whether the look had the published entries at each moment, so that its list never became shorter, and the config once it was
+    published."""
     found = LIVE_COPIES.fullmatch(line)
     if not found:
         return False
@@ -110,7 +111,7 @@ def is_right_live(copies, line):
     return out == again.entries and is_right(copies, once, again, halts=True)
 
 
-# What each of them prints with all memory, and whether another line is right where one request was refused.
+# The line of each with all memory, and a function that accepts another line if one request was refused.
 TWO_IMAGES = (
     "copy planned 6 pushed 6 skipped 0 closed yes entries 7 old yes"
     " copy planned 0 pushed 0 skipped 1 closed yes entries 7 old yes",
@@ -138,7 +139,7 @@ CASES = {
 
 
 def wrong_line(name, line, refused):
-    """What is wrong with what a run printed that was refused a request, or none."""
+    """Return the problem with the output of a run that was refused a request, or None."""
     unhurt, is_right_line = CASES[name]
     if line == unhurt or refused and len(FAULT.findall(line)) == 1 and is_right_line(line):
         return None
@@ -146,7 +147,7 @@ def wrong_line(name, line, refused):
 
 
 def refuse(name, shim, room, nth):
-    """Refuses the nth request: whether there were so many, whether a call told of it, and what is wrong."""
+    """Refuse the nth request, and return whether there were that many, whether a call reported it, and the problem, or None."""
     refused, ended = refused_malloc.run_refused(shim, nth, [name], room, program=PROGRAM)
     if refused and ended.status == 1 and ended.out == "" and NOT_BEGUN.fullmatch(ended.err):
         return True, False, None
@@ -159,7 +160,7 @@ def refuse(name, shim, room, nth):
 
 
 def refused_in_turn(name, shim, room):
-    """Refuses each request in turn: how many there are, how many a call told of, and the first thing that is wrong."""
+    """Refuse each request in turn, and return how many there are, how many a call reported, and the first problem, or None."""
     count = telling = 0
     with multiprocessing.Pool() as pool:
         for start in range(1, 1 << 20, BATCH):

@@ -1,4 +1,4 @@
-"""The comparison of the release with what was built, over copies of it that are changed, with a stand-in for `rt`."""
+"""The comparison of the release with the built program, over changed copies of it, with a stand-in for `rt`."""
 import os
 import shutil
 import subprocess
@@ -46,7 +46,7 @@ class Release:
         return subprocess.run(words, cwd=self.room, env=environment, capture_output=True, text=True, check=True).stdout
 
     def wrong(self, wanted):
-        """What is wrong with a comparison: each check that is wanted, and whether it is to pass."""
+        """Return the problem with a comparison, or None. These are the checks that it is to make, and whether each is to pass."""
         *lines, last = self.run(["release/compare", "built"]).splitlines()
         passed = sum(passes for _, passes in wanted)
         if last != "%d passed, %d failed" % (passed, len(wanted) - passed):

@@ -11,19 +11,19 @@ RUNS = 20
 LAYERS = [Content(LAYER, b"layer %d" % number) for number in range(RUNS)]
 IMAGES = {"image-%d" % number: image([layer]) for number, layer in enumerate(LAYERS)}
 ALL = [E, *LAYERS, *IMAGES.values()]
-# Whoever has to wait says so once.
+# A copy that has to wait says so once.
 WAITS = re.compile(r"(ocicp: waiting for another process that writes into copied\n)?")
 
 
 def copy(folder, name):
-    """Copies one of the images: what is wrong with the answer."""
+    """Copy one of the images, and return the problem with the output, or None."""
     ended = run(["copy", "source", name, "copied"], folder, seconds=30)
     if ended.status != 0 or not ended.out.startswith("copied %s\n" % key(IMAGES[name])) or not WAITS.fullmatch(ended.err):
         return "%s: %s" % (name, told(ended))
 
 
 def copied_at_once(folder, old):
-    """Copies all images at once into a layout that has the old contents, or into none: what is wrong."""
+    """Copy all images at once into a layout that has the old contents, or into none, and return the problem, or None."""
     shutil.rmtree(folder, ignore_errors=True)
     os.mkdir(folder)
     write_layout(folder + "/source", ALL, IMAGES)

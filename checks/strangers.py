@@ -15,7 +15,7 @@ DRAFTS = [
     "blobs/sha256/%s.%s.new" % (BLOB256, DRAFT),
     "blobs/sha512/%s.%s.new" % (BLOB512, DRAFT),
 ]
-# What is no draft: the names of drafts in other places, and names that are nearly those of drafts.
+# Files that are no drafts: the names of drafts in other places, and names that are nearly names of drafts.
 OTHERS = [
     *(place + os.path.basename(draft) for place in PLACES for draft in DRAFTS if place + os.path.basename(draft) not in DRAFTS),
     "index.json.7.new",
@@ -35,7 +35,7 @@ OTHERS = [
     "blobs/sha512/%s.0.new" % BLOB512,
 ]
 TEXT = b"not yours\n"
-# By what a copy is refused: a file that has other bytes before it or is gone, and the line of the refusal.
+# The causes of a refused copy, each a file that has other bytes before it or is missing, and the line of the refusal.
 REFUSED = {
     "a folder that is no layout": ("copied/oci-layout", b"{}", "71 BadLayoutFile"),
     "an index that is none": ("copied/index.json", b"[", "73 BadIndex 10 NotJson"),
@@ -58,7 +58,7 @@ def put_files(folder):
 
 
 def wrong_files(folder, removed):
-    """What is wrong with the files, of which these are to be gone and the others there."""
+    """Return the problem with the files, or None. These are to be gone, and the others to be there."""
     for path in DRAFTS + OTHERS:
         if os.path.exists("%s/%s" % (folder, path)) == (path in removed):
             return "%s is %s" % (path, "there" if path in removed else "gone")
@@ -71,7 +71,7 @@ def wrong_copy(room, line, words=("copy", "source", "new", "copied")):
 
 
 def wrong_refused(room, harmed, content, line):
-    """What is wrong with a copy that is refused: no file is gone."""
+    """Return the problem with a copy that is refused, or None. No file is to be gone."""
     fresh(room)
     put_files(room + "/copied")
     path = "%s/%s" % (room, harmed)
@@ -84,7 +84,7 @@ def wrong_refused(room, harmed, content, line):
 
 
 def wrong_open(room):
-    """What is wrong with a copy into a layout that has lost a layer."""
+    """Return the problem with a copy into a layout that has lost a layer, or None."""
     fresh(room)
     shutil.rmtree(room + "/copied")
     write_layout(room + "/copied", [E, M2], {"old": M2})
@@ -94,14 +94,15 @@ def wrong_open(room):
 
 
 def wrong_done(room, *flags, removed=DRAFTS):
-    """What is wrong with a copy that is done: exactly the drafts are gone."""
+    """Return the problem with a copy that is done, or None. Exactly the drafts are to be gone."""
     fresh(room)
     put_files(room + "/copied")
     return first([wrong_copy(room, None, ["copy", *flags, "source", "new", "copied"]), wrong_files(room + "/copied", removed)])
 
 
 def wrong_linked(room, link):
-    """What is wrong with a copy into a layout of which a folder is a link: it is written through it, and nothing is removed through it."""
+    """Return the problem with a copy into a layout that has a link in the place of a folder, or None. It is to write through the link, and
+    to remove nothing through it."""
     fresh(room)
     put_files(room + "/copied")
     os.rename("%s/copied/%s" % (room, link), room + "/shared")

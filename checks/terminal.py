@@ -1,4 +1,4 @@
-"""Refusals on a terminal: a second line says what the last number of the first one means. Through a pipe there is no such line."""
+"""Refusals on a terminal: a second line explains the last number of the first one. Through a pipe there is no such line."""
 from support.layouts import E, FOO, M2, write_layout
 from support.program import run
 from support.terminal import run_on_terminal
@@ -6,7 +6,7 @@ from support.terminal import run_on_terminal
 UNKNOWN = "The layout has no tag with this name, and no blob with this digest"
 NO_VERSION = "The file `oci-layout` is not a JSON object with a text `imageLayoutVersion`"
 
-# The words, the fault's line, what the second line is about, what it says, and the number that it names.
+# The words, the line of the fault, the subject and the sentence of the second line, and the number that it names.
 CASES = [
     ("resolve source nope", "36 UnknownReference", "nope", UNKNOWN, 36),
     ("copy source nope copied", "36 UnknownReference", "nope", UNKNOWN, 36),

@@ -14,7 +14,7 @@ from support.layouts import E, LAYER, Content, image, key, write_layout
 from support.program import first, run, told
 
 RUNS, TRIES = 20, 3
-# A copy makes at most so many changes, and is stopped before each.
+# A copy is stopped before each of its changes, of which there are at most this many.
 CHANGES = 100
 MEGABYTE = 1 << 20
 # Layers are copied in parts of a megabyte: this one has three.
@@ -23,7 +23,7 @@ CONTENTS = [E, LONG, image([LONG])]
 IMAGE = CONTENTS[-1]
 
 def fresh(room, layouts):
-    """Makes layouts that have one folder `blobs`, which is the first one's."""
+    """Make layouts that share the folder `blobs` of the first one."""
     for layout in layouts:
         shutil.rmtree("%s/%s" % (room, layout), ignore_errors=True)
         write_layout("%s/%s" % (room, layout), [], {})
@@ -33,7 +33,7 @@ def fresh(room, layouts):
 
 
 def wrong_blobs(folder):
-    """What is wrong with the files that have a blob's name: one that has other bytes than it says."""
+    """Return the problem with the files that have a blob's name, or None. Each is to have the bytes of its digest."""
     for name in os.listdir(folder + "/blobs/sha256"):
         if len(name) == 64:
             with open("%s/blobs/sha256/%s" % (folder, name), "rb") as file:
@@ -52,7 +52,8 @@ def wrong_copied(ended):
 
 
 def wrong_end(process):
-    """Lets a stopped copy go on: what is wrong with how it ends. The other copy leaves alone what this one is writing, so it is done."""
+    """Let a stopped copy go on, and return the problem with its end, or None. It is to succeed, since the other copy does not touch the
+    file that this one writes."""
     os.kill(process.pid, signal.SIGCONT)
     try:
         _, err = process.communicate(timeout=10)
@@ -64,7 +65,7 @@ def wrong_end(process):
 
 
 def stopped_before_each(room, library, slow, quick):
-    """Stops a copy into one layout before each of its changes, and copies into the other one meanwhile."""
+    """Stop a copy into one layout before each of its changes, and copy into the other layout during each stop."""
     for number in range(1, CHANGES + 1):
         fresh(room, ["first", "second"])
         process = shim.stopped(library, ["copy", "--workers", "1", "source", "new", slow], room, number)
@@ -83,7 +84,7 @@ def stopped_before_each(room, library, slow, quick):
 
 
 def wrong_at_once(room):
-    """What is wrong with many copies at once, each into a layout of its own that has the same `blobs`."""
+    """Return the problem with many copies at once, each into a layout of its own that has the same `blobs`, or None."""
     layouts = ["copied-%d" % number for number in range(RUNS)]
     fresh(room, layouts)
     with ThreadPoolExecutor(RUNS) as pool:

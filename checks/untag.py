@@ -1,4 +1,4 @@
-"""The command `untag`, and what `verify` says of entries without a file. Wants `cc`."""
+"""The command `untag`, and the findings of `verify` for entries without a file. Wants `cc`."""
 import os
 import shutil
 import signal
@@ -24,12 +24,12 @@ def tags(room):
 
 
 def lines(names):
-    """What `tags` prints of these tags."""
+    """Return the end of `tags` for these tags."""
     return 0, "".join("%s %s\n" % (name, key(names[name])) for name in sorted(names, key=str.encode)), ""
 
 
 def wrong_untag(room, name):
-    """What is wrong with the removal of one tag: the other tags stay, and each blob; what it named can be resolved by its digest."""
+    """Return the problem with the removal of one tag, or None. The other tags and each blob are to stay, and the digest to be resolved."""
     fresh(room)
     before = files(room + "/layout")
     ended = run(["untag", "layout", name], room)
@@ -66,7 +66,7 @@ def refused(room):
 
 
 def killed(room):
-    """Kills the removal of a tag before each change that it makes."""
+    """Kill the removal of a tag before each change that it makes."""
     library = shim.built(room, "kill", shim.KILLS)
     without = {name: TAGS[name] for name in TAGS if name != "one"}
     for number in range(1, shim.MOST + 1):
@@ -87,7 +87,7 @@ def killed(room):
 
 
 def absent(room):
-    """Entries of the index without a file, which `verify` prints first, in their order."""
+    """Check entries of the index without a file, which `verify` prints first, in their order."""
     lost = [Content(LAYER, b"lost"), M3, Content(LAYER, b"also lost")]
     write_layout(room + "/lacks", [E, M2, BAR], {"a": lost[0], "image": M2, "b": lost[1]}, [lost[2], BAR])
     with open("%s/lacks/%s" % (room, blob(BAR)), "w") as file:

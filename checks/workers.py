@@ -1,4 +1,4 @@
-"""How many threads a copy starts: where no number of workers is given, as many as for three. Wants `cc`."""
+"""The number of threads that a copy starts: without a number of workers the same as for three. Wants `cc`."""
 from support import shim
 from support.layouts import BAR, E, FOO, I1, M2, M3, write_layout
 from support.program import told
@@ -18,7 +18,7 @@ int pthread_create(pthread_t *thread, const pthread_attr_t *attributes, void *(*
 
 
 def started(library, folder, number, *flags):
-    """How many threads a copy of five blobs starts, or how it was refused."""
+    """Return how many threads a copy of five blobs starts, or the message if it was refused."""
     words = ["copy", *flags, "source", "new", "copied%d" % number]
     threads, ended = shim.run_marked(library, words, folder)
     return threads if ended.status == 0 else told(ended)

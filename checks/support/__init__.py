@@ -1,1 +1,1 @@
-"""What several checks use, and the programs in bench/: nothing here is a check itself."""
+"""The code that several checks use, and the programs in bench/. Nothing here is a check itself."""

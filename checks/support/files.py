@@ -9,7 +9,7 @@ MOST = 32 << 10
 
 
 def files(folder):
-    """Each path below a folder, with its bytes, where a link leads, or else its kind. What is large or no file is not read."""
+    """Return each path below a folder, with its bytes, the target of a link, or its kind. Large files and other kinds are not read."""
     found = {}
     for at, folders, names in os.walk(folder):
         for name in [*folders, *names]:
@@ -29,7 +29,7 @@ def read(path):
 
 
 def stamps(folder):
-    """Each path below a folder, with the number of its file, its length, its mode and when it was last changed."""
+    """Return each path below a folder, with the number of its file, its length, its mode and the time of its last change."""
     found = {}
     for at, folders, names in os.walk(folder):
         for name in [".", *folders, *names]:
@@ -39,7 +39,7 @@ def stamps(folder):
 
 
 def wrong_refusal(room, words, line, status=1):
-    """What is wrong with how a command is refused, which is to change nothing."""
+    """Return the problem with a command that is to be refused with this line, and to change nothing, or None."""
     before, when = files(room), stamps(room)
     ended = run(words, room)
     return first([

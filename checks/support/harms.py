@@ -1,4 +1,4 @@
-"""Copies from a layout in which something that would harm a careless reader is in the place of a file, and how each has to end."""
+"""Copies from a layout that has something in the place of a file that would harm a careless reader, and how each has to end."""
 import os
 import shutil
 
@@ -21,7 +21,7 @@ CONTENTS = {
     "a new layer": FOO,
 }
 
-# What a copy from a layout has to answer with each harm in the place of a file. What is not named here is no regular file, or is a
+# The answers of a copy from a layout with each harm in the place of a file. A harm without an answer of its own is no regular file, or is a
 # link in the place of a file that no digest checks. An empty answer is success.
 LEAF = {
     "": ["88 Fetch KEY 22 Device"],
@@ -51,7 +51,7 @@ FROM = {
 
 
 def fresh(folder, old, tags):
-    """A source with an image, and a destination with old contents."""
+    """Write a source with an image, and a destination with old contents."""
     shutil.rmtree(folder, ignore_errors=True)
     os.mkdir(folder)
     with open(folder + "/secret", "wb") as file:
@@ -61,13 +61,13 @@ def fresh(folder, old, tags):
 
 
 def answers_to(table, file, harm):
-    """What a table wants as the answer."""
+    """Return the answers that a table allows."""
     found = table[file].get(harm, table[file][""])
     return [it.replace("KEY", key(CONTENTS.get(file, E))).replace("HOLDER", key(OLD_IMAGE)) for it in found]
 
 
 def wrong_copy(folder, wanted):
-    """What is wrong with the copy's answer, its time and its memory. The answer is to be one of those that are wanted."""
+    """Return the problem with the output of a copy, its time or its memory, or None. One of these answers is to be printed."""
     ended = run(["copy", "source", "new", "copied"], folder)
     statuses = {"ocicp: %s\n" % it if it else "": 3 if it == "memory" else 1 if it else 0 for it in wanted}
     if ended.status < 0:

@@ -28,7 +28,7 @@ MEMORY = '{"error":[{"name":"Memory"}]}\n'
 
 
 def object_of(members):
-    """The object with these members, of which no two may have one name."""
+    """Return the object with these members. No two may have one name."""
     if len(dict(members)) != len(members):
         raise ValueError("a member is there twice")
     return dict(members)
@@ -39,14 +39,14 @@ def no_number(text):
 
 
 def read_document(text):
-    """Reads a document, which is one line."""
+    """Read a document, which is one line."""
     if not text.endswith("\n") or text.count("\n") != 1:
         raise ValueError("it is not one line")
     return json.loads(text, object_pairs_hook=object_of, parse_float=no_number, parse_constant=no_number)
 
 
 def taken(value, kinds):
-    """The values of an object that has exactly these members in this order, each of its kind or of one of its kinds."""
+    """Return the values of an object. It is to have exactly these members in this order, each of its type or of one of its types."""
     if type(value) is not dict or list(value) != list(kinds):
         raise ValueError("%.200s does not have the members %s" % (value, ", ".join(kinds)))
     for name, kind in kinds.items():
@@ -56,13 +56,13 @@ def taken(value, kinds):
 
 
 def key(descriptor):
-    """A descriptor as a line has it."""
+    """Return a descriptor as a line has it."""
     media_type, digest, size = taken(descriptor, DESCRIPTOR)
     return "%s %d %s" % (digest, size, media_type)
 
 
 def sum_of(value):
-    """A sum, which is a number if 64 bits hold it."""
+    """Return a sum, which is a number if 64 bits hold it, and otherwise a text."""
     if (type(value) is int) != (int(value) <= GREATEST) or str(int(value)) != str(value):
         raise ValueError("the sum is %r" % value)
     return int(value)
@@ -131,7 +131,7 @@ def of_prune(value, words):
 
 
 def tag_of(words):
-    """The tag that a copy sets: DSTREF, or SRCREF if there is none."""
+    """Return the tag that a copy sets: DSTREF, or SRCREF if there is none."""
     places = [it for it, before in zip(words[1:], words) if not it.startswith("--") and before not in ("--workers", "--depth")]
     return places[3 if len(places) > 3 else 1]
 
@@ -152,7 +152,7 @@ def of_copy(value, words):
 
 
 def size(number):
-    """A size as people read it."""
+    """Return a size in the form for people."""
     for least, tenth, unit in (999_950_000, 100_000_000, "GB"), (999_950, 100_000, "MB"), (1_000, 100, "KB"):
         if number >= least:
             return "%d.%d %s" % (*divmod((number + tenth // 2) // tenth, 10), unit)
@@ -160,7 +160,7 @@ def size(number):
 
 
 class Labels:
-    """What the line of a blob of a tree shortens, for a layout: the keys, and how many digits it shows, in which the digests differ."""
+    """The parts of a tree's lines that a layout decides: its keys, and the number of digits that tell its digests apart."""
 
     def __init__(self, folder):
         held = Held(folder)
@@ -170,7 +170,7 @@ class Labels:
         self.digits = max([LEAST_DIGITS, *needed])
 
     def of(self, descriptor):
-        """The short digest, the size and the media type."""
+        """Return the short digest, the size and the media type."""
         media_type, digest, number = taken(descriptor, DESCRIPTOR)
         if Key(media_type, digest, number) not in self.keys:
             raise ValueError("the layout does not have %s" % descriptor)
@@ -178,7 +178,7 @@ class Labels:
 
 
 def node(value, labels, is_referrer):
-    """The line of a blob of a tree."""
+    """Return the line of a blob of a tree."""
     kinds = {"depth": int, "descriptor": dict, "tags": list, "repeated": bool, "absent": bool}
     if is_referrer and "artifactType" in value:
         kinds["artifactType"] = str
@@ -204,7 +204,7 @@ LINES = {
 
 
 def fault(value):
-    """A fault as a line has it."""
+    """Return a fault as a line has it."""
     carried = CARRIED.get(value.get("number"), {})
     number, name, *values = taken(value, {"number": int, "name": str, **carried})
     values = [part for it in values for part in (it if isinstance(it, list) else [it])]
@@ -212,7 +212,7 @@ def fault(value):
 
 
 def of_error(text):
-    """The error output as it is without `--json`: with a line in the place of the document."""
+    """Return the error output as it is without `--json`: with a line in the place of the document."""
     if text == MEMORY:
         return "ocicp: memory\n"
     before, document = text[: text[:-1].rfind("\n") + 1], text[text[:-1].rfind("\n") + 1 :]

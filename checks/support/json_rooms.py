@@ -1,5 +1,5 @@
-"""Runs each command twice, in folders of its own with the same files: once for its lines, and once with `--json`. The lines that
-`json_lines` makes of the document are to be those of the other run, and both runs are to leave the same files."""
+"""Runs each command twice, in two folders with the same files: once for its lines, and once with `--json`. The lines that `json_lines`
+makes of the document have to be the lines of the other run, and both runs have to leave the same files."""
 import os
 import shutil
 import subprocess
@@ -14,19 +14,19 @@ CHANGES = ["copy", "untag", "prune"]
 
 
 def run_long(words, folder, seconds=SECONDS):
-    """Runs the program, which may print any length."""
+    """Run the program, which may print any length."""
     began = time.monotonic()
     ended = subprocess.run([PROGRAM, *words], cwd=folder, stdin=subprocess.DEVNULL, capture_output=True, timeout=seconds)
     return Ended(ended.returncode, ended.stdout.decode(), ended.stderr.decode(), time.monotonic() - began, 0)
 
 
 def with_json(words):
-    """The words with `--json`, after the command or at the end."""
+    """Return the words with `--json`, after the command or at the end."""
     return [words[0], "--json", *words[1:]] if len(" ".join(words)) % 2 else [*words, "--json"]
 
 
 def lines_of(words, ended, folder):
-    """What a run with `--json` printed on both outputs, as lines."""
+    """Return the lines for the output and the error output of a run with `--json`."""
     out = ended.out
     # (a refusal has no document on stdout, but for that of a prune which could not remove a file)
     if ended.status == 0 or out:
@@ -37,7 +37,7 @@ def lines_of(words, ended, folder):
 
 
 def wrong_document(words, plain, ended, folder):
-    """What is wrong with a run with `--json` beside the other run."""
+    """Return the problem with a run with `--json`, compared with the other run, or None."""
     if ended.status != plain.status or bool(ended.out) != bool(plain.out or plain.status == 0):
         return "%s; and without --json: %s" % (told(ended), told(plain))
     try:
@@ -64,7 +64,7 @@ class Rooms:
         self.ended = None
 
     def wrong(self, words, run=run_long):
-        """What is wrong with a command: how `run` ran it in each folder, and what it left."""
+        """Return the problem with a command, or None. `run` runs it in each folder."""
         plain, self.ended = run(words, self.folders[0]), run(with_json(words), self.folders[1])
         complaint = wrong_document(words, plain, self.ended, self.folders[1])
         if not complaint and words[0] in CHANGES and files(self.folders[0]) != files(self.folders[1]):

@@ -22,7 +22,7 @@ def digits(content):
 
 
 def key(content):
-    """A content as the program prints it."""
+    """Return the text of a content's key, as the program prints it."""
     return "%s:%s %d %s" % (content.algorithm, digits(content), len(content.bytes), content.media_type)
 
 
@@ -74,7 +74,7 @@ I4 = index([I3])
 
 
 def blob(content):
-    """Where the file of a content lies in a layout."""
+    """Return the path of a content's file in a layout."""
     return "blobs/%s/%s" % (content.algorithm, digits(content))
 
 
@@ -87,7 +87,7 @@ def write_items(folder, contents):
 
 
 def write_layout(folder, contents, names, untagged=()):
-    """Makes a layout that holds these contents; `names` has the content of each tag, and `untagged` those that are listed without one."""
+    """Write a layout that holds these contents. `names` has the content of each tag, and `untagged` the entries without a tag."""
     os.makedirs(folder + "/blobs/sha256")
     for content in contents:
         os.makedirs("%s/blobs/%s" % (folder, content.algorithm), exist_ok=True)

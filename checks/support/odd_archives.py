@@ -15,12 +15,12 @@ MOST = 1 << 20
 
 
 def each(files, make=member):
-    """An archive without an end: what is made of the path and the content of each file."""
+    """Return an archive without an end. `make` makes a part of it from the path and the content of each file."""
     return b"".join(make(path, content) for path, content in files)
 
 
 def odd_numbers(files):
-    """Numbers that are written in other ways."""
+    """Yield archives with numbers that are written in other ways."""
     yield "sizes in base 256", each(files, lambda path, it: member(path, it, size=base256(len(it))))
     others = {"uid": base256(1 << 22, 8), "gid": base256(1 << 31, 8), "mtime": b"\xff" * 12}
     yield "owners and times in base 256", each(files, lambda path, it: member(path, it, **others))
@@ -31,7 +31,7 @@ def odd_numbers(files):
 
 
 def odd_names(files):
-    """Names that are written in other ways, and names that are others."""
+    """Yield archives with names that are written in other ways, and with other names."""
     head, tail = os.path.dirname, os.path.basename
     yield "names with bytes behind their end", each(files, lambda path, it: member(path + b"\0junk", it))
     yield "names in two fields", each(files, lambda path, it: member(tail(path), it, prefix=head(path)))
@@ -52,7 +52,7 @@ def odd_names(files):
 
 
 def odd_headers(files):
-    """Extended headers of pax."""
+    """Yield archives with extended headers of pax."""
     yield "paths of pax", each(files, lambda path, it: extended((b"path", path)) + member(b"other", it))
     yield "paths of pax with ./", each(files, lambda path, it: extended((b"path", b"./" + path)) + member(b"other", it))
     yield "paths of pax beside prefixes", each(files, lambda path, it: extended((b"path", path)) + member(b"n", it, prefix=b"p"))
@@ -72,7 +72,7 @@ def odd_headers(files):
 
 
 def long_headers(files):
-    """Long names of GNU, and extended headers that have all the bytes that they may have."""
+    """Yield archives with long names of GNU, and with extended headers of the greatest length."""
     named = lambda path, it: member(path[:50], it, magic=GNU)
     yield "long names of GNU", each(files, lambda path, it: long_name(path) + named(path, it))
     yield "long names of GNU with ./", each(files, lambda path, it: long_name(b"./" + path) + named(path, it))
@@ -87,14 +87,14 @@ def long_headers(files):
 
 
 def headers_for_long_names(files):
-    """Archives in which names can have over 100 characters."""
+    """Yield archives in which names may have over 100 characters."""
     named = lambda path, it: member(path[:100], it, magic=GNU)
     yield "paths of pax", each(files, lambda path, it: extended((b"path", path)) + member(path[:100], it))
     yield "long names of GNU", each(files, lambda path, it: long_name(path) + named(path, it))
 
 
 def odd_members(files):
-    """Other members before the files, another order, and other ends."""
+    """Yield archives with other members before the files, in another order, and with other ends."""
     whole = each(files)
     padding = -len(files[-1][1]) % BLOCK
     yield "the last file first", each(files[::-1]) + END
@@ -115,12 +115,12 @@ def odd_members(files):
 
 
 def allowed(files):
-    """All archives that are allowed, each with what it is."""
+    """Yield all archives that are allowed, each with a label."""
     for group in odd_numbers, odd_names, odd_headers, long_headers, odd_members:
         yield from group(files)
 
 
-# What can be in the place of a file and is no regular file.
+# Members that can be in the place of a file and are no regular files.
 PLACES = {
     "a hard link": lambda path: header(path, 3, kind=b"1", link=b"other"),
     "a symbolic link": lambda path: header(path, kind=b"2", link=b"other"),
@@ -135,7 +135,7 @@ PLACES = {
 
 
 def bad_headers(files):
-    """A header that is damaged, as the second and as the first one."""
+    """Yield archives in which the second header, or the first, is damaged."""
     before, after = each(files[:1]), each(files[1:])
     plus = lambda more: {"checksum": lambda total: b"%06o\0 " % (total + more)}
     checksums = {
@@ -157,7 +157,7 @@ def bad_headers(files):
 
 
 def bad_records(files):
-    """Records of pax that are malformed."""
+    """Yield archives with malformed records of pax."""
     whole = each(files)
     texts = [
         b"13 path=other\n", b"15 path=other\n", b"path=other\n", b"14path=other\n", b"0 path=other\n", b"-14 path=other\n",
@@ -175,7 +175,7 @@ def bad_records(files):
 
 
 def cut(files):
-    """Archives that end too early."""
+    """Yield archives that end too early."""
     whole, start, last = each(files), len(each(files[:1])), len(each(files[:-1]))
     for size in 1, 100, BLOCK - 1:
         yield "%d bytes" % size, whole[:size], "100 NotArchive"
@@ -195,7 +195,7 @@ def cut(files):
 
 
 def oversized(files):
-    """Sizes that go past the end, of which the last are so large that they may count as no number."""
+    """Yield archives with sizes that go past the end. The last sizes are so large that they may count as no number."""
     whole = each(files)
     for label, field in ("all of octal", b"777777777777"), ("octal", octal(1 << 30, 12)), ("base 256", base256(1 << 40)):
         yield "a size past the end in " + label, whole + header(b"other", field), "103 Truncated %d" % len(whole)
@@ -211,7 +211,7 @@ def oversized(files):
 
 
 def foreign(files):
-    """Files that are no archives."""
+    """Yield files that are no archives."""
     whole = each(files) + END
     for form, written in ("gzip", gzip.compress(whole)), ("bzip2", bz2.compress(whole)), ("xz", lzma.compress(whole)):
         yield form, written, "101 Compressed " + form
@@ -224,6 +224,6 @@ def foreign(files):
 
 
 def damaged(files):
-    """All archives that are refused, each with what it is and with the line, or the lines of which one is printed."""
+    """Yield all archives that are refused, each with a label and with the line of the refusal, or the lines of which one is printed."""
     for group in bad_headers, bad_records, cut, oversized, foreign:
         yield from group(files)

@@ -21,7 +21,7 @@ Ended = namedtuple("Ended", "status out err seconds kilobytes")
 
 
 def run(words, folder, seconds=SECONDS, program=PROGRAM, **how):
-    """Runs a program in a folder. `how` goes to `subprocess.Popen`. What it prints has to fit into a pipe."""
+    """Run a program in a folder. `how` goes to `subprocess.Popen`. The output has to fit into a pipe."""
     began = time.monotonic()
     pipes = {"stdin": subprocess.DEVNULL, "stdout": subprocess.PIPE, "stderr": subprocess.PIPE}
     with subprocess.Popen([program, *words], cwd=folder, **pipes, **how) as process:
@@ -36,25 +36,25 @@ def run(words, folder, seconds=SECONDS, program=PROGRAM, **how):
 
 
 def told(ended):
-    """What a run answered, in one line."""
+    """Return the end of a run as one line."""
     lines = (ended.out + ended.err).strip().split("\n")
     return "status %d, %s" % (ended.status, " / ".join(lines[:3]) or "no output")
 
 
 def first(complaints):
-    """The first thing that is wrong, or none."""
+    """Return the first problem, or None."""
     return next((it for it in complaints if it), None)
 
 
 def wrong_answer(words, folder, out):
-    """What is wrong with a command that is to succeed and to print this."""
+    """Return the problem with a command that is to succeed and to print this, or None."""
     ended = run(words, folder)
     if (ended.status, ended.out, ended.err) != (0, out, ""):
         return "%s: %s" % (" ".join(words), told(ended))
 
 
 def wrong_layout(folder, layout, contents, names):
-    """What is wrong with a layout that is to hold these contents, and to have these tags."""
+    """Return the problem with a layout that is to hold these contents, and to have these tags, or None."""
     lines = ["%s %s\n" % (name, key(names[name])) for name in sorted(names)]
     return first([
         wrong_answer(["verify", layout], folder, "held %d\n" % len(contents)),
@@ -63,7 +63,7 @@ def wrong_layout(folder, layout, contents, names):
 
 
 def leftovers(folder, contents):
-    """What is wrong with the files of a layout, which may be its own two and the blobs of these contents."""
+    """Return a message about a file of a layout that is neither one of its own two nor a blob of these contents, or None."""
     own = {"oci-layout", "index.json", *map(blob, contents)}
     for at, _, files in os.walk(folder):
         for file in files:

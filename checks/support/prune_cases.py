@@ -1,17 +1,18 @@
-"""Layouts to prune: made by hand, each with what goes, and made at random."""
+"""Layouts to prune, made by hand with the contents that go, and made at random."""
 import os
 import shutil
 from collections import namedtuple
 
 from support.layouts import (
-    ARTIFACT, BAR, DOCKER_IMAGE, DOCKER_LIST, E, FOO, I1, IMAGE, INDEX, LAYER, M2, M3, S, Content, blob, descriptor, image, index, write_layout,
+    ARTIFACT, BAR, DOCKER_IMAGE, DOCKER_LIST, E, FOO, I1, IMAGE, INDEX, LAYER, M2, M3, S, Content, blob, descriptor, image, index,
+    write_layout,
 )
 
 GZIP, FOREIGN = LAYER + "+gzip", "application/vnd.oci.image.layer.nondistributable.v1.tar"
 DRAFT = ".0123456789abcdef.new"
 STRAY, ZEROS = "blobs/sha256/" + "0" * 63 + "1", "0" * 64
 
-# Layers and images that no other sample has, and what refers to them.
+# Layers and images that no other sample has, and manifests that refer to them.
 A, B, OLD = Content(LAYER, b"a layer"), Content(LAYER, b"b layer"), Content(LAYER, b"old layer")
 A_ZIPPED, LONG = A._replace(media_type=GZIP), A._replace(algorithm="sha512")
 OLD_IMAGE = image([A, OLD])
@@ -25,9 +26,9 @@ CHAIN = [M2]
 for _ in range(60):
     CHAIN.append(image([], subject=CHAIN[-1]))
 
-# A layout: its contents, its tags, and what else is listed in its index; other files, each with its text; what goes, and what goes also
-# with --no-referrers, of contents and of files; contents of which the file stays, since another one has it; and whether all is there
-# that is kept.
+# A layout: its contents, its tags, and the other entries of its index; other files, each with its text; the contents and files that go, and
+# those that go only with --no-referrers; contents that go but share their file with another one; and whether everything that is kept is
+# there.
 Case = namedtuple("Case", "contents tags untagged files goes referrers shared is_whole", defaults=[[], {}, [], [], [], True])
 CASES = {
     "all is tagged": Case([E, FOO, BAR, M2, M3, I1], {"both": I1}),
@@ -113,7 +114,7 @@ def random_manifest(chance, contents, number):
 
 
 def random_contents(chance):
-    """Leaves of few bytes and media types, and manifests of them and of each other."""
+    """Return leaves of few bytes and media types, and manifests of them and of each other."""
     leaves = [Content(chance.choice([LAYER, GZIP]), b"%d" % chance.randrange(3), chance.choice(["sha256", "sha512"])) for _ in range(4)]
     contents = list(dict.fromkeys(leaves))
     for number in range(chance.randrange(1, 9)):

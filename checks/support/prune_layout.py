@@ -24,7 +24,7 @@ class Layout:
         self.after = files(room + "/layout")
 
     def fresh(self):
-        """Puts the layout into the state that it has before."""
+        """Restore the layout to its state before the prune."""
         shutil.rmtree(self.room + "/layout", ignore_errors=True)
         write_layout(self.room + "/layout", CONTENTS if self.untagged else [E, FOO, M2, S], TAGS, self.untagged)
         for path in STRAYS:
@@ -32,14 +32,14 @@ class Layout:
                 file.write("stray")
 
     def gone(self):
-        """The files that are gone."""
+        """Return the files that are gone."""
         return sorted(set(self.before) - set(files(self.room + "/layout")))
 
     def saved(self):
         return files(self.room + "/layout")["index.json"] == self.after["index.json"]
 
     def wrong_whole(self):
-        """What is wrong with a prune that was not ended, and with what it left."""
+        """Return the problem with a prune that was not ended, or with its layout, or None."""
         return first([
             None if self.whole[:3] == (0, self.prune.out, "") else told(self.whole),
             None if self.gone() == self.prune.gone else "these files are gone: %s" % self.gone(),
@@ -47,8 +47,8 @@ class Layout:
         ])
 
     def wrong_state(self):
-        """What is wrong with the layout when a prune has not finished. It holds what it did, or what is to be kept, and has each file of
-        that; no file is gone before the index is saved."""
+        """Return the problem with the layout after a prune that has not finished, or None. It is to hold its old contents or the kept ones,
+        with each file of these, and no file is to be gone before the index is saved."""
         held = self.prune.kept if self.saved() else self.prune.held.keys
         return first([
             wrong_layout(self.room, "layout", held, TAGS),
@@ -57,7 +57,7 @@ class Layout:
         ])
 
     def wrong_again(self):
-        """What is wrong with the same prune, made again: it leaves what one leaves that was not ended."""
+        """Repeat the prune, and return the problem with it, or None. It is to leave the same files as a prune that was not ended."""
         prune = Prune(self.room + "/layout")
         ended = run(["prune", "layout"], self.room)
         return first([

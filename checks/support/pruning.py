@@ -1,4 +1,4 @@
-"""What a prune of a layout keeps, removes and prints, worked out from the layout's files by the rules of `ocicp prune --help`."""
+"""The contents that a prune of a layout keeps, removes and prints, worked out from its files by the rules of `ocicp prune --help`."""
 import json
 import os
 import re
@@ -31,7 +31,7 @@ Key = namedtuple("Key", "media_type digest size")
 
 
 def text(key):
-    """A key as the program prints it."""
+    """Return a key as the program prints it."""
     return "%s %d %s" % (key.digest, key.size, key.media_type)
 
 
@@ -44,7 +44,7 @@ def key_of(value):
 
 
 class Held:
-    """The keys that a layout holds, and what refers to what."""
+    """The keys that a layout holds, and the references between them."""
 
     def __init__(self, folder):
         self.folder = folder
@@ -62,12 +62,12 @@ class Held:
         return os.path.isfile("%s/%s" % (self.folder, path(key)))
 
     def member(self, key, name):
-        """The keys of a member of a manifest."""
+        """Return the keys of a member of a manifest."""
         value = json.loads(read("%s/%s" % (self.folder, path(key)))).get(name) or []
         return [key_of(it) for it in (value if isinstance(value, list) else [value])]
 
     def listed(self, key):
-        """The keys that a key lists."""
+        """Return the keys that a key lists."""
         found = [it for name in MEMBERS.get(key.media_type, []) for it in self.member(key, name)]
         return [it for it in found if not FOREIGN.fullmatch(it.media_type)]
 
@@ -75,7 +75,7 @@ class Held:
         return self.member(key, "subject") if "subject" in MEMBERS.get(key.media_type, []) else []
 
     def kept(self, keeps_referrers):
-        """The least set of held keys that has the tagged keys, with each key what it lists, and with each key what refers to it."""
+        """Return the least set of held keys with the tagged keys, all keys that its keys list, and all keys that refer to its keys."""
         kept = set()
         more = set(self.tags.values())
         while more:
@@ -115,13 +115,13 @@ class Prune:
         self.out = "".join(it + "\n" for it in self.lines)
 
     def lacking(self):
-        """The manifests that a kept key lists and that are not held, so that nobody knows what they list."""
+        """Return the manifests that a kept key lists and that are not held. Nobody knows which keys they list."""
         listed = {it for key in self.kept for it in self.held.listed(key)}
         return {it for it in listed - self.held.keys if it.media_type in MEMBERS}
 
 
 def files_of(folder):
-    """The paths of the files and links in the folders that a prune looks through."""
+    """Yield the paths of the files and links in the folders that a prune looks through."""
     for place in "", "blobs/sha256/", "blobs/sha512/":
         at = "%s/%s" % (folder, place)
         for name in os.listdir(at) if os.path.isdir(at) else []:

@@ -6,7 +6,7 @@ import os
 from support import shim
 from support.program import first
 
-# A batch ends where one of its runs made fewer requests. A command that makes more than MOST is not looked at whole.
+# A batch ends the search if one of its runs made fewer requests. A command that makes more than MOST is an error.
 BATCH, MOST = 64, 4096
 
 SHIM = r"""
@@ -43,18 +43,18 @@ void *realloc(void *old, size_t size) {
 
 
 def build(folder):
-    """Builds the library that refuses, and gives its path."""
+    """Build the library that refuses, and return its path."""
     return shim.built(folder, "refuse", SHIM)
 
 
 def run_refused(library, nth, words, folder, **how):
-    """Runs a command with the nth request refused: whether it made so many, and how it ended. `how` goes to `run`."""
+    """Run a command with the nth request refused, and return whether it made that many, and its end. `how` goes to `run`."""
     marks, ended = shim.run_marked(library, words, folder, {"REFUSED_REQUEST": str(nth)}, **how)
     return marks > 0, ended
 
 
 def refused_in_turn(case, library, room, wrong):
-    """Refuses each request of a command in turn: how many it makes, and the first thing that is wrong, which `wrong` finds."""
+    """Refuse each request of a command in turn, and return how many it makes, and the first problem that `wrong` finds, or None."""
     os.mkdir(room)
     with multiprocessing.Pool() as pool:
         for start in range(1, MOST, BATCH):

@@ -1,11 +1,11 @@
-"""Builds libraries that stand between the program and the C library. Wants `cc`."""
+"""Builds libraries that are called between the program and the C library. Wants `cc`."""
 import os
 import subprocess
 
 from support.program import PROGRAM, run
 
-# Calls `on_change` before each call that would change a file or a folder, with the path, or with none for a write to an open file; and
-# before each call that waits for the disk, with SYNC. What it answers is the error of that call; 0 lets the call through.
+# Calls `on_change` before each call that would change a file or a folder, with the path, or with NULL for a write to an open file; and
+# before each call that waits for the disk, with SYNC. It returns the error of that call, or 0 to let the call through.
 CHANGES = r"""
 #define _GNU_SOURCE
 #include <dlfcn.h>
@@ -107,7 +107,7 @@ MOST = 100
 
 
 def built(folder, name, source):
-    """Builds a library from C source, and gives its path, for LD_PRELOAD."""
+    """Build a library from C source for LD_PRELOAD, and return its path."""
     path = os.path.join(folder, name + ".so")
     words = ["cc", "-shared", "-fPIC", "-O1", "-Wall", "-Werror", "-x", "c", "-", "-o", path, "-ldl"]
     subprocess.run(words, input=source.encode(), check=True)
@@ -115,13 +115,13 @@ def built(folder, name, source):
 
 
 def run_marked(library, words, folder, environment={}, **how):
-    """Runs a command with a library that marks something: how many marks it made, and how it ended. `how` goes to `run`."""
+    """Run a command with a library that marks something, and return how many marks it made, and its end. `how` goes to `run`."""
     text, ended = run_noted(library, words, folder, environment, **how)
     return len(text), ended
 
 
 def run_noted(library, words, folder, environment={}, **how):
-    """Runs a command with a library that notes something: what it noted, which has to fit into a pipe, and how it ended."""
+    """Run a command with a library that notes something, and return the notes, which have to fit into a pipe, and its end."""
     marks, mark = os.pipe()
     environment = dict(os.environ, LD_PRELOAD=library, MARK=str(mark), **environment)
     ended = run(words, folder, env=environment, pass_fds=[mark], **how)
@@ -131,7 +131,7 @@ def run_noted(library, words, folder, environment={}, **how):
 
 
 def stopped(library, words, folder, number):
-    """Begins a command that stops before this change: its process, or none if it has ended without so many changes."""
+    """Begin a command that stops before this change, and return its process, or None if it has ended with fewer changes."""
     environment = dict(os.environ, LD_PRELOAD=library, STOP=str(number))
     process = subprocess.Popen([PROGRAM, *words], cwd=folder, env=environment, stdin=subprocess.DEVNULL,
                                stdout=subprocess.DEVNULL, stderr=subprocess.PIPE, text=True)

@@ -5,7 +5,7 @@ from support.program import TOP
 
 
 def table(path, heading):
-    """The rows of the first table below a heading, each a list of its cells."""
+    """Return the rows of the first table below a heading, each a list of its cells."""
     with open(TOP + path) as file:
         below = file.read().split(heading + "\n", 1)[1]
     rows = re.search(r"^\|.*?(?=^$|\Z)", below, re.M | re.S).group().splitlines()[2:]

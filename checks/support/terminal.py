@@ -8,7 +8,7 @@ from support.program import PROGRAM, SECONDS
 
 
 def read_all(terminal):
-    """What is written to a terminal until no process has it open any more."""
+    """Return the text that is written to a terminal until no process has it open any more."""
     written = b""
     try:
         while part := os.read(terminal, 4096):
@@ -19,8 +19,8 @@ def read_all(terminal):
 
 
 def run_on_terminal(words, folder, seconds=SECONDS, shows_output=False, **how):
-    """The status of a run whose error output is a terminal, with `shows_output` its output too, and what it wrote there. A run that takes
-    longer is killed. `how` goes to `subprocess.Popen`."""
+    """Run the program with a terminal as its error output, with `shows_output` as its output too, and return its status and the text on the
+    terminal. A run that takes longer is killed. `how` goes to `subprocess.Popen`."""
     terminal, end = pty.openpty()
     try:
         out = end if shows_output else subprocess.DEVNULL
