@@ -49,13 +49,13 @@ def index(contents, subject=None):
 
 
 def wide_index(count):
-    """Return so many layers, and an index of them."""
+    """Return this number of layers, and an index of them."""
     layers = [Content(LAYER, b"%d" % number) for number in range(count)]
     return [*layers, index(layers)]
 
 
 def chain(count):
-    """Return an empty config and so many images, each with the one before as its subject."""
+    """Return an empty config and this number of images, each with the one before as its subject."""
     contents = [E, image([])]
     for _ in range(count - 1):
         contents.append(image([], subject=contents[-1]))

@@ -102,7 +102,7 @@ static int on_change(const char *path) {
   return length >= end && strcmp(path + length - end, kept) == 0 ? EACCES : 0;
 }
 """
-# No command that is killed before each of its changes makes more of them.
+# A command that is killed before each of its changes makes at most this many.
 MOST = 100
 
 
