@@ -5,8 +5,8 @@ import re
 from concurrent.futures import ThreadPoolExecutor
 from itertools import zip_longest
 
-from program import first
-from session_commands import Commands, build
+from support.program import first
+from support.session_commands import Commands, build
 
 FOLDER = os.path.dirname(os.path.abspath(__file__)) + "/sessions/"
 NAMED = re.compile(r"<([A-Z]\w*)(?: (\w+))?>")

@@ -6,9 +6,9 @@ import re
 import subprocess
 import threading
 
-import shim
-from program import PROGRAM, SECONDS, run
-from terminal import run_on_terminal
+from support import shim
+from support.program import PROGRAM, SECONDS, run
+from support.terminal import run_on_terminal
 
 # The call named CALL fails with ERROR if its path has PART. The clock stands still.
 SHIM = r"""
