@@ -2,8 +2,8 @@
 use Rattle.oci_copy.specs.declared.fault.CopyFault.{CopyFault}
 use Rattle.oci_copy.specs.declared.fault.CopyFault.TheVariants as fault
 use Rattle.oci_layout.specs.declared.fault.LayoutFault.{LayoutFault}
-use Rattle.oci_exit.specs.declared.fault.ProgramFault.{ProgramFault}
-use Rattle.oci_exit.specs.declared.fault.ProgramFault.TheVariants as program
+use Rattle.oci_program.specs.declared.fault.ProgramFault.{ProgramFault}
+use Rattle.oci_program.specs.declared.fault.ProgramFault.TheVariants as program
 
 -- a copy between layouts is refused for a cause of the copy, or for a cause of the save after it
 abbrev pub IsRefusedBetween : (CopyFault → Type 0) → (LayoutFault → Type 0) → ProgramFault → Type 0

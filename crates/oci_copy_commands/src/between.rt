@@ -17,11 +17,11 @@ ghost use Rattle.oci_copy_commands.specs.Selected.{set_tags};
 
 use crate::selected::Selected;
 use oci_copy::{CopyFault, Options, Report, copy_plan};
-use oci_exit::ProgramFault;
 use oci_layout::{Dir, Layout};
 use oci_manifest::Key;
 use oci_plan::Plan;
 use oci_pool::Hooks;
+use oci_program::ProgramFault;
 use oci_store::{RefFault, Store, Tagger};
 use std::sync::Wait;
 use std::thread::Threads;

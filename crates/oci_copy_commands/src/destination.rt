@@ -1,5 +1,5 @@
-use oci_exit::ProgramFault;
 use oci_layout::{Dir, DirFault, FolderLock, Layout, Lockable};
+use oci_program::ProgramFault;
 use std::alloc::Global;
 use std::rt::Files;
 

@@ -1,9 +1,9 @@
 use crate::item::Item;
 use oci_command_line::{Algorithm, MemWords};
 use oci_copy::{CopyFault, Options, Report, copy_memory, copy_memory_by_workers};
-use oci_exit::{Form, Outcome, ProgramFault, print_answer};
 use oci_manifest::Key;
 use oci_pool::NoHooks;
+use oci_program::{Form, Outcome, ProgramFault, print_answer};
 use oci_store::{ClosedStore, MemoryStore};
 use serde::Serialize;
 use std::alloc::Global;

@@ -1,8 +1,8 @@
 use oci_command_line::Shown;
-use oci_exit::{Amount, ProgressLine};
 use oci_manifest::Key;
 use oci_plan::Plan;
 use oci_pool::Hooks;
+use oci_program::{Amount, ProgressLine};
 use std::io::Write;
 use std::sync::{Mutex, Wait};
 use std::time::Clock;

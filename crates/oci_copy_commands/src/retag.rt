@@ -7,9 +7,9 @@ use crate::between::tag_all;
 use crate::selected::Selected;
 use oci_copy::CopyFault;
 use oci_digest::NoMemory;
-use oci_exit::ProgramFault;
 use oci_layout::{Dir, Layout};
 use oci_manifest::Key;
+use oci_program::ProgramFault;
 use oci_store::{RefFault, Tags, Untagger};
 use std::alloc::Global;
 

@@ -5,10 +5,10 @@ ghost use Rattle.oci_store.specs.Tags.{by_bytes};
 ghost use Rattle.oci_copy_commands.specs.Selected.{AreOfRoots, AreRoots, AreRootsOfTags, IsRootOfKey};
 
 use oci_command_line::{CopyWords, Selection};
-use oci_exit::ProgramFault;
 use oci_layout::{Dir, Layout};
 use oci_manifest::Key;
 use oci_plan::climb;
+use oci_program::ProgramFault;
 use oci_store::{GraphSource, KeyList, Store, Tagger};
 use std::alloc::Global;
 use std::marker::Model;

@@ -4,8 +4,8 @@ use Rattle.oci_store.specs.Tags.{Tags, tag_at}
 use Rattle.oci_store.specs.declared.fault.RefFault.{RefFault}
 use Rattle.oci_store.specs.declared.fault.RefFault.TheVariants as reference
 use Rattle.oci_layout.specs.declared.fault.LayoutFault.{LayoutFault}
-use Rattle.oci_exit.specs.declared.fault.ProgramFault.{ProgramFault}
-use Rattle.oci_exit.specs.declared.fault.ProgramFault.TheVariants as program
+use Rattle.oci_program.specs.declared.fault.ProgramFault.{ProgramFault}
+use Rattle.oci_program.specs.declared.fault.ProgramFault.TheVariants as program
 
 -- why a store does not remove a tag: the tag is empty, or there is none, or memory ran out
 abbrev pub IsUntagFault : Tags → List ℕ → RefFault → Type 0

@@ -1,8 +1,8 @@
 ghost use Rattle.std.specs.Prelude.{◌≡◌, None, IfOk, OnOk};
 
 use oci_digest::NoMemory;
-use oci_exit::{Form, Outcome, ProgramFault, Sum, print_answer};
 use oci_manifest::Key;
+use oci_program::{Form, Outcome, ProgramFault, Sum, print_answer};
 use oci_prune::{PruneFault, Pruned, PrunedFile, Pruning};
 use serde::Serialize;
 use std::alloc::Global;

@@ -6,9 +6,11 @@ ghost use Rattle.oci_store.specs.Tags.{tag_at, without_tag};
 ghost use Rattle.oci_prune_commands.specs.Refusal.{IsRefusedUntag};
 
 use oci_command_line::UntagWords;
-use oci_exit::{Ended, Form, Outcome, ProgramFault, Tagged, finish_run, lock_folder, print_answer};
 use oci_layout::{Dir, Layout, LayoutFault, Lockable};
 use oci_manifest::Key;
+use oci_program::{
+    Ended, Form, Outcome, ProgramFault, Tagged, finish_run, lock_folder, print_answer,
+};
 use oci_store::Untagger;
 use serde::Serialize;
 use std::alloc::Global;

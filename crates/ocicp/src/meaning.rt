@@ -1,5 +1,5 @@
 use oci_command_line::{Query, Request, Selection, UntagWords, first_sentence};
-use oci_exit::{Refusal, Subject};
+use oci_program::{Refusal, Subject};
 use std::io::Write;
 
 /// Prints a line for a person at a terminal: the word that a refusal is about, the meaning of its

@@ -1,7 +1,7 @@
 use oci_archive::{ReadAt, TarDir};
 use oci_command_line::CopyWords;
-use oci_exit::ProgramFault;
 use oci_layout::FsDir;
+use oci_program::ProgramFault;
 use std::fs;
 use std::rt::Files;
 

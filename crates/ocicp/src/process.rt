@@ -1,6 +1,6 @@
 use crate::run::{form_of, run_words_on};
 use oci_copy_commands::Host;
-use oci_exit::{Ending, ProgramFault, finish_run};
+use oci_program::{Ending, ProgramFault, finish_run};
 use std::env::FillError;
 use std::io::{BufWriter, IsTerminal, Write};
 use std::rt::Env;

@@ -6,10 +6,10 @@ use oci_command_line::{
     CommandLine, CommandLineFault, Explanation, PruneWords, Request, UntagWords,
 };
 use oci_copy_commands::{Host, run_copy, run_mem};
-use oci_exit::{Ended, Ending, Form, Outcome, ProgramFault, finish_run, print_answer};
-use oci_inspect::run_query;
 use oci_pool::MAX_WORKERS;
+use oci_program::{Ended, Ending, Form, Outcome, ProgramFault, finish_run, print_answer};
 use oci_prune_commands::{run_prune, run_untag};
+use oci_query_commands::run_query;
 use std::alloc::Global;
 use std::io::Write;
 

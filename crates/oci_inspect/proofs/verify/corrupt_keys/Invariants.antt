@@ -1,7 +1,0 @@
-use Rattle.std.proofs.Common.{◌≡◌, [], take}
-use Rattle.oci_inspect.specs.Verified.{AreIntact}
-use Rattle.oci_inspect.proofs.verify.corrupt_keys.Given as goal
-
--- as far as the loop has come
-abbrev pub invariant-loop-place : goal.invariant-loop-place
-invariant-loop-place g l = l.corrupt.items ≡ [] → AreIntact (g.D.Dir.device l.layout.0) (take l.place l.layout.1)

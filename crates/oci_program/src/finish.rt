@@ -1,0 +1,100 @@
+ghost use Rattle.std.specs.Prelude.{◌≡◌, ◌≤◌, ◌⊎◌, false, IfErr, IfOk, OnOk};
+ghost use Rattle.oci_program.specs.Status.{IsRefusalStatus, is_memory, status_of, status_of_done};
+
+use crate::answer::{Form, document_line};
+use crate::ending::Ending;
+use crate::fault::ProgramFault;
+use crate::outcome::Outcome;
+use crate::refusal::Refusal;
+use crate::refusal_document::RefusalDocument;
+use std::alloc::Global;
+use std::io::Write;
+
+/// The line of a refusal for lack of memory, which is written without any.
+const MEMORY_LINE: &str = "{\"error\":[{\"name\":\"Memory\"}]}\n";
+
+/// How a run ended.
+#[derive(Clone, Copy)]
+pub struct Ended {
+    /// The exit status.
+    pub status: u8,
+    /// The refusal, if the run has one with a number.
+    pub refusal: Option<Refusal>,
+}
+
+/// Ends a run: flushes `out` if the command was done, or prints its fault on `err` in this form.
+///
+/// The lines of a fault are `ocicp: ` and its text. Its document is
+/// `{"error":[{"number":N,"name":"..", ..}]}` on one line, with an object for each fault of the text,
+/// the outermost first, and in each the values that it carries. If memory ran out, or runs out while
+/// the document is made, the document is `{"error":[{"name":"Memory"}]}` and the status is 3.
+/// A fault that `err` does not take is left out; the status is the same.
+///
+/// # Errors
+///
+/// The run ends with 94 `Output` or out of memory if `out` cannot be flushed. What was printed
+/// before stays.
+pub fn finish_run<W: Write, X: Write>(
+    alloc: Global,
+    done: Result<Outcome, ProgramFault>,
+    form: Form,
+    out: &mut W,
+    err: &mut X,
+) -> Ended
+    ensures status { result.status ≤ 3 }
+    ensures done { IfOk done (λ outcome. (result.status ≡ status_of_done outcome)
+        ⊎ ((result.status ≡ 1) ⊎ (result.status ≡ 3))) }
+    ensures refused { IfErr done (λ fault. IsRefusalStatus form fault result.status) }
+{
+    match done {
+        Ok(outcome) => match out.flush() {
+            Ok(()) => Ended {
+                status: outcome.status(),
+                refusal: None,
+            },
+            Err(error) => refused(alloc, ProgramFault::of_output(error), form, err),
+        },
+        Err(fault) => refused(alloc, fault, form, err),
+    }
+}
+
+/// Ends a run that was refused: prints the fault on `err`.
+fn refused<X: Write>(alloc: Global, fault: ProgramFault, form: Form, err: &mut X) -> Ended
+    ensures status { (result.status ≡ 1) ⊎ (result.status ≡ 3) }
+    ensures refused { IsRefusalStatus form fault result.status }
+{
+    let refusal = fault.refusal();
+    let status = match form {
+        Form::Lines => Ending::Fault(fault).tell(err),
+        Form::Json => tell_document(alloc, fault, err),
+    };
+    Ended { status, refusal }
+}
+
+/// Writes the document of a fault on `err`, and returns the exit status.
+fn tell_document<X: Write>(alloc: Global, fault: ProgramFault, err: &mut X) -> u8
+    ensures status { (result ≡ 1) ⊎ (result ≡ 3) }
+    ensures refused { IsRefusalStatus Form.Json fault result }
+{
+    match refusal_line(alloc, &fault) {
+        Ok(line) => {
+            let _ = err.write_all(&line);
+            1
+        }
+        Err(_) => {
+            let _ = err.write_all(MEMORY_LINE.as_bytes());
+            3
+        }
+    }
+}
+
+/// Returns the document of a fault and a line feed, unless memory ran out or runs out.
+fn refusal_line(alloc: Global, fault: &ProgramFault) -> Result<Vec<u8>, ProgramFault>
+    ensures { OnOk result (is_memory fault.now ≡ false) }
+{
+    if fault.is_memory() {
+        return Err(ProgramFault::Memory);
+    }
+    let document = RefusalDocument::of(alloc, fault)?;
+    document_line(alloc, &document)
+}

@@ -1,0 +1,33 @@
+ghost use Rattle.std.specs.Prelude.{◌≡◌};
+ghost use Rattle.oci_program.specs.Status.{both, status_of_done};
+
+/// The result of a command that was not refused.
+#[derive(Clone, Copy)]
+pub enum Outcome {
+    /// Nothing is wrong.
+    Good,
+    /// Something is wrong, and the output says it.
+    Faulty,
+}
+
+impl Outcome {
+    /// Returns `Good` if both are good.
+    pub fn and(self, other: Outcome) -> Outcome
+        ensures { result ≡ both self other }
+    {
+        match self {
+            Outcome::Good => other,
+            Outcome::Faulty => Outcome::Faulty,
+        }
+    }
+
+    /// Returns the exit status: 0 for `Good`, and otherwise 1.
+    pub fn status(self) -> u8
+        ensures { result ≡ status_of_done self }
+    {
+        match self {
+            Outcome::Good => 0,
+            Outcome::Faulty => 1,
+        }
+    }
+}

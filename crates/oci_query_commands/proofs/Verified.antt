@@ -1,0 +1,104 @@
+-- What `verify` reads: keys whose files match them.
+use Rattle.std.proofs.Common.{◌≡◌, ℕ, ◌+◌, ◌<◌, ◌⊎◌, true, List, [], ◌∷◌, take, get_or, length, slice_get, option_map, Option, Some, None, IsSome, is_some, Result, Ok, Err, IfOk, IfErr, inl, inr, refl, sym, ap, subst, ◌∙◌, arith}
+use Rattle.std.specs.List.{All}
+use Rattle.std.specs.Option.{unwrap_or}
+use Rattle.std.proofs.lemmas.Bool.{cases_Bool}
+use Rattle.std.proofs.lemmas.List.Elements.{All-nil, All-cons, All-head, All-tail, All-more}
+use Rattle.std.proofs.lemmas.Option.{slice_get-get_or}
+use Rattle.oci_layout.specs.Blobs.{blob_path, blob_at, meaning, HasMatchingFiles}
+use Rattle.oci_layout.specs.Device.{Device, File}
+use Rattle.oci_layout.specs.Opened.{IsOpened, held_in, is_there, listed_in}
+use Rattle.oci_layout.proofs.Stored.{has_key-stored, value_at-stored}
+use Rattle.oci_program.specs.Status.{IsRefusalStatus, is_memory, status_of, status_of_done}
+use Rattle.oci_program.specs.declared.answer.Form.{Form}
+use Rattle.oci_program.specs.declared.answer.Form.TheVariants as form
+use Rattle.oci_program.specs.declared.ending.Ending.TheVariants as ending
+use Rattle.oci_program.specs.declared.fault.ProgramFault.{ProgramFault}
+use Rattle.oci_program.specs.declared.outcome.Outcome.{Outcome}
+use Rattle.oci_program.specs.declared.outcome.Outcome.TheVariants as outcome
+use Rattle.oci_manifest.specs.Descriptor.{Descriptor, Matches}
+use Rattle.oci_store.specs.Graph.{Node}
+use Rattle.oci_store.specs.Keyed.{has_key}
+use Rattle.oci_store.specs.Tags.{Tags}
+use Rattle.oci_query_commands.specs.Verified.{IsIntact, AreIntact, IsWhole, IsVerified}
+
+-- the file of an intact key matches it
+blob_matches : (dir : Device) (graph : List Node) (tags : Tags) (k : Descriptor) → IsIntact (meaning dir graph tags) k → dir.is_honest → Matches k (blob_at dir.file k.digest)
+blob_matches dir graph tags k h honest =
+    let it = h honest in
+    let held : has_key graph k ≡ true = sym (has_key-stored dir.file graph k) ∙ ap is_some it.1 in
+    let same : it.0 ≡ blob_at dir.file k.digest = cc (sym it.1 ∙ value_at-stored dir.file graph k held) in
+    subst (λ (bytes : List ℕ). Matches k bytes) same it.2
+
+-- one key more is intact
+pub AreIntact-more : (dir : Device) (graph : List Node) (tags : Tags) (i : ℕ) (k : Descriptor) → i < length graph → option_map (λ (n : Node). n.0) (slice_get graph i) ≡ Some k
+    → AreIntact dir (take i graph) → IsIntact (meaning dir graph tags) k → AreIntact dir (take (i + 1) graph)
+AreIntact-more dir graph tags i k lt at before h honest =
+    let P = λ (n : Node). Matches n.0 (blob_at dir.file n.0.digest) in
+    let d : Node = (k, []) in
+    let same : (get_or graph i d).0 ≡ k = cc (sym (ap (λ (o : Option Node). option_map (λ (n : Node). n.0) o) (slice_get-get_or graph i d lt)) ∙ at) in
+    All-more P graph i d lt (before honest) (subst (λ (x : Descriptor). Matches x (blob_at dir.file x.digest)) (sym same) (blob_matches dir graph tags k h honest))
+
+abbrev HasFile : File → Node → Type 0
+HasFile file n = IsSome (file (blob_path n.0.digest))
+
+abbrev FileMatches : File → Node → Type 0
+FileMatches file n = (bytes : List ℕ) × (file (blob_path n.0.digest) ≡ Some bytes) × Matches n.0 bytes
+
+-- a walk holds only keys with a file
+held_there : (file : File) (visited : List Descriptor) → All (HasFile file) (held_in file visited)
+held_there file [] = All-nil (HasFile file)
+held_there file (k ∷ visited) =
+    elim (cases_Bool (is_there file k)) [
+      | inl there ↦ rw there (All-cons (HasFile file) (k, listed_in file k) (held_in file visited) there (held_there file visited))
+      | inr gone ↦ rw gone (held_there file visited)
+    ]
+
+-- the bytes of a file that is there and matches its key
+found : (k : Descriptor) (o : Option (List ℕ)) → IsSome o → Matches k (unwrap_or o []) → (bytes : List ℕ) × (o ≡ Some bytes) × Matches k bytes
+found k (Some bytes) there matching = (bytes, refl, matching)
+found k None there matching = cc there
+
+-- files that are there and match their keys
+all_match : (file : File) (graph : List Node) → All (HasFile file) graph → All (λ (n : Node). Matches n.0 (blob_at file n.0.digest)) graph → HasMatchingFiles file graph
+all_match file [] there matching = All-nil (FileMatches file)
+all_match file (n ∷ graph) there matching =
+    let P = λ (n : Node). Matches n.0 (blob_at file n.0.digest) in
+    All-cons (FileMatches file) n graph
+    (found n.0 (file (blob_path n.0.digest)) (All-head (HasFile file) n graph there) (All-head P n graph matching))
+    (all_match file graph (All-tail (HasFile file) n graph there) (All-tail P n graph matching))
+
+-- a layout that was opened and is whole is verified
+pub IsVerified-whole : (dir : Device) (graph : List Node) (tags : Tags) (absent : List Descriptor) → dir.is_honest → IsOpened dir.file graph tags absent → IsWhole dir graph absent → IsVerified dir
+IsVerified-whole dir graph tags absent honest opened whole = record {
+  graph = graph;
+  tags = tags;
+  opened = subst (λ (ks : List Descriptor). IsOpened dir.file graph tags ks) whole.entries opened;
+  matching = all_match dir.file graph
+      (subst (λ (g : List Node). All (HasFile dir.file) g) (sym opened.walked.held) (held_there dir.file opened.walked.visited))
+      (whole.intact honest);
+  closed = whole.closed;
+}
+
+-- ---- the exit status
+
+good_if_zero : (o : Outcome) → status_of_done o ≡ 0 → o ≡ outcome.Good
+good_if_zero outcome.Good zero = refl
+good_if_zero outcome.Faulty zero = absurd (omega (arith, zero))
+
+fault_is_not_zero : (e : ProgramFault) (status : ℕ) → status ≡ status_of (ending.Fault e) → status ≡ 0 → ⊥
+fault_is_not_zero e status is zero = elim (cases_Bool (is_memory e)) [ inl memory ↦ omega (arith, rw memory at is, zero) | inr other ↦ omega (arith, rw other at is, zero) ]
+
+refusal_is_not_zero : (shape : Form) (e : ProgramFault) (status : ℕ) → IsRefusalStatus shape e status → status ≡ 0 → ⊥
+refusal_is_not_zero form.Lines e status is zero = fault_is_not_zero e status is zero
+refusal_is_not_zero form.Json e status is zero = elim is [ inl lines ↦ fault_is_not_zero e status lines zero | inr three ↦ omega (arith, three, zero) ]
+
+-- a run that ended with 0 had a good outcome
+pub good_at_zero : (Q : Type 0) (done : Result Outcome ProgramFault) (shape : Form) (status : ℕ)
+    → IfOk done (λ o. (status ≡ status_of_done o) ⊎ ((status ≡ 1) ⊎ (status ≡ 3))) → IfErr done (λ e. IsRefusalStatus shape e status)
+    → IfOk done (λ o. o ≡ outcome.Good → Q) → status ≡ 0 → Q
+good_at_zero Q (Ok o) shape status ended refused good zero = elim ended [
+  | inl is ↦ good (good_if_zero o (sym is ∙ zero))
+  | inr other ↦ absurd (elim other [ inl one ↦ omega (arith, one, zero) | inr three ↦ omega (arith, three, zero) ])
+]
+good_at_zero Q (Err e) shape status ended refused good zero = absurd (refusal_is_not_zero shape e status refused zero)

@@ -1,0 +1,27 @@
+use Rattle.std.proofs.Common.{◌≡◌, [], List, length, slice_get, option_map, Some, sym, ap, subst, ◌∙◌, arith}
+use Rattle.std.specs.Option.{option_copied}
+use Rattle.std.proofs.lemmas.List.{take_all}
+use Rattle.std.proofs.lemmas.List.Sorted.{length_permutation}
+use Rattle.oci_layout.proofs.Loose.{empty_list}
+use Rattle.oci_store.specs.Graph.{Node}
+use Rattle.oci_query_commands.specs.Verified.{AreIntact}
+use Rattle.oci_query_commands.proofs.Verified.{AreIntact-more}
+use Rattle.oci_query_commands.proofs.verify.corrupt_keys.Goals as goal
+
+pub loop-place-preserved : goal.loop-place-preserved
+loop-place-preserved g c = λ none.
+    let layout = c.args.layout.now in
+    let step = c.in_ok-add_if_corrupt.ensures none in
+    let at : option_map (λ (n : Node). n.0) (slice_get layout.1 c.loop-place.place) ≡ Some c.in-Some.key.now = sym c.key.ensures ∙ ap option_copied c.in-Some.is in
+    AreIntact-more (g.D.Dir.device layout.0) layout.1 layout.2 c.loop-place.place c.in-Some.key.now
+    (omega (arith, c.loop-place-test.true, c.count-place-end.ensures.count)) at
+    (c.loop-place.invariant step.0) step.1
+
+pub returns : goal.returns
+returns g c = λ none.
+    let layout = c.args.layout.now in
+    let same : length c.sort.new.self.items ≡ length c.loop-place.corrupt.items = length_permutation c.loop-place.corrupt.items c.sort.new.self.items c.sort.ensures.permutation in
+    let empty : c.loop-place.corrupt.items ≡ [] = empty_list c.loop-place.corrupt.items (omega (arith, same, ap length none)) in
+    subst (λ (graph : List Node). AreIntact (g.D.Dir.device layout.0) graph)
+    (take_all c.loop-place.place layout.1 (omega (arith, c.loop-place-test.false, c.count-place-end.ensures.count)))
+    (c.loop-place.invariant empty)

@@ -1,0 +1,7 @@
+use Rattle.std.proofs.Common.{◌≡◌, [], take}
+use Rattle.oci_query_commands.specs.Verified.{AreIntact}
+use Rattle.oci_query_commands.proofs.verify.corrupt_keys.Given as goal
+
+-- as far as the loop has come
+abbrev pub invariant-loop-place : goal.invariant-loop-place
+invariant-loop-place g l = l.corrupt.items ≡ [] → AreIntact (g.D.Dir.device l.layout.0) (take l.place l.layout.1)

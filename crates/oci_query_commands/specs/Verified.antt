@@ -1,0 +1,51 @@
+-- Layouts in which `verify` finds nothing wrong (OCI image specification 1.1, image-layout.md).
+use Rattle.std.specs.Prelude.{◌≡◌, ℕ, Bool, true, false, List, [], Some, None}
+use Rattle.std.specs.List.{All}
+use Rattle.oci_command_line.specs.declared.request.Query.{Query}
+use Rattle.oci_command_line.specs.declared.request.Query.TheVariants as query
+use Rattle.oci_layout.specs.Blobs.{blob_at, HasMatchingFiles}
+use Rattle.oci_layout.specs.Device.{Device}
+use Rattle.oci_layout.specs.Opened.{IsOpened}
+use Rattle.oci_manifest.specs.Descriptor.{Descriptor}
+use Rattle.oci_store.specs.Closed.{IsClosed}
+use Rattle.oci_store.specs.Content.{Matches}
+use Rattle.oci_store.specs.Graph.{Node}
+use Rattle.oci_store.specs.Keyed.{value_at}
+use Rattle.oci_store.specs.State.{State}
+use Rattle.oci_store.specs.Tags.{Tags}
+use Rattle.oci_query_commands.specs.declared.verify.Findings.{Findings}
+
+-- whether the command is `verify`
+abbrev pub is_verify : Query → Bool
+is_verify (query.Verify shows_progress) = true
+is_verify other = false
+
+-- a layout can be opened in a directory, and nothing is wrong with it: each entry of its index has
+-- its file, the file of each held key is there and matches it, and each listed key is held
+pub record IsVerified (dir : Device) : Type 0 where
+  pub graph : List Node
+  pub tags : Tags
+  pub opened : IsOpened dir.file graph tags []
+  pub matching : HasMatchingFiles dir.file graph
+  pub closed : IsClosed graph
+
+-- ---- a layout that was opened
+
+-- the bytes that an honest store has for a key match it
+abbrev pub IsIntact : State → Descriptor → Type 0
+IsIntact store k = store.is_honest → (bytes : List ℕ) × (value_at store.entries k ≡ Some bytes) × Matches k bytes
+
+-- the bytes of its file in an honest directory match each held key
+abbrev pub AreIntact : Device → List Node → Type 0
+AreIntact dir graph = dir.is_honest → All (λ (n : Node). Matches n.0 (blob_at dir.file n.0.digest)) graph
+
+-- nothing is wrong with a layout: no entry of its index is absent, each held key is intact, and each
+-- listed key is held
+pub record IsWhole (dir : Device) (graph : List Node) (absent : List Descriptor) : Type 0 where
+  pub entries : absent ≡ []
+  pub intact : AreIntact dir graph
+  pub closed : IsClosed graph
+
+-- no key is absent or corrupt, and none lists a missing key
+abbrev pub FindsNothing : Findings → Type 0
+FindsNothing findings = (findings.absent.now ≡ []) × (findings.corrupt.items ≡ []) × (findings.open ≡ None)

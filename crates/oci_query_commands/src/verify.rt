@@ -1,0 +1,246 @@
+ghost use Rattle.std.specs.Prelude.{◌≡◌, [], false, None, IfOk, OnOk};
+ghost use Rattle.oci_store.specs.Closed.{IsClosed};
+ghost use Rattle.oci_query_commands.specs.Verified.{AreIntact, FindsNothing, IsIntact, IsWhole};
+
+use oci_digest::NoMemory;
+use oci_layout::{Dir, Layout};
+use oci_manifest::{Key, Kind};
+use oci_program::{Amount, Outcome, ProgramFault, ProgressLine};
+use oci_store::{Dest, Drafting, FetchFault, PartWatcher, Source, fetch_into};
+use serde::Serialize;
+use std::alloc::Global;
+use std::fmt;
+use std::fmt::Display;
+use std::io::Write;
+use std::sync::Wait;
+use std::time::Clock;
+
+/// The findings of `verify`. `Display` prints one a line, in the order of the fields.
+#[derive(Drop, Serialize)]
+pub(crate) struct Findings<'l> {
+    /// The key of each entry of `index.json` without a file, in the order of the entries.
+    absent: &'l [Key],
+    /// The held keys whose files do not match them, in key order.
+    corrupt: Vec<&'l Key>,
+    /// The first key that lists a missing key, with that key.
+    open: Option<Open>,
+    /// The number of held keys.
+    held: usize,
+}
+
+/// A held key that lists a missing key.
+#[derive(Drop, Serialize)]
+struct Open {
+    holder: Key,
+    missing: Key,
+}
+
+impl Findings<'_> {
+    /// Returns `Good` if nothing is wrong: no key is absent or corrupt, and none lists a missing
+    /// key.
+    pub(crate) fn outcome(&self) -> Outcome
+        ensures { result ≡ Outcome.Good → FindsNothing self.now }
+    {
+        if self.absent.is_empty() && self.corrupt.is_empty() && self.open.is_none() {
+            Outcome::Good
+        } else {
+            Outcome::Faulty
+        }
+    }
+}
+
+impl Display for Findings<'_> {
+    fn fmt<W: fmt::Write>(&self, f: &mut fmt::Formatter<W>) -> fmt::Result {
+        print_each("absent", self.absent, f)?;
+        print_each("corrupt", &self.corrupt, f)?;
+        if let Some(Open { holder, missing }) = &self.open {
+            writeln!(f, "open {holder} {missing}")?;
+        }
+        writeln!(f, "held {}", self.held)
+    }
+}
+
+/// Prints each key on a line of its own, after a word.
+fn print_each<T: Display, W: fmt::Write>(
+    word: &str,
+    keys: &[T],
+    f: &mut fmt::Formatter<W>,
+) -> fmt::Result {
+    for key in keys {
+        writeln!(f, "{word} {key}")?;
+    }
+    Ok(())
+}
+
+/// `verify FOLDER`: reads each held blob, and returns what is wrong with the layout. If it
+/// `shows_progress`, draws a line on `err` that shows how much was read, and erases it at the end.
+pub(crate) fn verify<'l, R: AllocGlobal + Clock + Wait, D: Dir, X: Write>(
+    rt: &R,
+    layout: &'l Layout<D>,
+    shows_progress: bool,
+    err: &mut X,
+) -> Result<Findings<'l>, ProgramFault>
+    ensures { IfOk result (λ findings. FindsNothing findings
+        → IsWhole (D.device layout.now.0) layout.now.1 layout.now.3) }
+{
+    let progress = Progress::new(rt, err, layout, shows_progress);
+    let corrupt = corrupt_keys(rt.alloc(), layout, &progress);
+    progress.end();
+    Ok(Findings {
+        absent: layout.absent(),
+        corrupt: corrupt?,
+        open: open_key(layout)?,
+        held: layout.count(),
+    })
+}
+
+/// Returns the held keys whose files do not match them, in key order.
+fn corrupt_keys<'l, D: Dir, R: Clock + Wait, X: Write>(
+    alloc: Global,
+    layout: &'l Layout<D>,
+    progress: &Progress<'_, R, X>,
+) -> Result<Vec<&'l Key>, ProgramFault>
+    ensures { IfOk result (λ corrupt. corrupt.items ≡ []
+        → AreIntact (D.device layout.now.0) layout.now.1) }
+{
+    let mut corrupt = Vec::new(alloc);
+    for place in 0..layout.count() {
+        let Some(key) = layout.key(place) else {
+            unreachable!();
+        };
+        add_if_corrupt(layout, key, &mut corrupt, progress)?;
+    }
+    corrupt.sort()?;
+    Ok(corrupt)
+}
+
+/// Adds a held key to these if its file does not match it.
+fn add_if_corrupt<'l, A: Source, R: Clock + Wait, X: Write>(
+    source: &A,
+    key: &'l Key,
+    corrupt: &mut Vec<&'l Key>,
+    progress: &Progress<'_, R, X>,
+) -> Result<(), ProgramFault>
+    ensures { OnOk result (corrupt.new.items ≡ []
+        → (corrupt.old.items ≡ []) × IsIntact (A.state source.now) key.now) }
+{
+    if is_corrupt(source, key, progress)? {
+        corrupt.push(key)?;
+    }
+    progress.key_checked();
+    Ok(())
+}
+
+/// Returns whether the file of a key does not match it, or is gone.
+fn is_corrupt<A: Source, R: Clock + Wait, X: Write>(
+    source: &A,
+    key: &Key,
+    progress: &Progress<'_, R, X>,
+) -> Result<bool, ProgramFault>
+    ensures { IfOk result (λ corrupt. corrupt ≡ false → IsIntact (A.state source.now) key.now) }
+{
+    match check(source, key, progress) {
+        Ok(()) => Ok(false),
+        Err(FetchFault::Corrupt) => Ok(true),
+        Err(fault) => Err(ProgramFault::Fetch(fault)),
+    }
+}
+
+/// Reads a blob and checks it against its key. A leaf may be large, so it is read in parts that are
+/// not kept. Manifests are small.
+fn check<A: Source, R: Clock + Wait, X: Write>(
+    source: &A,
+    key: &Key,
+    progress: &Progress<'_, R, X>,
+) -> Result<(), FetchFault>
+    ensures { OnOk result (IsIntact (A.state source.now) key.now) }
+{
+    if source.may_fail(key) && is_leaf(key) {
+        return fetch_into(source, key, &mut Discard, progress);
+    }
+    let content = source.fetch(key)?;
+    progress.part_arrived(content.len());
+    Ok(())
+}
+
+/// Returns whether a key lists nothing.
+fn is_leaf(key: &Key) -> bool {
+    Kind::of(key.media_type()) == Kind::Leaf
+}
+
+/// A draft that discards all bytes.
+#[derive(Drop)]
+struct Discard;
+
+impl Drafting for Discard {
+    ghost use Rattle.std.specs.Prelude.{⊤};
+
+    ghost drafted = { λ d bytes. ⊤ };
+
+    fn append(&mut self, _part: &[u8]) -> Result<(), NoMemory> {
+        Ok(())
+    }
+}
+
+/// Returns the first key that lists a missing key, with that key.
+fn open_key<D: Dest>(store: &D) -> Result<Option<Open>, NoMemory>
+    ensures { IfOk result (λ found. found ≡ None → IsClosed (D.state store.now).nodes) }
+{
+    match store.missing()? {
+        Some((holder, missing)) => Ok(Some(Open { holder, missing })),
+        None => Ok(None),
+    }
+}
+
+/// Counts the keys that were checked and their bytes on a line on the terminal, if it is shown. Of
+/// a file that does not match its key at most as many bytes are counted as the key's size, so the
+/// line never shows more than the whole, but it may end below it.
+#[derive(Drop)]
+struct Progress<'p, R, X> {
+    line: Option<ProgressLine<'p, R, X>>,
+}
+
+impl<'p, R: Clock + Wait, X: Write> Progress<'p, R, X> {
+    /// Creates the line for the blobs of a layout, if it is shown.
+    fn new<D: Dir>(
+        rt: &'p R,
+        err: &'p mut X,
+        layout: &Layout<D>,
+        is_shown: bool,
+    ) -> Progress<'p, R, X> {
+        if !is_shown {
+            return Progress { line: None };
+        }
+        let mut all = Amount::NONE;
+        for place in 0..layout.count() {
+            if let Some(key) = layout.key(place) {
+                all = all.with(key);
+            }
+        }
+        Progress {
+            line: Some(ProgressLine::new(rt, err, all)),
+        }
+    }
+
+    /// Counts a key that was checked.
+    fn key_checked(&self) {
+        if let Some(line) = &self.line {
+            line.add_blob();
+        }
+    }
+
+    /// Erases the line.
+    fn end(self) {
+        if let Some(line) = self.line {
+            line.erase();
+        }
+    }
+}
+
+impl<'p, R: Clock + Wait, X: Write> PartWatcher for Progress<'p, R, X> {
+    fn part_arrived(&self, length: usize) {
+        if let Some(line) = &self.line {
+            line.add_bytes(length);
+        }
+    }
+}
