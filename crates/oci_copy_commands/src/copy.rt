@@ -12,8 +12,9 @@ use oci_command_line::CopyWords;
 use oci_copy::{Options, Report, plan_copy};
 use oci_layout::{Dir, FolderLock, Layout, PrunableDir};
 use oci_plan::Existing;
-use oci_program::{Ended, Form, Outcome, ProgramFault, finish_run, make_and_lock_folder};
-use oci_prune_commands::print_answer_with_fault;
+use oci_program::{
+    Ended, Form, Outcome, ProgramFault, finish_run, make_and_lock_folder, print_answer_with_fault,
+};
 use std::alloc::Global;
 use std::io::Write;
 

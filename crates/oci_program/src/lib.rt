@@ -1,5 +1,5 @@
-//! The ends of runs, the printing of answers, the line that shows progress, and the locking of
-//! folders, for all commands of the program.
+//! The parts that the commands of the program share: faults and exit statuses, the printing of
+//! answers, the line that shows progress, and the locking of folders.
 //!
 //! | Type | What it is |
 //! |---|---|
@@ -8,12 +8,14 @@
 //! | [`Form`] | lines or JSON, the form in which a command prints |
 //! | [`Ending`] | why a run ended early: an invalid command line, or a refused command |
 //! | [`Ended`] | how a run ended: its exit status, and its [`Refusal`] |
+//! | [`PruneAnswer`] | the answer of a prune: what it removed |
 //! | [`Tagged`], [`Sum`] | parts of answers: a tag with its key, and a sum |
 //! | [`ProgressLine`] | a line on a terminal: how much of an [`Amount`] has arrived, and how fast |
 //! | [`Readable`], [`TimeLeft`] | a size, and a time, as people read them |
 //!
-//! [`print_answer`] prints the answer of a command, and [`finish_run`] ends a run. [`lock_folder`]
-//! and [`make_and_lock_folder`] lock the folder that a command writes into.
+//! [`print_answer`] prints the answer of a command, or [`print_answer_with_fault`] if it pruned, and
+//! [`finish_run`] ends a run. [`lock_folder`] and [`make_and_lock_folder`] lock the folder that a
+//! command writes into; [`check_is_layout`] looks before whether it has a layout.
 #![tactic(auto)]
 
 mod answer;
@@ -25,6 +27,7 @@ mod finish;
 mod locking;
 mod outcome;
 mod progress_line;
+mod prune_answer;
 mod readable;
 mod refusal;
 mod refusal_document;
@@ -35,9 +38,10 @@ pub use answer::{Form, Tagged, print_answer};
 pub use ending::Ending;
 pub use fault::ProgramFault;
 pub use finish::{Ended, finish_run};
-pub use locking::{lock_folder, make_and_lock_folder};
+pub use locking::{check_is_layout, lock_folder, make_and_lock_folder};
 pub use outcome::Outcome;
 pub use progress_line::{Amount, ProgressLine};
+pub use prune_answer::{PruneAnswer, print_answer_with_fault};
 pub use readable::{Readable, TimeLeft};
 pub use refusal::{Refusal, Subject};
 pub use speed::rate;

@@ -1,7 +1,23 @@
 use crate::fault::ProgramFault;
-use oci_layout::{DirFault, FolderLock, LayoutFault, Lockable};
+use oci_layout::{Dir, DirFault, FolderLock, LayoutFault, Lockable};
 use std::io::Write;
 use std::rt::Files;
+
+/// Refuses a directory that has no layout. Its folder need not exist, so a command that changes a
+/// layout checks this before it locks the folder.
+///
+/// # Errors
+///
+/// - 70 `NoLayoutFile` if there is no file `oci-layout`.
+/// - 74 `Device` if that cannot be found out.
+/// - Out of memory, at any point.
+pub fn check_is_layout<D: Dir>(dir: &D) -> Result<(), ProgramFault> {
+    match dir.exists("oci-layout") {
+        Ok(true) => Ok(()),
+        Ok(false) => Err(ProgramFault::Layout(LayoutFault::NoLayoutFile)),
+        Err(fault) => Err(ProgramFault::Layout(LayoutFault::from(fault))),
+    }
+}
 
 /// Locks the folder that a command writes into. If another process has the lock, prints this on
 /// `err` and waits, or refuses the command unless it `waits`.

@@ -1,11 +1,12 @@
 ghost use Rattle.std.specs.Prelude.{◌≤◌};
 
-use crate::answer::{PruneAnswer, print_answer_with_fault};
-use crate::untag::check_is_layout;
 use oci_command_line::PruneWords;
 use oci_digest::NoMemory;
 use oci_layout::{Layout, Lockable, PrunableDir};
-use oci_program::{Ended, Form, Outcome, ProgramFault, finish_run, lock_folder};
+use oci_program::{
+    Ended, Form, Outcome, ProgramFault, PruneAnswer, check_is_layout, finish_run, lock_folder,
+    print_answer_with_fault,
+};
 use oci_prune::{Pruned, Pruning, plan_prune, prune};
 use std::alloc::Global;
 use std::io::Write;

@@ -6,10 +6,11 @@ ghost use Rattle.oci_store.specs.Tags.{tag_at, without_tag};
 ghost use Rattle.oci_prune_commands.specs.Refusal.{IsRefusedUntag};
 
 use oci_command_line::UntagWords;
-use oci_layout::{Dir, Layout, LayoutFault, Lockable};
+use oci_layout::{Dir, Layout, Lockable};
 use oci_manifest::Key;
 use oci_program::{
-    Ended, Form, Outcome, ProgramFault, Tagged, finish_run, lock_folder, print_answer,
+    Ended, Form, Outcome, ProgramFault, Tagged, check_is_layout, finish_run, lock_folder,
+    print_answer,
 };
 use oci_store::Untagger;
 use serde::Serialize;
@@ -73,22 +74,6 @@ fn untag_folder<R: Files<File: Lockable> + AllocGlobal, D: Dir + Drop, X: Write>
     let mut layout = Layout::open(rt.alloc(), dir)?;
     let descriptor = untag_and_save(&mut layout, words.tag)?;
     Ok(Untagged(Tagged { tag, descriptor }))
-}
-
-/// Refuses a directory that has no layout. The folder need not exist, so that this is checked
-/// before the folder is locked.
-///
-/// # Errors
-///
-/// - 70 `NoLayoutFile` if there is no file `oci-layout`.
-/// - 74 `Device` if that cannot be found out.
-/// - Out of memory, at any point.
-pub(crate) fn check_is_layout<D: Dir>(dir: &D) -> Result<(), ProgramFault> {
-    match dir.exists("oci-layout") {
-        Ok(true) => Ok(()),
-        Ok(false) => Err(ProgramFault::Layout(LayoutFault::NoLayoutFile)),
-        Err(fault) => Err(ProgramFault::Layout(LayoutFault::from(fault))),
-    }
 }
 
 /// Removes a tag from a layout, and saves the layout. Returns the key that the tag named, which is

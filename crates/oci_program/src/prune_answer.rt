@@ -1,8 +1,11 @@
 ghost use Rattle.std.specs.Prelude.{◌≡◌, None, IfOk, OnOk};
 
+use crate::answer::{Form, print_answer};
+use crate::fault::ProgramFault;
+use crate::outcome::Outcome;
+use crate::sum::Sum;
 use oci_digest::NoMemory;
 use oci_manifest::Key;
-use oci_program::{Form, Outcome, ProgramFault, Sum, print_answer};
 use oci_prune::{PruneFault, Pruned, PrunedFile, Pruning};
 use serde::Serialize;
 use std::alloc::Global;
