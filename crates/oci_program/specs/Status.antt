@@ -100,11 +100,6 @@ abbrev pub status_of_done : Outcome → ℕ
 status_of_done outcome.Good = 0
 status_of_done outcome.Faulty = 1
 
--- good if both are
-abbrev pub both : Outcome → Outcome → Outcome
-both outcome.Good b = b
-both outcome.Faulty b = outcome.Faulty
-
 -- the first number of a fault's text; the program's own memory error has none
 abbrev pub program_number : ProgramFault → Option ℕ
 program_number (fault.BadItem item) = Some 92

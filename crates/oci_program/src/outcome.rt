@@ -1,5 +1,5 @@
 ghost use Rattle.std.specs.Prelude.{◌≡◌};
-ghost use Rattle.oci_program.specs.Status.{both, status_of_done};
+ghost use Rattle.oci_program.specs.Status.{status_of_done};
 
 /// The result of a command that was not refused.
 #[derive(Clone, Copy)]
@@ -11,16 +11,6 @@ pub enum Outcome {
 }
 
 impl Outcome {
-    /// Returns `Good` if both are good.
-    pub fn and(self, other: Outcome) -> Outcome
-        ensures { result ≡ both self other }
-    {
-        match self {
-            Outcome::Good => other,
-            Outcome::Faulty => Outcome::Faulty,
-        }
-    }
-
     /// Returns the exit status: 0 for `Good`, and otherwise 1.
     pub fn status(self) -> u8
         ensures { result ≡ status_of_done self }
