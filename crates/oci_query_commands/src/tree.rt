@@ -145,6 +145,15 @@ struct Visit {
     depth: usize,
 }
 
+/// Where a walk goes from a blob.
+#[derive(Clone, Copy)]
+enum Way {
+    /// To the blobs that it lists.
+    Down,
+    /// To the manifests that list it.
+    Up,
+}
+
 /// A walk over a graph that makes the nodes of a tree.
 #[derive(Drop)]
 struct Walk<'w, 'l, A> {
@@ -158,32 +167,36 @@ struct Walk<'w, 'l, A> {
 impl<'w, 'l, A: GraphSource> Walk<'w, 'l, A> {
     /// Returns the nodes of a blob and of the blobs that it reaches.
     fn blobs(&mut self, root: &Key) -> Result<Vec<Node<'l>>, ProgramFault> {
-        let mut nodes = Vec::new(self.alloc);
         let mut pending = Vec::new(self.alloc);
         pending.push(Visit {
             key: root.try_clone()?,
             depth: 0,
         })?;
-        for _ in 0..u64::MAX {
-            let Some(visit) = pending.pop() else {
-                break;
-            };
-            nodes.push(self.visit_blob(visit, &mut pending)?)?;
-        }
-        Ok(nodes)
+        self.nodes(pending, Way::Down)
     }
 
     /// Returns the nodes of the manifests that list a blob, of those that list one of them, and so
     /// on.
     fn referrers(&mut self, root: &Key) -> Result<Vec<Node<'l>>, ProgramFault> {
-        let mut nodes = Vec::new(self.alloc);
         let mut pending = Vec::new(self.alloc);
         add_all(&mut pending, self.source.predecessors(root)?, 1)?;
+        self.nodes(pending, Way::Up)
+    }
+
+    /// Returns the nodes of these blobs and of those to which this way leads from them. The last
+    /// one is visited first.
+    fn nodes(&mut self, pending: Vec<Visit>, way: Way) -> Result<Vec<Node<'l>>, ProgramFault> {
+        let mut nodes = Vec::new(self.alloc);
+        let mut pending = pending;
         for _ in 0..u64::MAX {
             let Some(visit) = pending.pop() else {
                 break;
             };
-            nodes.push(self.visit_referrer(visit, &mut pending)?)?;
+            let node = match way {
+                Way::Down => self.visit_blob(visit, &mut pending)?,
+                Way::Up => self.visit_referrer(visit, &mut pending)?,
+            };
+            nodes.push(node)?;
         }
         Ok(nodes)
     }

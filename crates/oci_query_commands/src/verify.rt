@@ -139,16 +139,16 @@ fn is_corrupt<A: Source, R: Clock + Wait, X: Write>(
 ) -> Result<bool, ProgramFault>
     ensures { IfOk result (λ corrupt. corrupt ≡ false → IsIntact (A.state source.now) key.now) }
 {
-    match check(source, key, progress) {
+    match check_file(source, key, progress) {
         Ok(()) => Ok(false),
         Err(FetchFault::Corrupt) => Ok(true),
         Err(fault) => Err(ProgramFault::Fetch(fault)),
     }
 }
 
-/// Reads a blob and checks it against its key. A leaf may be large, so it is read in parts that are
-/// not kept. Manifests are small.
-fn check<A: Source, R: Clock + Wait, X: Write>(
+/// Reads the file of a key and checks it against the key. A leaf may be large, so it is read in
+/// parts that are not kept. Manifests are small.
+fn check_file<A: Source, R: Clock + Wait, X: Write>(
     source: &A,
     key: &Key,
     progress: &Progress<'_, R, X>,
