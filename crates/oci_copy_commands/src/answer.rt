@@ -1,3 +1,4 @@
+use crate::copy::Copied;
 use crate::mirror::CleanUp;
 use crate::selected::Selected;
 use oci_copy::Report;
@@ -26,7 +27,7 @@ pub(crate) struct CopyAnswer {
 }
 
 impl CopyAnswer {
-    /// Returns what a copy of the selected tags did.
+    /// Returns what a copy of the selected tags did, and the fault of its prune, if it has one.
     ///
     /// # Errors
     ///
@@ -34,14 +35,23 @@ impl CopyAnswer {
     pub(crate) fn of(
         alloc: Global,
         selected: Selected,
-        report: Report,
-        removed: Option<CleanUpAnswer>,
-    ) -> Result<CopyAnswer, NoMemory> {
-        Ok(CopyAnswer {
-            copied: tagged(alloc, selected.into_tags())?,
+        done: Copied,
+    ) -> Result<(CopyAnswer, Option<PruneFault>), NoMemory> {
+        let Copied { report, removed } = done;
+        let copied = tagged(alloc, selected.into_tags())?;
+        let (removed, fault) = match removed {
+            Some(removed) => {
+                let (removed, fault) = CleanUpAnswer::of(alloc, removed)?;
+                (Some(removed), fault)
+            }
+            None => (None, None),
+        };
+        let answer = CopyAnswer {
+            copied,
             report,
             removed,
-        })
+        };
+        Ok((answer, fault))
     }
 }
 
@@ -76,7 +86,7 @@ impl CleanUpAnswer {
     /// # Errors
     ///
     /// Returns [`NoMemory`] if an allocation fails.
-    pub(crate) fn of(
+    fn of(
         alloc: Global,
         removed: CleanUp,
     ) -> Result<(CleanUpAnswer, Option<PruneFault>), NoMemory> {

@@ -1,7 +1,5 @@
-ghost use Rattle.std.specs.Prelude.{◌≤◌};
-
 use crate::Host;
-use crate::answer::{CleanUpAnswer, CopyAnswer};
+use crate::answer::CopyAnswer;
 use crate::between::copy_between;
 use crate::destination::{open_or_create, remove_leftovers};
 use crate::dry_run::show_plan;
@@ -12,18 +10,16 @@ use oci_command_line::CopyWords;
 use oci_copy::{Options, Report, plan_copy};
 use oci_layout::{Dir, FolderLock, Layout, PrunableDir};
 use oci_plan::Existing;
-use oci_program::{
-    Ended, Form, Outcome, ProgramFault, finish_run, make_and_lock_folder, print_answer_with_fault,
-};
-use std::alloc::Global;
+use oci_program::{Form, Outcome, ProgramFault, make_and_lock_folder, print_answer_with_fault};
+use oci_prune::PruneFault;
 use std::io::Write;
 
 /// `copy SRC SRCREF DST [DSTREF]` and `copy --all SRC DST`: copies the selected blobs, tags them in
-/// the destination, and saves it. Prints in this form the key of each tag and the report, and
-/// returns how the run ended. With `--progress` each blob is printed on `err` when it arrives.
-/// Without it, on a terminal, one line shows how much has arrived. With `--dry-run` only the plan is
-/// printed. With `--all --prune` the tags that the source does not have are removed too, and what no
-/// tag then needs; the tags and what was removed are printed.
+/// the destination, and saves it. Prints in this form the key of each tag and the report. With
+/// `--progress` each blob is printed on `err` when it arrives. Without it, on a terminal, one line
+/// shows how much has arrived. With `--dry-run` only the plan is printed. With `--all --prune` the
+/// tags that the source does not have are removed too, and what no tag then needs; the tags and
+/// what was removed are printed. `F` is [`ProgramFault`] or another type that is made from one.
 ///
 /// Otherwise a destination without `oci-layout` becomes a layout, once the source is open and its
 /// reference is resolved. The destination's folder is locked from before the destination is opened
@@ -31,8 +27,7 @@ use std::io::Write;
 ///
 /// # Errors
 ///
-/// The run ends with one of these faults. With 80, 81, 99 and the faults before them, no blob, tag
-/// or entry of DST is changed.
+/// With 80, 81, 99 and the faults before them, no blob, tag or entry of DST is changed.
 ///
 /// - 70 to 75 and 77 if SRC or DST is not a layout or cannot be read; 74 also if DST cannot be
 ///   created or locked.
@@ -53,6 +48,7 @@ pub fn run_copy<
     D: PrunableDir + Drop + Send,
     W: Write,
     X: Write + Send,
+    F: From<ProgramFault>,
 >(
     rt: &R,
     source: S,
@@ -61,40 +57,36 @@ pub fn run_copy<
     form: Form,
     out: &mut W,
     err: &mut X,
-) -> Ended
+) -> Result<Outcome, F>
 where
     S::Draft: Send,
     D::Draft: Send,
-    ensures { result.status ≤ 3 }
 {
-    let done = if words.is_dry {
-        show_plan(rt.alloc(), source, destination, words, form, out)
-    } else {
-        match copy_layout(rt, source, destination, words, err) {
-            Ok((selected, copied)) => print_copied(rt.alloc(), selected, copied, form, out),
-            Err(fault) => Err(fault),
-        }
-    };
-    finish_run(rt.alloc(), done, form, out, err)
+    if words.is_dry {
+        return Ok(show_plan(rt.alloc(), source, destination, words, form, out)?);
+    }
+    let (answer, fault) = copy_layout(rt, source, destination, words, err)?;
+    Ok(print_answer_with_fault(rt.alloc(), &answer, fault, form, out)?)
 }
 
 /// What a copy did.
 #[derive(Drop)]
-struct Copied {
+pub(crate) struct Copied {
     /// The report of the copy.
-    report: Report,
+    pub(crate) report: Report,
     /// What was removed, with `--prune`.
-    removed: Option<CleanUp>,
+    pub(crate) removed: Option<CleanUp>,
 }
 
-/// Copies from one directory into another, whose folder is locked during the copy.
+/// Copies from one directory into another, whose folder is locked during the copy. Returns what was
+/// copied, and the fault of the prune, if there was one and it has one.
 fn copy_layout<R: Host, S: Dir + Drop + Sync, D: PrunableDir + Drop + Send, X: Write + Send>(
     rt: &R,
     source: S,
     destination: D,
     words: &CopyWords<'_>,
     err: &mut X,
-) -> Result<(Selected, Copied), ProgramFault>
+) -> Result<(CopyAnswer, Option<PruneFault>), ProgramFault>
 where
     S::Draft: Send,
     D::Draft: Send,
@@ -105,7 +97,7 @@ where
         check_source(&source)?;
     }
     let copied = copy_selected(rt, &source, destination, &selected, words, err)?;
-    Ok((selected, copied))
+    Ok(CopyAnswer::of(rt.alloc(), selected, copied)?)
 }
 
 /// Copies the selected blobs of an open layout into a folder. The folder is locked from before it
@@ -149,7 +141,7 @@ where
     remove_leftovers(rt, lock)?;
     let progress = Progress::new(rt, err, words.shown, &plan);
     let copied = if words.prunes {
-        removing(mirror(
+        mirror(
             rt,
             source,
             destination,
@@ -157,7 +149,7 @@ where
             selected,
             &options,
             &progress,
-        ))
+        )
     } else {
         let (_saved, copied) = copy_between(
             rt,
@@ -168,28 +160,13 @@ where
             &options,
             &progress,
         );
-        only_copying(copied)
+        copied.map(|report| Copied {
+            report,
+            removed: None,
+        })
     };
     progress.end();
     copied
-}
-
-/// The result of a copy that removed something.
-fn removing(done: Result<(Report, CleanUp), ProgramFault>) -> Result<Copied, ProgramFault> {
-    let (report, removed) = done?;
-    Ok(Copied {
-        report,
-        removed: Some(removed),
-    })
-}
-
-/// The result of a copy that removed nothing.
-fn only_copying(done: Result<Report, ProgramFault>) -> Result<Copied, ProgramFault> {
-    let report = done?;
-    Ok(Copied {
-        report,
-        removed: None,
-    })
 }
 
 /// The options of a copy that its words name.
@@ -204,24 +181,4 @@ pub(crate) fn options_of(words: &CopyWords<'_>) -> Options {
         existing,
         ..Options::default()
     }
-}
-
-/// Prints what a copy of the selected tags did.
-fn print_copied<W: Write>(
-    alloc: Global,
-    selected: Selected,
-    copied: Copied,
-    form: Form,
-    out: &mut W,
-) -> Result<Outcome, ProgramFault> {
-    let Copied { report, removed } = copied;
-    let (removed, fault) = match removed {
-        Some(removed) => {
-            let (removed, fault) = CleanUpAnswer::of(alloc, removed)?;
-            (Some(removed), fault)
-        }
-        None => (None, None),
-    };
-    let answer = CopyAnswer::of(alloc, selected, report, removed)?;
-    print_answer_with_fault(alloc, &answer, fault, form, out)
 }

@@ -41,8 +41,7 @@ pub(crate) fn show_plan<S: Dir + Drop, D: Dir + Drop, W: Write>(
     let selected = Selected::of(alloc, &source, words)?;
     let options = options_of(words);
     let plan = plan_into(alloc, &source, destination, selected.roots(), &options)?;
-    print_answer(alloc, &PlanAnswer::of(alloc, &plan)?, form, out)?;
-    Ok(Outcome::Good)
+    print_answer(alloc, &PlanAnswer::of(alloc, &plan)?, form, out)
 }
 
 /// Plans a copy from an open layout into a directory.

@@ -43,8 +43,7 @@ pub fn run_mem<R: Files + AllocGlobal + Threads + Wait + Sync, W: Write>(
         report: report?,
         blobs: sorted_keys(rt.alloc(), copied.memory())?,
     };
-    print_answer(rt.alloc(), &answer, form, out)?;
-    Ok(Outcome::Good)
+    print_answer(rt.alloc(), &answer, form, out)
 }
 
 /// What a copy into an empty store in memory did.

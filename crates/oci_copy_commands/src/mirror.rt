@@ -5,9 +5,10 @@ ghost use Rattle.oci_store.specs.Keyed.{HasAll};
 ghost use Rattle.oci_copy_commands.specs.Selected.{other_tags, set_tags, without_tags};
 
 use crate::Host;
+use crate::copy::Copied;
 use crate::retag::retag;
 use crate::selected::Selected;
-use oci_copy::{Options, Report, copy_plan};
+use oci_copy::{Options, copy_plan};
 use oci_layout::{Dir, Layout, PrunableDir};
 use oci_manifest::Key;
 use oci_plan::Plan;
@@ -111,7 +112,7 @@ pub(crate) fn mirror<R: Host, S: Dir + Sync, D: PrunableDir + Drop + Send, H: Ho
     selected: &Selected,
     options: &Options,
     hooks: &H,
-) -> Result<(Report, CleanUp), ProgramFault>
+) -> Result<Copied, ProgramFault>
 where
     S::Draft: Send,
     D::Draft: Send,
@@ -132,7 +133,10 @@ where
     );
     match copied {
         Ok(report) => match clean_up(rt.alloc(), &mut destination, selected) {
-            Ok(done) => Ok((report, done)),
+            Ok(removed) => Ok(Copied {
+                report,
+                removed: Some(removed),
+            }),
             Err(fault) => Err(fault),
         },
         Err(fault) => Err(ProgramFault::Copy(fault)),

@@ -4,6 +4,7 @@ ghost use Rattle.serde.specs.Event.{Log};
 ghost use Rattle.serde_json.specs.Sent.{IsTextOf};
 
 use crate::fault::ProgramFault;
+use crate::outcome::Outcome;
 use oci_manifest::Key;
 use serde::Serialize;
 use std::alloc::Global;
@@ -29,7 +30,7 @@ pub struct Tagged {
 }
 
 /// Prints the answer of a command: its lines, each of which it ends itself, or its document and a
-/// line feed.
+/// line feed. Returns `Good`.
 ///
 /// # Errors
 ///
@@ -40,7 +41,8 @@ pub fn print_answer<T: Display + Serialize, W: Write>(
     answer: &T,
     form: Form,
     out: &mut W,
-) -> Result<(), ProgramFault>
+) -> Result<Outcome, ProgramFault>
+    ensures good { IfOk result (λ outcome. outcome ≡ Outcome.Good) }
     ensures lines { form ≡ Form.Lines → OnOk result (IfSome (T.output answer.now)
         (Appends (W.contents out.old) (W.contents out.new))) }
     ensures document { form ≡ Form.Json → OnOk result ((log : Log) × (text : List ℕ)
@@ -50,12 +52,13 @@ pub fn print_answer<T: Display + Serialize, W: Write>(
         ⊎ (fault ≡ ProgramFault.Memory)) }
 {
     match form {
-        Form::Lines => write!(out, "{answer}").map_err(ProgramFault::of_output),
+        Form::Lines => write!(out, "{answer}").map_err(ProgramFault::of_output)?,
         Form::Json => {
             let document = document_line(alloc, answer)?;
-            out.write_all(&document).map_err(ProgramFault::of_output)
+            out.write_all(&document).map_err(ProgramFault::of_output)?;
         }
     }
+    Ok(Outcome::Good)
 }
 
 /// Returns the document of a value, and a line feed.

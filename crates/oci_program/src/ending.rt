@@ -1,4 +1,4 @@
-ghost use Rattle.std.specs.Prelude.{◌≡◌};
+ghost use Rattle.std.specs.Prelude.{◌≡◌, ◌≤◌};
 ghost use Rattle.oci_program.specs.Status.{status_of};
 
 use crate::fault::ProgramFault;
@@ -20,7 +20,8 @@ pub enum Ending {
 impl Ending {
     /// Returns the exit status: 2 for `Usage` and `NotUtf8`, 3 for out of memory, and otherwise 1.
     pub fn status(&self) -> u8
-        ensures { result ≡ status_of self.now }
+        ensures status { result ≡ status_of self.now }
+        ensures most { result ≤ 3 }
     {
         match self {
             Ending::Usage(_) => 2,
@@ -31,7 +32,8 @@ impl Ending {
 
     /// Writes the ending on `err` and returns its status, also if `err` cannot be written.
     pub fn tell<X: Write>(self, err: &mut X) -> u8
-        ensures { result ≡ status_of self }
+        ensures status { result ≡ status_of self }
+        ensures most { result ≤ 3 }
     {
         let _ = write!(err, "{self}");
         self.status()

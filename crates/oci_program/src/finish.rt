@@ -1,4 +1,4 @@
-ghost use Rattle.std.specs.Prelude.{◌≡◌, ◌≤◌, ◌⊎◌, false, IfErr, IfOk, OnOk};
+ghost use Rattle.std.specs.Prelude.{◌≡◌, ◌≤◌, ◌⊎◌, false, Ok, IfErr, IfOk, OnOk};
 ghost use Rattle.oci_program.specs.Status.{IsRefusalStatus, is_memory, status_of, status_of_done};
 
 use crate::answer::{Form, document_line};
@@ -42,6 +42,7 @@ pub fn finish_run<W: Write, X: Write>(
     err: &mut X,
 ) -> Ended
     ensures status { result.status ≤ 3 }
+    ensures good { result.status ≡ 0 → done ≡ Ok Outcome.Good }
     ensures done { IfOk done (λ outcome. (result.status ≡ status_of_done outcome)
         ⊎ ((result.status ≡ 1) ⊎ (result.status ≡ 3))) }
     ensures refused { IfErr done (λ fault. IsRefusalStatus form fault result.status) }
@@ -58,10 +59,24 @@ pub fn finish_run<W: Write, X: Write>(
     }
 }
 
+/// Ends a run before its command begins: prints the ending on `err`, a fault in this form. Returns
+/// the exit status, which is 3 if memory runs out while the document of a fault is made.
+pub fn end_early<X: Write>(alloc: Global, ending: Ending, form: Form, err: &mut X) -> u8
+    ensures status { result ≤ 3 }
+    ensures ending { (result ≡ status_of ending) ⊎ ((form ≡ Form.Json) × (result ≡ 3)) }
+{
+    match ending {
+        Ending::Fault(fault) => refused(alloc, fault, form, err).status,
+        ending => ending.tell(err),
+    }
+}
+
 /// Ends a run that was refused: prints the fault on `err`.
 fn refused<X: Write>(alloc: Global, fault: ProgramFault, form: Form, err: &mut X) -> Ended
     ensures status { (result.status ≡ 1) ⊎ (result.status ≡ 3) }
     ensures refused { IsRefusalStatus form fault result.status }
+    ensures ending { (result.status ≡ status_of (Ending.Fault fault))
+        ⊎ ((form ≡ Form.Json) × (result.status ≡ 3)) }
 {
     let refusal = fault.refusal();
     let status = match form {

@@ -13,9 +13,10 @@
 //! | [`ProgressLine`] | a line on a terminal: how much of an [`Amount`] has arrived, and how fast |
 //! | [`Readable`], [`TimeLeft`] | a size, and a time, as people read them |
 //!
-//! [`print_answer`] prints the answer of a command, or [`print_answer_with_fault`] if it pruned, and
-//! [`finish_run`] ends a run. [`lock_folder`] and [`make_and_lock_folder`] lock the folder that a
-//! command writes into; [`check_is_layout`] looks before whether it has a layout.
+//! A command returns an [`Outcome`] or a [`ProgramFault`]. [`print_answer`] prints its answer, or
+//! [`print_answer_with_fault`] if it pruned. [`finish_run`] ends its run, and [`end_early`] a run
+//! that did not come to a command. [`lock_folder`] and [`make_and_lock_folder`] lock the folder
+//! that a command writes into; [`check_is_layout`] looks before whether it has a layout.
 #![tactic(auto)]
 
 mod answer;
@@ -37,7 +38,7 @@ mod sum;
 pub use answer::{Form, Tagged, print_answer};
 pub use ending::Ending;
 pub use fault::ProgramFault;
-pub use finish::{Ended, finish_run};
+pub use finish::{Ended, end_early, finish_run};
 pub use locking::{check_is_layout, lock_folder, make_and_lock_folder};
 pub use outcome::Outcome;
 pub use progress_line::{Amount, ProgressLine};

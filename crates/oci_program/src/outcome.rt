@@ -13,7 +13,8 @@ pub enum Outcome {
 impl Outcome {
     /// Returns the exit status: 0 for `Good`, and otherwise 1.
     pub fn status(self) -> u8
-        ensures { result ≡ status_of_done self }
+        ensures status { result ≡ status_of_done self }
+        ensures good { result ≡ 0 → self ≡ Outcome.Good }
     {
         match self {
             Outcome::Good => 0,

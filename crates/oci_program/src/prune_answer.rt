@@ -159,10 +159,7 @@ pub fn print_answer_with_fault<T: Display + Serialize, W: Write>(
     ensures good { IfOk result (λ outcome. outcome ≡ Outcome.Good) }
 {
     match fault {
-        None => {
-            print_answer(alloc, answer, form, out)?;
-            Ok(Outcome::Good)
-        }
+        None => print_answer(alloc, answer, form, out),
         Some(PruneFault::NotRemoved(path)) => {
             print_answer(alloc, answer, form, out)?;
             out.flush().map_err(ProgramFault::of_output)?;

@@ -1,4 +1,4 @@
-ghost use Rattle.std.specs.Prelude.{◌≡◌, ◌≤◌, Some, IfOk, IfErr, OnOk};
+ghost use Rattle.std.specs.Prelude.{◌≡◌, Some, IfOk, IfErr, OnOk};
 ghost use Rattle.oci_layout.specs.Device.{Touches};
 ghost use Rattle.oci_layout.specs.Index.{index_file, HasIndex};
 ghost use Rattle.oci_layout.specs.Refusal.{IsPutFault};
@@ -9,12 +9,10 @@ use oci_command_line::UntagWords;
 use oci_layout::{Dir, Layout, Lockable};
 use oci_manifest::Key;
 use oci_program::{
-    Ended, Form, Outcome, ProgramFault, Tagged, check_is_layout, finish_run, lock_folder,
-    print_answer,
+    Form, Outcome, ProgramFault, Tagged, check_is_layout, lock_folder, print_answer,
 };
 use oci_store::Untagger;
 use serde::Serialize;
-use std::alloc::Global;
 use std::fmt;
 use std::fmt::Display;
 use std::io::Write;
@@ -22,11 +20,12 @@ use std::rt::Files;
 
 /// `untag FOLDER TAG`: removes a tag from the layout in a directory, and saves it. The directory is
 /// the words' folder, which is locked from before the layout is opened until after it is saved.
-/// Prints in this form which key the tag named, and returns how the run ended.
+/// Prints in this form which key the tag named. `F` is [`ProgramFault`] or another type that is
+/// made from one.
 ///
 /// # Errors
 ///
-/// The run ends with one of these faults. With all but 74 and 94 nothing is changed.
+/// With all but 74 and 94 nothing is changed.
 ///
 /// - 70 to 75 and 77 if the directory has no layout, or it cannot be read; 74 also if the folder
 ///   cannot be locked or `index.json` cannot be written.
@@ -34,21 +33,22 @@ use std::rt::Files;
 /// - 35 `EmptyReference` if the tag is empty, and 36 `UnknownReference` if the layout lacks it.
 /// - 94 `Output` if `out` cannot be written. The tag is removed.
 /// - Out of memory, at any point.
-pub fn run_untag<R: Files<File: Lockable> + AllocGlobal, D: Dir + Drop, W: Write, X: Write>(
+pub fn run_untag<
+    R: Files<File: Lockable> + AllocGlobal,
+    D: Dir + Drop,
+    W: Write,
+    X: Write,
+    F: From<ProgramFault>,
+>(
     rt: &R,
     dir: D,
     words: &UntagWords<'_>,
     form: Form,
     out: &mut W,
     err: &mut X,
-) -> Ended
-    ensures { result.status ≤ 3 }
-{
-    let done = match untag_folder(rt, dir, words, err) {
-        Ok(untagged) => print_untagged(rt.alloc(), &untagged, form, out),
-        Err(fault) => Err(fault),
-    };
-    finish_run(rt.alloc(), done, form, out, err)
+) -> Result<Outcome, F> {
+    let untagged = untag_folder(rt, dir, words, err)?;
+    Ok(print_answer(rt.alloc(), &untagged, form, out)?)
 }
 
 /// The tag that was removed, with the key that it named.
@@ -104,15 +104,4 @@ pub fn untag_and_save<D: Dir>(layout: &mut Layout<D>, tag: &str) -> Result<Key, 
         Ok(()) => Ok(key),
         Err(fault) => Err(ProgramFault::Layout(fault)),
     }
-}
-
-/// Prints the removed tag.
-fn print_untagged<W: Write>(
-    alloc: Global,
-    untagged: &Untagged,
-    form: Form,
-    out: &mut W,
-) -> Result<Outcome, ProgramFault> {
-    print_answer(alloc, untagged, form, out)?;
-    Ok(Outcome::Good)
 }

@@ -1,5 +1,5 @@
 -- What `verify` reads: keys whose files match them.
-use Rattle.std.proofs.Common.{◌≡◌, ℕ, ◌+◌, ◌<◌, ◌⊎◌, true, List, [], ◌∷◌, take, get_or, length, slice_get, option_map, Option, Some, None, IsSome, is_some, Result, Ok, Err, IfOk, IfErr, inl, inr, refl, sym, ap, subst, ◌∙◌, arith}
+use Rattle.std.proofs.Common.{◌≡◌, ℕ, ◌+◌, ◌<◌, true, List, [], ◌∷◌, take, get_or, length, slice_get, option_map, Option, Some, None, IsSome, is_some, inl, inr, refl, sym, ap, subst, ◌∙◌}
 use Rattle.std.specs.List.{All}
 use Rattle.std.specs.Option.{unwrap_or}
 use Rattle.std.proofs.lemmas.Bool.{cases_Bool}
@@ -9,13 +9,6 @@ use Rattle.oci_layout.specs.Blobs.{blob_path, blob_at, meaning, HasMatchingFiles
 use Rattle.oci_layout.specs.Device.{Device, File}
 use Rattle.oci_layout.specs.Opened.{IsOpened, held_in, is_there, listed_in}
 use Rattle.oci_layout.proofs.Stored.{has_key-stored, value_at-stored}
-use Rattle.oci_program.specs.Status.{IsRefusalStatus, is_memory, status_of, status_of_done}
-use Rattle.oci_program.specs.declared.answer.Form.{Form}
-use Rattle.oci_program.specs.declared.answer.Form.TheVariants as form
-use Rattle.oci_program.specs.declared.ending.Ending.TheVariants as ending
-use Rattle.oci_program.specs.declared.fault.ProgramFault.{ProgramFault}
-use Rattle.oci_program.specs.declared.outcome.Outcome.{Outcome}
-use Rattle.oci_program.specs.declared.outcome.Outcome.TheVariants as outcome
 use Rattle.oci_manifest.specs.Descriptor.{Descriptor, Matches}
 use Rattle.oci_store.specs.Graph.{Node}
 use Rattle.oci_store.specs.Keyed.{has_key}
@@ -79,26 +72,3 @@ IsVerified-whole dir graph tags absent honest opened whole = record {
       (whole.intact honest);
   closed = whole.closed;
 }
-
--- ---- the exit status
-
-good_if_zero : (o : Outcome) → status_of_done o ≡ 0 → o ≡ outcome.Good
-good_if_zero outcome.Good zero = refl
-good_if_zero outcome.Faulty zero = absurd (omega (arith, zero))
-
-fault_is_not_zero : (e : ProgramFault) (status : ℕ) → status ≡ status_of (ending.Fault e) → status ≡ 0 → ⊥
-fault_is_not_zero e status is zero = elim (cases_Bool (is_memory e)) [ inl memory ↦ omega (arith, rw memory at is, zero) | inr other ↦ omega (arith, rw other at is, zero) ]
-
-refusal_is_not_zero : (shape : Form) (e : ProgramFault) (status : ℕ) → IsRefusalStatus shape e status → status ≡ 0 → ⊥
-refusal_is_not_zero form.Lines e status is zero = fault_is_not_zero e status is zero
-refusal_is_not_zero form.Json e status is zero = elim is [ inl lines ↦ fault_is_not_zero e status lines zero | inr three ↦ omega (arith, three, zero) ]
-
--- a run that ended with 0 had a good outcome
-pub good_at_zero : (Q : Type 0) (done : Result Outcome ProgramFault) (shape : Form) (status : ℕ)
-    → IfOk done (λ o. (status ≡ status_of_done o) ⊎ ((status ≡ 1) ⊎ (status ≡ 3))) → IfErr done (λ e. IsRefusalStatus shape e status)
-    → IfOk done (λ o. o ≡ outcome.Good → Q) → status ≡ 0 → Q
-good_at_zero Q (Ok o) shape status ended refused good zero = elim ended [
-  | inl is ↦ good (good_if_zero o (sym is ∙ zero))
-  | inr other ↦ absurd (elim other [ inl one ↦ omega (arith, one, zero) | inr three ↦ omega (arith, three, zero) ])
-]
-good_at_zero Q (Err e) shape status ended refused good zero = absurd (refusal_is_not_zero shape e status refused zero)

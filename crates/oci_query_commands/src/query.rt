@@ -1,4 +1,4 @@
-ghost use Rattle.std.specs.Prelude.{◌≡◌, ◌≤◌, true, IfOk};
+ghost use Rattle.std.specs.Prelude.{◌≡◌, true, IfOk};
 ghost use Rattle.oci_query_commands.specs.Verified.{is_verify, IsVerified, IsWhole};
 
 use crate::listing::{Predecessors, Resolved, Tags};
@@ -6,22 +6,21 @@ use crate::tree::{Labels, Tree};
 use crate::verify::verify;
 use oci_command_line::Query;
 use oci_layout::{Dir, Layout};
-use oci_program::{Ended, Form, Outcome, ProgramFault, finish_run, print_answer};
-use serde::Serialize;
+use oci_program::{Form, Outcome, ProgramFault, print_answer};
 use std::alloc::Global;
-use std::fmt::Display;
 use std::io::Write;
 use std::sync::Wait;
 use std::time::Clock;
 
-/// Opens the layout in a directory, prints the answer to the query on `out` in this form, and
-/// returns how the run ended. A fault is printed on `err` in the same form. `verify` also draws a
-/// progress line on `err` if the query asks for it, and erases it before anything is printed.
+/// Opens the layout in a directory, and prints its answer to the query on `out` in this form.
+/// `verify` also draws a progress line on `err` if the query asks for it, and erases it before
+/// anything is printed. Returns `Good`, or `Faulty` if `verify` finds something wrong. `F` is
+/// [`ProgramFault`] or another type that is made from one.
 ///
 /// # Errors
 ///
-/// The run ends with one of these faults. Nothing was printed on `out` then, unless the fault is
-/// that of a write: text that was printed before it stays.
+/// If the query is refused, nothing was printed on `out`, unless the fault is that of a write: text
+/// that was printed before it stays.
 ///
 /// - 70 to 75 and 77, as from [`oci_layout::Layout::open`].
 /// - 35 `EmptyReference` if the reference is empty, and 36 `UnknownReference` if it is unknown.
@@ -29,39 +28,23 @@ use std::time::Clock;
 /// - 22 `Device` if a blob cannot be read by `tree` or `verify`.
 /// - 94 `Output` if `out` cannot be written.
 /// - Out of memory, at any point.
-pub fn run_query<R: AllocGlobal + Clock + Wait, D: Dir + Drop, W: Write, X: Write>(
-    rt: &R,
-    dir: D,
-    query: Query<'_>,
-    form: Form,
-    out: &mut W,
-    err: &mut X,
-) -> Ended
-    ensures status { result.status ≤ 3 }
-
-    // If the directory returns what was written into it, `verify` ends with 0 only if nothing is
-    // wrong with the layout.
-    ensures verified { result.status ≡ 0 → is_verify query.entry ≡ true
-        → (D.device dir).is_honest → IsVerified (D.device dir) }
-{
-    let done = answer(rt, dir, query, form, out, err);
-    finish_run(rt.alloc(), done, form, out, err)
-}
-
-/// Opens a layout, and prints its answer to a query.
-fn answer<R: AllocGlobal + Clock + Wait, D: Dir + Drop, W: Write, X: Write>(
-    rt: &R,
-    dir: D,
-    query: Query<'_>,
-    form: Form,
-    out: &mut W,
-    err: &mut X,
-) -> Result<Outcome, ProgramFault>
-    ensures { IfOk result (λ outcome. outcome ≡ Outcome.Good → is_verify query.entry ≡ true
+pub fn run_query<
+    R: AllocGlobal + Clock + Wait,
+    D: Dir + Drop,
+    W: Write,
+    X: Write,
+    F: From<ProgramFault>,
+>(rt: &R, dir: D, query: Query<'_>, form: Form, out: &mut W, err: &mut X) -> Result<Outcome, F>
+    // If the directory returns what was written into it, the outcome of `verify` is `Good` only if
+    // nothing is wrong with the layout.
+    ensures verified { IfOk result (λ outcome. outcome ≡ Outcome.Good → is_verify query.entry ≡ true
         → (D.device dir).is_honest → IsVerified (D.device dir)) }
 {
-    let layout = Layout::open(rt.alloc(), dir)?;
-    answer_from(rt, &layout, query, form, out, err)
+    let layout = match Layout::open(rt.alloc(), dir) {
+        Ok(layout) => layout,
+        Err((_dir, fault)) => return Err(F::from(ProgramFault::Layout(fault))),
+    };
+    Ok(answer_from(rt, &layout, query, form, out, err)?)
 }
 
 /// Prints the answer of a layout to a query.
@@ -78,12 +61,12 @@ fn answer_from<R: AllocGlobal + Clock + Wait, D: Dir, W: Write, X: Write>(
 {
     let alloc = rt.alloc();
     match query {
-        Query::Tags => print_good(alloc, &Tags::of(alloc, layout)?, form, out),
+        Query::Tags => print_answer(alloc, &Tags::of(alloc, layout)?, form, out),
         Query::Resolve(reference) => {
-            print_good(alloc, &Resolved::of(layout, reference)?, form, out)
+            print_answer(alloc, &Resolved::of(layout, reference)?, form, out)
         }
         Query::Predecessors(reference) => {
-            print_good(alloc, &Predecessors::of(layout, reference)?, form, out)
+            print_answer(alloc, &Predecessors::of(layout, reference)?, form, out)
         }
         Query::Tree {
             reference,
@@ -106,7 +89,7 @@ fn print_tree<D: Dir, W: Write>(
 ) -> Result<Outcome, ProgramFault> {
     let labels = Labels::of(alloc, layout)?;
     let tree = Tree::of(alloc, layout, &labels, reference, shows_referrers)?;
-    print_good(alloc, &tree, form, out)
+    print_answer(alloc, &tree, form, out)
 }
 
 /// Prints what is wrong with a layout. Returns `Good` only if nothing is.
@@ -124,15 +107,4 @@ fn print_findings<R: AllocGlobal + Clock + Wait, D: Dir, W: Write, X: Write>(
     let findings = verify(rt, layout, shows_progress, err)?;
     print_answer(rt.alloc(), &findings, form, out)?;
     Ok(findings.outcome())
-}
-
-/// Prints an answer with which nothing is wrong.
-fn print_good<T: Display + Serialize, W: Write>(
-    alloc: Global,
-    answer: &T,
-    form: Form,
-    out: &mut W,
-) -> Result<Outcome, ProgramFault> {
-    print_answer(alloc, answer, form, out)?;
-    Ok(Outcome::Good)
 }

@@ -1,6 +1,6 @@
 use crate::run::{form_of, run_words_on};
 use oci_copy_commands::Host;
-use oci_program::{Ending, ProgramFault, finish_run};
+use oci_program::{Ending, ProgramFault, end_early};
 use std::env::FillError;
 use std::io::{BufWriter, IsTerminal, Write};
 use std::rt::Env;
@@ -42,13 +42,7 @@ fn unread(error: io::Error) -> Ending {
 /// Ends a run before its command line is parsed. A fault is printed as JSON if `--json` is one of
 /// the words.
 fn end<R: Env + AllocGlobal, X: Write>(rt: &R, ending: Ending, err: &mut X) -> u8 {
-    match ending {
-        Ending::Fault(fault) => {
-            let form = form_of(has_json(rt));
-            finish_run(rt.alloc(), Err(fault), form, &mut io::sink(), err).status
-        }
-        ending => ending.tell(err),
-    }
+    end_early(rt.alloc(), ending, form_of(has_json(rt)), err)
 }
 
 /// Whether `--json` is one of the words of the process. Takes no memory.

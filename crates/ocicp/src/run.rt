@@ -2,12 +2,10 @@ ghost use Rattle.std.specs.Prelude.{◌≤◌};
 
 use crate::meaning::print_meaning;
 use crate::place::{Place, open_copy, open_folder};
-use oci_command_line::{
-    CommandLine, CommandLineFault, Explanation, PruneWords, Request, UntagWords,
-};
+use oci_command_line::{CommandLine, CommandLineFault, Request};
 use oci_copy_commands::{Host, run_copy, run_mem};
 use oci_pool::MAX_WORKERS;
-use oci_program::{Ended, Ending, Form, Outcome, ProgramFault, finish_run, print_answer};
+use oci_program::{Ending, Form, Outcome, ProgramFault, end_early, finish_run, print_answer};
 use oci_prune_commands::{run_prune, run_untag};
 use oci_query_commands::run_query;
 use std::alloc::Global;
@@ -51,9 +49,11 @@ pub fn run_words_on<R: Host, W: Write, X: Write + Send>(
 {
     let line = match CommandLine::parse(rt.alloc(), words, on_terminal, MAX_WORKERS) {
         Ok(line) => line,
-        Err(fault) => return end_unparsed(rt.alloc(), words, fault, out, err),
+        Err(fault) => return end_unparsed(rt.alloc(), words, fault, err),
     };
-    let ended = run_request(rt, &line.request, form_of(line.as_json), out, err);
+    let form = form_of(line.as_json);
+    let done = run_request(rt, &line.request, form, out, err);
+    let ended = finish_run(rt.alloc(), done, form, out, err);
     if on_terminal
         && !line.as_json
         && let Some(refusal) = ended.refusal
@@ -75,96 +75,51 @@ fn run_request<R: Host, W: Write, X: Write + Send>(
     form: Form,
     out: &mut W,
     err: &mut X,
-) -> Ended
-    ensures { result.status ≤ 3 }
-{
-    let alloc = rt.alloc();
+) -> Result<Outcome, ProgramFault> {
     match request {
-        Request::Text(text) => finish_run(alloc, print_text(text, out), form, out, err),
-        Request::Explain(explanation) => {
-            let done = print_explanation(alloc, explanation, form, out);
-            finish_run(alloc, done, form, out, err)
+        // The text of `--help` or `--version` has its last line feed.
+        Request::Text(text) => {
+            write!(out, "{text}").map_err(ProgramFault::of_output)?;
+            Ok(Outcome::Good)
         }
-        Request::Mem(words) => finish_run(alloc, run_mem(rt, words, form, out), form, out, err),
-        Request::Copy(words) => match open_copy(rt, words) {
-            Ok((source, destination)) => match source {
+        Request::Explain(explanation) => print_answer(rt.alloc(), explanation, form, out),
+        Request::Mem(words) => run_mem(rt, words, form, out),
+        Request::Copy(words) => {
+            let (source, destination) = open_copy(rt, words)?;
+            match source {
                 Place::Folder(source) => run_copy(rt, source, destination, words, form, out, err),
                 Place::Archive(source) => run_copy(rt, source, destination, words, form, out, err),
-            },
-            Err(fault) => finish_run(alloc, Err(fault), form, out, err),
+            }
+        }
+        Request::Untag(words) => {
+            let dir = open_folder(rt, words.folder)?;
+            run_untag(rt, dir, words, form, out, err)
+        }
+        Request::Prune(words) => {
+            let dir = open_folder(rt, words.folder)?;
+            run_prune(rt, dir, words, form, out, err)
+        }
+        Request::Query(path, query) => match Place::open(rt, path)? {
+            Place::Folder(dir) => run_query(rt, dir, *query, form, out, err),
+            Place::Archive(dir) => run_query(rt, dir, *query, form, out, err),
         },
-        Request::Untag(words) => run_change(rt, words.folder, Change::Untag(words), form, out, err),
-        Request::Prune(words) => run_change(rt, words.folder, Change::Prune(words), form, out, err),
-        Request::Query(path, query) => match Place::open(rt, path) {
-            Ok(place) => match place {
-                Place::Folder(dir) => run_query(rt, dir, *query, form, out, err),
-                Place::Archive(dir) => run_query(rt, dir, *query, form, out, err),
-            },
-            Err(fault) => finish_run(alloc, Err(fault), form, out, err),
-        },
-    }
-}
-
-/// A command that changes the layout in a folder.
-#[derive(Clone, Copy)]
-enum Change<'c, 'w> {
-    Untag(&'c UntagWords<'w>),
-    Prune(&'c PruneWords<'w>),
-}
-
-/// Runs a command that changes the layout in a folder.
-fn run_change<R: Host, W: Write, X: Write>(
-    rt: &R,
-    folder: &str,
-    change: Change<'_, '_>,
-    form: Form,
-    out: &mut W,
-    err: &mut X,
-) -> Ended
-    ensures { result.status ≤ 3 }
-{
-    match open_folder(rt, folder) {
-        Ok(dir) => match change {
-            Change::Untag(words) => run_untag(rt, dir, words, form, out, err),
-            Change::Prune(words) => run_prune(rt, dir, words, form, out, err),
-        },
-        Err(fault) => finish_run(rt.alloc(), Err(fault), form, out, err),
     }
 }
 
 /// Ends a run whose command line was not parsed. If memory ran out, this is printed as JSON if one of
 /// the words is `--json`.
-fn end_unparsed<W: Write, X: Write>(
+fn end_unparsed<X: Write>(
     alloc: Global,
     words: &[String],
     fault: CommandLineFault,
-    out: &mut W,
     err: &mut X,
 ) -> u8
     ensures { result ≤ 3 }
 {
-    match fault {
-        CommandLineFault::Usage(text) => Ending::Usage(text).tell(err),
-        CommandLineFault::Memory => {
-            let form = form_of(words.iter().any(|word| word.as_str() == "--json"));
-            finish_run(alloc, Err(ProgramFault::Memory), form, out, err).status
-        }
-    }
-}
-
-/// Prints the text of `--help` or `--version`, which has its last line feed.
-fn print_text<W: Write>(text: &str, out: &mut W) -> Result<Outcome, ProgramFault> {
-    write!(out, "{text}").map_err(ProgramFault::of_output)?;
-    Ok(Outcome::Good)
-}
-
-/// `explain NUMBER`: prints the explanation of an error number.
-fn print_explanation<W: Write>(
-    alloc: Global,
-    explanation: &Explanation,
-    form: Form,
-    out: &mut W,
-) -> Result<Outcome, ProgramFault> {
-    print_answer(alloc, explanation, form, out)?;
-    Ok(Outcome::Good)
+    let ending = match fault {
+        CommandLineFault::Usage(text) => Ending::Usage(text),
+        CommandLineFault::Memory => Ending::Fault(ProgramFault::Memory),
+    };
+    let form = form_of(words.iter().any(|word| word.as_str() == "--json"));
+    end_early(alloc, ending, form, err)
 }

@@ -1,17 +1,14 @@
-use Rattle.std.proofs.Common.{◌≡◌, true}
-use Rattle.std.proofs.lemmas.Result.{IfOk-weaker}
-use Rattle.oci_program.specs.declared.outcome.Outcome.{Outcome}
-use Rattle.oci_program.specs.declared.outcome.Outcome.TheVariants as outcome
-use Rattle.oci_query_commands.specs.Verified.{is_verify, IsVerified}
-use Rattle.oci_query_commands.proofs.Verified.{good_at_zero}
+use Rattle.std.proofs.Common.{subst}
+use Rattle.oci_query_commands.specs.Verified.{IsWhole}
+use Rattle.oci_query_commands.proofs.Verified.{IsVerified-whole}
 use Rattle.oci_query_commands.proofs.query.run_query.Goals as goal
 
-pub returns-clause-verified : goal.returns-clause-verified
-returns-clause-verified g c = λ zero asks honest.
-    let device = g.D.Dir.device c.args.dir in
-    good_at_zero (IsVerified device) c.answer-done.result c.args.form c.finish_run.result.status c.finish_run.ensures.done c.finish_run.ensures.refused
-    (IfOk-weaker c.answer-done.result
-    (λ (done : Outcome). done ≡ outcome.Good → is_verify c.args.query ≡ true → device.is_honest → IsVerified device)
-    (λ (done : Outcome). done ≡ outcome.Good → IsVerified device)
-    (λ done verified good. verified good asks honest) c.answer-done.ensures)
-    zero
+pub returns : goal.returns
+returns g c = record {
+  verified = λ good asks honest.
+      let layout = c.in-Ok.layout in
+      let device = g.D.Dir.device in
+      let opened = c.in-Ok.ensures in
+      IsVerified-whole (device c.args.dir) layout.1 layout.2 layout.3 honest (opened.opened honest)
+      (subst (λ d. IsWhole (device d) layout.1 layout.3) opened.same (c.in_ok-answer_from.ensures good asks));
+}
