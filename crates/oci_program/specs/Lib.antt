@@ -1,2 +1,1 @@
-pub mod Nesting
 pub mod Status

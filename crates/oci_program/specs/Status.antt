@@ -1,9 +1,8 @@
 -- The status that a run ends with, and the numbers of its fault.
-use Rattle.std.specs.Prelude.{◌≡◌, ◌⊎◌, [], ◌∷◌, ℕ, List, Bool, true, false, if◌then◌else◌, Option, Some, None}
+use Rattle.std.specs.Prelude.{◌≡◌, ◌⊎◌, [], ◌∷◌, ℕ, List, Bool, true, false, if◌then◌else◌, Option, Some, None, map}
 use Rattle.std.specs.List.{last_or}
 use Rattle.std.specs.Option.{option_to_list}
 use Rattle.oci_archive.specs.Numbers.{archive_number}
-use Rattle.oci_archive.specs.declared.fault.ArchiveFault.{ArchiveFault}
 use Rattle.oci_archive.specs.declared.fault.ArchiveFault.TheVariants as archive
 use Rattle.oci_copy.specs.Fault.{number_of}
 use Rattle.oci_manifest.specs.Fault.{key_number_of}
@@ -20,11 +19,9 @@ use Rattle.oci_copy.specs.declared.fault.CopyFault.{CopyFault}
 use Rattle.oci_copy.specs.declared.fault.CopyFault.TheVariants as copy
 use Rattle.oci_layout.specs.declared.fault.LayoutFault.{LayoutFault}
 use Rattle.oci_layout.specs.declared.fault.LayoutFault.TheVariants as layout
-use Rattle.oci_store.specs.declared.fault.FetchFault.{FetchFault}
 use Rattle.oci_store.specs.declared.fault.FetchFault.TheVariants as fetch
 use Rattle.oci_store.specs.declared.fault.PushFault.{PushFault}
 use Rattle.oci_store.specs.declared.fault.PushFault.TheVariants as push
-use Rattle.oci_store.specs.declared.fault.RefFault.{RefFault}
 use Rattle.oci_store.specs.declared.fault.RefFault.TheVariants as reference
 use Rattle.oci_program.specs.declared.answer.Form.{Form}
 use Rattle.oci_program.specs.declared.answer.Form.TheVariants as form
@@ -34,53 +31,19 @@ use Rattle.oci_program.specs.declared.ending.Ending.{Ending}
 use Rattle.oci_program.specs.declared.ending.Ending.TheVariants as ending
 use Rattle.oci_program.specs.declared.fault.ProgramFault.{ProgramFault}
 use Rattle.oci_program.specs.declared.fault.ProgramFault.TheVariants as fault
-
--- whether the fault of an archive is a memory error
-abbrev pub is_archive_memory : ArchiveFault → Bool
-is_archive_memory archive.Memory = true
-is_archive_memory e = false
-
--- whether the fault of a push is a memory error
-abbrev pub is_push_memory : PushFault → Bool
-is_push_memory push.Memory = true
-is_push_memory e = false
-
--- whether the fault of a copy is a memory error
-abbrev pub is_copy_memory : CopyFault → Bool
-is_copy_memory copy.Memory = true
-is_copy_memory e = false
-
--- whether the fault of a layout is a memory error
-abbrev pub is_layout_memory : LayoutFault → Bool
-is_layout_memory layout.Memory = true
-is_layout_memory e = false
-
--- whether the fault of a reference is a memory error
-abbrev pub is_reference_memory : RefFault → Bool
-is_reference_memory reference.Memory = true
-is_reference_memory e = false
-
--- whether the fault of a fetch is a memory error
-abbrev pub is_fetch_memory : FetchFault → Bool
-is_fetch_memory fetch.Memory = true
-is_fetch_memory e = false
-
--- whether the fault of a prune is a memory error
-abbrev pub is_prune_memory : PruneFault → Bool
-is_prune_memory (prune.Layout e) = is_layout_memory e
-is_prune_memory prune.Memory = true
-is_prune_memory e = false
+use Rattle.oci_program.specs.declared.refusal_document.Entry.{Entry}
 
 -- whether a fault is a memory error, or has one in it
 abbrev pub is_memory : ProgramFault → Bool
-is_memory (fault.Archive e) = is_archive_memory e
-is_memory (fault.Push e) = is_push_memory e
-is_memory (fault.Copy e) = is_copy_memory e
-is_memory (fault.Layout e) = is_layout_memory e
-is_memory (fault.Destination e) = is_layout_memory e
-is_memory (fault.Prune e) = is_prune_memory e
-is_memory (fault.Reference e) = is_reference_memory e
-is_memory (fault.Fetch e) = is_fetch_memory e
+is_memory (fault.Archive archive.Memory) = true
+is_memory (fault.Push push.Memory) = true
+is_memory (fault.Copy copy.Memory) = true
+is_memory (fault.Layout layout.Memory) = true
+is_memory (fault.Destination layout.Memory) = true
+is_memory (fault.Prune prune.Memory) = true
+is_memory (fault.Prune (prune.Layout layout.Memory)) = true
+is_memory (fault.Reference reference.Memory) = true
+is_memory (fault.Fetch fetch.Memory) = true
 is_memory fault.Memory = true
 is_memory e = false
 
@@ -162,3 +125,7 @@ numbers e = option_to_list (program_number e)
 -- the last number of a fault's text, which is that of its innermost fault
 abbrev pub last_number : ProgramFault → Option ℕ
 last_number e = last_or None (numbers e)
+
+-- the numbers of the entries of a refusal's document
+abbrev pub entry_numbers : List Entry → List ℕ
+entry_numbers entries = map (λ e. e.number) entries

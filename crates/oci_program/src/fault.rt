@@ -1,7 +1,7 @@
 ghost use Rattle.std.specs.Prelude.{◌≡◌, ◌↔◌, ◌⊎◌, IsTrue};
 ghost use Rattle.std.specs.IoError.{error_kind};
 ghost use Rattle.std.specs.declared.io.ErrorKind.TheVariants.{OutOfMemory};
-ghost use Rattle.oci_program.specs.Status.{is_memory, is_prune_memory, program_number};
+ghost use Rattle.oci_program.specs.Status.{is_memory, program_number};
 
 use oci_archive::ArchiveFault;
 use oci_copy::CopyFault;
@@ -132,7 +132,7 @@ impl ProgramFault {
 
 /// Whether memory ran out in a prune.
 fn is_prune_memory(fault: &PruneFault) -> bool
-    ensures { result ≡ is_prune_memory fault.now }
+    ensures { result ≡ is_memory (ProgramFault.Prune fault.now) }
 {
     match fault {
         PruneFault::Layout(inner) => matches!(inner, LayoutFault::Memory),

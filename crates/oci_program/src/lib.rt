@@ -20,8 +20,6 @@
 #![tactic(auto)]
 
 mod answer;
-mod any_fault;
-mod carried;
 mod ending;
 mod fault;
 mod finish;
@@ -32,6 +30,7 @@ mod prune_answer;
 mod readable;
 mod refusal;
 mod refusal_document;
+mod refused;
 mod speed;
 mod sum;
 

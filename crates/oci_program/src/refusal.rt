@@ -1,7 +1,3 @@
-ghost use Rattle.std.specs.Prelude.{◌≡◌};
-ghost use Rattle.oci_program.specs.Status.{last_number};
-
-use crate::any_fault::AnyFault;
 use crate::fault::ProgramFault;
 
 /// A refusal as a person reads it: its most specific number, and its subject.
@@ -27,17 +23,6 @@ pub enum Subject {
 }
 
 impl ProgramFault {
-    /// Returns the last number of the fault's text, which is that of its innermost fault.
-    pub fn last_number(&self) -> Option<u8>
-        ensures { result ≡ last_number self.now }
-    {
-        let mut fault = AnyFault::outermost(self);
-        while let Some(inner) = fault.inner() {
-            fault = inner;
-        }
-        fault.number()
-    }
-
     /// Returns the fault as a refusal. A memory error is none.
     pub(crate) fn refusal(&self) -> Option<Refusal> {
         if self.is_memory() {

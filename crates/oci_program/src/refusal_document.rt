@@ -1,29 +1,19 @@
-ghost use Rattle.std.specs.Prelude.{◌≡◌, ◌++◌, IfOk, OnOk};
-ghost use Rattle.std.specs.Option.{option_to_list};
-ghost use Rattle.oci_program.specs.Nesting.{entry_numbers, number_of};
-ghost use Rattle.oci_program.specs.Status.{numbers};
+ghost use Rattle.std.specs.Prelude.{◌≡◌, ◌++◌, ◌∷◌, [], IfOk, OnOk};
+ghost use Rattle.oci_program.specs.Status.{entry_numbers, numbers};
 
-use crate::any_fault::AnyFault;
-use crate::carried::Carried;
 use crate::fault::ProgramFault;
+use oci_archive::Compression;
 use oci_digest::NoMemory;
-use serde::Serialize;
+use oci_manifest::Key;
+use serde::{Serialize, Serializer};
 use std::alloc::Global;
+use std::fmt::Display;
 
 /// The document of a refusal.
 #[derive(Drop, Serialize)]
 pub(crate) struct RefusalDocument<'f> {
     /// The faults of its line, the outermost first.
     error: Vec<Entry<'f>>,
-}
-
-/// One fault of a refusal: its number, its name, and the values that it carries.
-#[derive(Drop, Serialize)]
-struct Entry<'f> {
-    number: u8,
-    name: String,
-    #[serde(flatten)]
-    carried: Carried<'f>,
 }
 
 impl<'f> RefusalDocument<'f> {
@@ -35,40 +25,88 @@ impl<'f> RefusalDocument<'f> {
         ensures { IfOk result (λ document. entry_numbers document.error.items ≡ numbers fault.now) }
     {
         let mut error = Vec::new(alloc);
-        let mut current = AnyFault::outermost(fault);
-        loop {
-            add_entry(alloc, current, &mut error)?;
-            let Some(inner) = current.inner() else {
-                return Ok(RefusalDocument { error });
-            };
-            current = inner;
-        }
+        fault.add_to(alloc, &mut error)?;
+        Ok(RefusalDocument { error })
     }
 }
 
-/// Adds the entry of a fault if it has a number.
-fn add_entry<'f>(
+/// One fault of a refusal: its number, its name, and the values that it carries.
+#[derive(Drop, Serialize)]
+pub(crate) struct Entry<'f> {
+    number: u8,
+    name: String,
+    #[serde(flatten)]
+    carried: Carried<'f>,
+}
+
+/// The values that a fault carries, beside the fault inside it.
+#[derive(Clone, Copy, Serialize)]
+#[serde(untagged)]
+pub(crate) enum Carried<'f> {
+    Nothing,
+    Descriptor {
+        descriptor: &'f Key,
+    },
+    Descriptors {
+        descriptors: &'f Vec<Key>,
+    },
+    TooLarge {
+        descriptor: &'f Key,
+        limit: u64,
+    },
+    Missing {
+        holder: &'f Key,
+        missing: &'f Key,
+    },
+    Member {
+        member: &'f str,
+    },
+    Position {
+        member: &'f str,
+        position: u64,
+    },
+    Path {
+        path: &'f str,
+    },
+    Item {
+        item: &'f str,
+    },
+    Form {
+        #[serde(serialize_with = "write_printed")]
+        form: Compression,
+    },
+    Offset {
+        offset: u64,
+    },
+}
+
+fn write_printed<S: Serializer>(form: &Compression, out: &mut S) -> Result<(), S::Error> {
+    out.collect_str(form)
+}
+
+/// Adds the entry of a fault with this number, whose name is the second word of its text.
+pub(crate) fn add_entry<'f, F: Display>(
     alloc: Global,
-    fault: AnyFault<'f>,
+    number: u8,
+    fault: &F,
+    carried: Carried<'f>,
     entries: &mut Vec<Entry<'f>>,
 ) -> Result<(), NoMemory>
     ensures { OnOk result (entry_numbers entries.new.items
-        ≡ entry_numbers entries.old.items ++ option_to_list (number_of fault.entry)) }
+        ≡ entry_numbers entries.old.items ++ number ∷ []) }
 {
-    let Some(number) = fault.number() else {
-        return Ok(());
-    };
+    let name = second_word(alloc, fault)?;
     entries.push(Entry {
         number,
-        name: name_of(alloc, fault)?,
-        carried: Carried::by(fault),
+        name,
+        carried,
     })?;
     Ok(())
 }
 
-/// Returns the name of a fault, which is the second word of its text.
-fn name_of(alloc: Global, fault: AnyFault<'_>) -> Result<String, NoMemory> {
-    let text = format!(in alloc; "{fault}")?;
-    let name = text.split(' ').nth(1).unwrap_or("");
-    Ok(String::from_str(alloc, name)?)
+/// Returns the second word of a value's text, or the empty text if there is none.
+fn second_word<T: Display>(alloc: Global, value: &T) -> Result<String, NoMemory> {
+    let text = format!(in alloc; "{value}")?;
+    let word = text.split(' ').nth(1).unwrap_or("");
+    Ok(String::from_str(alloc, word)?)
 }
