@@ -1,6 +1,5 @@
-"""Compares the numbers of refusals, and their names, as the crates' faults declare them, the program explains them,
-docs/refusals.md lists them and README.md uses them."""
-import glob
+"""Compares the numbers of refusals, and their names, as the crates' faults declare them (tools/numbers reads them), the
+program explains them, docs/refusals.md and docs/json.md list them, and README.md uses them."""
 import re
 
 from support.program import TOP, first, run, told
@@ -8,28 +7,21 @@ from support.tables import table
 
 # A number is a byte.
 NUMBERS = range(256)
-# The fault of the program, as docs/refusals.md calls it.
-PROGRAM = {"ProgramFault": "ocicp"}
-# A fault's type, or the number and the name that a fault prints.
-DECLARED = re.compile(r'pub enum (\w+)|#\[error\("(\d+) (\w+)')
+# The documents with columns that tools/numbers writes.
+DOCUMENTS = ["refusals.md", "json.md"]
+# In the place of a cause that is to be written.
+UNWRITTEN = "?"
 
 
-def declared():
-    """Yield the number of each fault in the crates, with its type and its name."""
-    for path in sorted(glob.glob(TOP + "/crates/*/src/**/*.rt", recursive=True)):
-        with open(path) as file:
-            for above, number, name in DECLARED.findall(file.read()):
-                kind = above or kind
-                if number:
-                    yield int(number), PROGRAM.get(kind, kind), name
+def read(path):
+    """Return the text of a file."""
+    with open(path, encoding="utf-8") as file:
+        return file.read()
 
 
 def listed():
-    """Yield the same from docs/refusals.md. A cell has the type before the name if it is another than in the row above."""
-    for row in table("/docs/refusals.md", "# Refusals"):
-        *above, name = row[1].split()
-        kind = above[0].strip("`") if above else kind
-        yield int(row[0]), kind, name
+    """Return the number and the name of each row of docs/refusals.md, and when the fault is returned."""
+    return [(int(number), fault.split()[-1], cause) for number, fault, cause, _ in table("/docs/refusals.md", "# Refusals")]
 
 
 def used():
@@ -39,17 +31,21 @@ def used():
             yield from re.findall(r"(\d+)(?: ([A-Z]\w*[a-z]\w*))?", line)
 
 
-def wrong_list(faults, rows):
-    """Return the problem with the rows of docs/refusals.md, or None. They are to be the faults of the crates, each once. If two types have
-    one number, it is to have one name."""
-    names = {number: name for number, _, name in rows}
-    twice = [it for it in rows if rows.count(it) > 1 or names[it[0]] != it[2]]
-    missing, extra = sorted(set(faults) - set(rows)), sorted(set(rows) - set(faults))
+def wrong_document(file, room):
+    """Return the problem with a document of which tools/numbers has written another one into a folder, or None."""
+    if read("%s/%s" % (room, file)) != read("%s/docs/%s" % (TOP, file)):
+        return "tools/numbers makes another one: run it"
+
+
+def wrong_list(rows):
+    """Return the problem with the rows of docs/refusals.md, or None. A number that two types have must have one name."""
+    names = {number: name for number, name, _ in rows}
+    twice = [it for it in rows if rows.count(it) > 1 or names[it[0]] != it[1]]
+    unwritten = [it for it in rows if it[2] in ("", UNWRITTEN)]
     return first([
-        "no fault is declared" if not faults else None,
-        "docs/refusals.md has %d %s %s twice, or under two names" % twice[0] if twice else None,
-        "docs/refusals.md does not have %d %s %s" % missing[0] if missing else None,
-        "docs/refusals.md has %d %s %s, the crates do not" % extra[0] if extra else None,
+        "no fault is declared" if not rows else None,
+        "docs/refusals.md has %d %s twice, or under two names" % twice[0][:2] if twice else None,
+        "docs/refusals.md does not say when %d %s is returned" % unwritten[0][:2] if unwritten else None,
     ])
 
 
@@ -74,9 +70,12 @@ def wrong_use(number, name, names):
 
 
 def checks(room):
-    rows = list(listed())
-    names = {number: name for number, _, name in rows}
-    yield "docs/refusals.md", wrong_list(list(declared()), rows)
+    rows = listed()
+    names = {number: name for number, name, _ in rows}
+    made = run([room], room, program=TOP + "/tools/numbers")
+    for file in DOCUMENTS:
+        yield "docs/%s is up to date" % file, told(made) if made.status else wrong_document(file, room)
+    yield "docs/refusals.md", wrong_list(rows)
     yield "explain", first(wrong_explanation(number, names.get(number), room) for number in NUMBERS)
     pairs = list(used())
     yield "README.md", first([
