@@ -56,21 +56,21 @@ pub fn copy_between<
 where
     S::Draft: Send,
     D::Draft: Send,
-    requires closed { IsClosedWhenSkipping options.now.existing destination.1 }
+    requires closed { IsClosedWhenSkipping options.now.existing destination.graph }
     requires plan { IsPlanOf (⟦<Layout<S> as Store>⟧.state source.now) options.now
         (⟦<Layout<D> as Store>⟧.state destination) selected.now.0 plan.now }
-    ensures held { OnOk result.1 (HasAll result.0.1 selected.now.0) }
-    ensures begins { BeginsWith destination.1 result.0.1 }
-    ensures came { HoldsWhatCame destination.1 result.0.1 }
-    ensures checked { BringsOnlyChecked destination.1 result.0.1 }
-    ensures met { BringsOnlyMet (⟦<Layout<S> as Store>⟧.state source.now) destination.1
-        selected.now.0 result.0.1 }
-    ensures closed { IsClosed destination.1 → IsClosed result.0.1 }
+    ensures held { OnOk result.1 (HasAll result.0.graph selected.now.0) }
+    ensures begins { BeginsWith destination.graph result.0.graph }
+    ensures came { HoldsWhatCame destination.graph result.0.graph }
+    ensures checked { BringsOnlyChecked destination.graph result.0.graph }
+    ensures met { BringsOnlyMet (⟦<Layout<S> as Store>⟧.state source.now) destination.graph
+        selected.now.0 result.0.graph }
+    ensures closed { IsClosed destination.graph → IsClosed result.0.graph }
     ensures report { IfOk result.1 (IsReport options.now.existing
         (⟦<Layout<S> as Store>⟧.state source.now) (⟦<Layout<D> as Store>⟧.state destination)
         selected.now.0 (⟦<Layout<D> as Store>⟧.state result.0)) }
-    ensures tagged { OnOk result.1 (result.0.2 ≡ set_tags destination.2 selected.now.1) }
-    ensures untagged { IfErr result.1 (AfterRefusedCopy (result.0.2 ≡ destination.2)) }
+    ensures tagged { OnOk result.1 (result.0.tags ≡ set_tags destination.tags selected.now.1) }
+    ensures untagged { IfErr result.1 (AfterRefusedCopy (result.0.tags ≡ destination.tags)) }
     ensures refused { IfErr result.1 (IsRefusedBetween (λ fault. (fault ≡ CopyFault.BadWorkers)
         ⊎ RefusedAt (Contains plan.now.keys) (IsStepCause
         (CanFail ⟦<Layout<D> as Store>⟧.state (⟦<Layout<D> as Store>⟧.state destination))
@@ -89,8 +89,8 @@ where
         → (⟦<Layout<D> as Store>⟧.state result.0).is_sound }
     ensures files { OnOk result.1 (IsTrusted (⟦<Layout<S> as Store>⟧.state source.now)
         (⟦<Layout<D> as Store>⟧.state destination) (⟦<Layout<D> as Store>⟧.state result.0)
-        → HasFiles (D.device result.0.0).file (⟦<Layout<D> as Store>⟧.state result.0).entries
-        result.0.1 result.0.2) }
+        → HasFiles (D.device result.0.dir).file (⟦<Layout<D> as Store>⟧.state result.0).entries
+        result.0.graph result.0.tags) }
 {
     let roots = selected.roots();
     let (destination, copied) = copy_plan(
@@ -112,18 +112,18 @@ fn finish<D: Dir>(
     copied: Result<Report, CopyFault>,
     selected: &Selected,
 ) -> (Layout<D>, Result<Report, ProgramFault>)
-    requires held { OnOk copied (HasAll destination.1 selected.now.0) }
+    requires held { OnOk copied (HasAll destination.graph selected.now.0) }
     ensures report { IfOk result.1 (λ it. copied ≡ Ok it) }
-    ensures tagged { OnOk result.1 (result.0.2 ≡ set_tags destination.2 selected.now.1) }
+    ensures tagged { OnOk result.1 (result.0.tags ≡ set_tags destination.tags selected.now.1) }
     ensures unsaved { OnErr copied (result.0 ≡ destination) }
     ensures saved { IsSaved (⟦<Layout<D> as Store>⟧.state destination)
         (⟦<Layout<D> as Store>⟧.state result.0) }
     ensures files { OnOk result.1 ((⟦<Layout<D> as Store>⟧.state destination).is_sound
-        → HasFiles (D.device result.0.0).file (⟦<Layout<D> as Store>⟧.state destination).entries
-        result.0.1 result.0.2) }
+        → HasFiles (D.device result.0.dir).file (⟦<Layout<D> as Store>⟧.state destination).entries
+        result.0.graph result.0.tags) }
     ensures refused { IfErr result.1 (IsRefusedBetween
         (λ fault. (copied ≡ Err fault) ⊎ (fault ≡ CopyFault.Memory))
-        (IsPutFault (D.device destination.0).failures (D.device result.0.0).failures)) }
+        (IsPutFault (D.device destination.dir).failures (D.device result.0.dir).failures)) }
 {
     let mut destination = destination;
     match copied {
@@ -140,16 +140,18 @@ fn tag_and_save<D: Dir>(
     destination: &mut Layout<D>,
     selected: &Selected,
 ) -> Result<(), ProgramFault>
-    requires held { HasAll destination.old.1 selected.now.0 }
-    ensures tagged { OnOk result (destination.new.2 ≡ set_tags destination.old.2 selected.now.1) }
+    requires held { HasAll destination.old.graph selected.now.0 }
+    ensures tagged { OnOk result (destination.new.tags
+        ≡ set_tags destination.old.tags selected.now.1) }
     ensures saved { IsSaved (⟦<Layout<D> as Store>⟧.state destination.old)
         (⟦<Layout<D> as Store>⟧.state destination.new) }
     ensures files { OnOk result ((⟦<Layout<D> as Store>⟧.state destination.old).is_sound
-        → HasFiles (D.device destination.new.0).file
-        (⟦<Layout<D> as Store>⟧.state destination.old).entries destination.new.1
-        destination.new.2) }
+        → HasFiles (D.device destination.new.dir).file
+        (⟦<Layout<D> as Store>⟧.state destination.old).entries destination.new.graph
+        destination.new.tags) }
     ensures refused { IfErr result (IsRefusedBetween (λ fault. fault ≡ CopyFault.Memory)
-        (IsPutFault (D.device destination.old.0).failures (D.device destination.new.0).failures)) }
+        (IsPutFault (D.device destination.old.dir).failures
+        (D.device destination.new.dir).failures)) }
 {
     if let Err(fault) = tag_all(destination, selected.tags()) {
         return Err(ProgramFault::Copy(CopyFault::from(fault)));
@@ -167,11 +169,11 @@ pub(crate) fn tag_all<D: Dir>(
     tags: &[(String, Key)],
 ) -> Result<(), RefFault>
     requires named { All (λ (name : List ℕ). name ≢ []) (keys_of (by_bytes tags.now)) }
-    requires held { HasAll destination.old.1 (values_of (by_bytes tags.now)) }
-    ensures tagged { OnOk result (destination.new.2 ≡ set_tags destination.old.2
+    requires held { HasAll destination.old.graph (values_of (by_bytes tags.now)) }
+    ensures tagged { OnOk result (destination.new.tags ≡ set_tags destination.old.tags
         (by_bytes tags.now)) }
-    ensures graph { destination.new.1 ≡ destination.old.1 }
-    ensures dir { destination.new.0 ≡ destination.old.0 }
+    ensures graph { destination.new.graph ≡ destination.old.graph }
+    ensures dir { destination.new.dir ≡ destination.old.dir }
     ensures memory { IfErr result (λ fault. fault ≡ RefFault.Memory) }
 {
     for (name, key) in tags {

@@ -14,7 +14,7 @@ use oci_manifest::Key;
 use oci_plan::Plan;
 use oci_pool::Hooks;
 use oci_program::ProgramFault;
-use oci_prune::{PruneFault, Pruned, Pruning, plan_prune, prune};
+use oci_prune::{PruneFault, PrunePlan, Pruned, plan_prune, prune};
 use oci_store::Store;
 use std::alloc::Global;
 
@@ -24,7 +24,7 @@ pub(crate) struct CleanUp {
     /// The removed tags, in byte order, each with the key that it named.
     pub(crate) untagged: Vec<(String, Key)>,
     /// The plan of the prune.
-    pub(crate) plan: Pruning,
+    pub(crate) plan: PrunePlan,
     /// The files that went.
     pub(crate) pruned: Pruned,
 }
@@ -38,8 +38,8 @@ pub(crate) struct CleanUp {
 /// - 96 `Unknown` if an entry of its index has no file. The first one is reported.
 /// - Out of memory.
 pub(crate) fn check_source<S: Dir>(source: &Layout<S>) -> Result<(), ProgramFault>
-    ensures tags { OnOk result (source.now.2 ≢ []) }
-    ensures absent { OnOk result (source.now.3 ≡ []) }
+    ensures tags { OnOk result (source.now.tags ≢ []) }
+    ensures absent { OnOk result (source.now.opened.absent ≡ []) }
 {
     if source.tags()?.is_empty() {
         return Err(ProgramFault::Prune(PruneFault::NoTags));
@@ -49,7 +49,7 @@ pub(crate) fn check_source<S: Dir>(source: &Layout<S>) -> Result<(), ProgramFaul
 
 /// Refuses a layout with an entry of its index that has no file.
 fn check_entries<D: Dir>(layout: &Layout<D>) -> Result<(), ProgramFault>
-    ensures absent { OnOk result (layout.now.3 ≡ []) }
+    ensures absent { OnOk result (layout.now.opened.absent ≡ []) }
 {
     match layout.absent().first() {
         Some(key) => Err(ProgramFault::Prune(PruneFault::Unknown(key.try_clone()?))),
@@ -70,7 +70,7 @@ pub(crate) fn check_destination<D: PrunableDir>(
     alloc: Global,
     destination: &Layout<D>,
 ) -> Result<(), ProgramFault>
-    ensures absent { OnOk result (destination.now.3 ≡ []) }
+    ensures absent { OnOk result (destination.now.opened.absent ≡ []) }
 {
     check_entries(destination)?;
     match destination.linked() {
@@ -116,7 +116,7 @@ pub(crate) fn mirror<R: Host, S: Dir + Sync, D: PrunableDir + Drop + Send, H: Ho
 where
     S::Draft: Send,
     D::Draft: Send,
-    requires closed { IsClosedWhenSkipping options.now.existing destination.1 }
+    requires closed { IsClosedWhenSkipping options.now.existing destination.graph }
     requires plan { IsPlanOf (⟦<Layout<S> as Store>⟧.state source.now) options.now
         (⟦<Layout<D> as Store>⟧.state destination) selected.now.0 plan.now }
 {
@@ -154,10 +154,10 @@ fn clean_up<D: PrunableDir>(
     destination: &mut Layout<D>,
     selected: &Selected,
 ) -> Result<CleanUp, ProgramFault>
-    requires held { HasAll destination.old.1 selected.now.0 }
-    ensures tags { OnOk result (destination.new.2
-        ≡ without_tags (set_tags destination.old.2 selected.now.1)
-        (other_tags destination.old.2 selected.now.1)) }
+    requires held { HasAll destination.old.graph selected.now.0 }
+    ensures tags { OnOk result (destination.new.tags
+        ≡ without_tags (set_tags destination.old.tags selected.now.1)
+        (other_tags destination.old.tags selected.now.1)) }
 {
     let untagged = retag(alloc, destination, selected)?;
     let plan = plan_prune(alloc, destination, true).map_err(fault_of)?;

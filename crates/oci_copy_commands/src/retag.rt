@@ -24,13 +24,13 @@ pub(crate) fn retag<D: Dir>(
     layout: &mut Layout<D>,
     selected: &Selected,
 ) -> Result<Vec<(String, Key)>, ProgramFault>
-    requires held { HasAll layout.old.1 selected.now.0 }
-    ensures tags { OnOk result (layout.new.2
-        ≡ without_tags (set_tags layout.old.2 selected.now.1)
-        (other_tags layout.old.2 selected.now.1)) }
+    requires held { HasAll layout.old.graph selected.now.0 }
+    ensures tags { OnOk result (layout.new.tags
+        ≡ without_tags (set_tags layout.old.tags selected.now.1)
+        (other_tags layout.old.tags selected.now.1)) }
     ensures removed { IfOk result (λ others. by_bytes others.items
-        ≡ other_tags layout.old.2 selected.now.1) }
-    ensures graph { layout.new.1 ≡ layout.old.1 }
+        ≡ other_tags layout.old.tags selected.now.1) }
+    ensures graph { layout.new.graph ≡ layout.old.graph }
 {
     let tags = selected.tags();
     let others = other_tags(alloc, &layout.tags()?, tags)?;

@@ -72,7 +72,7 @@ impl Selected {
     ) -> Result<Selected, ProgramFault>
         ensures { IfOk result (λ selected. (k : Descriptor)
             × ResolvesIn (⟦<Layout<D> as Store>⟧.state source.now) from.now k
-            × AreRoots source.now.1 referrers k selected.0
+            × AreRoots source.now.graph referrers k selected.0
             × (selected.1 ≡ (name_of from.now to.now, k) ∷ [])) }
     {
         let key = source.resolve(from)?;
@@ -109,9 +109,9 @@ impl Selected {
         source: &Layout<D>,
         referrers: Option<u32>,
     ) -> Result<Selected, ProgramFault>
-        ensures tags { IfOk result (λ selected. selected.1 ≡ source.now.2) }
-        ensures roots { IfOk result (λ selected. AreRootsOfTags source.now.1 referrers source.now.2
-            selected.0) }
+        ensures tags { IfOk result (λ selected. selected.1 ≡ source.now.tags) }
+        ensures roots { IfOk result (λ selected. AreRootsOfTags source.now.graph referrers
+            source.now.tags selected.0) }
     {
         let tags = source.tags()?;
         let roots = roots_of_tags(alloc, source, &tags, referrers)?;

@@ -17,6 +17,7 @@ use Rattle.oci_layout.specs.Blobs.{blob_path, blob_at, stored, IsSound}
 use Rattle.oci_layout.specs.Device.{Device, File, Touches}
 use Rattle.oci_layout.specs.Files.{IsLayout}
 use Rattle.oci_layout.specs.Index.{layout_file}
+use Rattle.oci_layout.specs.Layout.{LayoutState, OnlyFiles, SameMemory}
 use Rattle.oci_layout.specs.Prunable.{IsRemoval}
 use Rattle.oci_layout.specs.declared.fault.DirFault.{DirFault}
 use Rattle.oci_layout.proofs.Files.{HasLayoutFile-stays}
@@ -82,5 +83,16 @@ pub IsLayout-removed : (old new : Device) (graph : List Node) (tags : Tags) (pat
     → IsRemoval old new path answer → IsLayout old graph tags → IsLayout new graph tags
 IsLayout-removed old new graph tags path answer apart removal is = record {
   names = is.names;
-  has_layout_file = λ honest. (let h = removal.honest.1 honest in HasLayoutFile-stays old.file new.file path (Touches-removed old new path answer removal h) apart (is.has_layout_file h));
+  has_layout_file = λ honest. (let h = removal.device.honest.1 honest in HasLayoutFile-stays old.file new.file path (Touches-removed old new path answer removal h) apart (is.has_layout_file h));
 }
+
+-- a removal of a file that no held key has leaves what a layout has in memory, and its contents
+pub OnlyFiles-removed : {D : Type 0} (device : D → Device) (old new : LayoutState D) (path : List ℕ) (answer : Result Bool DirFault) → SameMemory old new → All (IsApart path) old.graph → IsRemoval (device old.dir) (device new.dir) path answer → OnlyFiles device old new
+OnlyFiles-removed device old new path answer memory apart removal =
+    let was = device old.dir in
+    let is = device new.dir in
+    record {
+      memory = memory;
+      contents = λ honest. stored-apart was.file is.file path old.graph apart (Touches-removed was is path answer removal honest);
+      sound = rw memory.graph (λ sound. IsSound-apart was.is_honest is.is_honest was.file is.file path old.graph removal.device.honest.0 apart (Touches-removed was is path answer removal sound.is_honest) sound);
+    }

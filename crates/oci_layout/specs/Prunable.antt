@@ -10,7 +10,7 @@ use Rattle.std.specs.Ordering.{nat_cmp}
 use Rattle.std.specs.Str.{bytes_eq}
 use Rattle.oci_digest.specs.Digest.{IsDigest}
 use Rattle.oci_layout.specs.Blobs.{blob_path}
-use Rattle.oci_layout.specs.Device.{Device, File, Same}
+use Rattle.oci_layout.specs.Device.{Device, File, Same, SameDevice}
 use Rattle.oci_layout.specs.declared.fault.DirFault.{DirFault}
 use Rattle.oci_layout.specs.declared.fault.DirFault.TheVariants as dir
 use Rattle.oci_layout.specs.declared.fault.LayoutFault.{LayoutFault}
@@ -32,10 +32,7 @@ pub record IsRemoval (old new : Device) (path : List ℕ) (answer : Result Bool 
   pub refused : OnErr answer (old.is_honest → Same old.file new.file)
   -- a removal fails only if reads may fail too
   pub failed : IsErrOf answer dir.Failed → old.fails_reads ≡ true
-  -- besides its files nothing changed
-  pub honest : old.is_honest ↔ new.is_honest
-  pub reads : new.fails_reads ≡ old.fails_reads
-  pub failures : new.failures ≡ old.failures
+  pub device : SameDevice old new
 
 -- whether a path is that of a draft: it ends in `.new`
 abbrev pub is_draft_path : List ℕ → Bool

@@ -6,7 +6,7 @@ use crate::outcome::Outcome;
 use crate::sum::Sum;
 use oci_digest::NoMemory;
 use oci_manifest::Key;
-use oci_prune::{PruneFault, Pruned, PrunedFile, Pruning};
+use oci_prune::{PruneFault, PrunePlan, Pruned, PrunedFile};
 use serde::Serialize;
 use std::alloc::Global;
 use std::fmt;
@@ -48,8 +48,8 @@ impl PruneAnswer {
     /// # Errors
     ///
     /// Returns [`NoMemory`] if an allocation fails.
-    pub fn of(alloc: Global, plan: Pruning, pruned: &Pruned) -> Result<PruneAnswer, NoMemory> {
-        let Pruning {
+    pub fn of(alloc: Global, plan: PrunePlan, pruned: &Pruned) -> Result<PruneAnswer, NoMemory> {
+        let PrunePlan {
             kept,
             removed,
             files,

@@ -28,7 +28,10 @@ use oci_prune::PruneFault;
 use oci_store::{FetchFault, PushFault, RefFault};
 use std::alloc::Global;
 
-/// A fault that the text of a refusal has, and which may have another fault inside.
+/// A fault that the text of a refusal names. It may have another fault inside.
+///
+/// The libraries do not know the program's documents, so the trait is implemented here for each
+/// type of fault.
 pub(crate) trait Refused {
     /// The numbers in the fault's text: its own, and then those of the fault inside it.
     ghost numbers: { Self → List ℕ };

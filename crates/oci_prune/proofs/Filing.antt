@@ -24,7 +24,7 @@ use Rattle.oci_layout.specs.Prunable.{AreBlobs}
 use Rattle.oci_prune.proofs.Elements.{no_element, next_element, in_map_filter, map_filter_in}
 use Rattle.oci_prune.specs.Files.{HasDigests, pruned_file, unneeded_in}
 use Rattle.oci_prune.specs.Plan.{AreHeld, AreUnneeded, IsUnneeded, HasDigestIn}
-use Rattle.oci_prune.specs.declared.pruning.PrunedFile.{PrunedFile}
+use Rattle.oci_prune.specs.declared.plan.PrunedFile.{PrunedFile}
 
 abbrev Digests : Type 0
 Digests = BTreeSet (List ℕ)

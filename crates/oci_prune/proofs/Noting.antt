@@ -9,8 +9,8 @@ use Rattle.oci_prune.specs.Pruned.{IsPathOf, IsDraftIn, IsPlanned}
 use Rattle.oci_prune.specs.Refusal.{IsRemovalFault, Notes}
 use Rattle.oci_prune.specs.declared.fault.PruneFault.{PruneFault}
 use Rattle.oci_prune.specs.declared.fault.PruneFault.TheVariants as fault
-use Rattle.oci_prune.specs.declared.pruning.PrunedFile.{PrunedFile}
-use Rattle.oci_prune.specs.declared.pruning.Pruning.{Pruning}
+use Rattle.oci_prune.specs.declared.plan.PrunedFile.{PrunedFile}
+use Rattle.oci_prune.specs.declared.plan.PrunePlan.{PrunePlan}
 use Rattle.oci_prune.proofs.Elements.{next_element}
 use Rattle.oci_prune.proofs.Sparing.{Paths, Drafts, by_name-next, path_later, path_here, draft_later, draft_here}
 
@@ -50,7 +50,7 @@ only_new dir P None notes = tt
 only_new dir P (Some e) notes = elim notes.cause [ inl never ↦ cc never | inr refused ↦ refused ]
 
 -- the first fault of a prune is that of a planned path
-pub planned_fault : (old mid last : Device) (plan : Pruning) (noted new : Option PruneFault) → mid.fails_reads ≡ old.fails_reads → last.fails_reads ≡ mid.fails_reads → Notes mid (IsPathOf plan.files.items) None noted → Notes last (IsDraftIn (by_name plan.drafts.items)) noted new
+pub planned_fault : (old mid last : Device) (plan : PrunePlan) (noted new : Option PruneFault) → mid.fails_reads ≡ old.fails_reads → last.fails_reads ≡ mid.fails_reads → Notes mid (IsPathOf plan.files.items) None noted → Notes last (IsDraftIn (by_name plan.drafts.items)) noted new
     → IfSome new (IsRemovalFault old (IsPlanned plan))
 planned_fault old mid last plan noted new saved removed first second =
     let all = notes_both mid last (IsPathOf plan.files.items) (IsDraftIn (by_name plan.drafts.items)) (IsPlanned plan) None noted new removed first second (λ path h. inl h) (λ path h. inr h) in

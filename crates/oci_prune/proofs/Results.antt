@@ -27,7 +27,7 @@ use Rattle.oci_layout.proofs.Files.{index_blob}
 use Rattle.oci_layout.proofs.Stored.{blob_path-injective}
 use Rattle.oci_prune.specs.Plan.{AreUnneeded, HasDigestIn, IsSafe}
 use Rattle.oci_prune.specs.Pruned.{is_gone, AreThere, AreApart, kept_of, IsPathOf, Spares, AreSameBlobs, HasOnlyNeeded}
-use Rattle.oci_prune.specs.declared.pruning.PrunedFile.{PrunedFile}
+use Rattle.oci_prune.specs.declared.plan.PrunedFile.{PrunedFile}
 use Rattle.oci_prune.proofs.Elements.{no_element, Contains-head, Contains-tail, Contains-cons}
 use Rattle.oci_prune.proofs.Sparing.{map_same}
 use Rattle.oci_prune.proofs.Leaving.{kept_value, kept_from_left, stored_left, decide_digest}

@@ -13,9 +13,10 @@ use Rattle.oci_store.specs.Graph.{Node}
 use Rattle.oci_layout.specs.Blobs.{blob_path, stored, IsSound}
 use Rattle.oci_layout.specs.Device.{Device, Touches}
 use Rattle.oci_layout.specs.Index.{index_file}
+use Rattle.oci_layout.specs.Layout.{LayoutState, SameMemory}
 use Rattle.oci_layout.specs.Prunable.{by_name}
 use Rattle.oci_prune.specs.Pruned.{is_gone, AreThere, AreApart, IsPathOf, IsDraftIn, Spares, AreSameBlobs}
-use Rattle.oci_prune.specs.declared.pruning.PrunedFile.{PrunedFile}
+use Rattle.oci_prune.specs.declared.plan.PrunedFile.{PrunedFile}
 use Rattle.oci_prune.proofs.Elements.{next_element}
 
 abbrev pub Paths : Type 1
@@ -25,6 +26,13 @@ pub spares_same : (dir : Device) (graph : List Node) (P : Paths) → Spares dir 
 spares_same dir graph P = record { other = λ honest path free. refl; contents = λ honest. refl; sound = λ h. h; honest = (λ h. h, λ h. h); reads = refl }
 
 -- of two changes one after the other
+pub same_memory_both : {D : Type 0} (a b c : LayoutState D) → SameMemory a b → SameMemory b c → SameMemory a c
+same_memory_both a b c first second = record {
+  graph = second.graph ∙ first.graph;
+  tags = second.tags ∙ first.tags;
+  opened = second.opened ∙ first.opened;
+}
+
 pub spares_both : (a b c : Device) (graph : List Node) (P Q T : Paths) → Spares a b graph P → Spares b c graph Q → ((path : List ℕ) → P path → T path) → ((path : List ℕ) → Q path → T path) → Spares a c graph T
 spares_both a b c graph P Q T first second p q = record {
   other = λ honest path free. second.other (first.honest.0 honest) path (λ h. free (q path h)) ∙ first.other honest path (λ h. free (p path h));

@@ -4,7 +4,7 @@ use Rattle.std.specs.BTreeSet.{BTreeSet, contains}
 use Rattle.std.specs.Cmp.Lexicographic.{slice_cmp}
 use Rattle.std.specs.Ordering.{nat_cmp}
 use Rattle.oci_manifest.specs.Descriptor.{Descriptor}
-use Rattle.oci_prune.specs.declared.pruning.PrunedFile.{PrunedFile}
+use Rattle.oci_prune.specs.declared.plan.PrunedFile.{PrunedFile}
 
 -- the set has the digests of these keys, and no other
 abbrev pub HasDigests : List Descriptor → BTreeSet (List ℕ) → Type 0

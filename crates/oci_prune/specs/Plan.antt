@@ -16,8 +16,8 @@ use Rattle.oci_layout.specs.Blobs.{blob_path}
 use Rattle.oci_layout.specs.Device.{Device, File}
 use Rattle.oci_layout.specs.Prunable.{HasLength, by_name}
 use Rattle.oci_prune.specs.Subjects.{States}
-use Rattle.oci_prune.specs.declared.pruning.PrunedFile.{PrunedFile}
-use Rattle.oci_prune.specs.declared.pruning.Pruning.{Pruning}
+use Rattle.oci_prune.specs.declared.plan.PrunedFile.{PrunedFile}
+use Rattle.oci_prune.specs.declared.plan.PrunePlan.{PrunePlan}
 
 -- the keys of a graph, in key order
 pub record AreHeld (graph : List Node) (keys : List Descriptor) : Type 0 where
@@ -60,7 +60,7 @@ pub record AreUnneeded (file : File) (graph : List Node) (kept : BTreeSet Descri
 
 -- a plan for a layout in a directory: it keeps what is reached from the tags, and removes the other
 -- keys and the files that nothing kept needs
-pub record IsPruning (dir : Device) (graph : List Node) (tags : Tags) (plan : Pruning) : Type 0 where
+pub record IsPrunePlan (dir : Device) (graph : List Node) (tags : Tags) (plan : PrunePlan) : Type 0 where
   pub safe : IsSafe graph (values_of tags) plan.kept
   pub removed : AreRemoved graph plan.kept plan.removed.items
   pub files : dir.is_honest → AreUnneeded dir.file graph plan.kept plan.files.items

@@ -11,8 +11,8 @@ use Rattle.oci_layout.specs.Device.{Device, File}
 use Rattle.oci_layout.specs.Index.{index_file}
 use Rattle.oci_layout.specs.Prunable.{by_name}
 use Rattle.oci_prune.specs.Plan.{HasDigestIn}
-use Rattle.oci_prune.specs.declared.pruning.PrunedFile.{PrunedFile}
-use Rattle.oci_prune.specs.declared.pruning.Pruning.{Pruning}
+use Rattle.oci_prune.specs.declared.plan.PrunedFile.{PrunedFile}
+use Rattle.oci_prune.specs.declared.plan.PrunePlan.{PrunePlan}
 
 -- the kept keys of a graph, each with the keys that it lists
 abbrev pub kept_of : BTreeSet Descriptor → List Node → List Node
@@ -55,11 +55,11 @@ pub record Spares (old new : Device) (graph : List Node) (touched : List ℕ →
   pub reads : new.fails_reads ≡ old.fails_reads
 
 -- the path is that of a file or a draft that a plan removes
-abbrev pub IsPlanned : Pruning → List ℕ → Type 0
+abbrev pub IsPlanned : PrunePlan → List ℕ → Type 0
 IsPlanned plan path = IsPathOf plan.files.items path ⊎ IsDraftIn (by_name plan.drafts.items) path
 
 -- the path is that of the index, or planned
-abbrev pub IsTouchedBy : Pruning → List ℕ → Type 0
+abbrev pub IsTouchedBy : PrunePlan → List ℕ → Type 0
 IsTouchedBy plan path = (index_file ≡ path) ⊎ IsPlanned plan path
 
 -- the files of digests and the index are unchanged

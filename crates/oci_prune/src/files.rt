@@ -8,7 +8,7 @@ ghost use Rattle.oci_prune.specs.Plan.{AreHeld, AreUnneeded};
 ghost use Rattle.oci_prune.specs.Refusal.{IsDeviceFault};
 
 use crate::fault::PruneFault;
-use crate::pruning::PrunedFile;
+use crate::plan::PrunedFile;
 use oci_digest::{Digest, NoMemory};
 use oci_layout::{Layout, PrunableDir};
 use oci_manifest::Key;
@@ -28,10 +28,10 @@ pub(crate) fn plan_files<D: PrunableDir>(
     held: &[Key],
     kept: &BTreeSet<Key>,
 ) -> Result<Vec<PrunedFile>, PruneFault>
-    requires { AreHeld layout.now.1 held.now }
-    ensures files { IfOk result (λ files. (D.device layout.now.0).is_honest
-        → AreUnneeded (D.device layout.now.0).file layout.now.1 kept.now files.items) }
-    ensures cause { IfErr result (IsDeviceFault ((D.device layout.now.0).fails_reads ≡ true)) }
+    requires { AreHeld layout.now.graph held.now }
+    ensures files { IfOk result (λ files. (D.device layout.now.dir).is_honest
+        → AreUnneeded (D.device layout.now.dir).file layout.now.graph kept.now files.items) }
+    ensures cause { IfErr result (IsDeviceFault ((D.device layout.now.dir).fails_reads ≡ true)) }
 {
     let blobs = layout.blobs()?;
     let kept = keys_of_set(alloc, kept)?;

@@ -15,7 +15,7 @@ use std::collections::BTreeSet;
 
 /// Returns the held keys of a layout, in key order.
 pub(crate) fn held_keys<D: Dir>(alloc: Global, layout: &Layout<D>) -> Result<Vec<Key>, NoMemory>
-    ensures { IfOk result (λ keys. AreHeld layout.now.1 keys.items) }
+    ensures { IfOk result (λ keys. AreHeld layout.now.graph keys.items) }
 {
     let mut held = BTreeSet::new(alloc);
     for place in 0..layout.count() {
@@ -35,11 +35,11 @@ pub(crate) fn held_keys<D: Dir>(alloc: Global, layout: &Layout<D>) -> Result<Vec
 /// - 97 `NoTags` if there is no tag.
 /// - 89 `Memory` if memory runs out.
 pub(crate) fn tagged_keys<D: Dir>(alloc: Global, layout: &Layout<D>) -> Result<Vec<Key>, PruneFault>
-    ensures tagged { IfOk result (λ keys. keys.items ≡ values_of layout.now.2) }
-    ensures names { OnOk result (AreNames layout.now.1 layout.now.2) }
-    ensures some { OnOk result (layout.now.2 ≢ []) }
+    ensures tagged { IfOk result (λ keys. keys.items ≡ values_of layout.now.tags) }
+    ensures names { OnOk result (AreNames layout.now.graph layout.now.tags) }
+    ensures some { OnOk result (layout.now.tags ≢ []) }
     ensures cause { IfErr result (λ e. (e ≡ PruneFault.Memory)
-        ⊎ ((e ≡ PruneFault.NoTags) × (layout.now.2 ≡ []))) }
+        ⊎ ((e ≡ PruneFault.NoTags) × (layout.now.tags ≡ []))) }
 {
     let tags = layout.tags()?;
     if tags.is_empty() {

@@ -1,6 +1,6 @@
 //! Removes what no tag of an image layout needs.
 //!
-//! [`plan_prune`] plans a prune and changes nothing. The *kept* keys of the [`Pruning`] are the
+//! [`plan_prune`] plans a prune and changes nothing. The *kept* keys of the [`PrunePlan`] are the
 //! tagged keys, with each kept key the held keys that it lists, and the held manifests that have it
 //! as their `subject`, such as signatures, on and on. All other held keys are removed, and all files
 //! under `blobs` that are named by a digest that no kept key has. So are drafts that killed
@@ -27,14 +27,11 @@ mod held;
 mod kept;
 mod laws;
 mod plan;
-mod planning;
-mod pruning;
 mod referrers;
 mod removal;
 mod run;
 
 pub use fault::PruneFault;
 pub use laws::kept_is_reached;
-pub use plan::plan_prune;
-pub use pruning::{Pruned, PrunedFile, Pruning};
-pub use run::prune;
+pub use plan::{PrunePlan, PrunedFile, plan_prune};
+pub use run::{Pruned, prune};

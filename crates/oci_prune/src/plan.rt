@@ -1,17 +1,58 @@
-ghost use Rattle.std.specs.Prelude.{◌≡◌, ◌≢◌, ◌⊎◌, [], Some, IfOk, IfErr, OnOk, slice_get};
+ghost use Rattle.std.specs.Prelude.{◌≡◌, ◌≢◌, ◌⊎◌, [], Some, IfOk, IfErr, OnOk, slice_get, string_bytes};
 ghost use Rattle.std.specs.Map.{values_of};
-ghost use Rattle.oci_layout.specs.Blobs.{meaning};
+ghost use Rattle.oci_layout.specs.Blobs.{meaning, blob_path};
 ghost use Rattle.oci_prune.specs.Kept.{AreKept, AllKnown};
-ghost use Rattle.oci_prune.specs.Plan.{IsPruning, RefersIf};
+ghost use Rattle.oci_prune.specs.Plan.{IsPrunePlan, RefersIf};
 ghost use Rattle.oci_prune.specs.Refusal.{IsCheckFault, IsPlanFault, IsUnknownFault};
 
 use crate::fault::PruneFault;
 use crate::files::plan_files;
 use crate::held::{held_keys, keys_without, tagged_keys};
-use crate::planning::plan_keys;
-use crate::pruning::Pruning;
+use crate::kept::plan_keys;
+use oci_digest::{Digest, NoMemory};
 use oci_layout::{Layout, PrunableDir};
+use oci_manifest::Key;
 use std::alloc::Global;
+use std::collections::BTreeSet;
+
+/// A file under `blobs` that no kept key needs.
+#[derive(Drop)]
+pub struct PrunedFile {
+    /// The digest that the file is named by.
+    pub digest: Digest,
+    /// The length of the file in bytes.
+    pub length: u64,
+    /// Whether a held key has the digest.
+    pub is_held: bool,
+}
+
+/// What a prune of a layout keeps and removes.
+#[derive(Drop)]
+pub struct PrunePlan {
+    /// The kept keys.
+    pub kept: BTreeSet<Key>,
+    /// The held keys that are removed, in key order.
+    pub removed: Vec<Key>,
+    /// The files that are removed, in byte order of their paths.
+    pub files: Vec<PrunedFile>,
+    /// The paths of the drafts that are removed, each with its length in bytes.
+    pub drafts: Vec<(String, u64)>,
+}
+
+impl PrunedFile {
+    /// Returns the path of the file: `blobs`, the algorithm, and the digits.
+    ///
+    /// # Errors
+    ///
+    /// Returns [`NoMemory`] if an allocation fails.
+    pub fn path(&self, alloc: Global) -> Result<String, NoMemory>
+        ensures { IfOk result (λ path. string_bytes path ≡ blob_path self.now.digest) }
+    {
+        let encoded = self.digest.encoded(alloc)?;
+        let algorithm = self.digest.algorithm();
+        Ok(format!(in alloc; "blobs/{algorithm}/{encoded}")?)
+    }
+}
 
 /// Plans a prune of a layout: what no tag needs is to be removed. Changes nothing.
 ///
@@ -37,23 +78,23 @@ pub fn plan_prune<D: PrunableDir>(
     alloc: Global,
     layout: &Layout<D>,
     keeps_referrers: bool,
-) -> Result<Pruning, PruneFault>
-    ensures kept { IfOk result (λ plan. (D.device layout.now.0).is_honest
-        → AreKept layout.now.1 (values_of layout.now.2) (RefersIf keeps_referrers
-        (meaning (D.device layout.now.0) layout.now.1 layout.now.2)) plan.kept) }
-    ensures planned { IfOk result (λ plan. IsPruning (D.device layout.now.0) layout.now.1
-        layout.now.2 plan) }
-    ensures known { OnOk result ((D.device layout.now.0).is_honest
-        → AllKnown layout.now.1 (values_of layout.now.2) (RefersIf keeps_referrers
-        (meaning (D.device layout.now.0) layout.now.1 layout.now.2))) }
-    ensures tagged { OnOk result (layout.now.2 ≢ []) }
-    ensures whole { OnOk result (layout.now.3 ≡ []) }
-    ensures first { layout.now.2 ≡ [] → IfErr result (λ e. (e ≡ PruneFault.NoTags)
+) -> Result<PrunePlan, PruneFault>
+    ensures kept { IfOk result (λ plan. (D.device layout.now.dir).is_honest
+        → AreKept layout.now.graph (values_of layout.now.tags) (RefersIf keeps_referrers
+        (meaning (D.device layout.now.dir) layout.now.graph layout.now.tags)) plan.kept) }
+    ensures planned { IfOk result (λ plan. IsPrunePlan (D.device layout.now.dir) layout.now.graph
+        layout.now.tags plan) }
+    ensures known { OnOk result ((D.device layout.now.dir).is_honest
+        → AllKnown layout.now.graph (values_of layout.now.tags) (RefersIf keeps_referrers
+        (meaning (D.device layout.now.dir) layout.now.graph layout.now.tags))) }
+    ensures tagged { OnOk result (layout.now.tags ≢ []) }
+    ensures whole { OnOk result (layout.now.opened.absent ≡ []) }
+    ensures first { layout.now.tags ≡ [] → IfErr result (λ e. (e ≡ PruneFault.NoTags)
         ⊎ (e ≡ PruneFault.Memory)) }
-    ensures second { layout.now.2 ≢ [] → layout.now.3 ≢ []
-        → IfErr result (IsUnknownFault (λ k. slice_get layout.now.3 0 ≡ Some k)) }
-    ensures cause { IfErr result (IsPlanFault (D.device layout.now.0) layout.now.1 layout.now.2
-        layout.now.3 keeps_referrers) }
+    ensures second { layout.now.tags ≢ [] → layout.now.opened.absent ≢ []
+        → IfErr result (IsUnknownFault (λ k. slice_get layout.now.opened.absent 0 ≡ Some k)) }
+    ensures cause { IfErr result (IsPlanFault (D.device layout.now.dir) layout.now.graph layout.now.tags
+        layout.now.opened.absent keeps_referrers) }
 {
     let roots = tagged_keys(alloc, layout)?;
     check_whole(layout)?;
@@ -62,7 +103,7 @@ pub fn plan_prune<D: PrunableDir>(
     let removed = keys_without(alloc, &held, &kept)?;
     let files = plan_files(alloc, layout, &held, &kept)?;
     let drafts = layout.leftovers()?;
-    Ok(Pruning {
+    Ok(PrunePlan {
         kept,
         removed,
         files,
@@ -72,10 +113,10 @@ pub fn plan_prune<D: PrunableDir>(
 
 /// Refuses a layout with an absent entry, and one whose folders of blobs are links.
 fn check_whole<D: PrunableDir>(layout: &Layout<D>) -> Result<(), PruneFault>
-    ensures whole { OnOk result (layout.now.3 ≡ []) }
-    ensures first { layout.now.3 ≢ []
-        → IfErr result (IsUnknownFault (λ k. slice_get layout.now.3 0 ≡ Some k)) }
-    ensures cause { IfErr result (IsCheckFault (D.device layout.now.0) layout.now.3) }
+    ensures whole { OnOk result (layout.now.opened.absent ≡ []) }
+    ensures first { layout.now.opened.absent ≢ []
+        → IfErr result (IsUnknownFault (λ k. slice_get layout.now.opened.absent 0 ≡ Some k)) }
+    ensures cause { IfErr result (IsCheckFault (D.device layout.now.dir) layout.now.opened.absent) }
 {
     if let Some(key) = layout.absent().first() {
         return Err(PruneFault::Unknown(key.try_clone()?));

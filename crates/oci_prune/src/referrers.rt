@@ -30,13 +30,13 @@ pub(crate) fn referrers_of<S: Source>(
     let mut referrers = BTreeMap::new(alloc);
     for key in keys {
         let found = subject_at(alloc, source, key)?;
-        note(alloc, &mut referrers, key, found)?;
+        add_referrer(alloc, &mut referrers, key, found)?;
     }
     Ok(referrers)
 }
 
 /// Adds a key under its subject, if it has one.
-fn note(
+fn add_referrer(
     alloc: Global,
     referrers: &mut BTreeMap<Key, Vec<Key>>,
     key: &Key,

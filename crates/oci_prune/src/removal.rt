@@ -2,12 +2,13 @@ ghost use Rattle.std.specs.Prelude.{◌≡◌, ◌≢◌, ◌⊎◌, None, Some,
 ghost use Rattle.std.specs.List.{All};
 ghost use Rattle.std.specs.Map.{keys_of};
 ghost use Rattle.oci_layout.specs.Blobs.{blob_path};
+ghost use Rattle.oci_layout.specs.Layout.{SameMemory};
 ghost use Rattle.oci_layout.specs.Prunable.{by_name};
 ghost use Rattle.oci_prune.specs.Pruned.{is_gone, AreThere, AreApart, IsPathOf, IsDraftIn, Spares, AreSameBlobs};
 ghost use Rattle.oci_prune.specs.Refusal.{IsNotRemoved, Notes};
 
 use crate::fault::PruneFault;
-use crate::pruning::PrunedFile;
+use crate::plan::PrunedFile;
 use oci_digest::NoMemory;
 use oci_layout::{Layout, LayoutFault, PrunableDir};
 use std::alloc::Global;
@@ -20,23 +21,21 @@ pub(crate) fn remove_files<D: PrunableDir>(
     gone: &mut Vec<bool>,
     fault: &mut Option<PruneFault>,
 )
-    requires unneeded { (D.device layout.old.0).is_honest → All (λ f. All
-        (λ k. k.digest ≢ f.digest) (keys_of layout.old.1)) files.now }
-    requires there { (D.device layout.old.0).is_honest
-        → AreThere (D.device layout.old.0).file files.now }
-    requires apart { (D.device layout.old.0).is_honest → AreApart files.now }
+    requires unneeded { (D.device layout.old.dir).is_honest → All (λ f. All
+        (λ k. k.digest ≢ f.digest) (keys_of layout.old.graph)) files.now }
+    requires there { (D.device layout.old.dir).is_honest
+        → AreThere (D.device layout.old.dir).file files.now }
+    requires apart { (D.device layout.old.dir).is_honest → AreApart files.now }
     requires noted { length gone.old.items ≡ length files.now }
-    ensures graph { layout.new.1 ≡ layout.old.1 }
-    ensures tags { layout.new.2 ≡ layout.old.2 }
-    ensures absent { layout.new.3 ≡ layout.old.3 }
-    ensures spared { Spares (D.device layout.old.0) (D.device layout.new.0) layout.old.1
+    ensures memory { SameMemory layout.old layout.new }
+    ensures spared { Spares (D.device layout.old.dir) (D.device layout.new.dir) layout.old.graph
         (IsPathOf files.now) }
     ensures fault { fault.new ≡ None → fault.old ≡ None }
-    ensures removed { fault.new ≡ None → (D.device layout.old.0).is_honest → All
-        (λ f. (D.device layout.new.0).file (blob_path f.digest) ≡ None) files.now }
-    ensures notes { Notes (D.device layout.old.0) (IsPathOf files.now) fault.old fault.new }
-    ensures flags { (D.device layout.old.0).is_honest
-        → gone.new.items ≡ map (is_gone (D.device layout.new.0).file) files.now }
+    ensures removed { fault.new ≡ None → (D.device layout.old.dir).is_honest → All
+        (λ f. (D.device layout.new.dir).file (blob_path f.digest) ≡ None) files.now }
+    ensures notes { Notes (D.device layout.old.dir) (IsPathOf files.now) fault.old fault.new }
+    ensures flags { (D.device layout.old.dir).is_honest
+        → gone.new.items ≡ map (is_gone (D.device layout.new.dir).file) files.now }
     ensures noted { length gone.new.items ≡ length files.now }
 {
     for place in 0..files.len() {
@@ -52,26 +51,24 @@ fn remove_file<D: PrunableDir>(
     file: &PrunedFile,
     fault: &mut Option<PruneFault>,
 ) -> bool
-    requires unneeded { (D.device layout.old.0).is_honest → All
-        (λ k. k.digest ≢ file.now.digest) (keys_of layout.old.1) }
-    ensures graph { layout.new.1 ≡ layout.old.1 }
-    ensures tags { layout.new.2 ≡ layout.old.2 }
-    ensures absent { layout.new.3 ≡ layout.old.3 }
-    ensures spared { Spares (D.device layout.old.0) (D.device layout.new.0) layout.old.1
+    requires unneeded { (D.device layout.old.dir).is_honest → All
+        (λ k. k.digest ≢ file.now.digest) (keys_of layout.old.graph) }
+    ensures memory { SameMemory layout.old layout.new }
+    ensures spared { Spares (D.device layout.old.dir) (D.device layout.new.dir) layout.old.graph
         (λ path. blob_path file.now.digest ≡ path) }
-    ensures removed { fault.new ≡ None → (D.device layout.old.0).is_honest
-        → (D.device layout.new.0).file (blob_path file.now.digest) ≡ None }
-    ensures flag { (D.device layout.old.0).is_honest
-        → IsSome ((D.device layout.old.0).file (blob_path file.now.digest))
-        → result ≡ is_gone (D.device layout.new.0).file file.now }
+    ensures removed { fault.new ≡ None → (D.device layout.old.dir).is_honest
+        → (D.device layout.new.dir).file (blob_path file.now.digest) ≡ None }
+    ensures flag { (D.device layout.old.dir).is_honest
+        → IsSome ((D.device layout.old.dir).file (blob_path file.now.digest))
+        → result ≡ is_gone (D.device layout.new.dir).file file.now }
     ensures fault { fault.new ≡ None → fault.old ≡ None }
-    ensures notes { Notes (D.device layout.old.0) (λ path. blob_path file.now.digest ≡ path)
+    ensures notes { Notes (D.device layout.old.dir) (λ path. blob_path file.now.digest ≡ path)
         fault.old fault.new }
 {
     match layout.remove_blob(&file.digest) {
         Ok(found) => found,
         Err(refused) => {
-            note(fault, not_removed(file.path(alloc), refused));
+            keep_first(fault, not_removed(file.path(alloc), refused));
             false
         }
     }
@@ -87,14 +84,12 @@ pub(crate) fn remove_drafts<D: PrunableDir>(
     fault: &mut Option<PruneFault>,
 )
     requires noted { length gone.old.items ≡ length drafts.now }
-    ensures graph { layout.new.1 ≡ layout.old.1 }
-    ensures tags { layout.new.2 ≡ layout.old.2 }
-    ensures absent { layout.new.3 ≡ layout.old.3 }
-    ensures spared { Spares (D.device layout.old.0) (D.device layout.new.0) layout.old.1
+    ensures memory { SameMemory layout.old layout.new }
+    ensures spared { Spares (D.device layout.old.dir) (D.device layout.new.dir) layout.old.graph
         (IsDraftIn (by_name drafts.now)) }
-    ensures files { AreSameBlobs (D.device layout.old.0) (D.device layout.new.0) }
+    ensures files { AreSameBlobs (D.device layout.old.dir) (D.device layout.new.dir) }
     ensures fault { fault.new ≡ None → fault.old ≡ None }
-    ensures notes { Notes (D.device layout.old.0) (IsDraftIn (by_name drafts.now))
+    ensures notes { Notes (D.device layout.old.dir) (IsDraftIn (by_name drafts.now))
         fault.old fault.new }
     ensures noted { length gone.new.items ≡ length drafts.now }
 {
@@ -111,20 +106,18 @@ fn remove_draft<D: PrunableDir>(
     path: &str,
     fault: &mut Option<PruneFault>,
 ) -> bool
-    ensures graph { layout.new.1 ≡ layout.old.1 }
-    ensures tags { layout.new.2 ≡ layout.old.2 }
-    ensures absent { layout.new.3 ≡ layout.old.3 }
-    ensures spared { Spares (D.device layout.old.0) (D.device layout.new.0) layout.old.1
+    ensures memory { SameMemory layout.old layout.new }
+    ensures spared { Spares (D.device layout.old.dir) (D.device layout.new.dir) layout.old.graph
         (λ touched. path.now ≡ touched) }
-    ensures files { AreSameBlobs (D.device layout.old.0) (D.device layout.new.0) }
+    ensures files { AreSameBlobs (D.device layout.old.dir) (D.device layout.new.dir) }
     ensures fault { fault.new ≡ None → fault.old ≡ None }
-    ensures notes { Notes (D.device layout.old.0) (λ touched. path.now ≡ touched)
+    ensures notes { Notes (D.device layout.old.dir) (λ touched. path.now ≡ touched)
         fault.old fault.new }
 {
     match layout.remove_leftover(path) {
         Ok(found) => found,
         Err(refused) => {
-            note(fault, not_removed(copied(alloc, path), refused));
+            keep_first(fault, not_removed(copied(alloc, path), refused));
             false
         }
     }
@@ -150,8 +143,8 @@ fn not_removed(path: Result<String, NoMemory>, fault: LayoutFault) -> PruneFault
     }
 }
 
-/// Notes a fault if it is the first one.
-fn note(first: &mut Option<PruneFault>, fault: PruneFault)
+/// Keeps a fault if it is the first one.
+fn keep_first(first: &mut Option<PruneFault>, fault: PruneFault)
     ensures some { first.new ≡ None → ⊥ }
     ensures stays { IfSome first.old (λ e. first.new ≡ Some e) }
     ensures noted { IfSome first.new (λ e. (first.old ≡ Some e) ⊎ (e ≡ fault)) }

@@ -5,17 +5,28 @@ ghost use Rattle.oci_manifest.specs.Descriptor.{key_cmp};
 ghost use Rattle.oci_store.specs.Closed.{IsClosed};
 ghost use Rattle.oci_layout.specs.Blobs.{IsSound, stored};
 ghost use Rattle.oci_layout.specs.Index.{index_file, HasIndex};
-ghost use Rattle.oci_prune.specs.Plan.{AreRemoved, IsPruning, IsSafe};
+ghost use Rattle.oci_prune.specs.Plan.{AreRemoved, IsPrunePlan, IsSafe};
 ghost use Rattle.oci_prune.specs.Pruned.{is_gone, kept_of, HasOnlyNeeded, IsPlanned, IsTouchedBy, KeepsReached, Spares};
 ghost use Rattle.oci_prune.specs.Refusal.{IsDeviceFault, IsRemovalFault, MayNotSave};
 
 use crate::fault::PruneFault;
-use crate::pruning::{Pruned, Pruning};
+use crate::plan::PrunePlan;
 use crate::removal::{remove_drafts, remove_files};
 use oci_digest::NoMemory;
 use oci_layout::{Layout, PrunableDir};
 use oci_store::Dest;
 use std::alloc::Global;
+
+/// What a prune removed.
+#[derive(Drop)]
+pub struct Pruned {
+    /// Whether each file of the plan was removed, in the order of the plan.
+    pub files: Vec<bool>,
+    /// Whether each draft of the plan was removed, in the order of the plan.
+    pub drafts: Vec<bool>,
+    /// The first fault, if a file or a draft could not be removed: 79 `NotRemoved`, or 89 `Memory`.
+    pub fault: Option<PruneFault>,
+}
 
 /// Prunes a layout by a plan of it: drops the keys that are not kept, saves and syncs the index,
 /// and then removes the files and drafts of the plan. If no key goes, the index is not written.
@@ -36,48 +47,48 @@ use std::alloc::Global;
 pub fn prune<D: PrunableDir>(
     alloc: Global,
     layout: &mut Layout<D>,
-    plan: &Pruning,
+    plan: &PrunePlan,
 ) -> Result<Pruned, PruneFault>
-    requires { IsPruning (D.device layout.old.0) layout.old.1 layout.old.2 plan.now }
+    requires { IsPrunePlan (D.device layout.old.dir) layout.old.graph layout.old.tags plan.now }
 
     // What the tags need stays, whatever the result.
-    ensures tags { layout.new.2 ≡ layout.old.2 }
-    ensures absent { layout.new.3 ≡ layout.old.3 }
+    ensures tags { layout.new.tags ≡ layout.old.tags }
+    ensures opened { layout.new.opened ≡ layout.old.opened }
     // The layout holds the same keys as before, or the kept ones.
-    ensures either { (layout.new.1 ≡ layout.old.1)
-        ⊎ (layout.new.1 ≡ kept_of plan.now.kept layout.old.1) }
-    ensures reached { KeepsReached layout.old.1 layout.new.1 (values_of layout.old.2) }
-    ensures closed { IsClosed layout.old.1 → IsClosed layout.new.1 }
-    ensures sound { IsSound (D.device layout.old.0).is_honest (D.device layout.old.0).file
-        layout.old.1 → IsSound (D.device layout.new.0).is_honest (D.device layout.new.0).file
-        layout.new.1 }
-    ensures honest { (D.device layout.old.0).is_honest ↔ (D.device layout.new.0).is_honest }
+    ensures either { (layout.new.graph ≡ layout.old.graph)
+        ⊎ (layout.new.graph ≡ kept_of plan.now.kept layout.old.graph) }
+    ensures reached { KeepsReached layout.old.graph layout.new.graph (values_of layout.old.tags) }
+    ensures closed { IsClosed layout.old.graph → IsClosed layout.new.graph }
+    ensures sound { IsSound (D.device layout.old.dir).is_honest (D.device layout.old.dir).file
+        layout.old.graph → IsSound (D.device layout.new.dir).is_honest (D.device layout.new.dir).file
+        layout.new.graph }
+    ensures honest { (D.device layout.old.dir).is_honest ↔ (D.device layout.new.dir).is_honest }
 
     // The kept keys with their bytes stay, and nothing else.
-    ensures kept { OnOk result (layout.new.1 ≡ kept_of plan.now.kept layout.old.1) }
-    ensures contents { OnOk result ((D.device layout.old.0).is_honest
-        → stored (D.device layout.new.0).file layout.new.1
+    ensures kept { OnOk result (layout.new.graph ≡ kept_of plan.now.kept layout.old.graph) }
+    ensures contents { OnOk result ((D.device layout.old.dir).is_honest
+        → stored (D.device layout.new.dir).file layout.new.graph
         ≡ filter (λ e. contains key_cmp plan.now.kept e.0)
-        (stored (D.device layout.old.0).file layout.old.1)) }
-    ensures files { IfOk result (λ done. done.fault ≡ None → (D.device layout.old.0).is_honest
-        → HasOnlyNeeded (D.device layout.new.0).file layout.new.1) }
-    ensures other { (D.device layout.old.0).is_honest → (path : List ℕ)
+        (stored (D.device layout.old.dir).file layout.old.graph)) }
+    ensures files { IfOk result (λ done. done.fault ≡ None → (D.device layout.old.dir).is_honest
+        → HasOnlyNeeded (D.device layout.new.dir).file layout.new.graph) }
+    ensures other { (D.device layout.old.dir).is_honest → (path : List ℕ)
         → (IsTouchedBy plan.now path → ⊥)
-        → (D.device layout.new.0).file path ≡ (D.device layout.old.0).file path }
-    ensures index { OnOk result (plan.now.removed.items ≢ [] → (D.device layout.old.0).is_honest
-        → HasIndex (D.device layout.new.0).file layout.new.1 layout.new.2) }
-    ensures unwritten { OnOk result (plan.now.removed.items ≡ [] → (D.device layout.old.0).is_honest
-        → (D.device layout.new.0).file index_file ≡ (D.device layout.old.0).file index_file) }
+        → (D.device layout.new.dir).file path ≡ (D.device layout.old.dir).file path }
+    ensures index { OnOk result (plan.now.removed.items ≢ [] → (D.device layout.old.dir).is_honest
+        → HasIndex (D.device layout.new.dir).file layout.new.graph layout.new.tags) }
+    ensures unwritten { OnOk result (plan.now.removed.items ≡ [] → (D.device layout.old.dir).is_honest
+        → (D.device layout.new.dir).file index_file ≡ (D.device layout.old.dir).file index_file) }
 
     // If the index is not saved, no other file changes.
-    ensures refused { OnErr result (Spares (D.device layout.old.0) (D.device layout.new.0)
-        layout.new.1 (λ path. index_file ≡ path)) }
-    ensures cause { IfErr result (IsDeviceFault (MayNotSave (D.device layout.old.0)
-        (D.device layout.new.0))) }
+    ensures refused { OnErr result (Spares (D.device layout.old.dir) (D.device layout.new.dir)
+        layout.new.graph (λ path. index_file ≡ path)) }
+    ensures cause { IfErr result (IsDeviceFault (MayNotSave (D.device layout.old.dir)
+        (D.device layout.new.dir))) }
     ensures faults { IfOk result (λ done. IfSome done.fault
-        (IsRemovalFault (D.device layout.old.0) (IsPlanned plan.now))) }
-    ensures flags { IfOk result (λ done. (D.device layout.old.0).is_honest
-        → done.files.items ≡ map (is_gone (D.device layout.new.0).file) plan.now.files.items) }
+        (IsRemovalFault (D.device layout.old.dir) (IsPlanned plan.now))) }
+    ensures flags { IfOk result (λ done. (D.device layout.old.dir).is_honest
+        → done.files.items ≡ map (is_gone (D.device layout.new.dir).file) plan.now.files.items) }
     ensures noted { IfOk result (λ done. (length done.files.items ≡ length plan.now.files.items)
         × (length done.drafts.items ≡ length plan.now.drafts.items)) }
 {
@@ -106,24 +117,24 @@ fn flags(alloc: Global, count: usize) -> Result<Vec<bool>, NoMemory>
 
 /// Drops the keys that are not kept from a layout, and saves its index. Does not write it if all
 /// held keys are kept. The index is on the disk before a blob is removed.
-fn save_kept<D: PrunableDir>(layout: &mut Layout<D>, plan: &Pruning) -> Result<(), PruneFault>
-    requires safe { IsSafe layout.old.1 (values_of layout.old.2) plan.now.kept }
-    requires removed { AreRemoved layout.old.1 plan.now.kept plan.now.removed.items }
-    ensures kept { OnOk result (layout.new.1 ≡ kept_of plan.now.kept layout.old.1) }
-    ensures either { (layout.new.1 ≡ layout.old.1)
-        ⊎ (layout.new.1 ≡ kept_of plan.now.kept layout.old.1) }
-    ensures tags { layout.new.2 ≡ layout.old.2 }
-    ensures absent { layout.new.3 ≡ layout.old.3 }
-    ensures spared { Spares (D.device layout.old.0) (D.device layout.new.0) layout.new.1
+fn save_kept<D: PrunableDir>(layout: &mut Layout<D>, plan: &PrunePlan) -> Result<(), PruneFault>
+    requires safe { IsSafe layout.old.graph (values_of layout.old.tags) plan.now.kept }
+    requires removed { AreRemoved layout.old.graph plan.now.kept plan.now.removed.items }
+    ensures kept { OnOk result (layout.new.graph ≡ kept_of plan.now.kept layout.old.graph) }
+    ensures either { (layout.new.graph ≡ layout.old.graph)
+        ⊎ (layout.new.graph ≡ kept_of plan.now.kept layout.old.graph) }
+    ensures tags { layout.new.tags ≡ layout.old.tags }
+    ensures opened { layout.new.opened ≡ layout.old.opened }
+    ensures spared { Spares (D.device layout.old.dir) (D.device layout.new.dir) layout.new.graph
         (λ path. index_file ≡ path) }
-    ensures sound { IsSound (D.device layout.old.0).is_honest (D.device layout.old.0).file
-        layout.old.1 → IsSound (D.device layout.new.0).is_honest (D.device layout.new.0).file
-        layout.new.1 }
-    ensures index { OnOk result (plan.now.removed.items ≢ [] → (D.device layout.old.0).is_honest
-        → HasIndex (D.device layout.new.0).file layout.new.1 layout.new.2) }
+    ensures sound { IsSound (D.device layout.old.dir).is_honest (D.device layout.old.dir).file
+        layout.old.graph → IsSound (D.device layout.new.dir).is_honest (D.device layout.new.dir).file
+        layout.new.graph }
+    ensures index { OnOk result (plan.now.removed.items ≢ [] → (D.device layout.old.dir).is_honest
+        → HasIndex (D.device layout.new.dir).file layout.new.graph layout.new.tags) }
     ensures unwritten { OnOk result (plan.now.removed.items ≡ [] → layout.new ≡ layout.old) }
-    ensures cause { IfErr result (IsDeviceFault (MayNotSave (D.device layout.old.0)
-        (D.device layout.new.0))) }
+    ensures cause { IfErr result (IsDeviceFault (MayNotSave (D.device layout.old.dir)
+        (D.device layout.new.dir))) }
 {
     if plan.removed.is_empty() {
         // An earlier prune may have been killed between its save and its sync.

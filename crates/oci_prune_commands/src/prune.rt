@@ -4,7 +4,7 @@ use oci_layout::{Layout, Lockable, PrunableDir};
 use oci_program::{
     Form, Outcome, ProgramFault, PruneAnswer, check_is_layout, lock_folder, print_answer_with_fault,
 };
-use oci_prune::{PruneFault, Pruned, Pruning, plan_prune, prune};
+use oci_prune::{PruneFault, PrunePlan, Pruned, plan_prune, prune};
 use std::alloc::Global;
 use std::io::Write;
 use std::rt::Files;
@@ -63,7 +63,7 @@ fn plan_folder<D: PrunableDir + Drop>(
 }
 
 /// Returns a prune that removed all that is planned.
-fn all_of(alloc: Global, plan: &Pruning) -> Result<Pruned, NoMemory> {
+fn all_of(alloc: Global, plan: &PrunePlan) -> Result<Pruned, NoMemory> {
     Ok(Pruned {
         files: vec![in alloc; true; plan.files.len()]?,
         drafts: vec![in alloc; true; plan.drafts.len()]?,

@@ -85,16 +85,17 @@ fn untag_folder<R: Files<File: Lockable> + AllocGlobal, D: Dir + Drop, X: Write>
 /// - 74 `Device` if `index.json` could not be written. The tag is removed from the layout in memory.
 /// - Out of memory, at any point.
 pub fn untag_and_save<D: Dir>(layout: &mut Layout<D>, tag: &str) -> Result<Key, ProgramFault>
-    ensures named { IfOk result (λ key. tag_at layout.old.2 tag.now ≡ Some key) }
-    ensures untagged { OnOk result (layout.new.2 ≡ without_tag layout.old.2 tag.now) }
-    ensures saved { OnOk result ((D.device layout.old.0).is_honest
-        → HasIndex (D.device layout.new.0).file layout.old.1 (without_tag layout.old.2 tag.now)) }
-    ensures graph { layout.new.1 ≡ layout.old.1 }
-    ensures other { (D.device layout.old.0).is_honest
-        → Touches (D.device layout.old.0).file (D.device layout.new.0).file index_file }
-    ensures refused { IfErr result (IsRefusedUntag layout.old.2 tag.now
+    ensures named { IfOk result (λ key. tag_at layout.old.tags tag.now ≡ Some key) }
+    ensures untagged { OnOk result (layout.new.tags ≡ without_tag layout.old.tags tag.now) }
+    ensures saved { OnOk result ((D.device layout.old.dir).is_honest
+        → HasIndex (D.device layout.new.dir).file layout.old.graph
+        (without_tag layout.old.tags tag.now)) }
+    ensures graph { layout.new.graph ≡ layout.old.graph }
+    ensures other { (D.device layout.old.dir).is_honest
+        → Touches (D.device layout.old.dir).file (D.device layout.new.dir).file index_file }
+    ensures refused { IfErr result (IsRefusedUntag layout.old.tags tag.now
         (layout.new ≡ layout.old)
-        (IsPutFault (D.device layout.old.0).failures (D.device layout.new.0).failures)) }
+        (IsPutFault (D.device layout.old.dir).failures (D.device layout.new.dir).failures)) }
 {
     let key = match layout.untag(tag) {
         Ok(key) => key,

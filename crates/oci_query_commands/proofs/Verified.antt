@@ -7,6 +7,7 @@ use Rattle.std.proofs.lemmas.List.Elements.{All-nil, All-cons, All-head, All-tai
 use Rattle.std.proofs.lemmas.Option.{slice_get-get_or}
 use Rattle.oci_layout.specs.Blobs.{blob_path, blob_at, meaning, HasMatchingFiles}
 use Rattle.oci_layout.specs.Device.{Device, File}
+use Rattle.oci_layout.specs.Layout.{OpenedIndex}
 use Rattle.oci_layout.specs.Opened.{IsOpened, held_in, is_there, listed_in}
 use Rattle.oci_layout.proofs.Stored.{has_key-stored, value_at-stored}
 use Rattle.oci_manifest.specs.Descriptor.{Descriptor, Matches}
@@ -62,11 +63,13 @@ all_match file (n ∷ graph) there matching =
     (all_match file graph (All-tail (HasFile file) n graph there) (All-tail P n graph matching))
 
 -- a layout that was opened and is whole is verified
-pub IsVerified-whole : (dir : Device) (graph : List Node) (tags : Tags) (absent : List Descriptor) → dir.is_honest → IsOpened dir.file graph tags absent → IsWhole dir graph absent → IsVerified dir
-IsVerified-whole dir graph tags absent honest opened whole = record {
+pub IsVerified-whole : (dir : Device) (graph : List Node) (tags : Tags) (index : OpenedIndex) → dir.is_honest → IsOpened dir.file graph tags index → IsWhole dir graph index.absent → IsVerified dir
+IsVerified-whole dir graph tags index honest opened whole = record {
   graph = graph;
   tags = tags;
-  opened = subst (λ (ks : List Descriptor). IsOpened dir.file graph tags ks) whole.entries opened;
+  index = index;
+  opened = opened;
+  entries = whole.entries;
   matching = all_match dir.file graph
       (subst (λ (g : List Node). All (HasFile dir.file) g) (sym opened.walked.held) (held_there dir.file opened.walked.visited))
       (whole.intact honest);

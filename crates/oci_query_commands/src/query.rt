@@ -57,7 +57,7 @@ fn answer_from<R: AllocGlobal + Clock + Wait, D: Dir, W: Write, X: Write>(
     err: &mut X,
 ) -> Result<Outcome, ProgramFault>
     ensures { IfOk result (λ outcome. outcome ≡ Outcome.Good → is_verify query.entry ≡ true
-        → IsWhole (D.device layout.now.0) layout.now.1 layout.now.3) }
+        → IsWhole (D.device layout.now.dir) layout.now.graph layout.now.opened.absent) }
 {
     let alloc = rt.alloc();
     match query {
@@ -102,7 +102,7 @@ fn print_findings<R: AllocGlobal + Clock + Wait, D: Dir, W: Write, X: Write>(
     err: &mut X,
 ) -> Result<Outcome, ProgramFault>
     ensures { IfOk result (λ outcome. outcome ≡ Outcome.Good
-        → IsWhole (D.device layout.now.0) layout.now.1 layout.now.3) }
+        → IsWhole (D.device layout.now.dir) layout.now.graph layout.now.opened.absent) }
 {
     let findings = verify(rt, layout, shows_progress, err)?;
     print_answer(rt.alloc(), &findings, form, out)?;

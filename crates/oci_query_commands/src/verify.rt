@@ -81,7 +81,7 @@ pub(crate) fn verify<'l, R: AllocGlobal + Clock + Wait, D: Dir, X: Write>(
     err: &mut X,
 ) -> Result<Findings<'l>, ProgramFault>
     ensures { IfOk result (λ findings. FindsNothing findings
-        → IsWhole (D.device layout.now.0) layout.now.1 layout.now.3) }
+        → IsWhole (D.device layout.now.dir) layout.now.graph layout.now.opened.absent) }
 {
     let progress = Progress::new(rt, err, layout, shows_progress);
     let corrupt = corrupt_keys(rt.alloc(), layout, &progress);
@@ -101,7 +101,7 @@ fn corrupt_keys<'l, D: Dir, R: Clock + Wait, X: Write>(
     progress: &Progress<'_, R, X>,
 ) -> Result<Vec<&'l Key>, ProgramFault>
     ensures { IfOk result (λ corrupt. corrupt.items ≡ []
-        → AreIntact (D.device layout.now.0) layout.now.1) }
+        → AreIntact (D.device layout.now.dir) layout.now.graph) }
 {
     let mut corrupt = Vec::new(alloc);
     for place in 0..layout.count() {

@@ -15,16 +15,17 @@ pub fn save_and_open<D: Dir + Drop>(
     alloc: Global,
     mut layout: Layout<D>,
 ) -> Result<Layout<D>, LayoutFault>
-    ensures contents { IfOk result (λ again. IsClosed layout.1
-        → IsSound (D.device layout.0).is_honest (D.device layout.0).file layout.1 → (k : Descriptor)
-        → value_at (stored (D.device again.0).file again.1) k
-        ≡ value_at (stored (D.device layout.0).file layout.1) k) }
-    ensures tags { IfOk result (λ again. IsClosed layout.1
-        → IsSound (D.device layout.0).is_honest (D.device layout.0).file layout.1
-        → again.2 ≡ layout.2) }
-    ensures absent { IfOk result (λ again. IsClosed layout.1
-        → IsSound (D.device layout.0).is_honest (D.device layout.0).file layout.1
-        → again.3 ≡ []) }
+    ensures contents { IfOk result (λ again. IsClosed layout.graph
+        → IsSound (D.device layout.dir).is_honest (D.device layout.dir).file layout.graph
+        → (k : Descriptor)
+        → value_at (stored (D.device again.dir).file again.graph) k
+        ≡ value_at (stored (D.device layout.dir).file layout.graph) k) }
+    ensures tags { IfOk result (λ again. IsClosed layout.graph
+        → IsSound (D.device layout.dir).is_honest (D.device layout.dir).file layout.graph
+        → again.tags ≡ layout.tags) }
+    ensures absent { IfOk result (λ again. IsClosed layout.graph
+        → IsSound (D.device layout.dir).is_honest (D.device layout.dir).file layout.graph
+        → again.opened.absent ≡ []) }
 {
     // The contract of `tags` states the invariant of a layout, and so the premises of the law.
     let _tags = layout.tags()?;

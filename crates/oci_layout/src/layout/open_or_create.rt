@@ -2,6 +2,7 @@ ghost use Rattle.std.specs.Prelude.{◌≡◌, ◌⊎◌, [], false, IfOk, IfErr
 ghost use Rattle.std.specs.List.{All};
 ghost use Rattle.oci_layout.specs.Blobs.{HasMatchingFiles, IsSound};
 ghost use Rattle.oci_layout.specs.Created.{IsCreated, IsNotCreated};
+ghost use Rattle.oci_layout.specs.Layout.{no_index};
 ghost use Rattle.oci_layout.specs.Opened.{IsOpened};
 ghost use Rattle.oci_layout.specs.Refusal.{IsOpenFault};
 ghost use Rattle.oci_store.specs.Keyed.{has_key};
@@ -20,15 +21,16 @@ impl<D: Dir> Layout<D> {
     /// Those of `open` except 70 `NoLayoutFile`: the directory is then unchanged. Those of
     /// `create`: the directory is then as `create` left it.
     pub fn open_or_create(alloc: Global, dir: D) -> Result<Layout<D>, (D, LayoutFault)>
-        ensures layout { IfOk result (λ layout. ((layout.0 ≡ dir)
-            × ((D.device dir).is_honest → IsOpened (D.device dir).file layout.1 layout.2
-            layout.3))
-            ⊎ (IsCreated (D.device dir) (D.device layout.0)
-            × (layout.1 ≡ []) × (layout.2 ≡ []) × (layout.3 ≡ []))) }
-        ensures absent { IfOk result (λ layout. All (λ k. has_key layout.1 k ≡ false) layout.3) }
+        ensures layout { IfOk result (λ layout. ((layout.dir ≡ dir)
+            × ((D.device dir).is_honest → IsOpened (D.device dir).file layout.graph layout.tags
+            layout.opened))
+            ⊎ (IsCreated (D.device dir) (D.device layout.dir)
+            × (layout.graph ≡ []) × (layout.tags ≡ []) × (layout.opened ≡ no_index))) }
+        ensures absent { IfOk result (λ layout. All (λ k. has_key layout.graph k ≡ false)
+            layout.opened.absent) }
         ensures sound { IfOk result (λ layout. (D.device dir).is_honest
-            → HasMatchingFiles (D.device layout.0).file layout.1
-            → IsSound (D.device layout.0).is_honest (D.device layout.0).file layout.1) }
+            → HasMatchingFiles (D.device layout.dir).file layout.graph
+            → IsSound (D.device layout.dir).is_honest (D.device layout.dir).file layout.graph) }
         ensures refused { IfErr result (λ refused. ((refused.0 ≡ dir)
             × IsOpenFault (D.device dir) refused.1)
             ⊎ (IsOpenFault (D.device dir) LayoutFault.NoLayoutFile

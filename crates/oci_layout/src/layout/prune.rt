@@ -7,9 +7,10 @@ ghost use Rattle.std.specs.Ordering.{nat_cmp};
 ghost use Rattle.oci_digest.specs.Digest.{IsDigest};
 ghost use Rattle.oci_manifest.specs.Descriptor.{Descriptor, IsKey};
 ghost use Rattle.oci_store.specs.Keyed.{has_key};
-ghost use Rattle.oci_layout.specs.Blobs.{blob_path, stored};
-ghost use Rattle.oci_layout.specs.Device.{Same, Touches};
+ghost use Rattle.oci_layout.specs.Blobs.{blob_path};
+ghost use Rattle.oci_layout.specs.Device.{Same, SameDevice, Touches};
 ghost use Rattle.oci_layout.specs.Index.{index_file, layout_file};
+ghost use Rattle.oci_layout.specs.Layout.{OnlyFiles};
 ghost use Rattle.oci_layout.specs.Prunable.{by_name, AreBlobs, IsReadFault, Notes, Removes, is_draft_path};
 
 use crate::fault::LayoutFault;
@@ -17,7 +18,7 @@ use crate::layout::Layout;
 use crate::layout::blob::path_of;
 use crate::prunable_dir::PrunableDir;
 use oci_digest::{Digest, NoMemory};
-use oci_store::{Graph, Store};
+use oci_store::Graph;
 use std::alloc::Global;
 use std::collections::BTreeMap;
 
@@ -30,9 +31,9 @@ impl<D: PrunableDir> Layout<D> {
     /// - 74 `Device` if a folder could not be read.
     /// - 76 `Memory` if memory runs out.
     pub fn blobs(&self) -> Result<Vec<(Digest, u64)>, LayoutFault>
-        ensures found { IfOk result (λ blobs. (D.device self.now.0).is_honest
-            → AreBlobs (D.device self.now.0).file blobs.items) }
-        ensures cause { IfErr result (IsReadFault (D.device self.now.0)) }
+        ensures found { IfOk result (λ blobs. (D.device self.now.dir).is_honest
+            → AreBlobs (D.device self.now.dir).file blobs.items) }
+        ensures cause { IfErr result (IsReadFault (D.device self.now.dir)) }
     {
         blobs_in(self.alloc, &self.dir)
     }
@@ -47,34 +48,25 @@ impl<D: PrunableDir> Layout<D> {
     ///
     /// No file is then changed.
     pub fn remove_blob(&mut self, digest: &Digest) -> Result<bool, LayoutFault>
-        ensures removed { OnOk result ((D.device self.old.0).is_honest
-            → All (λ k. k.digest ≢ digest.now) (keys_of self.old.1)
-            → Removes (D.device self.old.0).file (D.device self.new.0).file
+        ensures removed { OnOk result ((D.device self.old.dir).is_honest
+            → All (λ k. k.digest ≢ digest.now) (keys_of self.old.graph)
+            → Removes (D.device self.old.dir).file (D.device self.new.dir).file
             (blob_path digest.now)) }
-        ensures found { IfOk result (λ found. (D.device self.old.0).is_honest
-            → All (λ k. k.digest ≢ digest.now) (keys_of self.old.1)
-            → found ≡ is_some ((D.device self.old.0).file (blob_path digest.now))) }
+        ensures found { IfOk result (λ found. (D.device self.old.dir).is_honest
+            → All (λ k. k.digest ≢ digest.now) (keys_of self.old.graph)
+            → found ≡ is_some ((D.device self.old.dir).file (blob_path digest.now))) }
         ensures kept { IfOk result (λ found. found ≡ true
-            → All (λ k. k.digest ≢ digest.now) (keys_of self.old.1)) }
-        ensures held { (k : Descriptor) → has_key self.old.1 k ≡ true → k.digest ≡ digest.now
+            → All (λ k. k.digest ≢ digest.now) (keys_of self.old.graph)) }
+        ensures held { (k : Descriptor) → has_key self.old.graph k ≡ true → k.digest ≡ digest.now
             → self.new ≡ self.old }
-        ensures refused { OnErr result ((D.device self.old.0).is_honest
-            → Same (D.device self.old.0).file (D.device self.new.0).file) }
-        ensures other { (D.device self.old.0).is_honest
-            → Touches (D.device self.old.0).file (D.device self.new.0).file
+        ensures refused { OnErr result ((D.device self.old.dir).is_honest
+            → Same (D.device self.old.dir).file (D.device self.new.dir).file) }
+        ensures other { (D.device self.old.dir).is_honest
+            → Touches (D.device self.old.dir).file (D.device self.new.dir).file
             (blob_path digest.now) }
-        ensures graph { self.new.1 ≡ self.old.1 }
-        ensures tags { self.new.2 ≡ self.old.2 }
-        ensures absent { self.new.3 ≡ self.old.3 }
-        ensures contents { (D.device self.old.0).is_honest
-            → stored (D.device self.new.0).file self.old.1
-            ≡ stored (D.device self.old.0).file self.old.1 }
-        ensures sound { (⟦<Self as Store>⟧.state self.old).is_sound
-            → (⟦<Self as Store>⟧.state self.new).is_sound }
-        ensures honest { (D.device self.old.0).is_honest ↔ (D.device self.new.0).is_honest }
-        ensures reads { (D.device self.new.0).fails_reads ≡ (D.device self.old.0).fails_reads }
-        ensures failures { (D.device self.new.0).failures ≡ (D.device self.old.0).failures }
-        ensures cause { IfErr result (IsReadFault (D.device self.old.0)) }
+        ensures only { OnlyFiles D.device self.old self.new }
+        ensures device { SameDevice (D.device self.old.dir) (D.device self.new.dir) }
+        ensures cause { IfErr result (IsReadFault (D.device self.old.dir)) }
     {
         if is_held(&self.graph, digest) {
             return Ok(false);
@@ -94,9 +86,9 @@ impl<D: PrunableDir> Layout<D> {
     /// - 74 `Device` if a folder or a draft could not be read.
     /// - 76 `Memory` if memory runs out.
     pub fn leftovers(&self) -> Result<Vec<(String, u64)>, LayoutFault>
-        ensures drafts { IfOk result (λ drafts. (D.device self.now.0).is_honest
-            → All (λ draft. (D.device self.now.0).file draft.0 ≡ None) (by_name drafts.items)) }
-        ensures cause { IfErr result (IsReadFault (D.device self.now.0)) }
+        ensures drafts { IfOk result (λ drafts. (D.device self.now.dir).is_honest
+            → All (λ draft. (D.device self.now.dir).file draft.0 ≡ None) (by_name drafts.items)) }
+        ensures cause { IfErr result (IsReadFault (D.device self.now.dir)) }
     {
         match self.dir.leftovers() {
             Ok(drafts) => Ok(drafts),
@@ -115,32 +107,23 @@ impl<D: PrunableDir> Layout<D> {
     ///
     /// No file of the layout is changed, whatever the result.
     pub fn remove_leftover(&mut self, path: &str) -> Result<bool, LayoutFault>
-        ensures removed { OnOk result ((D.device self.old.0).is_honest
+        ensures removed { OnOk result ((D.device self.old.dir).is_honest
             → is_draft_path path.now ≡ true
-            → Removes (D.device self.old.0).file (D.device self.new.0).file path.now) }
-        ensures found { IfOk result (λ found. (D.device self.old.0).is_honest → found ≡ true
-            → is_some ((D.device self.old.0).file path.now) ≡ true) }
-        ensures refused { OnErr result ((D.device self.old.0).is_honest
-            → Same (D.device self.old.0).file (D.device self.new.0).file) }
-        ensures other { (D.device self.old.0).is_honest
-            → Touches (D.device self.old.0).file (D.device self.new.0).file path.now }
-        ensures blobs { (D.device self.old.0).is_honest → (digest : List ℕ) → IsDigest digest
-            → (D.device self.new.0).file (blob_path digest)
-            ≡ (D.device self.old.0).file (blob_path digest) }
-        ensures index { (D.device self.old.0).is_honest
-            → (D.device self.new.0).file index_file ≡ (D.device self.old.0).file index_file }
-        ensures graph { self.new.1 ≡ self.old.1 }
-        ensures tags { self.new.2 ≡ self.old.2 }
-        ensures absent { self.new.3 ≡ self.old.3 }
-        ensures contents { (D.device self.old.0).is_honest
-            → stored (D.device self.new.0).file self.old.1
-            ≡ stored (D.device self.old.0).file self.old.1 }
-        ensures sound { (⟦<Self as Store>⟧.state self.old).is_sound
-            → (⟦<Self as Store>⟧.state self.new).is_sound }
-        ensures honest { (D.device self.old.0).is_honest ↔ (D.device self.new.0).is_honest }
-        ensures reads { (D.device self.new.0).fails_reads ≡ (D.device self.old.0).fails_reads }
-        ensures failures { (D.device self.new.0).failures ≡ (D.device self.old.0).failures }
-        ensures cause { IfErr result (IsReadFault (D.device self.old.0)) }
+            → Removes (D.device self.old.dir).file (D.device self.new.dir).file path.now) }
+        ensures found { IfOk result (λ found. (D.device self.old.dir).is_honest → found ≡ true
+            → is_some ((D.device self.old.dir).file path.now) ≡ true) }
+        ensures refused { OnErr result ((D.device self.old.dir).is_honest
+            → Same (D.device self.old.dir).file (D.device self.new.dir).file) }
+        ensures other { (D.device self.old.dir).is_honest
+            → Touches (D.device self.old.dir).file (D.device self.new.dir).file path.now }
+        ensures blobs { (D.device self.old.dir).is_honest → (digest : List ℕ) → IsDigest digest
+            → (D.device self.new.dir).file (blob_path digest)
+            ≡ (D.device self.old.dir).file (blob_path digest) }
+        ensures index { (D.device self.old.dir).is_honest
+            → (D.device self.new.dir).file index_file ≡ (D.device self.old.dir).file index_file }
+        ensures only { OnlyFiles D.device self.old self.new }
+        ensures device { SameDevice (D.device self.old.dir) (D.device self.new.dir) }
+        ensures cause { IfErr result (IsReadFault (D.device self.old.dir)) }
     {
         if !is_draft(path) {
             return Ok(false);
@@ -161,7 +144,7 @@ impl<D: PrunableDir> Layout<D> {
     /// - 74 `Device` if that could not be found out.
     /// - 76 `Memory` if memory runs out.
     pub fn linked(&self) -> Result<Option<&'static str>, LayoutFault>
-        ensures cause { IfErr result (IsReadFault (D.device self.now.0)) }
+        ensures cause { IfErr result (IsReadFault (D.device self.now.dir)) }
     {
         match self.dir.linked() {
             Ok(linked) => Ok(linked),
@@ -176,7 +159,7 @@ impl<D: PrunableDir> Layout<D> {
     /// - 74 `Device` if that is not known, as when the disk failed.
     /// - 76 `Memory` if memory runs out.
     pub fn sync(&self) -> Result<(), LayoutFault>
-        ensures cause { IfErr result (IsReadFault (D.device self.now.0)) }
+        ensures cause { IfErr result (IsReadFault (D.device self.now.dir)) }
     {
         match self.dir.sync("index.json") {
             Ok(()) => Ok(()),

@@ -21,13 +21,13 @@ impl<D: Dir> Layout<D> {
     ///
     /// `NoMemory` if memory runs out. The layout is then unchanged.
     pub fn retain(&mut self, kept: &BTreeSet<Key>) -> Result<(), NoMemory>
-        requires tagged { All (λ k. contains key_cmp kept.now k ≡ true) (values_of self.old.2) }
-        ensures retained { OnOk result (self.new.1
-            ≡ filter (λ n. contains key_cmp kept.now n.0) self.old.1) }
+        requires tagged { All (λ k. contains key_cmp kept.now k ≡ true) (values_of self.old.tags) }
+        ensures retained { OnOk result (self.new.graph
+            ≡ filter (λ n. contains key_cmp kept.now n.0) self.old.graph) }
         ensures refused { OnErr result (self.new ≡ self.old) }
-        ensures dir { self.new.0 ≡ self.old.0 }
-        ensures tags { self.new.2 ≡ self.old.2 }
-        ensures absent { self.new.3 ≡ self.old.3 }
+        ensures dir { self.new.dir ≡ self.old.dir }
+        ensures tags { self.new.tags ≡ self.old.tags }
+        ensures opened { self.new.opened ≡ self.old.opened }
         ensures sound { (⟦<Self as Store>⟧.state self.old).is_sound
             → (⟦<Self as Store>⟧.state self.new).is_sound }
     {

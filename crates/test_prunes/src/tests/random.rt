@@ -4,7 +4,7 @@ use crate::plain::{Held, kept_plainly};
 use crate::tests::layouts::{Made, random_layout};
 use oci_digest::NoMemory;
 use oci_manifest::Key;
-use oci_prune::{Pruning, plan_prune};
+use oci_prune::{PrunePlan, plan_prune};
 use oci_store::keys_of_set;
 use std::alloc::Global;
 use std::collections::BTreeSet;
@@ -29,7 +29,7 @@ fn removed_plainly(
 /// Compares a plan with the plain program. Returns the kept keys.
 fn assert_plan<R: AllocGlobal + Abort>(
     rt: &R,
-    plan: &Pruning,
+    plan: &PrunePlan,
     held: &[Held],
     tagged: &[Key],
 ) -> Result<BTreeSet<Key>, Fail> {

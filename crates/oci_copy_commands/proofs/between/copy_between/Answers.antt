@@ -10,7 +10,7 @@ returns-clause-report g c =
     let from = c.args.source.now in
     let left = c.copy_plan-destination in
     let grows = rw c.roots-roots.ensures at left.ensures.grows in
-    after_report left.result.1 c.finish.result.1 (report_after (keys_of_one_digest (g.S.Dir.device from.0).file from.1) grows c.finish.ensures.saved c.args.options.now.existing)
+    after_report left.result.1 c.finish.result.1 (report_after (keys_of_one_digest (g.S.Dir.device from.dir).file from.graph) grows c.finish.ensures.saved c.args.options.now.existing)
     c.finish.ensures.report (rw c.roots-roots.ensures at left.ensures.report)
 
 pub returns-clause-copied : goal.returns-clause-copied
@@ -18,34 +18,34 @@ returns-clause-copied g c =
     let from = c.args.source.now in
     let left = c.copy_plan-destination in
     let grows = rw c.roots-roots.ensures at left.ensures.grows in
-    after_ok left.result.1 c.finish.result.1 (copied_after (keys_of_one_digest (g.S.Dir.device from.0).file from.1) grows c.finish.ensures.saved)
+    after_ok left.result.1 c.finish.result.1 (copied_after (keys_of_one_digest (g.S.Dir.device from.dir).file from.graph) grows c.finish.ensures.saved)
     c.finish.ensures.report (rw c.roots-roots.ensures at left.ensures.copied)
 
 pub returns-clause-sound : goal.returns-clause-sound
 returns-clause-sound g c =
     let from = c.args.source.now in
-    sound_after (keys_of_one_digest (g.S.Dir.device from.0).file from.1) c.copy_plan-destination.ensures.grows c.finish.ensures.saved
+    sound_after (keys_of_one_digest (g.S.Dir.device from.dir).file from.graph) c.copy_plan-destination.ensures.grows c.finish.ensures.saved
 
 pub returns-clause-came : goal.returns-clause-came
 returns-clause-came g c =
     let from = c.args.source.now in
-    came_after (keys_of_one_digest (g.S.Dir.device from.0).file from.1) c.copy_plan-destination.ensures.grows c.finish.ensures.saved
+    came_after (keys_of_one_digest (g.S.Dir.device from.dir).file from.graph) c.copy_plan-destination.ensures.grows c.finish.ensures.saved
 
 pub returns-clause-checked : goal.returns-clause-checked
 returns-clause-checked g c =
     let from = c.args.source.now in
-    checked_after (keys_of_one_digest (g.S.Dir.device from.0).file from.1) c.copy_plan-destination.ensures.grows c.finish.ensures.saved
+    checked_after (keys_of_one_digest (g.S.Dir.device from.dir).file from.graph) c.copy_plan-destination.ensures.grows c.finish.ensures.saved
 
 pub returns-clause-met : goal.returns-clause-met
 returns-clause-met g c =
     let from = c.args.source.now in
     let left = c.copy_plan-destination in
     let grows = rw c.roots-roots.ensures at left.ensures.grows in
-    met_after (keys_of_one_digest (g.S.Dir.device from.0).file from.1) grows c.finish.ensures.saved
+    met_after (keys_of_one_digest (g.S.Dir.device from.dir).file from.graph) grows c.finish.ensures.saved
 
 pub returns-clause-files : goal.returns-clause-files
 returns-clause-files g c =
     let from = c.args.source.now in
     let left = c.finish.result.0 in
-    files_after (keys_of_one_digest (g.S.Dir.device from.0).file from.1) c.copy_plan-destination.ensures.grows c.finish.ensures.saved c.finish.result.1
-    (λ (content : List Entry). HasFiles (g.D.Dir.device left.0).file content left.1 left.2) c.finish.ensures.files
+    files_after (keys_of_one_digest (g.S.Dir.device from.dir).file from.graph) c.copy_plan-destination.ensures.grows c.finish.ensures.saved c.finish.result.1
+    (λ (content : List Entry). HasFiles (g.D.Dir.device left.dir).file content left.graph left.tags) c.finish.ensures.files

@@ -6,7 +6,7 @@ use Rattle.oci_copy_commands.proofs.between.tag_all.Given as goal
 -- setting the remaining tags now has the effect of setting all at first; the keys are unchanged
 abbrev pub invariant-loop-name : goal.invariant-loop-name
 invariant-loop-name g l = record {
-  tagged : set_tags l.destination.2 (by_bytes (drop l.name-index l.tags)) ≡ set_tags l.fn.destination.2 (by_bytes l.tags);
-  graph : l.destination.1 ≡ l.fn.destination.1;
-  dir : l.destination.0 ≡ l.fn.destination.0;
+  tagged : set_tags l.destination.tags (by_bytes (drop l.name-index l.tags)) ≡ set_tags l.fn.destination.tags (by_bytes l.tags);
+  graph : l.destination.graph ≡ l.fn.destination.graph;
+  dir : l.destination.dir ≡ l.fn.destination.dir;
 }

@@ -3,4 +3,4 @@ use Rattle.std.specs.Map.{values_of}
 use Rattle.oci_copy_commands.proofs.between.tag_and_save.Goals as goal
 
 pub tag_all-requires-clause-held : goal.tag_all-requires-clause-held
-tag_all-requires-clause-held g c = rw c.tags.ensures.tags (among_held c.args.destination.now.1 c.args.selected.now.0 (values_of c.args.selected.now.1) c.requires.held c.tags.ensures.of_roots.rooted)
+tag_all-requires-clause-held g c = rw c.tags.ensures.tags (among_held c.args.destination.now.graph c.args.selected.now.0 (values_of c.args.selected.now.1) c.requires.held c.tags.ensures.of_roots.rooted)

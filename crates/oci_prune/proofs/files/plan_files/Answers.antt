@@ -6,9 +6,9 @@ use Rattle.oci_prune.proofs.files.plan_files.Goals as goal
 
 pub returns-clause-files : goal.returns-clause-files
 returns-clause-files g c = λ honest.
-    let dir = g.D.Dir.device c.args.layout.now.0 in
+    let dir = g.D.Dir.device c.args.layout.now.dir in
     let needed = subst (λ (ks : List Descriptor). HasDigests ks c.in_ok-needed.needed) c.deref.ensures.value c.in_ok-needed.ensures in
     rw c.in_ok-files.ensures
     (rw c.deref-2.ensures.value
-    (are_unneeded dir.file c.args.layout.now.1 c.args.kept.now c.in_ok-kept.kept.items c.args.held.now c.in_ok-needed.needed c.in_ok-held.held c.in_ok-blobs.blobs.items (c.in_ok-blobs.ensures.found honest) c.in_ok-kept.ensures.keys needed
+    (are_unneeded dir.file c.args.layout.now.graph c.args.kept.now c.in_ok-kept.kept.items c.args.held.now c.in_ok-needed.needed c.in_ok-held.held c.in_ok-blobs.blobs.items (c.in_ok-blobs.ensures.found honest) c.in_ok-kept.ensures.keys needed
     c.requires c.in_ok-held.ensures))

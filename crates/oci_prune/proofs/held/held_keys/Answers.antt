@@ -12,7 +12,7 @@ use Rattle.oci_prune.proofs.held.held_keys.Goals as goal
 
 pub loop-place-preserved : goal.loop-place-preserved
 loop-place-preserved g c =
-    let graph = c.args.layout.now.1 in
+    let graph = c.args.layout.now.graph in
     let i = c.loop-place.place in
     let k = c.in-Some.key.now in
     HasKeys-more c.loop-place.held c.insert.new.self (keys_of (take i graph)) (keys_of (take (i + 1) graph)) k c.loop-place.invariant
@@ -21,6 +21,6 @@ loop-place-preserved g c =
 
 pub returns : goal.returns
 returns g c =
-    held_from_set c.args.layout.now.1 c.loop-place.held c.in_ok-keys.keys.items
-    (subst (λ (t : List Node). HasKeys c.loop-place.held (keys_of t)) (take_all c.loop-place.place c.args.layout.now.1 (omega (arith, c.loop-place-test.false, c.count-place-end.ensures.count))) c.loop-place.invariant)
+    held_from_set c.args.layout.now.graph c.loop-place.held c.in_ok-keys.keys.items
+    (subst (λ (t : List Node). HasKeys c.loop-place.held (keys_of t)) (take_all c.loop-place.place c.args.layout.now.graph (omega (arith, c.loop-place-test.false, c.count-place-end.ensures.count))) c.loop-place.invariant)
     c.in_ok-keys.ensures.keys c.in_ok-keys.ensures.order

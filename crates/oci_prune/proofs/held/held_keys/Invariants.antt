@@ -5,4 +5,4 @@ use Rattle.oci_prune.proofs.held.held_keys.Given as goal
 
 -- as far as the loop has come
 abbrev pub invariant-loop-place : goal.invariant-loop-place
-invariant-loop-place g l = HasKeys l.held (keys_of (take l.place l.layout.1))
+invariant-loop-place g l = HasKeys l.held (keys_of (take l.place l.layout.graph))

@@ -9,12 +9,12 @@ pub returns-in_err-roots-clause-cause : goal.returns-in_err-roots-clause-cause
 returns-in_err-roots-clause-cause g c =
     let p = err_from_is_err_and c.from_residual.result c.from_residual.ensures.1 in
     rw (p.1, p.2)
-    (tags_fault (g.D.Dir.device c.args.layout.now.0) c.args.layout.now.1 c.args.layout.now.2 c.args.layout.now.3 c.args.keeps_referrers c.in_err-roots.field-0.0 c.in_err-roots.ensures.cause)
+    (tags_fault (g.D.Dir.device c.args.layout.now.dir) c.args.layout.now.graph c.args.layout.now.tags c.args.layout.now.opened.absent c.args.keeps_referrers c.in_err-roots.field-0.0 c.in_err-roots.ensures.cause)
 
 pub returns-clause-planned : goal.returns-clause-planned
 returns-clause-planned g c =
-    let dir = g.D.Dir.device c.args.layout.now.0 in
-    let graph = c.args.layout.now.1 in
+    let dir = g.D.Dir.device c.args.layout.now.dir in
+    let graph = c.args.layout.now.graph in
     let roots = c.deref.ensures.value ∙ c.in_ok-roots.ensures.tagged in
     record {
       safe = subst (λ (ks : List Descriptor). IsSafe graph ks c.in_ok-kept.kept) roots c.in_ok-kept.ensures.safe;

@@ -7,8 +7,8 @@ use Rattle.oci_prune.proofs.referrers.referrers_of.Goals as goal
 
 pub loop-key-preserved : goal.loop-key-preserved
 loop-key-preserved g c = λ honest.
-    referrers_more (g.S.Store.state c.args.source.now).entries c.args.keys.now c.loop-key.key-index c.key-item.result c.in_ok-found.found c.loop-key.referrers c.note.new.referrers c.loop-key-test.true c.key-item.is (c.loop-key.invariant honest)
-    (c.in_ok-found.ensures.exact honest) c.in_ok-note.ensures
+    referrers_more (g.S.Store.state c.args.source.now).entries c.args.keys.now c.loop-key.key-index c.key-item.result c.in_ok-found.found c.loop-key.referrers c.add_referrer.new.referrers c.loop-key-test.true c.key-item.is (c.loop-key.invariant honest)
+    (c.in_ok-found.ensures.exact honest) c.in_ok-add_referrer.ensures
 
 pub returns-clause-exact : goal.returns-clause-exact
 returns-clause-exact g c = λ honest.

@@ -3,23 +3,21 @@ use Rattle.std.proofs.lemmas.List.{length-set}
 use Rattle.oci_prune.specs.Pruned.{Spares}
 use Rattle.oci_prune.specs.Refusal.{Notes}
 use Rattle.oci_prune.proofs.Noting.{notes_draft}
-use Rattle.oci_prune.proofs.Sparing.{spares_draft, same_blobs_both}
+use Rattle.oci_prune.proofs.Sparing.{same_memory_both, spares_draft, same_blobs_both}
 use Rattle.oci_prune.proofs.removal.remove_drafts.Goals as goal
 
 pub loop-place-preserved : goal.loop-place-preserved
 loop-place-preserved g c =
     let w = c.loop-place.invariant in
-    let a = g.D.Dir.device c.args.layout.now.0 in
-    let b = g.D.Dir.device c.loop-place.layout.0 in
-    let d = g.D.Dir.device c.remove_draft.new.layout.0 in
+    let a = g.D.Dir.device c.args.layout.now.dir in
+    let b = g.D.Dir.device c.loop-place.layout.dir in
+    let d = g.D.Dir.device c.remove_draft.new.layout.dir in
     let text = c.as_str.ensures.value ∙ ap (λ (d : String Global × ℕ). string_bytes d.0) (sym c.index-drafts-place.is) in
-    let spared = subst (λ (text : List ℕ). Spares b d c.loop-place.layout.1 (λ (path : List ℕ). text ≡ path)) text c.remove_draft.ensures.spared in
+    let spared = subst (λ (text : List ℕ). Spares b d c.loop-place.layout.graph (λ (path : List ℕ). text ≡ path)) text c.remove_draft.ensures.spared in
     let notes = subst (λ (text : List ℕ). Notes b (λ (path : List ℕ). text ≡ path) c.loop-place.fault c.remove_draft.new.fault) text c.remove_draft.ensures.notes in
     record {
-      graph = c.remove_draft.ensures.graph ∙ w.graph;
-      tags = c.remove_draft.ensures.tags ∙ w.tags;
-      absent = c.remove_draft.ensures.absent ∙ w.absent;
-      spared = spares_draft a b d c.args.layout.now.1 c.loop-place.layout.1 c.args.drafts.now c.loop-place.place c.index-drafts-place.result c.loop-place-test.true c.index-drafts-place.is w.spared w.graph spared;
+      memory = same_memory_both c.args.layout.now c.loop-place.layout c.remove_draft.new.layout w.memory c.remove_draft.ensures.memory;
+      spared = spares_draft a b d c.args.layout.now.graph c.loop-place.layout.graph c.args.drafts.now c.loop-place.place c.index-drafts-place.result c.loop-place-test.true c.index-drafts-place.is w.spared w.memory.graph spared;
       files = same_blobs_both a b d w.spared.honest.0 w.files c.remove_draft.ensures.files;
       fault = λ none. w.fault (c.remove_draft.ensures.fault none);
       notes = notes_draft a b c.args.drafts.now c.loop-place.place c.index-drafts-place.result c.args.fault.now c.loop-place.fault c.remove_draft.new.fault c.loop-place-test.true c.index-drafts-place.is w.spared.reads w.notes notes;

@@ -13,7 +13,7 @@ use Rattle.oci_prune.proofs.run.save_kept.Goals as goal
 pub returns-then-is_empty-clause-kept : goal.returns-then-is_empty-clause-kept
 returns-then-is_empty-clause-kept g c =
     let removed = c.args.plan.now.removed in
-    whole_left c.args.layout.now.1 c.args.plan.now.kept removed.items c.requires.removed
+    whole_left c.args.layout.now.graph c.args.plan.now.kept removed.items c.requires.removed
     (empty_list removed.items (let e = eqb-true (vec_len removed) 0 (sym c.is_empty.ensures ∙ c.if-is_empty.true) in omega (arith, e, removed.ok.0)))
 
 pub retain-requires : goal.retain-requires
@@ -21,9 +21,9 @@ retain-requires g c = record { tagged = c.requires.safe.rooted }
 
 pub returns-clause-spared : goal.returns-clause-spared
 returns-clause-spared g c =
-    let b = g.D.Dir.device c.save.new.self.0 in
+    let b = g.D.Dir.device c.save.new.self.dir in
     let retained = c.retain.new.self in
     let saved = c.in_ok-save.ensures in
-    subst (λ (graph : List Node). Spares (g.D.Dir.device c.args.layout.now.0) b graph (λ (path : List ℕ). index_file ≡ path)) (sym saved.graph)
-    (subst (λ (dir : g.row.D.Denot). Spares (g.D.Dir.device dir) b retained.1 (λ (path : List ℕ). index_file ≡ path)) c.in_ok-retain.ensures.dir
-    (spares_index (g.D.Dir.device retained.0) b retained.1 saved.other saved.contents (λ h. subst (λ (graph : List Node). IsSound b.is_honest b.file graph) saved.graph (saved.sound h)) saved.device.honest saved.device.reads))
+    subst (λ (graph : List Node). Spares (g.D.Dir.device c.args.layout.now.dir) b graph (λ (path : List ℕ). index_file ≡ path)) (sym saved.only.memory.graph)
+    (subst (λ (dir : g.row.D.Denot). Spares (g.D.Dir.device dir) b retained.graph (λ (path : List ℕ). index_file ≡ path)) c.in_ok-retain.ensures.dir
+    (spares_index (g.D.Dir.device retained.dir) b retained.graph saved.other saved.only.contents (λ h. subst (λ (graph : List Node). IsSound b.is_honest b.file graph) saved.only.memory.graph (saved.only.sound h)) saved.device.honest saved.device.reads))

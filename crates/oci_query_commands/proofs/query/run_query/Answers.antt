@@ -9,6 +9,6 @@ returns g c = record {
       let layout = c.in-Ok.layout in
       let device = g.D.Dir.device in
       let opened = c.in-Ok.ensures in
-      IsVerified-whole (device c.args.dir) layout.1 layout.2 layout.3 honest (opened.opened honest)
-      (subst (λ d. IsWhole (device d) layout.1 layout.3) opened.same (c.in_ok-answer_from.ensures good asks));
+      IsVerified-whole (device c.args.dir) layout.graph layout.tags layout.opened honest (opened.opened honest)
+      (subst (λ d. IsWhole (device d) layout.graph layout.opened.absent) opened.same (c.in_ok-answer_from.ensures good asks));
 }

@@ -12,8 +12,8 @@ pub loop-place-preserved : goal.loop-place-preserved
 loop-place-preserved g c = λ none.
     let layout = c.args.layout.now in
     let step = c.in_ok-add_if_corrupt.ensures none in
-    let at : option_map (λ (n : Node). n.0) (slice_get layout.1 c.loop-place.place) ≡ Some c.in-Some.key.now = sym c.key.ensures ∙ ap option_copied c.in-Some.is in
-    AreIntact-more (g.D.Dir.device layout.0) layout.1 layout.2 c.loop-place.place c.in-Some.key.now
+    let at : option_map (λ (n : Node). n.0) (slice_get layout.graph c.loop-place.place) ≡ Some c.in-Some.key.now = sym c.key.ensures ∙ ap option_copied c.in-Some.is in
+    AreIntact-more (g.D.Dir.device layout.dir) layout.graph layout.tags c.loop-place.place c.in-Some.key.now
     (omega (arith, c.loop-place-test.true, c.count-place-end.ensures.count)) at
     (c.loop-place.invariant step.0) step.1
 
@@ -22,6 +22,6 @@ returns g c = λ none.
     let layout = c.args.layout.now in
     let same : length c.sort.new.self.items ≡ length c.loop-place.corrupt.items = length_permutation c.loop-place.corrupt.items c.sort.new.self.items c.sort.ensures.permutation in
     let empty : c.loop-place.corrupt.items ≡ [] = empty_list c.loop-place.corrupt.items (omega (arith, same, ap length none)) in
-    subst (λ (graph : List Node). AreIntact (g.D.Dir.device layout.0) graph)
-    (take_all c.loop-place.place layout.1 (omega (arith, c.loop-place-test.false, c.count-place-end.ensures.count)))
+    subst (λ (graph : List Node). AreIntact (g.D.Dir.device layout.dir) graph)
+    (take_all c.loop-place.place layout.graph (omega (arith, c.loop-place-test.false, c.count-place-end.ensures.count)))
     (c.loop-place.invariant empty)

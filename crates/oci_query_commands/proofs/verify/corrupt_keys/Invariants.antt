@@ -4,4 +4,4 @@ use Rattle.oci_query_commands.proofs.verify.corrupt_keys.Given as goal
 
 -- as far as the loop has come
 abbrev pub invariant-loop-place : goal.invariant-loop-place
-invariant-loop-place g l = l.corrupt.items ≡ [] → AreIntact (g.D.Dir.device l.layout.0) (take l.place l.layout.1)
+invariant-loop-place g l = l.corrupt.items ≡ [] → AreIntact (g.D.Dir.device l.layout.dir) (take l.place l.layout.graph)

@@ -11,5 +11,5 @@ invariant_of-result g c = record {
 
 pub returns-clause-roots : goal.returns-clause-roots
 returns-clause-roots g c =
-    let of_tags : AreRootsOfTags c.args.source.now.1 c.args.referrers (by_bytes c.in_ok-tags.tags.items) c.in_ok-roots.roots.items = rw c.deref.ensures.value at c.in_ok-roots.ensures in
+    let of_tags : AreRootsOfTags c.args.source.now.graph c.args.referrers (by_bytes c.in_ok-tags.tags.items) c.in_ok-roots.roots.items = rw c.deref.ensures.value at c.in_ok-roots.ensures in
     rw c.in_ok-tags.ensures.exact at of_tags

@@ -3,7 +3,7 @@ use Rattle.oci_copy_commands.proofs.Selections.{root_there, both_ok}
 use Rattle.oci_copy_commands.proofs.selected.Selected.reference.Goals as goal
 
 pub tagged-requires-clause-rooted : goal.tagged-requires-clause-rooted
-tagged-requires-clause-rooted g c = root_there c.args.source.now.1 c.args.referrers c.in_ok-key.key c.in_ok-roots.roots.items c.in_ok-roots.ensures
+tagged-requires-clause-rooted g c = root_there c.args.source.now.graph c.args.referrers c.in_ok-key.key c.in_ok-roots.roots.items c.in_ok-roots.ensures
 
 pub returns : goal.returns
 returns g c =

@@ -1,4 +1,4 @@
-use Rattle.std.proofs.Common.{◌≢◌}
+use Rattle.std.proofs.Common.{◌≢◌, refl}
 use Rattle.std.specs.Map.{keys_of}
 use Rattle.std.proofs.lemmas.List.Elements.{All-contains}
 use Rattle.oci_manifest.specs.Descriptor.{Descriptor}
@@ -6,7 +6,7 @@ use Rattle.oci_store.proofs.Lookups.{Contains-from_has_key}
 use Rattle.oci_layout.specs.Blobs.{blob_path}
 use Rattle.oci_layout.specs.Prunable.{IsRemoval}
 use Rattle.oci_layout.proofs.Files.{blob_layout}
-use Rattle.oci_layout.proofs.Prunable.{Touches-removed, stored-apart, IsSound-apart, apart-unheld, IsLayout-removed}
+use Rattle.oci_layout.proofs.Prunable.{OnlyFiles-removed, apart-unheld, IsLayout-removed}
 use Rattle.oci_layout.proofs.layout.Layout.remove_blob.Goals as goal
 
 pub invariant_of-self : goal.invariant_of-self
@@ -32,46 +32,16 @@ returns-clause-held g c =
     rw (← c.self.view_is)
     (λ k held same. absurd (All-contains (λ (k : Descriptor). k.digest ≢ c.args.digest.now) (keys_of graph) k unheld (Contains-from_has_key graph k held) same))
 
-pub returns-in-Ok-clause-contents : goal.returns-in-Ok-clause-contents
-returns-in-Ok-clause-contents g c =
+pub returns-in-Ok-clause-only : goal.returns-in-Ok-clause-only
+returns-in-Ok-clause-only g c =
     let s = c.self.inside in
-    let path = blob_path c.args.digest.now in
-    let old = g.D.Dir.device s.dir in
-    let new = g.D.Dir.device c.remove.new.self in
-    let removal : IsRemoval old new path c.remove.result = rw (c.deref.ensures, c.in_ok-path.ensures) at c.remove.ensures in
+    let removal : IsRemoval (g.D.Dir.device s.dir) (g.D.Dir.device c.remove.new.self) (blob_path c.args.digest.now) c.remove.result = rw (c.deref.ensures, c.in_ok-path.ensures) at c.remove.ensures in
     let apart = apart-unheld c.args.digest.now s.graph c.is_held.ensures.digest c.is_held.ensures.keys (c.is_held.ensures.held.0 c.if-is_held.false) in
-    rw (← c.self.view_is)
-    (λ honest. stored-apart old.file new.file path s.graph apart (Touches-removed old new path c.remove.result removal honest))
+    rw (← c.self.view_is) (OnlyFiles-removed g.D.Dir.device _ _ (blob_path c.args.digest.now) c.remove.result (record { graph = refl; tags = refl; opened = refl }) apart removal)
 
-pub returns-clause-contents : goal.returns-clause-contents
-returns-clause-contents g c =
+pub returns-clause-only : goal.returns-clause-only
+returns-clause-only g c =
     let s = c.self.inside in
-    let path = blob_path c.args.digest.now in
-    let old = g.D.Dir.device s.dir in
-    let new = g.D.Dir.device c.remove.new.self in
-    let removal : IsRemoval old new path c.remove.result = rw (c.deref.ensures, c.in_ok-path.ensures) at c.remove.ensures in
+    let removal : IsRemoval (g.D.Dir.device s.dir) (g.D.Dir.device c.remove.new.self) (blob_path c.args.digest.now) c.remove.result = rw (c.deref.ensures, c.in_ok-path.ensures) at c.remove.ensures in
     let apart = apart-unheld c.args.digest.now s.graph c.is_held.ensures.digest c.is_held.ensures.keys (c.is_held.ensures.held.0 c.if-is_held.false) in
-    rw (← c.self.view_is)
-    (λ honest. stored-apart old.file new.file path s.graph apart (Touches-removed old new path c.remove.result removal honest))
-
-pub returns-in-Ok-clause-sound : goal.returns-in-Ok-clause-sound
-returns-in-Ok-clause-sound g c =
-    let s = c.self.inside in
-    let path = blob_path c.args.digest.now in
-    let old = g.D.Dir.device s.dir in
-    let new = g.D.Dir.device c.remove.new.self in
-    let removal : IsRemoval old new path c.remove.result = rw (c.deref.ensures, c.in_ok-path.ensures) at c.remove.ensures in
-    let apart = apart-unheld c.args.digest.now s.graph c.is_held.ensures.digest c.is_held.ensures.keys (c.is_held.ensures.held.0 c.if-is_held.false) in
-    rw (← c.self.view_is)
-    (λ sound. IsSound-apart old.is_honest new.is_honest old.file new.file path s.graph c.remove.ensures.honest.0 apart (Touches-removed old new path c.remove.result removal sound.is_honest) sound)
-
-pub returns-clause-sound : goal.returns-clause-sound
-returns-clause-sound g c =
-    let s = c.self.inside in
-    let path = blob_path c.args.digest.now in
-    let old = g.D.Dir.device s.dir in
-    let new = g.D.Dir.device c.remove.new.self in
-    let removal : IsRemoval old new path c.remove.result = rw (c.deref.ensures, c.in_ok-path.ensures) at c.remove.ensures in
-    let apart = apart-unheld c.args.digest.now s.graph c.is_held.ensures.digest c.is_held.ensures.keys (c.is_held.ensures.held.0 c.if-is_held.false) in
-    rw (← c.self.view_is)
-    (λ sound. IsSound-apart old.is_honest new.is_honest old.file new.file path s.graph c.remove.ensures.honest.0 apart (Touches-removed old new path c.remove.result removal sound.is_honest) sound)
+    rw (← c.self.view_is) (OnlyFiles-removed g.D.Dir.device _ _ (blob_path c.args.digest.now) c.remove.result (record { graph = refl; tags = refl; opened = refl }) apart removal)

@@ -8,7 +8,5 @@ returns-clause-removal c = record {
   found = λ honest. (rw c.remove-removed.ensures.value at c.is_some.ensures);
   refused = tt;
   failed = λ e. cc e;
-  honest = (λ h. h, λ h. h);
-  reads = refl;
-  failures = refl;
+  device = record { honest = (λ h. h, λ h. h); reads = refl; failures = refl };
 }

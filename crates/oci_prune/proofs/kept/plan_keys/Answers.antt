@@ -2,7 +2,7 @@ use Rattle.std.proofs.lemmas.Result.{IfOk-weaker, IfErr-weaker, on_ok_weaker}
 use Rattle.oci_prune.specs.Plan.{RefersIf}
 use Rattle.oci_prune.specs.Subjects.{RefersBy}
 use Rattle.oci_prune.proofs.Plans.{are_kept_same, all_known_same, safe_from_kept, walk_key_fault}
-use Rattle.oci_prune.proofs.planning.plan_keys.Goals as goal
+use Rattle.oci_prune.proofs.kept.plan_keys.Goals as goal
 
 pub returns-clause-kept : goal.returns-clause-kept
 returns-clause-kept g c =

@@ -4,7 +4,7 @@ use Rattle.std.proofs.lemmas.Result.{IfOk-weaker}
 use Rattle.oci_prune.specs.Plan.{RefersIf}
 use Rattle.oci_prune.specs.Subjects.{RefersBy}
 use Rattle.oci_prune.proofs.Plans.{refers_by_held}
-use Rattle.oci_prune.proofs.planning.referrers_if.Goals as goal
+use Rattle.oci_prune.proofs.kept.referrers_if.Goals as goal
 
 pub returns-then-keeps_referrers-clause-exact : goal.returns-then-keeps_referrers-clause-exact
 returns-then-keeps_referrers-clause-exact g c =

@@ -1,6 +1,6 @@
 use Rattle.std.proofs.Common.{rules}
 use Rattle.oci_layout.specs.Blobs.{blob_path}
-use Rattle.oci_prune.proofs.pruning.PrunedFile.path.Goals as goal
+use Rattle.oci_prune.proofs.plan.PrunedFile.path.Goals as goal
 
 pub returns : goal.returns
 unfolding blob_path

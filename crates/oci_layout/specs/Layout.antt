@@ -1,0 +1,50 @@
+-- The value of a layout, and what stays of it when a call changes it.
+use Rattle.std.specs.Prelude.{◌≡◌, ◌↔◌, ℕ, List, []}
+use Rattle.oci_manifest.specs.Descriptor.{Descriptor}
+use Rattle.oci_store.specs.Graph.{Node}
+use Rattle.oci_store.specs.Tags.{Tags}
+use Rattle.oci_layout.specs.Blobs.{IsSound, blob_path, stored}
+use Rattle.oci_layout.specs.Device.{Device, Touches}
+
+-- what a layout remembers of the index that it was opened from
+pub record OpenedIndex : Type 0 where
+  -- the keys of the entries that had no file, in the order of the index
+  pub absent : List Descriptor
+
+-- a layout that was created was opened from no index
+abbrev pub no_index : OpenedIndex
+no_index = record { absent = [] }
+
+-- the value of a layout: its directory, and what it has in memory
+pub record LayoutState (D : Type 0) : Type 0 where
+  pub dir : D
+  -- the held keys, each with the keys that it lists
+  pub graph : List Node
+  -- the names, each with its key
+  pub tags : Tags
+  pub opened : OpenedIndex
+
+-- a layout has the same in memory
+pub record SameMemory {D : Type 0} (old new : LayoutState D) : Type 0 where
+  pub graph : new.graph ≡ old.graph
+  pub tags : new.tags ≡ old.tags
+  pub opened : new.opened ≡ old.opened
+
+-- only files that no held key needs changed: the layout has the same in memory, and the same bytes
+-- under each key, and is sound if it was
+pub record OnlyFiles {D : Type 0} (device : D → Device) (old new : LayoutState D) : Type 0 where
+  pub memory : SameMemory old new
+  pub contents : (device old.dir).is_honest → stored (device new.dir).file old.graph ≡ stored (device old.dir).file old.graph
+  pub sound : IsSound (device old.dir).is_honest (device old.dir).file old.graph → IsSound (device new.dir).is_honest (device new.dir).file new.graph
+
+-- a push changed no file but the one of its digest, and what was opened stays
+pub record OnlyBlob {D : Type 0} (device : D → Device) (old new : LayoutState D) (digest : List ℕ) : Type 0 where
+  pub files : (device old.dir).is_honest → Touches (device old.dir).file (device new.dir).file (blob_path digest)
+  pub honest : (device old.dir).is_honest ↔ (device new.dir).is_honest
+  pub opened : new.opened ≡ old.opened
+
+-- only tags changed
+pub record OnlyTags {D : Type 0} (old new : LayoutState D) : Type 0 where
+  pub dir : new.dir ≡ old.dir
+  pub graph : new.graph ≡ old.graph
+  pub opened : new.opened ≡ old.opened
