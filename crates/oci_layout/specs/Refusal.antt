@@ -1,5 +1,5 @@
 -- Why a layout is not opened, created or saved.
-use Rattle.std.specs.Prelude.{◌≡◌, ◌≢◌, ◌⊎◌, ℕ, true, List, [], ◌∷◌, ◌++◌, Option, Some, None, is_some, Result, Err}
+use Rattle.std.specs.Prelude.{◌≡◌, ◌≢◌, ◌⊎◌, ℕ, true, List, [], ◌∷◌, ◌++◌, Some, None, is_some, Result, Err}
 use Rattle.std.specs.List.{All}
 use Rattle.oci_manifest.specs.Descriptor.{Descriptor}
 use Rattle.oci_manifest.specs.Fault.{Fault, not_json, IsFault}
@@ -13,7 +13,8 @@ use Rattle.oci_layout.specs.Device.{Device, File}
 use Rattle.oci_layout.specs.Index.{index_file, layout_file, layout_version, version_in, HasLayoutFile}
 use Rattle.oci_store.specs.Push.{IsRaised}
 use Rattle.oci_store.specs.Visiting.{IsVisiting}
-use Rattle.oci_layout.specs.Opened.{IsGood, IsIndexFile, listed_in, any}
+use Rattle.oci_layout.specs.Entries.{IndexEntry, IsIndexFile, entry_keys}
+use Rattle.oci_layout.specs.Opened.{IsGood, listed_in, any}
 use Rattle.oci_layout.specs.declared.fault.LayoutFault.{LayoutFault}
 use Rattle.oci_layout.specs.declared.fault.LayoutFault.TheVariants as fault
 
@@ -54,10 +55,9 @@ pub record IsNextVisited (file : File) (starts : List Descriptor) (k : Descripto
 -- the key is the next one that a walk from the keys of the index visits, and the manifests before
 -- it are good
 pub record IsNextOfIndex (file : File) (k : Descriptor) : Type 0 where
-  pub keys : List Descriptor
-  pub names : List (Option (List ℕ))
-  pub index : IsIndexFile (file index_file) keys names
-  pub next : IsNextVisited file keys k
+  pub entries : List IndexEntry
+  pub index : IsIndexFile (file index_file) entries
+  pub next : IsNextVisited file (entry_keys entries) k
 
 -- ---- the faults of public calls
 

@@ -1,6 +1,6 @@
 ghost use Rattle.std.specs.Prelude.{◌≡◌, IfOk, OnOk, IfErr};
 ghost use Rattle.oci_layout.specs.Index.{HasLayoutFile, version_in};
-ghost use Rattle.oci_layout.specs.Opened.{text_of};
+ghost use Rattle.oci_layout.specs.Entries.{text_of};
 ghost use Rattle.oci_layout.specs.Refusal.{IsOpenFault};
 
 use crate::dir::Dir;

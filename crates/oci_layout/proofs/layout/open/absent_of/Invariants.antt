@@ -1,5 +1,5 @@
 use Rattle.std.proofs.Common.{◌≡◌, take}
-use Rattle.oci_layout.specs.Opened.{absent_in}
+use Rattle.oci_layout.specs.Entries.{absent_in}
 use Rattle.oci_layout.proofs.layout.open.absent_of.Given as goal
 
 abbrev pub invariant-loop-key : goal.invariant-loop-key

@@ -1,7 +1,8 @@
 ghost use Rattle.std.specs.Prelude.{◌≡◌, [], map, IfOk, OnOk};
-ghost use Rattle.oci_layout.specs.Opened.{named, tag_with, text_of};
+ghost use Rattle.oci_layout.specs.Entries.{entry_of, named, tag_with, text_of};
 ghost use Rattle.oci_store.specs.Tags.{AreNames};
 
+use crate::index::IndexEntry;
 use oci_digest::NoMemory;
 use oci_manifest::Key;
 use oci_store::{Graph, Tags};
@@ -11,19 +12,14 @@ use std::alloc::Global;
 pub(crate) fn tags_of(
     alloc: Global,
     graph: &Graph,
-    keys: &[Key],
-    names: &[Option<String>],
+    entries: &[IndexEntry],
 ) -> Result<Tags, NoMemory>
-    ensures tags { IfOk result (λ tags. tags ≡ named graph.now keys.now
-        (map text_of names.now) []) }
+    ensures tags { IfOk result (λ tags. tags ≡ named graph.now (map entry_of entries.now) []) }
     ensures names { IfOk result (λ tags. AreNames graph.now tags) }
 {
     let mut tags = Tags::new(alloc);
-    for place in 0..keys.len() {
-        let Some(name) = names.get(place) else {
-            return Ok(tags);
-        };
-        tag_one(graph, &keys[place], name, &mut tags)?;
+    for entry in entries {
+        tag_one(graph, &entry.key, &entry.name, &mut tags)?;
     }
     Ok(tags)
 }
@@ -31,7 +27,8 @@ pub(crate) fn tags_of(
 /// Sets the tag of an entry, if it has a name and its key is held.
 fn tag_one(graph: &Graph, key: &Key, name: &Option<String>, tags: &mut Tags) -> Result<(), NoMemory>
     requires names { AreNames graph.now tags.old }
-    ensures set { OnOk result (tags.new ≡ tag_with graph.now key.now (text_of name.now) tags.old) }
+    ensures set { OnOk result (tags.new
+        ≡ tag_with graph.now (record { key = key.now; name = text_of name.now }) tags.old) }
     ensures names { AreNames graph.now tags.new }
 {
     let Some(name) = name else {

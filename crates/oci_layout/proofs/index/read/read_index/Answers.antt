@@ -2,7 +2,7 @@ use Rattle.std.proofs.Common.{◌≡◌, Some, sym, ap, subst, ◌∙◌}
 use Rattle.oci_layout.specs.Index.{index_file}
 use Rattle.oci_layout.specs.Refusal.{IsOpenFault}
 use Rattle.oci_layout.proofs.Refusals.{index_fault}
-use Rattle.oci_layout.proofs.layout.entries.read_index.Goals as goal
+use Rattle.oci_layout.proofs.index.read.read_index.Goals as goal
 
 pub returns-clause-cause : goal.returns-clause-cause
 unfolding index_file
