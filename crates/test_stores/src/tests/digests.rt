@@ -1,3 +1,4 @@
+use crate::tests::texts::assert_same;
 use oci_digest::{Digest, DigestFault, NoMemory};
 use std::alloc::{AllocError, Global};
 use std::fmt::Display;
@@ -257,14 +258,15 @@ fn assert_prints<R: AllocGlobal + Abort, T: Display>(
     value: &T,
     text: &str,
 ) -> Result<(), Fail> {
-    assert_eq!(rt; value.to_string(rt.alloc())?.as_str(), text);
+    let printed = value.to_string(rt.alloc())?;
+    assert_same(rt, &"printed", printed.as_str(), text);
     Ok(())
 }
 
 /// Like `assert_prints`, for the `Debug` form of a digest.
 fn assert_debugs<R: AllocGlobal + Abort>(rt: &R, digest: &Digest, text: &str) -> Result<(), Fail> {
     let debug = format!(in rt.alloc(); "{digest:?}")?;
-    assert_eq!(rt; debug.as_str(), text);
+    assert_same(rt, &"debug", debug.as_str(), text);
     Ok(())
 }
 
@@ -288,8 +290,9 @@ fn assert_parts<R: AllocGlobal + Abort>(
     algorithm: &str,
     digits: &str,
 ) -> Result<(), Fail> {
-    assert_eq!(rt; digest.algorithm(), algorithm);
-    assert_eq!(rt; digest.encoded(rt.alloc())?.as_str(), digits, "{algorithm}");
+    assert_same(rt, &"algorithm", digest.algorithm(), algorithm);
+    let encoded = digest.encoded(rt.alloc())?;
+    assert_same(rt, &algorithm, encoded.as_str(), digits);
     Ok(())
 }
 

@@ -89,6 +89,11 @@ pub(crate) fn text(alloc: Global, parts: &[Part]) -> Result<String, Fail> {
     Ok(text)
 }
 
+/// Asserts that a text is the wanted one. A failure also prints the row.
+pub(crate) fn assert_same<T: Debug>(rt: &impl Abort, row: &T, got: &str, want: &str) {
+    assert!(rt; got == want, "row {row:?}: {got}, not {want}");
+}
+
 /// Asserts that `got` is the text of these parts. A failure also prints the row.
 pub(crate) fn assert_text<T: Debug>(
     rt: &impl Abort,
@@ -98,6 +103,6 @@ pub(crate) fn assert_text<T: Debug>(
     want: &[Part],
 ) -> Result<(), Fail> {
     let want = text(alloc, want)?;
-    assert!(rt; got == want.as_str(), "row {row:?}: {got}, not {want}");
+    assert_same(rt, row, got, want.as_str());
     Ok(())
 }
