@@ -8,7 +8,7 @@ use crate::tests::manifests::reads::{
 use crate::tests::texts::Part::{
     self, Brackets, BytesOf, DescriptorAs, DescriptorOf, KeyOf, Words,
 };
-use crate::tests::texts::text;
+use crate::tests::texts::{assert_same, text};
 use oci_digest::Digest;
 use oci_manifest::{Key, Kind, MAX_SIZE, successors};
 use std::alloc::Global;
@@ -31,8 +31,7 @@ fn described(alloc: Global, (_, media_type, size, digits): Described) -> Result<
 
 fn assert_described<R: AllocGlobal + Abort>(rt: &R, got: &str, row: Described) -> Result<(), Fail> {
     let want = described(rt.alloc(), row)?;
-    let sample = row.0;
-    assert!(rt; got == want.as_str(), "row {sample:?}: {got}, not {want}");
+    assert_same(rt, &row.0, got, want.as_str());
     Ok(())
 }
 
@@ -141,30 +140,42 @@ fn is_bad_size(alloc: Global, size: u64) -> Result<bool, Fail> {
     }
 }
 
-/// Asserts the parts of the key with the greatest size.
-fn assert_greatest<R: AllocGlobal + Abort>(rt: &R) -> Result<(), Fail> {
-    let key = Key::new(String::new(rt.alloc()), Digest::of(b""), MAX_SIZE)?;
-    assert!(rt; key.media_type().is_empty() && *key.digest() == Digest::of(b""));
-    assert_eq!(rt; key.size(), 9_223_372_036_854_775_807);
+/// Asserts whether creating a key of this size fails.
+fn assert_size_fault<R: AllocGlobal + Abort>(rt: &R, size: u64, fails: bool) -> Result<(), Fail> {
+    let is_bad = is_bad_size(rt.alloc(), size)?;
+    assert_eq!(rt; is_bad, fails, "size {size}");
     Ok(())
 }
 
-/// Returns a copy of the key with the greatest size, as text.
-fn greatest(alloc: Global) -> Result<String, Fail> {
-    let key = Key::new(String::new(alloc), Digest::of(b""), MAX_SIZE)?;
+/// Asserts the parts of the key with the greatest size.
+fn assert_greatest_parts(rt: &impl Abort, key: &Key) {
+    assert!(rt; key.media_type().is_empty() && *key.digest() == Digest::of(b""));
+    assert_eq!(rt; key.size(), 9_223_372_036_854_775_807);
+}
+
+/// Returns a copy of a key, as text.
+fn printed_copy(alloc: Global, key: &Key) -> Result<String, Fail> {
     let copy = key.try_clone()?;
     Ok(copy.to_string(alloc)?)
 }
 
+/// Asserts the parts of the key with the greatest size, and the text of its copy.
+fn assert_greatest<R: AllocGlobal + Abort>(rt: &R, want: &str) -> Result<(), Fail> {
+    let key = Key::new(String::new(rt.alloc()), Digest::of(b""), MAX_SIZE)?;
+    assert_greatest_parts(rt, &key);
+    let copy = printed_copy(rt.alloc(), &key)?;
+    assert_same(rt, &"the greatest size", copy.as_str(), want);
+    Ok(())
+}
+
 #[test]
 fn keys(rt: HostRuntime) -> Result<(), Fail> {
-    assert!(rt; is_bad_size(rt.alloc(), MAX_SIZE + 1)?);
-    assert!(rt; !is_bad_size(rt.alloc(), MAX_SIZE)?);
-    assert_greatest(&rt)?;
-    let want =
-        "sha256:e3b0c44298fc1c149afbf4c8996fb92427ae41e4649b934ca495991b7852b855 9223372036854775807 ";
-    assert!(rt; greatest(rt.alloc())?.as_str() == want);
-    Ok(())
+    assert_size_fault(&rt, MAX_SIZE + 1, true)?;
+    assert_size_fault(&rt, MAX_SIZE, false)?;
+    assert_greatest(
+        &rt,
+        "sha256:e3b0c44298fc1c149afbf4c8996fb92427ae41e4649b934ca495991b7852b855 9223372036854775807 ",
+    )
 }
 
 /// A media type, the digested content, and the size.
@@ -184,11 +195,15 @@ const RISING: [Parts; 5] = [
     ("ab", b"bar", 3),
 ];
 
+fn assert_less(rt: &impl Abort, lower: &Key, upper: &Key) {
+    assert!(rt; *lower < *upper, "row {lower}, {upper}");
+    assert!(rt; *lower != *upper, "row {lower}, {upper}");
+}
+
 fn assert_rises<R: AllocGlobal + Abort>(rt: &R, lower: Parts, upper: Parts) -> Result<(), Fail> {
     let lower = key(rt.alloc(), lower)?;
     let upper = key(rt.alloc(), upper)?;
-    assert!(rt; lower < upper, "row {lower}, {upper}");
-    assert!(rt; lower != upper, "row {lower}, {upper}");
+    assert_less(rt, &lower, &upper);
     Ok(())
 }
 
@@ -393,16 +408,20 @@ fn is_not_json(alloc: Global, kind: Kind, bytes: &[u8]) -> bool {
     }
 }
 
-fn assert_no_beginning<R: AllocGlobal + Abort>(rt: &R, sample: Sample) -> Result<(), Fail> {
-    let content = sample.content(rt.alloc())?;
-    let kind = Kind::of(content.media_type);
-    let bytes = content.bytes.as_bytes();
+/// Asserts that no proper beginning of the bytes is read.
+fn assert_unread<R: AllocGlobal + Abort>(rt: &R, sample: Sample, kind: Kind, bytes: &[u8]) {
     for end in 0..bytes.len() {
         assert!(rt;
             is_not_json(rt.alloc(), kind, &bytes[..end]),
             "row {sample:?} at {end}"
         );
     }
+}
+
+fn assert_no_beginning<R: AllocGlobal + Abort>(rt: &R, sample: Sample) -> Result<(), Fail> {
+    let content = sample.content(rt.alloc())?;
+    let kind = Kind::of(content.media_type);
+    assert_unread(rt, sample, kind, content.bytes.as_bytes());
     Ok(())
 }
 
@@ -433,7 +452,7 @@ fn trailing_bytes(rt: HostRuntime) -> Result<(), Fail> {
 /// Asserts that reading the bytes as an index fails with `NotJson`.
 fn assert_no_json<R: AllocGlobal + Abort>(rt: &R, bytes: &[u8]) -> Result<(), Fail> {
     let got = answer(rt.alloc(), Kind::Index, bytes)?;
-    assert!(rt; got.as_str() == "10 NotJson", "row {bytes:?}: {got}");
+    assert_same(rt, &bytes, got.as_str(), "10 NotJson");
     Ok(())
 }
 
