@@ -28,13 +28,21 @@ pub(crate) fn are_keys(alloc: Global, got: &[Key], want: &[Sample]) -> Result<bo
     Ok(got == keys(alloc, want)?.as_slice())
 }
 
+/// Returns whether the keys that list a sample's key are those of the other samples, in order.
+fn are_predecessors<G: GraphSource>(
+    alloc: Global,
+    store: &G,
+    (sample, want): Listed,
+) -> Result<bool, Fail> {
+    are_keys(alloc, &predecessors(alloc, store, sample)?, want)
+}
+
 fn assert_predecessors<R: AllocGlobal + Abort, G: GraphSource>(
     rt: &R,
     store: &G,
     (sample, want): Listed,
 ) -> Result<(), Fail> {
-    let got = predecessors(rt.alloc(), store, sample)?;
-    let is_wanted = are_keys(rt.alloc(), &got, want)?;
+    let is_wanted = are_predecessors(rt.alloc(), store, (sample, want))?;
     assert!(rt; is_wanted, "row {sample:?}: not {want:?}");
     Ok(())
 }
@@ -84,20 +92,35 @@ fn predecessors_of_a_key_that_is_not_held(rt: HostRuntime) -> Result<(), Fail> {
     assert_listed(&rt, &[Image0], &[(Empty, &[Image0])])
 }
 
-/// Returns whether the store lists these samples under the sample's key.
-fn lists<G: GraphSource>(alloc: Global, store: &G, (sample, want): Listed) -> Result<bool, Fail> {
-    match store.successors(&sample.key(alloc)?)? {
-        Some(keys) => are_keys(alloc, &keys, want),
-        None => Ok(false),
+/// A sample, and the samples whose keys its key lists, in order, or `None` if it is not held.
+type Listing = (Sample, Option<&'static [Sample]>);
+
+/// Returns whether these are the keys of the samples, or both are `None`.
+fn are_listed(
+    alloc: Global,
+    got: &Option<Vec<Key>>,
+    want: Option<&[Sample]>,
+) -> Result<bool, Fail> {
+    match (got, want) {
+        (Some(keys), Some(want)) => are_keys(alloc, keys, want),
+        (None, None) => Ok(true),
+        _ => Ok(false),
     }
 }
 
+fn lists<G: GraphSource>(alloc: Global, store: &G, (sample, want): Listing) -> Result<bool, Fail> {
+    let key = sample.key(alloc)?;
+    are_listed(alloc, &store.successors(&key)?, want)
+}
+
 /// An image lists its config and its layer, a layer lists nothing, and `bar` is not held.
+static LISTINGS: [Listing; 3] = [(Image2, Some(&[Empty, Foo])), (Foo, Some(&[])), (Bar, None)];
+
 fn assert_lists<R: AllocGlobal + Abort, G: GraphSource>(rt: &R, store: &G) -> Result<(), Fail> {
-    assert!(rt; lists(rt.alloc(), store, (Image2, &[Empty, Foo]))?);
-    assert!(rt; lists(rt.alloc(), store, (Foo, &[]))?);
-    let unknown = store.successors(&Bar.key(rt.alloc())?)?;
-    assert!(rt; unknown.is_none());
+    for (sample, want) in &LISTINGS {
+        let is_wanted = lists(rt.alloc(), store, (*sample, *want))?;
+        assert!(rt; is_wanted, "row {sample:?}: not {want:?}");
+    }
     Ok(())
 }
 
@@ -157,6 +180,20 @@ fn told(alloc: Global, samples: &[Sample]) -> Result<(bool, String), Fail> {
     held_and_told(alloc, &store, &fault, samples)
 }
 
+/// Asserts the result of `missing` for a store of samples.
+fn assert_missing<R: AllocGlobal + Abort>(
+    rt: &R,
+    samples: &[Sample],
+    want: &[Part],
+) -> Result<(), Fail> {
+    let got = missing(rt.alloc(), samples)?;
+    assert_text(rt, rt.alloc(), &samples, got.as_str(), want)
+}
+
+fn assert_held(rt: &impl Abort, held: bool, samples: &[Sample]) {
+    assert!(rt; held, "row {samples:?}");
+}
+
 /// Asserts the results of `missing` and `close` for a store of samples, which holds them
 /// afterwards.
 fn assert_close<R: AllocGlobal + Abort>(
@@ -165,10 +202,9 @@ fn assert_close<R: AllocGlobal + Abort>(
     missed: &[Part],
     fault: &[Part],
 ) -> Result<(), Fail> {
-    let got = missing(rt.alloc(), samples)?;
-    assert_text(rt, rt.alloc(), &samples, got.as_str(), missed)?;
+    assert_missing(rt, samples, missed)?;
     let (held, got) = told(rt.alloc(), samples)?;
-    assert!(rt; held, "row {samples:?}");
+    assert_held(rt, held, samples);
     assert_text(rt, rt.alloc(), &samples, got.as_str(), fault)
 }
 
