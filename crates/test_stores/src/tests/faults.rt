@@ -4,7 +4,7 @@ use crate::tests::faults::Fault::{
     OfFetch, OfKey, OfManifest, OfOpen, OfPlan, OfPush, OfReference,
 };
 use crate::tests::texts::Part::{self, KeyOf, Words};
-use crate::tests::texts::text;
+use crate::tests::texts::{assert_same, text};
 use oci_manifest::{KeyFault, ManifestFault};
 use oci_plan::PlanFault;
 use oci_store::{FetchFault, OpenFault, PushFault, RefFault};
@@ -33,7 +33,7 @@ fn assert_line<R: AllocGlobal + Abort>(
     rest: &[Part],
 ) -> Result<(), Fail> {
     let want = numbered(rt.alloc(), number, rest)?;
-    assert!(rt; line == want.as_str(), "row '{want}': {line}");
+    assert_same(rt, &number, line, want.as_str());
     Ok(())
 }
 

@@ -1,3 +1,4 @@
+use crate::tests::texts::assert_same;
 use oci_plan::{Order, OrderFault, order};
 use std::alloc::{AllocError, Global};
 use std::process::Abort;
@@ -17,14 +18,26 @@ fn told(alloc: Global, order: &Order) -> Result<String, AllocError> {
     Ok(text)
 }
 
+/// Returns the order of a graph, or the error.
+fn ordered(rt: &impl Abort, lists: Vec<Vec<u32>>) -> Result<Order, OrderFault> {
+    assert!(rt; lists.len() < 4294967295);
+    order(lists)
+}
+
 /// Returns the order of a graph, or the printed error.
 fn line(rt: &impl Abort, alloc: Global, lists: &[&[u32]]) -> Result<String, AllocError> {
-    let lists = graph_of(alloc, lists)?;
-    assert!(rt; lists.len() < 4294967295);
-    match order(lists) {
-        Ok(order) => told(alloc, &order),
+    match &ordered(rt, graph_of(alloc, lists)?) {
+        Ok(order) => told(alloc, order),
         Err(fault) => fault.to_string(alloc),
     }
+}
+
+/// Asserts that a text is one of two.
+fn assert_either(rt: &impl Abort, lists: &[&[u32]], line: &str, first: &str, second: &str) {
+    assert!(rt;
+        line == first || line == second,
+        "row {lists:?}: {line}, not {first}"
+    );
 }
 
 /// Asserts that the line of a graph is one of two.
@@ -35,10 +48,7 @@ fn assert_line<R: AllocGlobal + Abort>(
     second: &str,
 ) -> Result<(), Fail> {
     let line = line(rt, rt.alloc(), lists)?;
-    assert!(rt;
-        line.as_str() == first || line.as_str() == second,
-        "row {lists:?}: {line}, not {first}"
-    );
+    assert_either(rt, lists, line.as_str(), first, second);
     Ok(())
 }
 
@@ -63,13 +73,15 @@ fn order_and_board(rt: HostRuntime) -> Result<(), Fail> {
     Ok(())
 }
 
-/// Returns the order of a graph that has one.
-fn found(rt: &impl Abort, lists: Vec<Vec<u32>>) -> Order {
-    assert!(rt; lists.len() < 4294967295);
-    match order(lists) {
-        Ok(order) => order,
-        Err(fault) => panic!(rt; "{fault}"),
-    }
+/// Facts about an order.
+#[derive(Clone, Copy)]
+struct Wanted<'a> {
+    /// The count of numbers.
+    len: usize,
+    /// Places, each with its number.
+    numbers: &'a [(usize, Option<u32>)],
+    /// Numbers, each with the count of its successors.
+    widths: &'a [(u32, Option<usize>)],
 }
 
 /// Returns the number of successors of a number.
@@ -80,17 +92,49 @@ fn width(order: &Order, number: u32) -> Option<usize> {
     }
 }
 
+fn assert_numbers(rt: &impl Abort, order: &Order, numbers: &[(usize, Option<u32>)]) {
+    for (place, number) in numbers {
+        assert_eq!(rt; order.at(*place), *number, "at {place}");
+    }
+}
+
+fn assert_widths(rt: &impl Abort, order: &Order, widths: &[(u32, Option<usize>)]) {
+    for (number, count) in widths {
+        assert_eq!(rt; width(order, *number), *count, "successors of {number}");
+    }
+}
+
+fn assert_order(rt: &impl Abort, order: &Order, wanted: &Wanted<'_>) {
+    assert_eq!(rt; order.len(), wanted.len);
+    assert_eq!(rt; order.is_empty(), wanted.len == 0);
+    assert_numbers(rt, order, wanted.numbers);
+    assert_widths(rt, order, wanted.widths);
+}
+
+/// Asserts that a graph has an order, and these facts about it.
+fn assert_found(rt: &impl Abort, lists: Vec<Vec<u32>>, wanted: &Wanted<'_>) {
+    match &ordered(rt, lists) {
+        Ok(order) => assert_order(rt, order, wanted),
+        Err(fault) => panic!(rt; "{fault}"),
+    }
+}
+
 const DOUBLED: &[&[u32]] = &[&[1, 1], &[]];
 
 #[test]
 fn doubled_successor(rt: HostRuntime) -> Result<(), Fail> {
+    static WANTED: Wanted<'static> = Wanted {
+        len: 2,
+        numbers: &[(2, None)],
+        widths: &[(0, Some(1)), (1, Some(0)), (2, None)],
+    };
     assert_line(&rt, DOUBLED, "order 1 0", "order 1 0")?;
-    let order = found(&rt, graph_of(rt.alloc(), DOUBLED)?);
-    assert!(rt; !order.is_empty());
-    assert_eq!(rt; order.at(2), None);
-    let widths = (width(&order, 0), width(&order, 1), width(&order, 2));
-    assert_eq!(rt; widths, (Some(1), Some(0), None));
+    assert_found(&rt, graph_of(rt.alloc(), DOUBLED)?, &WANTED);
     Ok(())
+}
+
+fn assert_number(rt: &impl Abort, fault: &OrderFault, number: u8, text: &str) {
+    assert_eq!(rt; fault.number(), number, "{text}");
 }
 
 fn assert_fault<R: AllocGlobal + Abort>(
@@ -99,15 +143,21 @@ fn assert_fault<R: AllocGlobal + Abort>(
     number: u8,
     text: &str,
 ) -> Result<(), Fail> {
-    assert_eq!(rt; fault.number(), number, "{text}");
-    assert_eq!(rt; fault.to_string(rt.alloc())?.as_str(), text);
+    assert_number(rt, fault, number, text);
+    let printed = fault.to_string(rt.alloc())?;
+    assert_same(rt, &number, printed.as_str(), text);
     Ok(())
+}
+
+/// Asserts the number and the text of the cycle of two numbers.
+fn assert_cycle_fault<R: AllocGlobal + Abort>(rt: &R) -> Result<(), Fail> {
+    let cycle = OrderFault::Cycle([0, 1].to_vec(rt.alloc())?);
+    assert_fault(rt, &cycle, 50, "50 Cycle 0 1")
 }
 
 #[test]
 fn fault_lines(rt: HostRuntime) -> Result<(), Fail> {
-    let cycle = OrderFault::Cycle([0, 1].to_vec(rt.alloc())?);
-    assert_fault(&rt, &cycle, 50, "50 Cycle 0 1")?;
+    assert_cycle_fault(&rt)?;
     assert_fault(&rt, &OrderFault::BadNumber(1, 2), 51, "51 BadNumber 1 2")?;
     assert_fault(&rt, &OrderFault::Memory, 52, "52 Memory")
 }
@@ -124,10 +174,12 @@ fn chain(alloc: Global, length: u32) -> Result<Vec<Vec<u32>>, AllocError> {
 
 #[test]
 fn long_chain(rt: HostRuntime) -> Result<(), Fail> {
-    let order = found(&rt, chain(rt.alloc(), 100_000)?);
-    assert_eq!(rt; order.len(), 100_000);
-    assert_eq!(rt; order.at(0), Some(99_999));
-    assert_eq!(rt; order.at(99_999), Some(0));
+    static WANTED: Wanted<'static> = Wanted {
+        len: 100_000,
+        numbers: &[(0, Some(99_999)), (99_999, Some(0))],
+        widths: &[],
+    };
+    assert_found(&rt, chain(rt.alloc(), 100_000)?, &WANTED);
     Ok(())
 }
 
@@ -153,10 +205,12 @@ fn star(alloc: Global, count: u32) -> Result<Vec<Vec<u32>>, AllocError> {
 
 #[test]
 fn wide_star(rt: HostRuntime) -> Result<(), Fail> {
-    let order = found(&rt, star(rt.alloc(), 100_001)?);
-    assert_eq!(rt; order.len(), 100_001);
-    assert_eq!(rt; order.at(100_000), Some(0));
-    assert_eq!(rt; width(&order, 0), Some(100_000));
+    static WANTED: Wanted<'static> = Wanted {
+        len: 100_001,
+        numbers: &[(100_000, Some(0))],
+        widths: &[(0, Some(100_000))],
+    };
+    assert_found(&rt, star(rt.alloc(), 100_001)?, &WANTED);
     Ok(())
 }
 
@@ -273,15 +327,23 @@ fn assert_answer<R: AllocGlobal + Abort>(
     Ok(())
 }
 
+/// Asserts that the result for a graph is correct. Returns 1 if the graph has an order, and 0 if it
+/// has a cycle.
+fn assert_ordered<R: AllocGlobal + Abort>(
+    rt: &R,
+    lists: &Vec<Vec<u32>>,
+    round: u32,
+) -> Result<u32, Fail> {
+    let answer = ordered(rt, lists.clone()?);
+    assert_answer(rt, lists, &answer, round)?;
+    Ok(u32::from(answer.is_ok()))
+}
+
 /// Orders the random graph of a round. Returns 1 if it has an order, and 0 if it has a cycle.
-fn ordered<R: AllocGlobal + Abort>(rt: &R, state: &mut u64, round: u32) -> Result<u32, Fail> {
+fn ordered_in<R: AllocGlobal + Abort>(rt: &R, state: &mut u64, round: u32) -> Result<u32, Fail> {
     let count = below(state, 31).max(1);
     let lists = random_graph(rt.alloc(), state, count, round % 2 == 0)?;
-    let copy = lists.clone()?;
-    assert!(rt; copy.len() < 4294967295);
-    let answer = order(copy);
-    assert_answer(rt, &lists, &answer, round)?;
-    Ok(if answer.is_ok() { 1 } else { 0 })
+    assert_ordered(rt, &lists, round)
 }
 
 #[test]
@@ -289,7 +351,7 @@ fn random_graphs(rt: HostRuntime) -> Result<(), Fail> {
     let mut state = 2024;
     let mut count = 0u32;
     for round in 0..300u32 {
-        count = count.saturating_add(ordered(&rt, &mut state, round)?);
+        count = count.saturating_add(ordered_in(&rt, &mut state, round)?);
     }
     assert!(rt; count >= 150 && count < 300, "{count} ordered");
     Ok(())
