@@ -65,6 +65,16 @@ fn pushed<D: Dest>(store: &mut D, key: &Key, bytes: &'static [u8]) -> Pushed {
     )
 }
 
+fn assert_push<D: Dest>(
+    rt: &impl Abort,
+    store: &mut D,
+    key: &Key,
+    bytes: &'static [u8],
+    want: Pushed,
+) {
+    assert_eq!(rt; pushed(store, key, bytes), want, "row {key}");
+}
+
 fn assert_pushed<R: AllocGlobal + Abort, D: Dest>(
     rt: &R,
     store: &mut D,
@@ -72,7 +82,7 @@ fn assert_pushed<R: AllocGlobal + Abort, D: Dest>(
     want: Pushed,
 ) -> Result<(), Fail> {
     let key = key_of(rt.alloc(), content)?;
-    assert_eq!(rt; pushed(store, &key, content.1), want, "row {key}");
+    assert_push(rt, store, &key, content.1, want);
     Ok(())
 }
 
@@ -84,6 +94,10 @@ fn fetched<A: Source>(store: &A, key: &Key) -> Fetched {
     (store.exists(key), store.may_fail(key), number, length)
 }
 
+fn assert_fetch<A: Source>(rt: &impl Abort, store: &A, key: &Key, want: Fetched) {
+    assert_eq!(rt; fetched(store, key), want, "row {key}");
+}
+
 fn assert_fetched<R: AllocGlobal + Abort, A: Source>(
     rt: &R,
     store: &A,
@@ -91,7 +105,7 @@ fn assert_fetched<R: AllocGlobal + Abort, A: Source>(
     want: Fetched,
 ) -> Result<(), Fail> {
     let key = key_of(rt.alloc(), content)?;
-    assert_eq!(rt; fetched(store, &key), want, "row {key}");
+    assert_fetch(rt, store, &key, want);
     Ok(())
 }
 
@@ -156,14 +170,19 @@ fn assert_foo<R: AllocGlobal + Abort, S: GraphSource + Dest + Tagger>(
     assert_names(rt, store)
 }
 
+/// Asserts that no key lists a held key, and that it can be tagged.
+fn assert_listed_and_tagged<S: GraphSource + Tagger>(rt: &impl Abort, store: &mut S, key: &Key) {
+    assert_eq!(rt; predecessors(store, key), Some(0));
+    assert_eq!(rt; tagged(store, key, "v1"), (0, 0));
+}
+
 /// Asserts that no key lists `foo`, which is held, and that it can be tagged.
 fn assert_names<R: AllocGlobal + Abort, S: GraphSource + Tagger>(
     rt: &R,
     store: &mut S,
 ) -> Result<(), Fail> {
     let foo = key_of(rt.alloc(), FOO)?;
-    assert_eq!(rt; predecessors(store, &foo), Some(0));
-    assert_eq!(rt; tagged(store, &foo, "v1"), (0, 0));
+    assert_listed_and_tagged(rt, store, &foo);
     Ok(())
 }
 
