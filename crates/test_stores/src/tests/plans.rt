@@ -3,7 +3,7 @@ use crate::tests::texts::assert_text;
 use bytes::Bytes;
 use oci_manifest::Key;
 use oci_plan::{Existing, Plan, PlanFault, gather};
-use oci_store::{Dest, FetchFault, MemoryStore, Source, Store};
+use oci_store::{FetchFault, MemoryStore, Source, Store};
 use std::alloc::Global;
 use std::cell::Cell;
 use std::process::Abort;
@@ -102,16 +102,16 @@ struct Row<'a> {
 }
 
 /// Plans from a source into a destination, and returns the result as text.
-fn gathered<A: Source, D: Dest>(
+fn gathered<A: Source>(
     alloc: Global,
     source: &A,
-    destination: &D,
+    destination: &MemoryStore,
     roots: &[Key],
-    row: &Row<'_>,
+    (limit, existing): (u64, Existing),
 ) -> Result<String, Fail> {
     line(
         alloc,
-        &gather(alloc, source, destination, roots, row.limit, row.existing),
+        &gather(alloc, source, destination, roots, limit, existing),
     )
 }
 
@@ -127,7 +127,8 @@ fn planned_and_counted(
         store,
         fetches: Cell::new(0),
     };
-    let told = gathered(alloc, &source, destination, roots, row)?;
+    let how = (row.limit, row.existing);
+    let told = gathered(alloc, &source, destination, roots, how)?;
     Ok((told, source.fetches.get()))
 }
 
@@ -151,11 +152,15 @@ fn planned(alloc: Global, row: &Row<'_>) -> Result<(String, u32), Fail> {
     planned_from(alloc, &memory(alloc, row.source)?, row)
 }
 
-fn assert_row<R: AllocGlobal + Abort>(rt: &R, row: &Row<'_>) -> Result<(), Fail> {
-    let (told, fetched) = planned(rt.alloc(), row)?;
+fn assert_fetches(rt: &impl Abort, row: &Row<'_>, fetched: u32) {
     if let Some(fetches) = row.fetches {
         assert_eq!(rt; fetched, fetches, "fetches of {row:?}");
     }
+}
+
+fn assert_row<R: AllocGlobal + Abort>(rt: &R, row: &Row<'_>) -> Result<(), Fail> {
+    let (told, fetched) = planned(rt.alloc(), row)?;
+    assert_fetches(rt, row, fetched);
     assert_text(rt, rt.alloc(), row, told.as_str(), row.want)
 }
 
@@ -354,10 +359,7 @@ fn an_image_over_the_limit_that_the_source_lacks(rt: HostRuntime) -> Result<(), 
 fn told_of<A: Source>(alloc: Global, source: &A, root: &Key) -> Result<String, Fail> {
     let destination = MemoryStore::new(alloc);
     let roots = slice::from_ref(root);
-    line(
-        alloc,
-        &gather(alloc, source, &destination, roots, LIMIT, Existing::Skip),
-    )
+    gathered(alloc, source, &destination, roots, (LIMIT, Existing::Skip))
 }
 
 /// Asserts that planning one root into an empty store fails with this error.
