@@ -45,7 +45,6 @@
 #![tactic(auto)]
 
 mod by_reference;
-mod by_workers;
 mod copy_jobs;
 mod copy_start;
 mod extended;
@@ -64,13 +63,12 @@ mod single;
 mod under_lock;
 
 pub use by_reference::copy;
-pub use by_workers::{copy_memory_by_workers, repair_memory_by_workers};
 pub use copy_start::CopyStart;
 pub use extended::{extended_copy, extended_copy_graph};
 pub use fault::CopyFault;
 pub use graph::copy_graph;
 pub use locked::LockedDestination;
-pub use memory::{copy_memory, repair_memory};
+pub use memory::{copy_memory, copy_memory_by_workers, repair_memory, repair_memory_by_workers};
 pub use oci_digest::Digest;
 pub use oci_manifest::Key;
 pub use oci_plan::{Existing, Plan, climb};

@@ -9,7 +9,7 @@ use Rattle.oci_copy.specs.Plain.{IsUnfailing, RefusedForPlan}
 use Rattle.oci_copy.specs.declared.fault.CopyFault.{CopyFault}
 use Rattle.oci_copy.proofs.InMemory.{copied, grows}
 use Rattle.oci_copy.proofs.Unfailing.{unfailing_in_memory}
-use Rattle.oci_copy.proofs.by_workers.repair_memory_by_workers.Goals as goal
+use Rattle.oci_copy.proofs.memory.repair_memory_by_workers.Goals as goal
 
 pub returns-clause-copied : goal.returns-clause-copied
 returns-clause-copied g c =
