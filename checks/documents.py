@@ -1,5 +1,5 @@
 """Checks the names in the documents: files and sections that they link to, paths in backquotes, and
-the functions on the way of a layer in docs/map.md."""
+the functions in the tables of calls in docs/map.md."""
 import glob
 import os
 import re
@@ -64,9 +64,9 @@ def sources(crate):
     return "\n".join(read(path) for path in paths)
 
 
-def wrong_calls():
-    """Return a message about the first function of the table in docs/map.md that its crate does not have, or None."""
-    rows = read("docs/map.md").split(CALLS, 1)[1].split("\n\n", 1)[0].splitlines()[2:]
+def wrong_calls(table):
+    """Return a message about the first function of a table of calls that its crate does not have, or None."""
+    rows = table.split("\n\n", 1)[0].splitlines()[2:]
     for crate, functions, *_ in (row.strip("|").split("|") for row in rows):
         crate = crate.strip(" `")
         names = [name.split("::")[-1] for name in re.findall(r"`([^`]+)`", functions)]
@@ -82,4 +82,5 @@ def checks(room):
     for document in DOCUMENTS:
         yield "links of " + document, first(wrong_link(document, target) for target in LINK.findall(prose(document)))
         yield "paths of " + document, first(wrong_path(path) for path in named_paths(document))
-    yield "the way of a layer", wrong_calls()
+    for table in read("docs/map.md").split(CALLS)[1:]:
+        yield "calls in docs/map.md, to %s" % table.split("\n\n", 1)[0].split("`")[-2], wrong_calls(table)

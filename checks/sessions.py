@@ -15,7 +15,7 @@ LONG = "a/" + "b" * 10000
 
 
 def sections(file):
-    """Yields the name of each section of a file, and its commands: the line of each, and the lines below it."""
+    """Yield the name of each section of a file, and its commands: the line of each, and the lines below it."""
     with open(FOLDER + file) as source:
         texts = re.split(r"^# ", source.read(), flags=re.M)[1:]
     for text in texts:
@@ -24,7 +24,7 @@ def sections(file):
 
 
 def parts(algorithm, media_type, text):
-    """Returns the parts of a content by their names. The part without a name is its key, as the program prints it."""
+    """Return the parts of a content by their names. The part without a name is its key, as the program prints it."""
     digits = hashlib.new(algorithm, text.encode()).hexdigest()
     digest = "%s:%s" % (algorithm, digits)
     return {
@@ -39,12 +39,12 @@ def parts(algorithm, media_type, text):
 
 
 def filled(text, contents):
-    """Puts in the parts of contents that a text names."""
+    """Put in the parts of contents that a text names."""
     return NAMED.sub(lambda it: contents[it[1]][it[2]] if it[1] in contents else it[0], text)
 
 
 def read_contents():
-    """Returns the parts of each content."""
+    """Return the parts of each content."""
     contents = {"LONG": parts("sha256", LONG, "long")}
     for name, [(line, _)] in sections("contents.txt"):
         contents[name] = parts(*filled(line, contents).split(" ", 2))
@@ -62,11 +62,11 @@ class Session(Commands):
         return self.wrong(self.files[name])
 
     def wrong(self, commands):
-        """Runs commands until one prints something else than the lines below it, and returns the first line that differs, or None."""
+        """Run commands until one prints something else than the lines below it, and return the first line that differs, or None."""
         return first(self.wrong_command(*command) for command in commands)
 
     def wrong_command(self, line, wanted):
-        """Runs a command, and returns the first line that differs from those below it, or None."""
+        """Run a command, and return the first line that differs from those below it, or None."""
         name, _, rest = line.partition(" ")
         rest, wanted = (filled(text, self.contents).replace("@", self.folder) for text in (rest, wanted))
         try:

@@ -50,7 +50,7 @@ WAYS = {errno.EPIPE: BROKEN, errno.EIO: BROKEN, errno.ENOSPC: BROKEN, errno.ENOM
 
 
 def build(folder):
-    """Builds the library by which calls fail, and returns its path."""
+    """Build the library by which calls fail, and return its path."""
     return shim.built(folder, "fails", SHIM)
 
 
@@ -59,7 +59,7 @@ def words_of(line):
 
 
 def transcript(status, out, err):
-    """Returns both outputs and the status of a run, as a session has them."""
+    """Return both outputs and the status of a run, as a session has them."""
     *lines, rest = err.split("\n")
     return out + "".join("! %s\n" % line for line in lines) + rest + ("? %d\n" % status if status else "")
 
@@ -71,11 +71,11 @@ class Commands:
         self.folder, self.library = folder, library
 
     def ended(self, line, **how):
-        """Runs the program, and returns the status and both outputs. `how` goes to `run`."""
+        """Run the program, and return the status and both outputs. `how` goes to `run`."""
         return run(words_of(line), self.folder, **how)[:3]
 
     def failing(self, call="none", part="", error=0):
-        """Returns an environment in which a call fails."""
+        """Return an environment in which a call fails."""
         return dict(os.environ, LD_PRELOAD=self.library, CALL=call, PART=part, ERROR=str(error))
 
     def do_ocicp(self, line, **how):
