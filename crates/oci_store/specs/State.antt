@@ -1,9 +1,12 @@
 -- The meaning of a store at one moment.
-use Rattle.std.specs.Prelude.{ℕ, Bool, false, List, [], ⊤}
+use Rattle.std.specs.Prelude.{◌≡◌, ◌↔◌, ℕ, Bool, true, false, List, [], ⊤, Result, OnOk, IsErrOf}
 use Rattle.oci_manifest.specs.Descriptor.{Descriptor}
 use Rattle.oci_store.specs.Content.{Entry}
 use Rattle.oci_store.specs.Graph.{Node, nodes_of}
+use Rattle.oci_store.specs.Keyed.{has_key}
 use Rattle.oci_store.specs.Tags.{Tags}
+use Rattle.oci_store.specs.declared.fault.FetchFault.{FetchFault}
+use Rattle.oci_store.specs.declared.fault.FetchFault.TheVariants as fault
 
 -- The meaning of a store, independent of how it keeps its contents. Keys and the keys that they
 -- list are always exact. Statements about bytes depend on the device: a file may have been changed,
@@ -27,6 +30,22 @@ pub record State : Type 1 where
   pub is_sound : Type 0
   -- the store accepts no more content
   pub is_halted : Type 0
+
+-- at most the tags of a store changed
+pub record OnlyTagsDiffer (old new : State) : Type 0 where
+  pub nodes : new.nodes ≡ old.nodes
+  pub entries : new.entries ≡ old.entries
+  pub sound : old.is_sound → new.is_sound
+  pub failures : new.failures ≡ old.failures
+  pub name : new.name ≡ old.name
+
+-- the answer to a fetch of a key: it is held, or the error says why it could not be read
+pub record AnswersFetch {X : Type 0} (store : State) (k : Descriptor) (answer : Result X FetchFault) : Type 0 where
+  pub held : OnOk answer (has_key store.entries k ≡ true)
+  pub not_found : IsErrOf answer fault.NotFound ↔ (has_key store.entries k ≡ false)
+  -- only a store whose fetch of the key may fail reports these
+  pub corrupt : IsErrOf answer fault.Corrupt → store.fails_at k ≡ true
+  pub device : IsErrOf answer fault.Device → store.fails_at k ≡ true
 
 -- a store that keeps these entries and tags in memory
 abbrev pub in_memory : List Entry → Tags → State

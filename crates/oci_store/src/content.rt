@@ -1,7 +1,7 @@
-ghost use Rattle.std.specs.Prelude.{◌≡◌, IfOk, IfErr};
+ghost use Rattle.std.specs.Prelude.{◌≡◌, IfOk};
 ghost use Rattle.oci_store.specs.Content.{Matches, succ_of, IsChecked};
 ghost use Rattle.oci_store.specs.Parts.{IsLeaf};
-ghost use Rattle.oci_store.specs.Push.{read_check, content_check, Answers, IsPlain};
+ghost use Rattle.oci_store.specs.Push.{read_check, content_check, AnswersInMemory};
 
 use crate::fault::{PushFault, unread};
 use crate::graph::cloned;
@@ -45,8 +45,7 @@ impl CheckedContent {
     #[tactic(auto, unfolding(crate::specs::Push::content_check))]
     pub fn check(key: &Key, bytes: Bytes) -> Result<CheckedContent, PushFault>
         ensures same { IfOk result (λ content. content ≡ (key.now, bytes)) }
-        ensures checked { Answers result (content_check key.now bytes) }
-        ensures plain { IfErr result IsPlain }
+        ensures checked { AnswersInMemory result (content_check key.now bytes) }
     {
         if bytes.len() as u64 != key.size() {
             return Err(PushFault::SizeMismatch);
@@ -66,8 +65,7 @@ impl CheckedContent {
     pub fn of_matching(key: &Key, bytes: Bytes) -> Result<CheckedContent, PushFault>
         requires { Matches key.now bytes }
         ensures same { IfOk result (λ content. content ≡ (key.now, bytes)) }
-        ensures checked { Answers result (read_check (succ_of key.now bytes)) }
-        ensures plain { IfErr result IsPlain }
+        ensures checked { AnswersInMemory result (read_check (succ_of key.now bytes)) }
     {
         let kind = Kind::of(key.media_type());
         match successors(key.allocator(), kind, bytes.as_slice()) {

@@ -1,4 +1,4 @@
-ghost use Rattle.std.specs.Prelude.{◌≡◌, ◌≢◌, ◌↔◌, [], true, false, None, Some, IfOk, OnOk, OnErr, IsErrOf, IfNone, IfSome, MatchOption};
+ghost use Rattle.std.specs.Prelude.{◌≡◌, ◌≢◌, ◌↔◌, [], true, false, IfOk, OnOk, OnErr, IsErrOf, IfNone, IfSome, MatchOption};
 ghost use Rattle.std.specs.Cmp.Lexicographic.{slice_cmp};
 ghost use Rattle.std.specs.List.Sorted.{IsStrictlySortedBy};
 ghost use Rattle.std.specs.Map.{keys_of};
@@ -7,7 +7,17 @@ ghost use Rattle.std.specs.Ordering.{nat_cmp};
 ghost use Rattle.oci_digest.specs.Digest.{is_digest};
 ghost use Rattle.oci_manifest.specs.Descriptor.{Descriptor};
 ghost use Rattle.oci_store.specs.Keyed.{has_key};
-ghost use Rattle.oci_store.specs.Tags.{by_bytes, set_tag, tag_at, without_tag, AreNames, IsResolved, Resolves};
+ghost use Rattle.oci_store.specs.Tags.{
+  by_bytes,
+  set_tag,
+  tag_at,
+  without_tag,
+  AnswersTag,
+  AnswersUntag,
+  AreNames,
+  IsResolved,
+  Resolves,
+};
 
 use crate::fault::RefFault;
 use crate::graph::Graph;
@@ -94,12 +104,9 @@ impl Tags {
     pub fn tag(&mut self, graph: &Graph, key: &Key, name: &str) -> Result<(), RefFault>
         requires names { AreNames graph.now self.old }
         ensures tagged { OnOk result (self.new ≡ set_tag self.old name.now key.now) }
+        ensures answer { AnswersTag graph.now key.now name.now result }
         ensures refused { OnErr result (self.new ≡ self.old) }
         ensures names { AreNames graph.now self.new }
-        ensures empty { IsErrOf result RefFault.EmptyReference ↔ (name.now ≡ []) }
-        ensures not_held { IsErrOf result RefFault.NotHeld
-            ↔ ((name.now ≢ []) × (has_key graph.now key.now ≡ false)) }
-        ensures known { IsErrOf result RefFault.UnknownReference → ⊥ }
     {
         if name.is_empty() {
             return Err(RefFault::EmptyReference);
@@ -120,14 +127,10 @@ impl Tags {
     /// An error changes nothing. Does not allocate.
     pub fn untag(&mut self, graph: &Graph, name: &str) -> Result<Key, RefFault>
         requires names { AreNames graph.now self.old }
-        ensures named { IfOk result (λ key. tag_at self.old name.now ≡ Some key) }
         ensures untagged { OnOk result (self.new ≡ without_tag self.old name.now) }
+        ensures answer { AnswersUntag self.old name.now result }
         ensures refused { OnErr result (self.new ≡ self.old) }
         ensures names { AreNames graph.now self.new }
-        ensures empty { IsErrOf result RefFault.EmptyReference ↔ (name.now ≡ []) }
-        ensures unknown { IsErrOf result RefFault.UnknownReference
-            ↔ ((name.now ≢ []) × (tag_at self.old name.now ≡ None)) }
-        ensures held { IsErrOf result RefFault.NotHeld → ⊥ }
         ensures memory { IsErrOf result RefFault.Memory → ⊥ }
     {
         match name {

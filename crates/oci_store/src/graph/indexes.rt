@@ -37,7 +37,7 @@ impl Indexes {
     }
 
     /// Adds a node that follows these nodes. An error leaves the indexes as they were.
-    pub(crate) fn note(
+    pub(crate) fn add(
         &mut self,
         alloc: Global,
         nodes: &[Listing],
@@ -55,7 +55,7 @@ impl Indexes {
     {
         let key = node.key().try_clone()?;
         self.places.insert(key, nodes.len())?;
-        match note_key(&mut self.predecessors, &mut self.by_digest, alloc, node) {
+        match add_key(&mut self.predecessors, &mut self.by_digest, alloc, node) {
             Ok(()) => Ok(()),
             Err(refused) => {
                 forget_place(&mut self.places, node.key());
@@ -86,7 +86,7 @@ fn forget_place(places: &mut BTreeMap<Key, usize>, key: &Key)
 
 /// Adds a key as a predecessor of each key that it lists, and under its digest. An error leaves
 /// both indexes as they were.
-fn note_key(
+fn add_key(
     predecessors: &mut Predecessors,
     by_digest: &mut ByDigest,
     alloc: Global,
@@ -105,7 +105,7 @@ fn note_key(
     ensures no_digest { OnErr result ((k : Descriptor) → contains digest_cmp by_digest.new.keys k
         ≡ contains digest_cmp by_digest.old.keys k) }
 {
-    predecessors.note_all(alloc, node.key(), node.successors())?;
+    predecessors.add_to_all(alloc, node.key(), node.successors())?;
     match by_digest.insert(node.key()) {
         Ok(()) => Ok(()),
         Err(refused) => {

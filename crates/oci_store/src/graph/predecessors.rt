@@ -26,7 +26,7 @@ impl Predecessors {
     }
 
     /// Adds a new predecessor to each of these keys. An error leaves the lists as they were.
-    pub(crate) fn note_all(
+    pub(crate) fn add_to_all(
         &mut self,
         alloc: Global,
         predecessor: &Key,
@@ -41,7 +41,7 @@ impl Predecessors {
             → is_predecessor self.new.lists other key ≡ is_predecessor self.old.lists other key) }
     {
         for key in listed {
-            if let Err(refused) = self.note(alloc, predecessor, key) {
+            if let Err(refused) = self.add_to(alloc, predecessor, key) {
                 self.forget_all(predecessor, listed);
                 return Err(refused);
             }
@@ -76,7 +76,8 @@ impl Predecessors {
         Ok(keys)
     }
 
-    fn note(&mut self, alloc: Global, predecessor: &Key, listed: &Key) -> Result<(), NoMemory>
+    /// Adds a new predecessor to a key. An error leaves the lists as they were.
+    fn add_to(&mut self, alloc: Global, predecessor: &Key, listed: &Key) -> Result<(), NoMemory>
         ensures noted { OnOk result ((other key : Descriptor)
             → is_predecessor self.new.lists other key
             ≡ (is_predecessor self.old.lists other key ||

@@ -13,4 +13,4 @@ returns-in_err-check-clause-pushed g c =
     let did = c.in_err-check.ensures in
     let p = err_from_is_err_and c.from_residual.result c.from_residual.ensures.1 in
     rw (p.1, p.2)
-    (IsPush-refused g.Self.Dest.shares s (c.args.key.now, c.args.bytes) _ did.plain (Refused-closed s.nodes c.args.key.now c.args.bytes _ (cc c.has.ensures) did.plain did.checked))
+    (IsPush-refused g.Self.Dest.shares s (c.args.key.now, c.args.bytes) _ did.checked.1 (Refused-closed s.nodes c.args.key.now c.args.bytes _ (cc c.has.ensures) did.checked.1 did.checked.0))

@@ -11,7 +11,7 @@ returns-in_default-clause-checked c =
     let ks = c.successors.result.now in
     let fresh : has_key graph content.0 ≡ false = cc (c.if-holds.ensures, c.key.ensures) in
     let none : first_missing graph ks ≡ None = cc c.in_default.ensures in
-    (ks, closed_check-fresh graph content.0 content.1 ks fresh c.successors.ensures ∙ ap (held_check ks) none)
+    ((ks, closed_check-fresh graph content.0 content.1 ks fresh c.successors.ensures ∙ ap (held_check ks) none), tt)
 
 pub returns-in-Ok-clause-checked : goal.returns-in-Ok-clause-checked
 returns-in-Ok-clause-checked c =
@@ -20,4 +20,4 @@ returns-in-Ok-clause-checked c =
     let ks = c.successors.result.now in
     let fresh : has_key graph content.0 ≡ false = cc (c.if-holds.ensures, c.key.ensures) in
     let missing : first_missing graph ks ≡ Some c.in-Ok.missing = cc (c.in-Some.ensures, c.in-Ok.ensures) in
-    closed_check-fresh graph content.0 content.1 ks fresh c.successors.ensures ∙ ap (held_check ks) missing
+    (closed_check-fresh graph content.0 content.1 ks fresh c.successors.ensures ∙ ap (held_check ks) missing, tt)

@@ -4,7 +4,7 @@ use Rattle.std.specs.Option.{option_copied_mut}
 use Rattle.oci_manifest.specs.Descriptor.{Descriptor, key_cmp}
 use Rattle.oci_store.specs.Predecessors.{PredecessorLists}
 use Rattle.oci_store.proofs.Predecessors.{noted, unchanged, has_predecessor, on_err, is_there}
-use Rattle.oci_store.proofs.graph.predecessors.Predecessors.note.Goals as goal
+use Rattle.oci_store.proofs.graph.predecessors.Predecessors.add_to.Goals as goal
 
 pub returns-in_err-put-clause-refused : goal.returns-in_err-put-clause-refused
 returns-in_err-put-clause-refused c =
