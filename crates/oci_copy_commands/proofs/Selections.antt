@@ -1,9 +1,8 @@
 -- Lemmas about the roots of a copy, and the tags that it sets.
 use Rattle.std.proofs.Common.{◌≡◌, ◌≢◌, ℕ, ◌+◌, ◌<◌, ◌≤◌, true, inl, inr, List, [], ◌∷◌, ◌++◌, length, get_or, take, Option, None, Some, refl, sym, ap, subst, ◌∙◌, arith}
-use Rattle.std.specs.Prelude.{◌↔◌, ◌⊎◌, false, Contains, option_map, String, string_bytes, Result, Ok, Err, IfOk, IfErr}
+use Rattle.std.specs.Prelude.{◌↔◌, ◌⊎◌, Contains, option_map, String, string_bytes, Result, Ok, Err, IfOk, IfErr}
 use Rattle.std.specs.List.{All, slice_get}
 use Rattle.std.specs.Map.{keys_of, values_of}
-use Rattle.std.specs.Result.{IsErrOf}
 use Rattle.std.specs.declared.alloc.Global.{Global}
 use Rattle.std.proofs.lemmas.List.{map-append, take_all, take_more}
 use Rattle.std.proofs.lemmas.Option.{slice_get-get_or, slice_get-map}
@@ -11,7 +10,7 @@ use Rattle.std.proofs.lemmas.List.Elements.{All-contains, All-contains_itself, A
 use Rattle.oci_manifest.specs.Descriptor.{Descriptor}
 use Rattle.oci_store.specs.Graph.{Node}
 use Rattle.oci_store.specs.Keyed.{has_key, HasAll}
-use Rattle.oci_store.specs.Tags.{Tags, by_bytes}
+use Rattle.oci_store.specs.Tags.{Tags, by_bytes, AnswersTag}
 use Rattle.oci_store.specs.Visiting.{with_keys}
 use Rattle.oci_store.specs.declared.fault.RefFault.{RefFault}
 use Rattle.oci_store.specs.declared.fault.RefFault.TheVariants as fault
@@ -87,15 +86,14 @@ tagged_there graph referrers tags roots are =
 
 -- setting a tag with a name on a held key is refused only if memory ran out
 pub only_memory : {X : Type 0} (r : Result X RefFault) (name : List ℕ) (graph : List Node) (k : Descriptor)
-    → IsErrOf r fault.EmptyReference ↔ (name ≡ []) → IsErrOf r fault.NotHeld ↔ ((name ≢ []) × (has_key graph k ≡ false)) → (IsErrOf r fault.UnknownReference → ⊥)
-    → name ≢ [] → has_key graph k ≡ true → IfErr r (λ e. e ≡ fault.Memory)
-only_memory (Ok x) name graph k empty not_held known named held = tt
-only_memory (Err fault.EmptyReference) name graph k empty not_held known named held = absurd (named (empty.0 refl))
-only_memory (Err fault.UnknownReference) name graph k empty not_held known named held = absurd (known refl)
-only_memory (Err fault.NotHeld) name graph k empty not_held known named held =
-    let absent = (not_held.0 refl).1 in
+    → AnswersTag graph k name r → name ≢ [] → has_key graph k ≡ true → IfErr r (λ e. e ≡ fault.Memory)
+only_memory (Ok x) name graph k answer named held = tt
+only_memory (Err fault.EmptyReference) name graph k answer named held = absurd (named answer)
+only_memory (Err fault.UnknownReference) name graph k answer named held = absurd answer
+only_memory (Err fault.NotHeld) name graph k answer named held =
+    let absent = answer.1 in
     cc (sym held ∙ absent)
-only_memory (Err fault.Memory) name graph k empty not_held known named held = refl
+only_memory (Err fault.Memory) name graph k answer named held = refl
 
 -- a fact about the name of each tag, or about each key, holds at a place
 module _ (tags : List (String Global × Descriptor)) (i : ℕ) (t : String Global × Descriptor) (within : i < length tags) (is : t ≡ get_or tags i t) where

@@ -16,6 +16,3 @@ use std::process::ExitCode;
 fn main(rt: HostRuntime) -> ExitCode {
     ExitCode::from(run_process(&rt, rt.stdout(), &mut rt.stderr()))
 }
-
-#[cfg(test)]
-mod tests;

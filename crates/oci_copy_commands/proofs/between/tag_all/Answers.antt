@@ -11,5 +11,5 @@ pub returns-in-Err-clause-memory : goal.returns-in-Err-clause-memory
 returns-in-Err-clause-memory g c =
     let held = key_at c.args.tags.now c.loop-name.name-index c.loop-name-item.result c.loop-name-test.true c.loop-name-item.is (λ (k : Descriptor). has_key c.args.destination.now.graph k ≡ true) c.requires.held in
     IfErr-at_err (λ (e : RefFault). e ≡ fault.Memory) c.in-Err.is
-    (only_memory c.tag.result _ c.loop-name.destination.graph _ c.tag.ensures.empty c.tag.ensures.not_held c.tag.ensures.known
+    (only_memory c.tag.result _ c.loop-name.destination.graph _ c.tag.ensures.answer
     (rw c.deref.ensures (name_at c.args.tags.now c.loop-name.name-index c.loop-name-item.result c.loop-name-test.true c.loop-name-item.is (λ (name : List ℕ). name ≢ []) c.requires.named)) (rw c.loop-name.invariant.graph held))

@@ -26,7 +26,7 @@ returns-clause-pushed g c =
     let new = g.D.Dir.device c.put_blob-answer.new.dir in
     let put : IsPut old new (blob_path k.digest) (Only bytes) c.put_blob-answer.result = rw (c.deref.ensures, c.in_ok-path.ensures, c.digest.ensures, parts.key, parts.bytes) at c.put_blob-answer.ensures in
     let pushed : c.push.new.self ≡ s.graph ++ (k, ks) ∷ [] = rw parts.key at c.in_ok-push.ensures.pushed in
-    let checked : (listed : List Descriptor) × (closed_check s.graph k bytes ≡ Ok listed) = c.in_ok-check_closed.ensures.checked in
+    let checked : (listed : List Descriptor) × (closed_check s.graph k bytes ≡ Ok listed) = c.in_ok-check_closed.ensures.checked.0 in
     let passed = IsNew-from_checked s.graph k bytes ks c.in_ok-check_closed.ensures.new parts.successors in
     let settled : Settles (length s.graph) c.push.new.self c.settle.new.graph c.put_blob-answer.result c.settle.result = rw c.len-place.ensures.count at c.settle.ensures in
     rw (← c.self.view_is)

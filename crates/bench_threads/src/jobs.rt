@@ -1,17 +1,11 @@
-//! Runs jobs on a graph of one shape with a number of workers: `bench/pool` times it.
-//!
-//! The words are the shape (`chain`, `star` or `layers`), the number of jobs, the number of
-//! workers, and the number to which each job counts. The output is the number of jobs that were
-//! run.
-#![tactic(auto)]
+//! Runs jobs on a graph of one shape with a number of workers.
 
-mod counting;
-
-use counting::Counts;
+use crate::counting::Counts;
 use oci_plan::{Order, order};
 use oci_pool::run;
-use std::process::ExitCode;
-use std::{env, io};
+use std::alloc::Global;
+use std::sync::Wait;
+use std::thread::Threads;
 use test_support::{Shape, graph};
 
 /// The request in the words.
@@ -22,18 +16,19 @@ struct Task {
     steps: u64,
 }
 
-fn main(rt: HostRuntime) -> io::Result<ExitCode> {
-    let words: Vec<String> = env::args(&rt)?.skip(1).collect(rt.alloc())?;
-    let Some(task) = read_task(&rt, &words) else {
-        return Ok(ExitCode::from(2));
-    };
+/// Runs the jobs, and returns how many were run. The words are the shape (`chain`, `star` or
+/// `layers`), the number of jobs, the number of workers, and the number to which each job counts.
+/// Returns `None` if they cannot be read, or if a job was not run.
+pub(crate) fn run_jobs<R: Threads + Wait + Send + Sync>(
+    rt: &R,
+    alloc: Global,
+    words: &[String],
+) -> Option<usize> {
+    let task = read_task(alloc, words)?;
     let job = Counts::new(task.steps);
-    match run(&rt, rt.alloc(), &task.order, task.workers, &job) {
-        Ok(all) => {
-            println!(rt; "{}", all.len())?;
-            Ok(ExitCode::from(0))
-        }
-        Err(stopped) => Ok(ExitCode::from(stopped.fault.number())),
+    match run(rt, alloc, &task.order, task.workers, &job) {
+        Ok(all) => Some(all.len()),
+        Err(_) => None,
     }
 }
 
@@ -53,10 +48,10 @@ fn shape(word: &str) -> Option<Shape> {
 }
 
 /// Returns the request in the words, if they can be read.
-fn read_task(rt: &HostRuntime, words: &[String]) -> Option<Task> {
+fn read_task(alloc: Global, words: &[String]) -> Option<Task> {
     let count = number(words, 1)?;
     let shape = shape(words.first()?.as_str())?;
-    let lists = graph(rt.alloc(), shape, count).ok()?;
+    let lists = graph(alloc, shape, count).ok()?;
     if lists.len() > 4294967295 {
         return None;
     }

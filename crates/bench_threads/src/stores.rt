@@ -1,48 +1,19 @@
-//! Pushes small contents into a store: `bench/live` times it.
-//!
-//! The first word is the store, the second the number of contents. The stores are:
-//!
-//! - `closed`: a closed store.
-//! - `live`: a live store.
-//! - `looked`: a live store that two looks ask for a content during the pushes.
-//! - `asked`: a live store that one look asks for a content a million times after the pushes.
-//! - `copied`: a live store into which workers copy all contents, twice. The two copies count in
-//!   place of the pushes.
-//!
-//! The output is the number of successful pushes, the numbers of the first and the last error (0
-//! for none), the number of entries in the store or in a copy of it, and the number of successful
-//! looks. If anything else runs out of memory, nothing is printed, and the status is 3.
-#![tactic(auto)]
+//! Pushes small contents into a store.
 
-mod copying;
-mod looking;
-mod pushing;
-
-use copying::copy_twice;
-use looking::{ask, push_all_looked_at};
+use crate::copying::copy_twice;
+use crate::looking::{ask, push_all_looked_at};
+use crate::pushing::{Content, Tally, contents, push_all};
 use oci_live::LiveStore;
 use oci_manifest::Key;
 use oci_store::{ClosedStore, Dest};
-use pushing::{Content, Tally, contents, push_all};
 use std::alloc::Global;
-use std::process::ExitCode;
 use std::sync::Wait;
 use std::sync::atomic::AtomicBool;
 use std::thread::Threads;
-use std::{env, io};
 
-fn main(rt: HostRuntime) -> io::Result<ExitCode> {
-    let words: Vec<String> = env::args(&rt)?.skip(1).collect(rt.alloc())?;
-    let Some(told) = run(rt, rt.alloc(), &words) else {
-        return Ok(ExitCode::from(3));
-    };
-    println!(rt; "{told}")?;
-    Ok(ExitCode::from(0))
-}
-
-/// Runs the request. Returns `None` if the words cannot be read, or if there is no memory for the
-/// store.
-fn run<R: Threads + Wait + Send + Sync + Copy + Drop>(
+/// Pushes contents into a store. The words are the name of the store and the number of contents.
+/// Returns `None` if they cannot be read, or if there is no memory for the store.
+pub(crate) fn run_pushes<R: Threads + Wait + Send + Sync + Copy + Drop>(
     rt: R,
     alloc: Global,
     words: &[String],
