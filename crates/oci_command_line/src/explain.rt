@@ -193,7 +193,7 @@ Give the process more memory, or use fewer workers.
 
 70 NoLayoutFile
 The folder or archive is not an image layout: it does not exist, or has no file `oci-layout`.
-Check the path. Only `ocicp copy` creates a layout, and only as its destination. `docker save` writes one since Docker 25.
+Check the path. Only `ocicp copy` creates a layout, as its destination, and only where no `index.json` would be lost. `docker save` writes one since Docker 25.
 
 71 BadLayoutFile
 The file `oci-layout` is not a JSON object with a text `imageLayoutVersion`.
@@ -292,8 +292,8 @@ The output could not be written. If the command changes a layout, that is done a
 Check where the output goes: the disk may be full, or the program that reads it may have ended.
 
 95 NotWritable
-The named path is a file, and `ocicp` writes only into folders. Nothing was changed.
-Copy into a folder. To change an archive, unpack it into a folder, and change the layout there. `tar -cf FILE -C FOLDER .` makes an archive of a folder.
+The named path is a file, or is new and has the name of an archive, and `ocicp` writes only into folders. Nothing was changed.
+Copy into a folder, without `oci:` before its path. To change an archive, unpack it into a folder, and change the layout there. `tar -cf FILE -C FOLDER .` makes an archive of a folder.
 
 96 Unknown
 The layout does not have the named blob, so it is not known what that blob needs. It is an entry of `index.json`, or a manifest that a kept manifest lists. Nothing was removed.

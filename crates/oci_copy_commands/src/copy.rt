@@ -1,7 +1,7 @@
 use crate::Host;
 use crate::answer::CopyAnswer;
 use crate::between::copy_between;
-use crate::destination::{open_or_create, remove_leftovers};
+use crate::destination::{make_blobs_folder, open_or_create, remove_leftovers};
 use crate::dry_run::show_plan;
 use crate::mirror::{CleanUp, check_destination, check_source, mirror};
 use crate::progress::Progress;
@@ -29,8 +29,8 @@ use std::io::Write;
 ///
 /// With 80, 81, 99 and the faults before them, no blob, tag or entry of DST is changed.
 ///
-/// - 70 to 75 and 77 if SRC or DST is not a layout or cannot be read; 74 also if DST cannot be
-///   created or locked.
+/// - 70 to 75 and 77 if SRC or DST is not a layout or cannot be read; 70 for DST only if it has an
+///   `index.json` with contents; 74 also if DST cannot be created or locked.
 /// - 35 `EmptyReference` and 36 `UnknownReference` for the reference.
 /// - 99 `Locked` if another process has the lock of DST, and the words say not to wait.
 /// - 97 `NoTags`, 96 `Unknown` and 98 `LinkedBlobs` with `--prune`, if SRC has no tag, SRC or DST
@@ -116,6 +116,7 @@ where
 {
     let lock = make_and_lock_folder(rt, words.destination, words.waits, err)?;
     let destination = open_or_create(rt.alloc(), destination)?;
+    make_blobs_folder(rt, words.destination)?;
     copy_under_lock(rt, source, destination, selected, words, &lock, err)
 }
 

@@ -1,7 +1,8 @@
-use oci_layout::{Dir, DirFault, FolderLock, Layout, Lockable};
+use oci_layout::{Dir, DirFault, FolderLock, Layout, LayoutFault, Lockable};
 use oci_program::ProgramFault;
 use std::alloc::Global;
 use std::rt::Files;
+use std::{fs, io};
 
 /// Removes the files that killed copies left in a locked folder. A file that cannot be removed
 /// stays, and does not stop the copy.
@@ -19,10 +20,32 @@ pub(crate) fn remove_leftovers<R: Files<File: Lockable> + AllocGlobal>(
     }
 }
 
-/// Opens the layout in a directory. It is created if there is no `oci-layout`.
+/// Creates the folder `blobs/sha256` of a layout in a folder, if it is missing. Every layout has it,
+/// even one without blobs (OCI image specification 1.1, image-layout.md, "Blobs").
 ///
 /// # Errors
 ///
+/// - 74 `Device` if it cannot be created, for example because `blobs` is a file.
+/// - Out of memory.
+pub(crate) fn make_blobs_folder<R: Files + AllocGlobal>(
+    rt: &R,
+    folder: &str,
+) -> Result<(), ProgramFault> {
+    let above = if folder.is_empty() { "." } else { folder };
+    let path = format!(in rt.alloc(); "{above}/blobs/sha256")?;
+    match fs::create_dir_all(rt, &path) {
+        Ok(()) => Ok(()),
+        Err(error) if error.kind() == io::ErrorKind::OutOfMemory => Err(ProgramFault::Memory),
+        Err(_) => Err(ProgramFault::Destination(LayoutFault::Device)),
+    }
+}
+
+/// Opens the layout in a directory. It is created if there is no `oci-layout`, and no index that
+/// the creation would replace.
+///
+/// # Errors
+///
+/// - 70 `NoLayoutFile` if there is an `index.json` with contents, but no `oci-layout`.
 /// - 71 to 75 and 77 if the directory has a layout that cannot be opened.
 /// - 74 `Device` if a layout cannot be created.
 /// - Out of memory, at any point.

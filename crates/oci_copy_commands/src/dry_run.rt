@@ -19,12 +19,12 @@ use std::io::Write;
 /// how many roots the destination already has.
 ///
 /// Nothing is changed and nothing is locked. A destination without `oci-layout` counts as an empty
-/// layout, and is not created.
+/// layout, and is not created, unless it has an `index.json` with contents.
 ///
 /// # Errors
 ///
-/// - 70 to 75 and 77 if one of the two is not a layout or cannot be read; never 70 for the
-///   destination.
+/// - 70 to 75 and 77 if one of the two is not a layout or cannot be read; 70 for the destination
+///   only if it has an `index.json` with contents.
 /// - 35 `EmptyReference` and 36 `UnknownReference` for the reference.
 /// - 80 `DestinationOpen` and 81 `Plan` if there is no plan.
 /// - 94 `Output` if `out` cannot be written.
@@ -54,7 +54,8 @@ fn plan_into<S: Dir, D: Dir + Drop>(
 ) -> Result<Plan, ProgramFault> {
     let plan = match Layout::open(alloc, destination) {
         Ok(destination) => plan_copy(alloc, source, &destination, roots, options),
-        Err((_dir, LayoutFault::NoLayoutFile)) => {
+        Err((dir, LayoutFault::NoLayoutFile)) => {
+            Layout::check_is_free(&dir).map_err(ProgramFault::Destination)?;
             plan_copy(alloc, source, &ClosedStore::new(alloc), roots, options)
         }
         Err((_dir, fault)) => return Err(ProgramFault::Destination(fault)),

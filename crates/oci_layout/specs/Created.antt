@@ -1,9 +1,10 @@
 -- A directory after the creation of an empty layout in it, or after that failed.
-use Rattle.std.specs.Prelude.{◌≡◌, ◌↔◌, ◌≤◌, ◌<◌, [], false, is_some}
+use Rattle.std.specs.Prelude.{◌≡◌, ◌↔◌, ◌≤◌, ◌<◌, ◌⊎◌, [], false, Some, None, is_some}
 use Rattle.oci_layout.specs.Blobs.{IsSound}
 use Rattle.oci_layout.specs.Device.{Device, File, TouchesTwo}
 use Rattle.oci_layout.specs.Files.{HasFiles}
-use Rattle.oci_layout.specs.Index.{layout_file, index_file, HasFreshTexts}
+use Rattle.oci_layout.specs.Index.{layout_file, index_file, empty_index_text, HasFreshTexts}
+use Rattle.oci_layout.specs.Prunable.{IsReadFault}
 use Rattle.oci_layout.specs.Refusal.{IsCreateFault}
 use Rattle.oci_layout.specs.declared.fault.LayoutFault.{LayoutFault}
 use Rattle.oci_layout.specs.declared.fault.LayoutFault.TheVariants as fault
@@ -12,6 +13,16 @@ use Rattle.oci_layout.specs.declared.fault.LayoutFault.TheVariants as fault
 pub record IsFresh (file : File) : Type 0 where
   pub files : HasFiles file [] [] []
   pub texts : HasFreshTexts file
+
+-- the directory has no index, or the one of an empty layout
+abbrev pub IsFree : File → Type 0
+IsFree file = (file index_file ≡ None) ⊎ (file index_file ≡ Some empty_index_text)
+
+-- why a layout may not be created in a directory without `oci-layout`: it has another index, or the
+-- index cannot be read
+abbrev pub IsNotFree : Device → LayoutFault → Type 0
+IsNotFree dir fault.NoLayoutFile = dir.is_honest → IsFree dir.file → ⊥
+IsNotFree dir e = IsReadFault dir e
 
 -- an empty layout was created in a directory
 pub record IsCreated (old new : Device) : Type 0 where

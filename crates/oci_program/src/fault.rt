@@ -26,7 +26,7 @@ pub enum ProgramFault {
     /// The output could not be written.
     #[error("94 Output")]
     Output,
-    /// The path of a layout to change is a file.
+    /// The path of a layout to change is a file, or a new one has the name of an archive.
     #[error("95 NotWritable {0}")]
     NotWritable(String),
     /// Another process has the lock of the folder, and the command does not wait.

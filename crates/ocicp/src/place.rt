@@ -37,15 +37,20 @@ impl<'r, R: Files<File: ReadAt> + AllocGlobal> Place<'r, R> {
 ///
 /// # Errors
 ///
-/// - 95 `NotWritable` if the destination is a regular file, or a link to one. The source is not
-///   touched then.
+/// - 95 `NotWritable` if the destination is a regular file, or a link to one, or does not exist and
+///   has the name of an archive. The source is not touched then.
 /// - 100 to 105 if the source is a file, and is not an archive or cannot be read.
 /// - Out of memory, at any point.
 pub(crate) fn open_copy<'r, R: Files<File: ReadAt> + AllocGlobal>(
     rt: &'r R,
     words: &CopyWords<'_>,
 ) -> Result<(Place<'r, R>, FsDir<'r, R>), ProgramFault> {
-    let destination = open_folder(rt, words.destination)?;
+    let path = words.destination;
+    if names_archive(path) && !fs::exists(rt, path).unwrap_or(false) {
+        let path = String::from_str(rt.alloc(), path)?;
+        return Err(ProgramFault::NotWritable(path));
+    }
+    let destination = open_folder(rt, path)?;
     Ok((Place::open(rt, words.source)?, destination))
 }
 
@@ -64,6 +69,12 @@ pub(crate) fn open_folder<'r, R: Files + AllocGlobal>(
         return Err(ProgramFault::NotWritable(path));
     }
     Ok(FsDir::new(rt, path)?)
+}
+
+/// Returns whether a path is named like an archive, or has a prefix by which other tools tell
+/// archives and layouts apart. Nobody wants a new folder of that name.
+fn names_archive(path: &str) -> bool {
+    path.ends_with(".tar") || path.starts_with("oci:") || path.starts_with("oci-archive:")
 }
 
 /// Returns whether a path leads to a regular file.

@@ -3,7 +3,7 @@ use crate::fs_dir::files::{failed, part_of_file};
 use crate::fs_dir::lock::Lockable;
 use std::fs::OpenFile;
 use std::io::{ErrorKind, Write};
-use std::os::unix::fs::MetadataExt;
+use std::os::unix::fs::{MetadataExt, chown};
 use std::random::RandomSource;
 use std::rt::Files;
 use std::{fs, io};
@@ -63,6 +63,15 @@ where
         Ok(beside)
     }
 
+    /// Creates a file with these bytes, and with the mode, the group and the owner of the file at
+    /// the place, as far as the system lets.
+    pub(crate) fn like(rt: &'r R, place: &str, bytes: &[u8]) -> Result<Beside<'r, R>, DirFault> {
+        let mut beside = Beside::empty(rt, place)?;
+        copy_access(rt, place, &beside.path);
+        beside.append(bytes)?;
+        Ok(beside)
+    }
+
     /// Creates a file with the first `length` bytes of the one at the place.
     pub(crate) fn copied(rt: &'r R, place: &str, length: u64) -> Result<Beside<'r, R>, DirFault> {
         let mut beside = Beside::empty(rt, place)?;
@@ -101,6 +110,21 @@ where
     fn lock(&self) -> Result<bool, DirFault> {
         lock_at(self.rt, &self.file, &self.path).map_err(|error| failed(&error))
     }
+}
+
+/// Gives a file the mode, the group and the owner of a regular file. What the system refuses stays as
+/// it is: only a privileged process may change an owner. The owner comes first, because a change of
+/// it may clear bits of the mode.
+fn copy_access<R: Files>(rt: &R, from: &str, to: &str) {
+    let Ok(metadata) = fs::symlink_metadata(rt, from) else {
+        return;
+    };
+    if !metadata.is_file() {
+        return;
+    }
+    let _ = chown(rt, to, Some(metadata.uid()), None);
+    let _ = chown(rt, to, None, Some(metadata.gid()));
+    let _ = fs::set_permissions(rt, to, metadata.permissions());
 }
 
 /// Locks the open file of a path. Returns false if it is locked already or was removed.

@@ -1,7 +1,8 @@
-ghost use Rattle.std.specs.Prelude.{◌≡◌, ◌⊎◌, [], false, IfOk, IfErr};
+ghost use Rattle.std.specs.Prelude.{◌≡◌, ◌↔◌, ◌⊎◌, [], false, IsTrue, IfOk, OnOk, IfErr};
 ghost use Rattle.std.specs.List.{All};
 ghost use Rattle.oci_layout.specs.Blobs.{HasMatchingFiles, IsSound};
-ghost use Rattle.oci_layout.specs.Created.{IsCreated, IsNotCreated};
+ghost use Rattle.oci_layout.specs.Created.{IsCreated, IsFree, IsNotCreated, IsNotFree};
+ghost use Rattle.oci_layout.specs.Index.{empty_index_text};
 ghost use Rattle.oci_layout.specs.Layout.{no_index};
 ghost use Rattle.oci_layout.specs.Opened.{IsOpened};
 ghost use Rattle.oci_layout.specs.Refusal.{IsOpenFault};
@@ -12,19 +13,26 @@ use crate::fault::LayoutFault;
 use crate::layout::Layout;
 use std::alloc::Global;
 
+/// The index of an empty layout.
+const EMPTY_INDEX: &[u8] =
+    b"{\"manifests\":[],\"mediaType\":\"application/vnd.oci.image.index.v1+json\",\"schemaVersion\":2}";
+
 impl<D: Dir> Layout<D> {
     /// Opens the layout in a directory, as [`open`](Layout::open) does. If there is no file
-    /// `oci-layout`, creates an empty layout there, as [`create`](Layout::create) does.
+    /// `oci-layout`, creates an empty layout there, as [`create`](Layout::create) does, if
+    /// [`check_is_free`](Layout::check_is_free) allows it.
     ///
     /// # Errors
     ///
-    /// Those of `open` except 70 `NoLayoutFile`: the directory is then unchanged. Those of
+    /// Those of `open`: the directory is then unchanged. 70 `NoLayoutFile` is returned only if
+    /// there is no `oci-layout`, and an index that is not the one of an empty layout. Those of
     /// `create`: the directory is then as `create` left it.
     pub fn open_or_create(alloc: Global, dir: D) -> Result<Layout<D>, (D, LayoutFault)>
         ensures layout { IfOk result (λ layout. ((layout.dir ≡ dir)
             × ((D.device dir).is_honest → IsOpened (D.device dir).file layout.graph layout.tags
             layout.opened))
             ⊎ (IsCreated (D.device dir) (D.device layout.dir)
+            × ((D.device dir).is_honest → IsFree (D.device dir).file)
             × (layout.graph ≡ []) × (layout.tags ≡ []) × (layout.opened ≡ no_index))) }
         ensures absent { IfOk result (λ layout. All (λ k. has_key layout.graph k ≡ false)
             layout.opened.absent) }
@@ -35,13 +43,64 @@ impl<D: Dir> Layout<D> {
             × IsOpenFault (D.device dir) refused.1)
             ⊎ (IsOpenFault (D.device dir) LayoutFault.NoLayoutFile
             × IsNotCreated (D.device dir) (D.device refused.0) refused.1)) }
+        ensures taken { IfErr result (λ refused. refused.1 ≡ LayoutFault.NoLayoutFile
+            → (D.device dir).is_honest → IsFree (D.device dir).file → ⊥) }
         ensures kept { IfErr result (λ refused. refused.1 ≡ LayoutFault.AlreadyLayout
             → refused.0 ≡ dir) }
     {
         match Layout::open(alloc, dir) {
             Ok(layout) => Ok(layout),
-            Err((dir, LayoutFault::NoLayoutFile)) => Layout::create(alloc, dir),
+            Err((dir, LayoutFault::NoLayoutFile)) => create_if_free(alloc, dir),
             Err(refused) => Err(refused),
         }
+    }
+
+    /// Refuses a directory that has an `index.json` but perhaps no `oci-layout`, such as a layout
+    /// that lost this file: if a layout were created there, the index would be replaced. The index
+    /// of an empty layout is allowed, since a killed `create` may leave it.
+    ///
+    /// # Errors
+    ///
+    /// - 70 `NoLayoutFile` if `index.json` is there, and is not the one of an empty layout.
+    /// - 74 `Device` if it could not be read.
+    /// - 76 `Memory` if memory runs out.
+    #[tactic(auto, unfolding(crate::specs::Index::index_file))]
+    pub fn check_is_free(dir: &D) -> Result<(), LayoutFault>
+        ensures free { OnOk result ((D.device dir.now).is_honest → IsFree (D.device dir.now).file) }
+        ensures cause { IfErr result (IsNotFree (D.device dir.now)) }
+    {
+        let Some(bytes) = dir.read("index.json")? else {
+            return Ok(());
+        };
+        if is_empty_index(bytes.as_slice()) {
+            return Ok(());
+        }
+        Err(LayoutFault::NoLayoutFile)
+    }
+}
+
+/// Returns whether bytes are the index of an empty layout.
+#[tactic(auto, unfolding(crate::specs::Index::empty_index_text))]
+fn is_empty_index(bytes: &[u8]) -> bool
+    ensures { IsTrue result ↔ (bytes.now ≡ empty_index_text) }
+{
+    bytes == EMPTY_INDEX
+}
+
+/// Creates an empty layout in a directory without `oci-layout`, if its index allows it.
+fn create_if_free<D: Dir>(alloc: Global, dir: D) -> Result<Layout<D>, (D, LayoutFault)>
+    ensures created { IfOk result (λ layout. IsCreated (D.device dir) (D.device layout.dir)) }
+    ensures free { OnOk result ((D.device dir).is_honest → IsFree (D.device dir).file) }
+    ensures empty { IfOk result (λ layout. (layout.graph ≡ []) × (layout.tags ≡ [])
+        × (layout.opened ≡ no_index)) }
+    ensures refused { IfErr result (λ refused. ((refused.0 ≡ dir)
+        × IsNotFree (D.device dir) refused.1)
+        ⊎ IsNotCreated (D.device dir) (D.device refused.0) refused.1) }
+    ensures kept { IfErr result (λ refused. refused.1 ≡ LayoutFault.AlreadyLayout
+        → refused.0 ≡ dir) }
+{
+    match Layout::check_is_free(&dir) {
+        Ok(()) => Layout::create(alloc, dir),
+        Err(fault) => Err((dir, fault)),
     }
 }
