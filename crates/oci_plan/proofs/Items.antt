@@ -2,7 +2,6 @@
 use Rattle.std.proofs.Common.{◌≡◌, ◌≢◌, ℕ, Bool, true, false, inl, inr, List, [], ◌∷◌, Option, Some, None, Result, Ok, Err, refl, sym, ap, ◌∙◌}
 use Rattle.std.specs.Prelude.{option_map, is_some, unwrap_or}
 use Rattle.std.specs.Result.{result_unwrap_or}
-use Rattle.std.specs.List.{All, IsDistinct}
 use Rattle.std.proofs.lemmas.Bool.{cases_Bool}
 use Rattle.oci_manifest.specs.Descriptor.{Descriptor, same_key}
 use Rattle.oci_manifest.specs.Fault.{Fault, Fails, IsFault}
@@ -22,8 +21,8 @@ use Rattle.oci_store.specs.declared.fault.FetchFault.TheVariants as fetch
 use Rattle.oci_store.proofs.Membership.{Contains-from_among, All-from_among}
 use Rattle.oci_plan.specs.Met.{IsListedUnder}
 use Rattle.oci_plan.specs.Visiting.{successors_at, IsWithin}
-use Rattle.oci_plan.specs.Refusal.{IsKeyFault, IsOfKey, IsUnread}
-use Rattle.oci_plan.specs.Walk.{IsPassed, fetch_refusal, read_refusal}
+use Rattle.oci_plan.specs.Refusal.{IsTrueOfKey, IsUnread}
+use Rattle.oci_plan.specs.Walk.{IsListing, IsPassed, fetch_refusal, read_refusal}
 
 -- ---- the source's content under a key
 
@@ -50,27 +49,27 @@ successors_at-nodes_of entries k bytes ks at reads =
 -- a refused fetch of a held key is told of it
 pub fetch_refused : (honest : Type 0) (fails : Descriptor → Bool) (entries : List Entry) (limit : ℕ) (k : Descriptor) (f : FetchFault) → kind_of k.media_type ≢ Leaf → IsWithin limit k → has_key entries k ≡ true
     → (f ≡ fetch.NotFound → has_key entries k ≡ false) → (f ≡ fetch.Corrupt → fails k ≡ true) → (f ≡ fetch.Device → fails k ≡ true)
-    → IsKeyFault honest fails entries limit (fetch_refusal k f) × IsOfKey k (fetch_refusal k f)
-fetch_refused honest fails entries limit k fetch.NotFound manifest within there gone corrupt device = ((within, gone refl), refl)
-fetch_refused honest fails entries limit k fetch.Corrupt manifest within there gone corrupt device = ((manifest, within, there, corrupt refl, tt), refl)
-fetch_refused honest fails entries limit k fetch.Device manifest within there gone corrupt device = ((manifest, within, there, device refl, tt), refl)
-fetch_refused honest fails entries limit k fetch.Memory manifest within there gone corrupt device = (tt, tt)
+    → IsTrueOfKey honest fails entries limit k (fetch_refusal k f)
+fetch_refused honest fails entries limit k fetch.NotFound manifest within there gone corrupt device = record { cause = (within, gone refl); named = refl }
+fetch_refused honest fails entries limit k fetch.Corrupt manifest within there gone corrupt device = record { cause = (manifest, within, there, corrupt refl, tt); named = refl }
+fetch_refused honest fails entries limit k fetch.Device manifest within there gone corrupt device = record { cause = (manifest, within, there, device refl, tt); named = refl }
+fetch_refused honest fails entries limit k fetch.Memory manifest within there gone corrupt device = record { cause = tt; named = tt }
 
 -- bytes of a held key that do not read are told of it
 pub read_refused : (honest : Type 0) (fails : Descriptor → Bool) (entries : List Entry) (limit : ℕ) (k : Descriptor) (bytes : List ℕ) (f : ManifestFault) → IsWithin limit k → has_key entries k ≡ true
-    → Matches k bytes → (honest → value_at entries k ≡ Some bytes) → Fails f (succ_of k bytes) → IsKeyFault honest fails entries limit (read_refusal k f) × IsOfKey k (read_refusal k f)
+    → Matches k bytes → (honest → value_at entries k ≡ Some bytes) → Fails f (succ_of k bytes) → IsTrueOfKey honest fails entries limit k (read_refusal k f)
 read_refused honest fails entries limit k bytes f within there matching own h = go f h
   where
     unread : (f : ManifestFault) (cause : Fault) → succ_of k bytes ≡ Err cause → IsFault f cause → IsUnread honest entries k f
     unread f cause breaks tells = record { bytes = bytes; cause = cause; matching = matching; own = own; breaks = breaks; tells = tells }
 
-    go : (f : ManifestFault) → Fails f (succ_of k bytes) → IsKeyFault honest fails entries limit (read_refusal k f) × IsOfKey k (read_refusal k f)
-    go reading.NotJson h = ((within, there, unread reading.NotJson _ h refl), refl)
-    go reading.NotObject h = ((within, there, unread reading.NotObject _ h refl), refl)
-    go reading.NoConfig h = ((within, there, unread reading.NoConfig _ h refl), refl)
-    go (reading.BadList member) h = ((within, there, unread (reading.BadList member) _ h refl), refl)
-    go (reading.BadDescriptor member position) h = ((within, there, unread (reading.BadDescriptor member position) _ h refl), refl)
-    go reading.Memory h = (tt, tt)
+    go : (f : ManifestFault) → Fails f (succ_of k bytes) → IsTrueOfKey honest fails entries limit k (read_refusal k f)
+    go reading.NotJson h = record { cause = (within, there, unread reading.NotJson _ h refl); named = refl }
+    go reading.NotObject h = record { cause = (within, there, unread reading.NotObject _ h refl); named = refl }
+    go reading.NoConfig h = record { cause = (within, there, unread reading.NoConfig _ h refl); named = refl }
+    go (reading.BadList member) h = record { cause = (within, there, unread (reading.BadList member) _ h refl); named = refl }
+    go (reading.BadDescriptor member position) h = record { cause = (within, there, unread (reading.BadDescriptor member position) _ h refl); named = refl }
+    go reading.Memory h = record { cause = tt; named = tt }
 
 -- ---- what a visited key lists
 
@@ -109,15 +108,15 @@ absent_lists entries k h = sym (ap (λ (o : Option (List Descriptor)). unwrap_or
 -- what a key's bytes list, and that it passed its checks
 pub record IsItemRead (honest : Type 0) (entries : List Entry) (limit : ℕ) (k : Descriptor) (keys : List Descriptor) : Type 0 where
   pub passed : IsPassed honest entries limit k
-  pub listed : honest → keys ≡ successors_at (nodes_of entries) k
-  pub under : All (IsListedUnder entries k) keys
-  pub distinct : IsDistinct same_key keys
+  pub listing : IsListing honest entries k keys
 
 pub item_read : (honest : Type 0) (entries : List Entry) (limit : ℕ) (k : Descriptor) (bytes : List ℕ) (keys : List Descriptor)
     → IsWithin limit k → has_key entries k ≡ true → Matches k bytes → (honest → value_at entries k ≡ Some bytes) → succ_of k bytes ≡ Ok keys → IsItemRead honest entries limit k keys
 item_read honest entries limit k bytes keys within there matching own reads = record {
   passed = record { there = there; within = within; reads = λ h. (bytes, keys, own h, reads) };
-  listed = λ h. sym (successors_at-nodes_of entries k bytes keys (own h) reads);
-  under = All-from_among (IsListedUnder entries k) keys (λ to listed. record { there = there; bytes = bytes; listed = keys; checked = record { matching = matching; reads = reads }; lists = Contains-from_among keys to listed });
-  distinct = successors_of-distinct (kind_of k.media_type) bytes keys reads;
+  listing = record {
+    listed = λ h. sym (successors_at-nodes_of entries k bytes keys (own h) reads);
+    under = All-from_among (IsListedUnder entries k) keys (λ to listed. record { there = there; bytes = bytes; listed = keys; checked = record { matching = matching; reads = reads }; lists = Contains-from_among keys to listed });
+    distinct = successors_of-distinct (kind_of k.media_type) bytes keys reads;
+  };
 }

@@ -7,7 +7,7 @@ use Rattle.std.proofs.lemmas.List.Sums.{sum_by-set}
 use Rattle.std.proofs.lemmas.List.Elements.{Contains-push, Contains-push_cases, Contains-append_left, All-more}
 use Rattle.std.proofs.lemmas.Option.{slice_get_within, slice_get-get_or}
 use Rattle.oci_plan.specs.Graph.{successors_of, HasEdge}
-use Rattle.oci_plan.specs.Search.{progress_of, done_count, EndsWith, IsSound}
+use Rattle.oci_plan.specs.Search.{progress_of, done_count, steps_left, work_left, KeepsMet, EndsWith, IsSound}
 use Rattle.oci_plan.specs.declared.ordering.search.Progress.{Progress}
 use Rattle.oci_plan.specs.declared.ordering.search.Progress.TheVariants.{New, Open, Done}
 use Rattle.oci_plan.proofs.Lists.{IsDistinct-push, IsDistinct-take, IsPath-push, IsPath-take, FollowsSuccessors-push, All-Contains_push, Contains-before_end, absent-before_end, Contains-take}
@@ -19,6 +19,20 @@ done_count-set progress n count old new below was counted =
     let total : sum_by done_count (set progress n new) + done_count (progress_of progress n) ≡ sum_by done_count progress + done_count new = sum_by-set done_count progress n new New below in
     let at : done_count (progress_of progress n) ≡ done_count old = ap done_count was in
     omega (arith, total, at)
+
+-- less work is left where fewer steps are left at one number
+pub less_work : (progress : List Progress) (n : ℕ) (old new : Progress) → n < length progress → progress_of progress n ≡ old → steps_left new < steps_left old → work_left (set progress n new) < work_left progress
+less_work progress n old new below was less =
+    let total : sum_by steps_left (set progress n new) + steps_left (progress_of progress n) ≡ sum_by steps_left progress + steps_left new = sum_by-set steps_left progress n new New below in
+    let at : steps_left (progress_of progress n) ≡ steps_left old = ap steps_left was in
+    omega (arith, total, at, less)
+
+-- what was met is still met where one number changes to a met one
+pub keeps_met : (progress : List Progress) (n : ℕ) (new : Progress) → n < length progress → new ≢ New → KeepsMet progress (set progress n new)
+keeps_met progress n new below met = λ m was. elim (same_or_other m n) [
+  | inl same ↦ λ e. met (sym (changed progress n new below) ∙ ap (progress_of (set progress n new)) (sym same) ∙ e)
+  | inr other ↦ λ e. was (sym (unchanged progress n m new other) ∙ e)
+]
 
 -- a new number is put at the path's end
 pub entered : (lists : List (List ℕ)) (progress : List Progress) (path sequence : List ℕ) (n : ℕ) → n < length lists → progress_of progress n ≡ New → ((last : ℕ) → EndsWith path last → HasEdge lists last n) → IsSound lists progress path sequence → IsSound lists (set progress n (Open 0)) (path ++ n ∷ []) sequence

@@ -1,6 +1,6 @@
 -- Graphs of numbers: list i has the successors of number i, and the numbers are those below the
 -- number of lists.
-use Rattle.std.specs.Prelude.{◌≡◌, ◌≢◌, ◌==◌, ℕ, ◌+◌, ◌-◌, ◌<◌, not, List, [], ◌∷◌, length, map, filter, find, nat_le, Some, All, AllPairs, Contains, slice_index}
+use Rattle.std.specs.Prelude.{◌≡◌, ◌≢◌, ◌==◌, ℕ, ◌+◌, ◌-◌, ◌<◌, ◌≤◌, not, List, [], ◌∷◌, length, map, filter, find, nat_le, Some, All, AllPairs, Contains, slice_index}
 use Rattle.std.specs.List.{slice_index_or}
 use Rattle.std.specs.Global.{Vec}
 
@@ -23,6 +23,11 @@ AreNumbers lists numbers = All (λ n. n < length lists) numbers
 -- each successor of each number is a number of the graph
 abbrev pub IsGraph : List (List ℕ) → Type 0
 IsGraph lists = (n : ℕ) → AreNumbers lists (successors_of lists n)
+
+-- a graph of at most 4294967295 numbers
+pub record IsSmallGraph (vectors : List (Vec ℕ)) : Type 0 where
+  pub count : length vectors ≤ 4294967295
+  pub graph : IsGraph (lists_of vectors)
 
 -- no number is in the list twice
 abbrev pub IsDistinct : List ℕ → Type 0

@@ -1,6 +1,6 @@
 -- Orders of a graph's numbers, each after its successors.
-use Rattle.std.specs.Prelude.{◌≡◌, ℕ, ◌<◌, ◌≤◌, List, length, take, All, Contains, EachIndex, slice_index}
-use Rattle.oci_plan.specs.Graph.{successors_of, AreNumbers, IsGraph, IsDistinct}
+use Rattle.std.specs.Prelude.{◌≡◌, ℕ, ◌<◌, ◌≤◌, List, length, map, take, All, Contains, EachIndex, slice_index}
+use Rattle.oci_plan.specs.Graph.{successors_of, without_doubles, AreNumbers, IsGraph, IsDistinct}
 
 -- each number of the sequence follows its successors
 abbrev pub FollowsSuccessors : List (List ℕ) → List ℕ → Type 0
@@ -27,3 +27,9 @@ pub record IsOrder (o : Ordered) : Type 0 where
   pub graph : IsGraph o.lists
   pub no_doubles : (n : ℕ) → IsDistinct (successors_of o.lists n)
   pub topological : IsTopological o.lists o.sequence
+
+-- an order of the graph with these lists, once each list has lost its doubles
+pub record IsOrderOf (lists : List (List ℕ)) (o : Ordered) : Type 0 where
+  pub order : IsOrder o
+  pub distinct : o.lists ≡ map without_doubles lists
+  pub topological : IsTopological lists o.sequence

@@ -13,7 +13,7 @@ use Rattle.oci_store.specs.Graph.{Node, nodes_of}
 use Rattle.oci_store.specs.declared.fault.FetchFault.{FetchFault}
 use Rattle.oci_store.specs.declared.fault.FetchFault.TheVariants as fetch
 use Rattle.oci_plan.specs.Fault.{Names}
-use Rattle.oci_plan.specs.Met.{IsListedUnder}
+use Rattle.oci_plan.specs.Met.{IsListedUnder, NamesMet}
 use Rattle.oci_plan.specs.Outside.{IsVisited, IsToBring, IsCycleAlong, IsKeyCycle}
 use Rattle.oci_store.specs.Visiting.{candidates, IsVisiting}
 use Rattle.oci_plan.specs.Visiting.{successors_at, is_fresh, passes, IsWithin, IsOnlyInDestination, IsSoundVisit, IsNextVisited}
@@ -64,6 +64,11 @@ IsKeyFault honest fails entries limit fault.TooMany = Unit {0}
 abbrev pub IsOfKey : Descriptor → PlanFault → Type 0
 IsOfKey k e = Names (λ named. named ≡ k) (λ keys. ⊥) ⊥ e
 
+-- the fault is true of this key, or is a memory error
+pub record IsTrueOfKey (honest : Type 0) (fails : Descriptor → Bool) (entries : List Entry) (limit : ℕ) (k : Descriptor) (e : PlanFault) : Type 0 where
+  pub cause : IsKeyFault honest fails entries limit e
+  pub named : IsOfKey k e
+
 -- the fault names no key that only the destination has
 abbrev pub NamesNoneOnlyInDestination : List Entry → List Node → PlanFault → Type 0
 NamesNoneOnlyInDestination entries held e =
@@ -97,3 +102,12 @@ pub record HasTooMany (existing : Existing) (entries : List Entry) (held : List 
 abbrev pub IsFirstFault : Existing → List Entry → List Node → List Descriptor → ℕ → PlanFault → Type 0
 IsFirstFault existing entries held roots limit e = Names (IsNextVisited existing (nodes_of entries) entries held roots limit)
     (IsCycleToBring existing entries held roots limit) (HasTooMany existing entries held roots limit) e
+
+-- The fault is true of the keys that it names: the walk met and visits each, and none is only in
+-- the destination. If the source is honest, it is the first.
+pub record IsTrueOfWalk (honest : Type 0) (fails : Descriptor → Bool) (existing : Existing) (entries : List Entry) (held : List Node) (roots : List Descriptor) (limit : ℕ) (e : PlanFault) : Type 0 where
+  pub cause : IsKeyFault honest fails entries limit e
+  pub spared : NamesNoneOnlyInDestination entries held e
+  pub named : NamesVisited existing held e
+  pub met : NamesMet existing entries held roots e
+  pub first : honest → IsFirstFault existing entries held roots limit e

@@ -1,8 +1,11 @@
 -- The search that finds an order: its state at each moment, and that it ends.
-use Rattle.std.specs.Prelude.{◌≡◌, ◌≢◌, ℕ, ◌+◌, ◌-◌, ◌<◌, ◌≤◌, ◌^◌, List, length, take, drop, All, Contains, sum_by, slice_index}
+use Rattle.std.specs.Prelude.{◌≡◌, ◌≢◌, ℕ, ◌+◌, ◌-◌, ◌<◌, ◌≤◌, ◌^◌, List, length, take, drop, All, Contains, Result, MatchResult, sum_by, slice_index}
 use Rattle.std.specs.List.{slice_index_or}
-use Rattle.oci_plan.specs.Graph.{successors_of, IsDistinct, IsPath}
+use Rattle.std.specs.Global.{Vec}
+use Rattle.oci_plan.specs.Fault.{IsCauseOf}
+use Rattle.oci_plan.specs.Graph.{lists_of, successors_of, IsGraph, IsDistinct, IsPath}
 use Rattle.oci_plan.specs.Order.{FollowsSuccessors}
+use Rattle.oci_plan.specs.declared.fault.OrderFault.{OrderFault}
 use Rattle.oci_plan.specs.declared.ordering.search.Progress.{Progress}
 use Rattle.oci_plan.specs.declared.ordering.search.Search.{Search}
 use Rattle.oci_plan.specs.declared.ordering.search.Progress.TheVariants.{New, Open, Done}
@@ -62,3 +65,30 @@ pub record IsTailFrom (path : List ℕ) (n : ℕ) (tail : List ℕ) : Type 0 whe
 -- the search is between two steps
 abbrev pub IsBetween : List (List ℕ) → Search → Type 0
 IsBetween lists s = IsSound lists s.progress.items s.path.items s.sequence.items
+
+-- the search is between two steps, and n is a number of the graph
+pub record IsBetweenAt (vectors : List (Vec ℕ)) (s : Search) (n : ℕ) : Type 0 where
+  pub number : n < length vectors
+  pub between : IsBetween (lists_of vectors) s
+
+-- each successor of each number is a number, and the search is between two steps
+pub record IsSearching (lists : List (List ℕ)) (s : Search) : Type 0 where
+  pub graph : IsGraph lists
+  pub between : IsBetween lists s
+
+-- the number at the path's end is open, and its `count` finished successors are all that it has
+pub record IsSpent (lists : List (List ℕ)) (s : Search) (n count : ℕ) : Type 0 where
+  pub last : EndsWith s.path.items n
+  pub progress : progress_of s.progress.items n ≡ Open count
+  pub all : length (successors_of lists n) ≤ count
+
+-- a step brought the search between two steps again; less work is left, and each number that was
+-- met before is still met
+pub record IsStepped (lists : List (List ℕ)) (old new : Search) : Type 0 where
+  pub between : IsBetween lists new
+  pub smaller : work_left new.progress.items < work_left old.progress.items
+  pub keeps : KeepsMet old.progress.items new.progress.items
+
+-- the outcome of a step: it was made, or its fault is true of the graph
+abbrev pub Steps : List (List ℕ) → Search → Search → Result Unit OrderFault → Type 0
+Steps lists old new result = MatchResult result (λ _. IsStepped lists old new) (IsCauseOf lists)

@@ -28,6 +28,11 @@ passes Descend held = λ _. true
 abbrev pub IsWithin : ℕ → Descriptor → Type 0
 IsWithin limit k = kind_of k.media_type ≢ Leaf → k.size ≤ limit
 
+-- the source has the key, and a manifest's size is within the limit
+pub record IsAdmitted (entries : List Entry) (limit : ℕ) (k : Descriptor) : Type 0 where
+  pub there : has_key entries k ≡ true
+  pub within : IsWithin limit k
+
 -- the source has the key; a manifest's size is within the limit, and its bytes read
 pub record IsSoundItem (entries : List Entry) (limit : ℕ) (k : Descriptor) : Type 0 where
   pub there : has_key entries k ≡ true

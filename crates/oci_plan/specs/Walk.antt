@@ -1,18 +1,18 @@
 -- The walk that finds the keys of a plan: the keys that were visited, and the numbers of their
 -- successors.
-use Rattle.std.specs.Prelude.{◌≡◌, ◌↔◌, ℕ, ◌≤◌, ◌⊎◌, Bool, true, false, List, length, Some, Ok, filter, Contains}
+use Rattle.std.specs.Prelude.{◌≡◌, ◌↔◌, ℕ, ◌≤◌, ◌⊎◌, Bool, true, false, List, length, Some, Ok, filter, slice_get, Contains}
 use Rattle.std.specs.List.{All, AllZip, IsDistinct}
 use Rattle.std.specs.Global.{Vec}
 use Rattle.oci_manifest.specs.Descriptor.{Descriptor, same_key}
 use Rattle.oci_manifest.specs.Manifest.{first_places}
 use Rattle.oci_store.specs.Keyed.{value_at, has_key}
-use Rattle.oci_store.specs.Content.{Entry, succ_of}
+use Rattle.oci_store.specs.Content.{Entry, Matches, succ_of}
 use Rattle.oci_store.specs.Graph.{Node, nodes_of}
 use Rattle.oci_manifest.specs.declared.fault.ManifestFault.{ManifestFault}
 use Rattle.oci_manifest.specs.declared.fault.ManifestFault.TheVariants as reading
 use Rattle.oci_store.specs.declared.fault.FetchFault.{FetchFault}
 use Rattle.oci_store.specs.declared.fault.FetchFault.TheVariants as fetch
-use Rattle.oci_store.specs.Visiting.{candidates, with_keys, IsVisiting}
+use Rattle.oci_store.specs.Visiting.{candidates, with_key, with_keys, IsVisiting}
 use Rattle.oci_plan.specs.Met.{IsMet, IsListedUnder}
 use Rattle.oci_plan.specs.Outside.{IsVisited, IsToBring}
 use Rattle.oci_plan.specs.Visiting.{successors_at, is_fresh, passes, IsWithin, IsSoundVisit}
@@ -22,6 +22,12 @@ use Rattle.oci_plan.specs.declared.gathering.Existing.TheVariants.{Skip, Descend
 use Rattle.oci_plan.specs.declared.fault.PlanFault.{PlanFault}
 use Rattle.oci_plan.specs.declared.fault.PlanFault.TheVariants as fault
 
+-- the key has the number n; a key that had none was added to the keys
+pub record IsNumbered (old new : List Descriptor) (k : Descriptor) (n : ℕ) : Type 0 where
+  pub keys : new ≡ with_key old k
+  pub number : slice_get new n ≡ Some k
+  pub few : length new ≤ 4294967295
+
 -- the numbers name distinct keys that are listed; if the source is honest, they name exactly the
 -- listed keys that are not held
 pub record IsListOf (honest : Type 0) (entries : List Entry) (held : List Node) (keys : List Descriptor) (k : Descriptor) (numbers : Vec ℕ) : Type 0 where
@@ -30,6 +36,18 @@ pub record IsListOf (honest : Type 0) (entries : List Entry) (held : List Node) 
   pub distinct : IsDistinct same_key named
   pub under : All (IsListedUnder entries k) named
   pub own : honest → named ≡ filter (is_fresh held) (successors_at (nodes_of entries) k)
+
+-- the bytes match the key; if the source is honest, they are the key's bytes
+pub record IsFetched (honest : Type 0) (entries : List Entry) (k : Descriptor) (bytes : List ℕ) : Type 0 where
+  pub matching : Matches k bytes
+  pub own : honest → value_at entries k ≡ Some bytes
+
+-- each of these distinct keys is listed under the key; if the source is honest, they are exactly
+-- the keys that it lists there
+pub record IsListing (honest : Type 0) (entries : List Entry) (k : Descriptor) (keys : List Descriptor) : Type 0 where
+  pub listed : honest → keys ≡ successors_at (nodes_of entries) k
+  pub under : All (IsListedUnder entries k) keys
+  pub distinct : IsDistinct same_key keys
 
 -- the key passed its checks
 pub record IsPassed (honest : Type 0) (entries : List Entry) (limit : ℕ) (k : Descriptor) : Type 0 where

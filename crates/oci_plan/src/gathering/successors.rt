@@ -1,15 +1,10 @@
-ghost use Rattle.std.specs.Prelude.{◌≡◌, ◌≢◌, ◌<◌, ◌≤◌, ◌⊎◌, true, false, Some, Ok, IfOk, IfErr, OnOk, OnErr, MatchBool};
-ghost use Rattle.std.specs.List.{All, IsDistinct};
-ghost use Rattle.oci_manifest.specs.Descriptor.{same_key};
+ghost use Rattle.std.specs.Prelude.{◌≡◌, ◌≢◌, ◌<◌, ◌≤◌, ◌⊎◌, true, false, Ok, IfOk, IfErr, OnOk, OnErr, MatchBool};
 ghost use Rattle.oci_manifest.specs.MediaTypes.{kind_of};
 ghost use Rattle.oci_manifest.specs.declared.kind.Kind.TheVariants.{Leaf};
-ghost use Rattle.oci_store.specs.Content.{Matches};
-ghost use Rattle.oci_store.specs.Graph.{nodes_of};
-ghost use Rattle.oci_store.specs.Keyed.{has_key, value_at};
-ghost use Rattle.oci_plan.specs.Met.{IsListedUnder};
-ghost use Rattle.oci_plan.specs.Refusal.{IsKeyFault, IsOfKey};
-ghost use Rattle.oci_plan.specs.Visiting.{successors_at, IsWithin};
-ghost use Rattle.oci_plan.specs.Walk.{IsPassed, MayPass, fetch_refusal, read_refusal};
+ghost use Rattle.oci_store.specs.Keyed.{has_key};
+ghost use Rattle.oci_plan.specs.Refusal.{IsTrueOfKey};
+ghost use Rattle.oci_plan.specs.Visiting.{IsAdmitted};
+ghost use Rattle.oci_plan.specs.Walk.{IsFetched, IsListing, IsPassed, MayPass, fetch_refusal, read_refusal};
 
 use crate::fault::PlanFault;
 use bytes::Bytes;
@@ -28,12 +23,10 @@ fn is_within(kind: Kind, size: u64, limit: u64) -> bool
 }
 
 /// Checks the size of a manifest, then that the source has the key.
-fn check<A: Source>(source: &A, key: &Key, limit: u64) -> Result<(), PlanFault>
-    ensures there { OnOk result (has_key (A.state source.now).entries key.now ≡ true) }
-    ensures within { OnOk result (IsWithin limit key.now) }
-    ensures cause { IfErr result (IsKeyFault (A.state source.now).is_honest
-        (A.state source.now).fails_at (A.state source.now).entries limit) }
-    ensures named { IfErr result (IsOfKey key.now) }
+fn check_size_and_presence<A: Source>(source: &A, key: &Key, limit: u64) -> Result<(), PlanFault>
+    ensures admitted { OnOk result (IsAdmitted (A.state source.now).entries limit key.now) }
+    ensures refused { IfErr result (IsTrueOfKey (A.state source.now).is_honest
+        (A.state source.now).fails_at (A.state source.now).entries limit key.now) }
 {
     if !is_within(Kind::of(key.media_type()), key.size(), limit) {
         return Err(PlanFault::TooLarge(key.try_clone()?, limit));
@@ -60,14 +53,11 @@ fn fetch_fault(key: Key, fault: FetchFault) -> PlanFault
 #[tactic(auto, using(crate::proofs::Items::fetch_refused))]
 fn fetch<A: Source>(source: &A, key: &Key, limit: u64) -> Result<Bytes, PlanFault>
     requires manifest { kind_of key.now.media_type ≢ Leaf }
-    requires there { has_key (A.state source.now).entries key.now ≡ true }
-    requires within { IsWithin limit key.now }
-    ensures matching { IfOk result (λ bytes. Matches key.now bytes) }
-    ensures own { IfOk result (λ bytes. (A.state source.now).is_honest
-        → value_at (A.state source.now).entries key.now ≡ Some bytes) }
-    ensures cause { IfErr result (IsKeyFault (A.state source.now).is_honest
-        (A.state source.now).fails_at (A.state source.now).entries limit) }
-    ensures named { IfErr result (IsOfKey key.now) }
+    requires admitted { IsAdmitted (A.state source.now).entries limit key.now }
+    ensures fetched { IfOk result (λ bytes. IsFetched (A.state source.now).is_honest
+        (A.state source.now).entries key.now bytes) }
+    ensures refused { IfErr result (IsTrueOfKey (A.state source.now).is_honest
+        (A.state source.now).fails_at (A.state source.now).entries limit key.now) }
 {
     match source.fetch(key) {
         Ok(bytes) => Ok(bytes),
@@ -103,16 +93,12 @@ fn fetch_successors<A: Source>(
 ) -> Result<Vec<Key>, PlanFault>
     ensures passed { OnOk result (IsPassed (A.state source.now).is_honest
         (A.state source.now).entries limit key.now) }
-    ensures listed { IfOk result (λ keys. (A.state source.now).is_honest
-        → keys.items ≡ successors_at (nodes_of (A.state source.now).entries) key.now) }
-    ensures under { IfOk result (λ keys. All (IsListedUnder (A.state source.now).entries key.now)
-        keys.items) }
-    ensures distinct { IfOk result (λ keys. IsDistinct same_key keys.items) }
-    ensures cause { IfErr result (IsKeyFault (A.state source.now).is_honest
-        (A.state source.now).fails_at (A.state source.now).entries limit) }
-    ensures named { IfErr result (IsOfKey key.now) }
+    ensures listing { IfOk result (λ keys. IsListing (A.state source.now).is_honest
+        (A.state source.now).entries key.now keys.items) }
+    ensures refused { IfErr result (IsTrueOfKey (A.state source.now).is_honest
+        (A.state source.now).fails_at (A.state source.now).entries limit key.now) }
 {
-    check(source, key, limit)?;
+    check_size_and_presence(source, key, limit)?;
     let kind = Kind::of(key.media_type());
     match kind {
         Kind::Leaf => Ok(Vec::new(alloc)),
@@ -137,14 +123,10 @@ pub(crate) fn visited_successors<A: Source>(
 ) -> Result<Vec<Key>, PlanFault>
     ensures passed { OnOk result (MayPass (A.state source.now).is_honest
         (A.state source.now).entries is_held limit key.now) }
-    ensures listed { IfOk result (λ keys. (A.state source.now).is_honest
-        → keys.items ≡ successors_at (nodes_of (A.state source.now).entries) key.now) }
-    ensures under { IfOk result (λ keys. All (IsListedUnder (A.state source.now).entries key.now)
-        keys.items) }
-    ensures distinct { IfOk result (λ keys. IsDistinct same_key keys.items) }
-    ensures cause { IfErr result (IsKeyFault (A.state source.now).is_honest
-        (A.state source.now).fails_at (A.state source.now).entries limit) }
-    ensures named { IfErr result (IsOfKey key.now) }
+    ensures listing { IfOk result (λ keys. IsListing (A.state source.now).is_honest
+        (A.state source.now).entries key.now keys.items) }
+    ensures refused { IfErr result (IsTrueOfKey (A.state source.now).is_honest
+        (A.state source.now).fails_at (A.state source.now).entries limit key.now) }
     ensures asked { OnErr result ((is_held ≡ false) ⊎
         (has_key (A.state source.now).entries key.now ≡ true)) }
 {

@@ -1,14 +1,13 @@
-ghost use Rattle.std.specs.Prelude.{◌≡◌, ◌<◌, ◌≤◌, ◌++◌, [], ◌∷◌, length, filter, Some, slice_get, IfOk, IfErr, OnOk, OnSome, if◌then◌else◌};
+ghost use Rattle.std.specs.Prelude.{◌≡◌, ◌<◌, ◌≤◌, ◌++◌, [], ◌∷◌, length, filter, slice_get, IfOk, IfErr, OnOk, OnSome, if◌then◌else◌};
 ghost use Rattle.std.specs.List.{IsDistinct};
 ghost use Rattle.std.specs.Option.{option_copied};
 ghost use Rattle.oci_manifest.specs.Descriptor.{same_key};
 ghost use Rattle.oci_plan.specs.Fault.{Names};
-ghost use Rattle.oci_plan.specs.Met.{NamesMet};
 ghost use Rattle.oci_plan.specs.Plan.{Number};
-ghost use Rattle.oci_plan.specs.Refusal.{IsKeyFault, IsFirstFault, NamesNoneOnlyInDestination, NamesVisited};
+ghost use Rattle.oci_plan.specs.Refusal.{IsTrueOfWalk};
 ghost use Rattle.oci_store.specs.Visiting.{with_key, with_keys};
 ghost use Rattle.oci_plan.specs.Visiting.{is_fresh};
-ghost use Rattle.oci_plan.specs.Walk.{visits_of, noted, held_at, IsGathered};
+ghost use Rattle.oci_plan.specs.Walk.{visits_of, noted, held_at, IsGathered, IsNumbered};
 
 use super::Existing;
 use super::successors::visited_successors;
@@ -27,9 +26,7 @@ pub(crate) struct Visited {
 
 /// Returns the number of a key. A new key gets the next one.
 fn number(keys: &mut KeyList, key: &Key) -> Result<u32, PlanFault>
-    ensures keys { OnOk result (keys.new ≡ with_key keys.old key.now) }
-    ensures number { IfOk result (λ number. slice_get keys.new number ≡ Some key.now) }
-    ensures few { OnOk result (length keys.new ≤ 4294967295) }
+    ensures numbered { IfOk result (IsNumbered keys.old keys.new key.now) }
     ensures refused { IfErr result (Names (λ _. ⊥) (λ _. ⊥)
         (4294967295 < length (with_key keys.old key.now))) }
 {
@@ -97,7 +94,7 @@ fn visit_at<'a>(
 
 /// Adds keys that were met to `all`. With `Skip` only keys to copy are visited, and `all` stays
 /// empty.
-fn note(existing: Existing, all: &mut KeyList, met: &[Key]) -> Result<(), NoMemory>
+fn note_met(existing: Existing, all: &mut KeyList, met: &[Key]) -> Result<(), NoMemory>
     ensures { OnOk result (all.new ≡ noted existing all.old met.now) }
 {
     match existing {
@@ -141,28 +138,21 @@ pub(crate) fn visit<A: Source, D: Dest>(
         (A.state source.now).entries (D.state destination.now).nodes roots.now limit w.keys.items
         w.lists.items) }
     ensures distinct { IfOk result (λ w. IsDistinct same_key w.keys.items) }
-    ensures cause { IfErr result (IsKeyFault (A.state source.now).is_honest
-        (A.state source.now).fails_at (A.state source.now).entries limit) }
-    ensures spared { IfErr result (NamesNoneOnlyInDestination (A.state source.now).entries
-        (D.state destination.now).nodes) }
-    ensures named { IfErr result (NamesVisited existing (D.state destination.now).nodes) }
-    ensures met { IfErr result (NamesMet existing (A.state source.now).entries
-        (D.state destination.now).nodes roots.now) }
-    ensures first { IfErr result (λ e. (A.state source.now).is_honest
-        → IsFirstFault existing (A.state source.now).entries (D.state destination.now).nodes
-        roots.now limit e) }
+    ensures refused { IfErr result (IsTrueOfWalk (A.state source.now).is_honest
+        (A.state source.now).fails_at existing (A.state source.now).entries
+        (D.state destination.now).nodes roots.now limit) }
 {
     let mut keys = KeyList::new(alloc);
     let mut all = KeyList::new(alloc);
     let _ = number_fresh(alloc, destination, &mut keys, roots)?;
-    note(existing, &mut all, roots)?;
+    note_met(existing, &mut all, roots)?;
     let mut lists = Vec::new(alloc);
     let mut place = 0;
     while let Some(key) = visit_at(existing, &keys, &all, place) {
         let held = is_held(existing, destination, key);
         let successors = visited_successors(alloc, source, key, held, limit)?;
         let numbers = number_fresh(alloc, destination, &mut keys, &successors)?;
-        note(existing, &mut all, &successors)?;
+        note_met(existing, &mut all, &successors)?;
         keep(&mut lists, numbers, held)?;
         place += 1;
     }

@@ -1,5 +1,5 @@
 ghost use Rattle.std.specs.Prelude.{◌≡◌, ◌+◌, ◌<◌, ◌≤◌, length, map, All, IfOk, OnOk};
-ghost use Rattle.oci_plan.specs.Graph.{lists_of, without_doubles, IsGraph};
+ghost use Rattle.oci_plan.specs.Graph.{lists_of, without_doubles, IsSmallGraph};
 ghost use Rattle.oci_plan.specs.Doubles.{with_number, IsStamped};
 
 use std::alloc::{AllocError, Global};
@@ -43,8 +43,7 @@ fn first_places(
 
 /// Returns the lists of a graph, each with every number once, at its first place.
 pub(crate) fn drop_doubles(alloc: Global, lists: &[Vec<u32>]) -> Result<Vec<Vec<u32>>, AllocError>
-    requires count { length lists.now ≤ 4294967295 }
-    requires graph { IsGraph (lists_of lists.now) }
+    requires { IsSmallGraph lists.now }
     ensures { IfOk result (λ kept. lists_of kept.items ≡ map without_doubles (lists_of lists.now)) }
 {
     let mut seen = vec![in alloc; 0; lists.len()]?;

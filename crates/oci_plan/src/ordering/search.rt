@@ -1,8 +1,8 @@
-ghost use Rattle.std.specs.Prelude.{◌≡◌, ◌≢◌, ℕ, ◌<◌, ◌≤◌, [], length, Contains, IfOk, IfErr, OnOk, OnSome, slice_get};
-ghost use Rattle.oci_plan.specs.Graph.{lists_of, successors_of, IsGraph, HasEdge};
+ghost use Rattle.std.specs.Prelude.{◌≡◌, ◌≢◌, ℕ, ◌<◌, [], length, Contains, IfOk, IfErr, OnOk, OnSome, slice_get};
+ghost use Rattle.oci_plan.specs.Graph.{lists_of, successors_of, HasEdge, IsSmallGraph};
 ghost use Rattle.oci_plan.specs.Fault.{IsCauseOf};
 ghost use Rattle.oci_plan.specs.Order.{IsTopological};
-ghost use Rattle.oci_plan.specs.Search.{progress_of, work_left, KeepsMet, EndsWith, IsTailFrom, IsBetween};
+ghost use Rattle.oci_plan.specs.Search.{progress_of, KeepsMet, EndsWith, IsTailFrom, IsBetween, IsBetweenAt, IsSearching, IsSpent, IsStepped, Steps};
 ghost use Rattle.oci_plan.specs.declared.ordering.search.Progress.TheVariants.{New, Open, Done};
 
 use crate::fault::OrderFault;
@@ -59,17 +59,12 @@ impl Search {
 
     /// Appends a number that is met for the first time to the path.
     fn enter(&mut self, lists: &[Vec<u32>], number: u32) -> Result<(), OrderFault>
-        requires number { number < length lists.now }
+        requires at { IsBetweenAt lists.now self.old number }
         requires fresh { progress_of self.old.progress.items number ≡ New }
         requires edge { (last : ℕ) → EndsWith self.old.path.items last
             → HasEdge (lists_of lists.now) last number }
-        requires sound { IsBetween (lists_of lists.now) self.old }
-        ensures sound { OnOk result (IsBetween (lists_of lists.now) self.new) }
-        ensures smaller { OnOk result (work_left self.new.progress.items < work_left
-            self.old.progress.items) }
+        ensures step { Steps (lists_of lists.now) self.old self.new result }
         ensures met { OnOk result (progress_of self.new.progress.items number ≢ New) }
-        ensures keeps { OnOk result (KeepsMet self.old.progress.items self.new.progress.items) }
-        ensures refused { IfErr result (IsCauseOf (lists_of lists.now)) }
     {
         self.path.push(number)?;
         self.progress[number as usize] = Progress::Open(0);
@@ -78,31 +73,21 @@ impl Search {
 
     /// Counts one more successor of an open number as done.
     fn advance(&mut self, lists: &[Vec<u32>], number: u32, finished: usize, next: u32)
-        requires number { number < length lists.now }
+        requires at { IsBetweenAt lists.now self.old number }
         requires open { progress_of self.old.progress.items number ≡ Open finished }
         requires next { slice_get (successors_of (lists_of lists.now) number) finished ≡ Some next }
         requires within { finished < usize.MAX }
         requires done { progress_of self.old.progress.items next ≡ Done }
-        requires sound { IsBetween (lists_of lists.now) self.old }
-        ensures sound { IsBetween (lists_of lists.now) self.new }
-        ensures smaller { work_left self.new.progress.items < work_left self.old.progress.items }
-        ensures keeps { KeepsMet self.old.progress.items self.new.progress.items }
+        ensures { IsStepped (lists_of lists.now) self.old self.new }
     {
         self.progress[number as usize] = Progress::Open(finished + 1);
     }
 
     /// Moves the last number of the path into the sequence. Its successors are all done.
     fn finish(&mut self, lists: &[Vec<u32>], number: u32, finished: usize) -> Result<(), OrderFault>
-        requires number { number < length lists.now }
-        requires last { EndsWith self.old.path.items number }
-        requires open { progress_of self.old.progress.items number ≡ Open finished }
-        requires all { length (successors_of (lists_of lists.now) number) ≤ finished }
-        requires sound { IsBetween (lists_of lists.now) self.old }
-        ensures sound { OnOk result (IsBetween (lists_of lists.now) self.new) }
-        ensures smaller { OnOk result (work_left self.new.progress.items < work_left
-            self.old.progress.items) }
-        ensures keeps { OnOk result (KeepsMet self.old.progress.items self.new.progress.items) }
-        ensures refused { IfErr result (IsCauseOf (lists_of lists.now)) }
+        requires at { IsBetweenAt lists.now self.old number }
+        requires spent { IsSpent (lists_of lists.now) self.old number finished }
+        ensures { Steps (lists_of lists.now) self.old self.new result }
     {
         self.sequence.push(number)?;
         let _ = self.path.pop();
@@ -124,14 +109,9 @@ impl Search {
     /// Goes along one more edge from the last number of the path, or back from it if no edge is
     /// left.
     fn step(&mut self, lists: &[Vec<u32>], number: u32) -> Result<(), OrderFault>
-        requires graph { IsGraph (lists_of lists.now) }
+        requires searching { IsSearching (lists_of lists.now) self.old }
         requires last { EndsWith self.old.path.items number }
-        requires sound { IsBetween (lists_of lists.now) self.old }
-        ensures sound { OnOk result (IsBetween (lists_of lists.now) self.new) }
-        ensures smaller { OnOk result (work_left self.new.progress.items < work_left
-            self.old.progress.items) }
-        ensures keeps { OnOk result (KeepsMet self.old.progress.items self.new.progress.items) }
-        ensures refused { IfErr result (IsCauseOf (lists_of lists.now)) }
+        ensures { Steps (lists_of lists.now) self.old self.new result }
     {
         let Progress::Open(finished) = self.progress[number as usize] else {
             unreachable!()
@@ -151,10 +131,9 @@ impl Search {
 
     /// Puts a number, and all numbers that edges lead to from it, into the sequence.
     fn visit(&mut self, lists: &[Vec<u32>], start: u32) -> Result<(), OrderFault>
-        requires graph { IsGraph (lists_of lists.now) }
+        requires searching { IsSearching (lists_of lists.now) self.old }
         requires number { start < length lists.now }
         requires idle { self.old.path.items ≡ [] }
-        requires sound { IsBetween (lists_of lists.now) self.old }
         ensures sound { OnOk result (IsBetween (lists_of lists.now) self.new) }
         ensures idle { OnOk result (self.new.path.items ≡ []) }
         ensures met { OnOk result (progress_of self.new.progress.items start ≢ New) }
@@ -177,8 +156,7 @@ pub(crate) fn topological_sequence(
     alloc: Global,
     lists: &[Vec<u32>],
 ) -> Result<Vec<u32>, OrderFault>
-    requires count { length lists.now ≤ 4294967295 }
-    requires graph { IsGraph (lists_of lists.now) }
+    requires { IsSmallGraph lists.now }
     ensures ordered { IfOk result (λ sequence. IsTopological (lists_of lists.now) sequence.items) }
     ensures refused { IfErr result (IsCauseOf (lists_of lists.now)) }
 {

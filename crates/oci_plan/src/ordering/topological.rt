@@ -1,7 +1,7 @@
 ghost use Rattle.std.specs.Prelude.{◌≡◌, ℕ, ◌≤◌, List, length, map, find, nat_le, IfOk, IfErr, IfNone, IfSome, OnOk, Err, vec_len};
-ghost use Rattle.oci_plan.specs.Graph.{lists_of, without_doubles, IsGraph, IsCycle, IsFirstBad};
+ghost use Rattle.oci_plan.specs.Graph.{lists_of, without_doubles, IsGraph, IsSmallGraph, IsCycle, IsFirstBad};
 ghost use Rattle.oci_plan.specs.Fault.{IsCauseOf};
-ghost use Rattle.oci_plan.specs.Order.{IsTopological, IsOrder};
+ghost use Rattle.oci_plan.specs.Order.{IsOrder, IsOrderOf};
 
 use super::Order;
 use super::doubles::drop_doubles;
@@ -33,11 +33,8 @@ fn first_bad_number(lists: &[Vec<u32>]) -> Option<(u32, u32)>
 
 /// Returns the order of a graph whose lists have only its numbers.
 fn order_of_graph(alloc: Global, lists: &[Vec<u32>]) -> Result<Order, OrderFault>
-    requires count { length lists.now ≤ 4294967295 }
-    requires graph { IsGraph (lists_of lists.now) }
-    ensures lists { IfOk result (λ o. o.lists ≡ map without_doubles (lists_of lists.now)) }
-    ensures order { IfOk result IsOrder }
-    ensures topological { IfOk result (λ o. IsTopological (lists_of lists.now) o.sequence) }
+    requires { IsSmallGraph lists.now }
+    ensures order { IfOk result (IsOrderOf (lists_of lists.now)) }
     ensures refused { IfErr result (IsCauseOf (lists_of lists.now)) }
 {
     let sequence = topological_sequence(alloc, lists)?;

@@ -7,15 +7,12 @@ use Rattle.oci_plan.specs.Met.{IsListedUnder}
 use Rattle.oci_plan.proofs.Items.{absent_lists}
 use Rattle.oci_plan.proofs.gathering.successors.visited_successors.Goals as goal
 
-pub returns-then-not-exists-clause-listed : goal.returns-then-not-exists-clause-listed
-returns-then-not-exists-clause-listed g c = λ _.
-    let none : has_key (g.A.Store.state c.args.source.now).entries c.args.key.now ≡ false = search rules in
-    c.new.ensures.items ∙ absent_lists (g.A.Store.state c.args.source.now).entries c.args.key.now none
-
-pub returns-then-not-exists-clause-under : goal.returns-then-not-exists-clause-under
-returns-then-not-exists-clause-under g c =
-    subst (λ (ks : List Descriptor). All (IsListedUnder (g.A.Store.state c.args.source.now).entries c.args.key.now) ks) (sym c.new.ensures.items) (All-nil (IsListedUnder (g.A.Store.state c.args.source.now).entries c.args.key.now))
-
-pub returns-then-not-exists-clause-distinct : goal.returns-then-not-exists-clause-distinct
+pub returns-then-not-exists-clause-listing : goal.returns-then-not-exists-clause-listing
 unfolding IsDistinct
-returns-then-not-exists-clause-distinct g c = subst (λ (ks : List Descriptor). IsDistinct same_key ks) (sym c.new.ensures.items) tt
+returns-then-not-exists-clause-listing g c =
+    let none : has_key (g.A.Store.state c.args.source.now).entries c.args.key.now ≡ false = search rules in
+    record {
+      listed = λ _. c.new.ensures.items ∙ absent_lists (g.A.Store.state c.args.source.now).entries c.args.key.now none;
+      under = subst (λ (ks : List Descriptor). All (IsListedUnder (g.A.Store.state c.args.source.now).entries c.args.key.now) ks) (sym c.new.ensures.items) (All-nil (IsListedUnder (g.A.Store.state c.args.source.now).entries c.args.key.now));
+      distinct = subst (λ (ks : List Descriptor). IsDistinct same_key ks) (sym c.new.ensures.items) tt;
+    }

@@ -17,9 +17,9 @@ returns-in_err-number-clause-refused g c =
 pub loop-key-preserved : goal.loop-key-preserved
 loop-key-preserved g c =
     let it = numbered_more (is_fresh (g.D.Store.state c.args.destination.now).nodes) c.args.keys.now c.loop-key.keys c.number.new.keys c.args.successors.now c.loop-key.numbers.items c.loop-key.key-index c.in_ok-number.field-0 c.key-item.result
-    c.loop-key-test.true c.key-item.is (ap not (sym c.if-has.ensures)) c.loop-key.invariant.keys c.loop-key.invariant.numbers c.in_ok-number.ensures.keys c.in_ok-number.ensures.number in
+    c.loop-key-test.true c.key-item.is (ap not (sym c.if-has.ensures)) c.loop-key.invariant.keys c.loop-key.invariant.numbers c.in_ok-number.ensures.numbered.keys c.in_ok-number.ensures.numbered.number in
     record {
       keys = it.keys;
       numbers = subst (λ (ns : List ℕ). Number c.number.new.keys ns (filter (is_fresh (g.D.Store.state c.args.destination.now).nodes) (take (c.loop-key.key-index + 1) c.args.successors.now))) (sym c.in_ok-push.ensures.items) it.names;
-      few = c.in_ok-number.ensures.few;
+      few = c.in_ok-number.ensures.numbered.few;
     }
