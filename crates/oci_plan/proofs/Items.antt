@@ -1,5 +1,5 @@
 -- One visited key: what its checks, its fetch and its reading say of it.
-use Rattle.std.proofs.Common.{◌≡◌, ◌≢◌, ℕ, Bool, true, false, inl, inr, List, [], ◌∷◌, Option, Some, None, Result, Ok, Err, refl, sym, ap, ◌∙◌}
+use Rattle.std.proofs.Common.{◌≡◌, ◌≢◌, ℕ, true, false, inl, inr, List, [], ◌∷◌, Option, Some, None, Result, Ok, Err, refl, sym, ap, ◌∙◌}
 use Rattle.std.specs.Prelude.{option_map, is_some, unwrap_or}
 use Rattle.std.specs.Result.{result_unwrap_or}
 use Rattle.std.proofs.lemmas.Bool.{cases_Bool}
@@ -16,6 +16,7 @@ use Rattle.oci_manifest.proofs.Laws.{successors_of-distinct}
 use Rattle.oci_store.specs.Keyed.{value_at, has_key}
 use Rattle.oci_store.specs.Content.{Entry, Matches, succ_of, successors_in}
 use Rattle.oci_store.specs.Graph.{nodes_of}
+use Rattle.oci_store.specs.State.{State}
 use Rattle.oci_store.specs.declared.fault.FetchFault.{FetchFault}
 use Rattle.oci_store.specs.declared.fault.FetchFault.TheVariants as fetch
 use Rattle.oci_store.proofs.Membership.{Contains-from_among, All-from_among}
@@ -47,23 +48,23 @@ successors_at-nodes_of entries k bytes ks at reads =
 -- ---- refusals
 
 -- a refused fetch of a held key is told of it
-pub fetch_refused : (honest : Type 0) (fails : Descriptor → Bool) (entries : List Entry) (limit : ℕ) (k : Descriptor) (f : FetchFault) → kind_of k.media_type ≢ Leaf → IsWithin limit k → has_key entries k ≡ true
-    → (f ≡ fetch.NotFound → has_key entries k ≡ false) → (f ≡ fetch.Corrupt → fails k ≡ true) → (f ≡ fetch.Device → fails k ≡ true)
-    → IsTrueOfKey honest fails entries limit k (fetch_refusal k f)
-fetch_refused honest fails entries limit k fetch.NotFound manifest within there gone corrupt device = record { cause = (within, gone refl); named = refl }
-fetch_refused honest fails entries limit k fetch.Corrupt manifest within there gone corrupt device = record { cause = (manifest, within, there, corrupt refl, tt); named = refl }
-fetch_refused honest fails entries limit k fetch.Device manifest within there gone corrupt device = record { cause = (manifest, within, there, device refl, tt); named = refl }
-fetch_refused honest fails entries limit k fetch.Memory manifest within there gone corrupt device = record { cause = tt; named = tt }
+pub fetch_refused : (source : State) (limit : ℕ) (k : Descriptor) (f : FetchFault) → kind_of k.media_type ≢ Leaf → IsWithin limit k → has_key source.entries k ≡ true
+    → (f ≡ fetch.NotFound → has_key source.entries k ≡ false) → (f ≡ fetch.Corrupt → source.fails_at k ≡ true) → (f ≡ fetch.Device → source.fails_at k ≡ true)
+    → IsTrueOfKey source limit k (fetch_refusal k f)
+fetch_refused source limit k fetch.NotFound manifest within there gone corrupt device = record { cause = (within, gone refl); named = refl }
+fetch_refused source limit k fetch.Corrupt manifest within there gone corrupt device = record { cause = (manifest, within, there, corrupt refl, tt); named = refl }
+fetch_refused source limit k fetch.Device manifest within there gone corrupt device = record { cause = (manifest, within, there, device refl, tt); named = refl }
+fetch_refused source limit k fetch.Memory manifest within there gone corrupt device = record { cause = tt; named = tt }
 
 -- bytes of a held key that do not read are told of it
-pub read_refused : (honest : Type 0) (fails : Descriptor → Bool) (entries : List Entry) (limit : ℕ) (k : Descriptor) (bytes : List ℕ) (f : ManifestFault) → IsWithin limit k → has_key entries k ≡ true
-    → Matches k bytes → (honest → value_at entries k ≡ Some bytes) → Fails f (succ_of k bytes) → IsTrueOfKey honest fails entries limit k (read_refusal k f)
-read_refused honest fails entries limit k bytes f within there matching own h = go f h
+pub read_refused : (source : State) (limit : ℕ) (k : Descriptor) (bytes : List ℕ) (f : ManifestFault) → IsWithin limit k → has_key source.entries k ≡ true
+    → Matches k bytes → (source.is_honest → value_at source.entries k ≡ Some bytes) → Fails f (succ_of k bytes) → IsTrueOfKey source limit k (read_refusal k f)
+read_refused source limit k bytes f within there matching own h = go f h
   where
-    unread : (f : ManifestFault) (cause : Fault) → succ_of k bytes ≡ Err cause → IsFault f cause → IsUnread honest entries k f
+    unread : (f : ManifestFault) (cause : Fault) → succ_of k bytes ≡ Err cause → IsFault f cause → IsUnread source.is_honest source.entries k f
     unread f cause breaks tells = record { bytes = bytes; cause = cause; matching = matching; own = own; breaks = breaks; tells = tells }
 
-    go : (f : ManifestFault) → Fails f (succ_of k bytes) → IsTrueOfKey honest fails entries limit k (read_refusal k f)
+    go : (f : ManifestFault) → Fails f (succ_of k bytes) → IsTrueOfKey source limit k (read_refusal k f)
     go reading.NotJson h = record { cause = (within, there, unread reading.NotJson _ h refl); named = refl }
     go reading.NotObject h = record { cause = (within, there, unread reading.NotObject _ h refl); named = refl }
     go reading.NoConfig h = record { cause = (within, there, unread reading.NoConfig _ h refl); named = refl }
@@ -106,17 +107,17 @@ pub absent_lists : (entries : List Entry) (k : Descriptor) → has_key entries k
 absent_lists entries k h = sym (ap (λ (o : Option (List Descriptor)). unwrap_or o []) (value_at-nodes_of entries k ∙ ap (option_map (successors_in k)) (absent_bytes entries k h)))
 
 -- what a key's bytes list, and that it passed its checks
-pub record IsItemRead (honest : Type 0) (entries : List Entry) (limit : ℕ) (k : Descriptor) (keys : List Descriptor) : Type 0 where
-  pub passed : IsPassed honest entries limit k
-  pub listing : IsListing honest entries k keys
+pub record IsItemRead (source : State) (limit : ℕ) (k : Descriptor) (keys : List Descriptor) : Type 0 where
+  pub passed : IsPassed source.is_honest source.entries limit k
+  pub listing : IsListing source k keys
 
-pub item_read : (honest : Type 0) (entries : List Entry) (limit : ℕ) (k : Descriptor) (bytes : List ℕ) (keys : List Descriptor)
-    → IsWithin limit k → has_key entries k ≡ true → Matches k bytes → (honest → value_at entries k ≡ Some bytes) → succ_of k bytes ≡ Ok keys → IsItemRead honest entries limit k keys
-item_read honest entries limit k bytes keys within there matching own reads = record {
+pub item_read : (source : State) (limit : ℕ) (k : Descriptor) (bytes : List ℕ) (keys : List Descriptor)
+    → IsWithin limit k → has_key source.entries k ≡ true → Matches k bytes → (source.is_honest → value_at source.entries k ≡ Some bytes) → succ_of k bytes ≡ Ok keys → IsItemRead source limit k keys
+item_read source limit k bytes keys within there matching own reads = record {
   passed = record { there = there; within = within; reads = λ h. (bytes, keys, own h, reads) };
   listing = record {
-    listed = λ h. sym (successors_at-nodes_of entries k bytes keys (own h) reads);
-    under = All-from_among (IsListedUnder entries k) keys (λ to listed. record { there = there; bytes = bytes; listed = keys; checked = record { matching = matching; reads = reads }; lists = Contains-from_among keys to listed });
+    listed = λ h. sym (successors_at-nodes_of source.entries k bytes keys (own h) reads);
+    under = All-from_among (IsListedUnder source.entries k) keys (λ to listed. record { there = there; bytes = bytes; listed = keys; checked = record { matching = matching; reads = reads }; lists = Contains-from_among keys to listed });
     distinct = successors_of-distinct (kind_of k.media_type) bytes keys reads;
   };
 }

@@ -1,5 +1,5 @@
 -- What a walk meets, whatever bytes the source's device has now.
-use Rattle.std.proofs.Common.{◌≡◌, ◌<◌, Bool, true, false, inl, inr, ◌++◌, List, [], length, refl, sym, ap, subst, ◌∙◌}
+use Rattle.std.proofs.Common.{◌≡◌, ◌<◌, ℕ, Bool, true, false, inl, inr, ◌++◌, List, [], length, refl, sym, ap, subst, ◌∙◌}
 use Rattle.std.specs.List.{filter, All, IsDistinct}
 use Rattle.std.proofs.lemmas.Bool.{not-true}
 use Rattle.std.proofs.lemmas.List.Elements.{All-nil}
@@ -9,12 +9,13 @@ use Rattle.oci_manifest.proofs.Keys.{IsDistinct-first_places}
 use Rattle.oci_store.specs.Keyed.{has_key}
 use Rattle.oci_store.specs.Content.{Entry}
 use Rattle.oci_store.specs.Graph.{Node}
+use Rattle.oci_store.specs.State.{State}
 use Rattle.oci_store.specs.Visiting.{with_keys}
 use Rattle.oci_store.proofs.Membership.{Keys, Contains-from_among, among-filter, among-with_keys, All-from_among, All-among, first_places-append}
 use Rattle.oci_plan.specs.Fault.{Names}
 use Rattle.oci_plan.specs.Met.{IsListedUnder, IsMet, AreTooMany, NamesMet}
 use Rattle.oci_plan.specs.Met as path
-use Rattle.oci_plan.specs.Refusal.{IsOfKey}
+use Rattle.oci_plan.specs.Refusal.{IsOfKey, IsFirstFault, IsTrueOfWalk}
 use Rattle.oci_plan.specs.Visiting.{is_fresh, passes}
 use Rattle.oci_plan.specs.declared.gathering.Existing.{Existing}
 use Rattle.oci_plan.specs.declared.fault.PlanFault.{PlanFault}
@@ -40,6 +41,17 @@ names_many key cycle many keys (fault.Manifest named f) h refused = absurd refus
 names_many key cycle many keys (fault.Fetch named f) h refused = absurd refused
 names_many key cycle many keys fault.Memory h refused = tt
 names_many key cycle many keys fault.TooMany h refused = h refused
+
+-- a fault that names no key is true where it is met and first
+pub unnamed_true : (existing : Existing) (source destination : State) (roots : Keys) (limit : ℕ) (many : Type 0) (e : PlanFault) → Names (λ _. ⊥) (λ _. ⊥) many e
+    → NamesMet existing source.entries destination.nodes roots e → (source.is_honest → IsFirstFault existing source.entries destination.nodes roots limit e) → IsTrueOfWalk existing source destination roots limit e
+unnamed_true existing source destination roots limit many (fault.NotFound k) none met first = absurd none
+unnamed_true existing source destination roots limit many (fault.TooLarge k l) none met first = absurd none
+unnamed_true existing source destination roots limit many (fault.Cycle ks) none met first = absurd none
+unnamed_true existing source destination roots limit many (fault.Manifest k f) none met first = absurd none
+unnamed_true existing source destination roots limit many (fault.Fetch k f) none met first = absurd none
+unnamed_true existing source destination roots limit many fault.Memory none met first = record { cause = tt; spared = tt; named = tt; met = met; first = first }
+unnamed_true existing source destination roots limit many fault.TooMany none met first = record { cause = tt; spared = tt; named = tt; met = met; first = first }
 
 -- keys that stand in a list once each: the first places of some list
 pub once_more : (keys offered more grown : Keys) → keys ≡ first_places offered → grown ≡ with_keys keys more → grown ≡ first_places (offered ++ more)

@@ -1,13 +1,13 @@
 -- Orders without doubles, and that a graph with an order has no cycle.
 use Rattle.std.proofs.Common.{◌≡◌, ℕ, zero, suc, ◌+◌, ◌-◌, ◌<◌, ◌≤◌, inl, inr, List, [], length, take, map, get_or, Result, Ok, Err, sym, ap, ◌∙◌, arith, subst}
-use Rattle.std.specs.Prelude.{All, Contains, IfOk, OnOk}
+use Rattle.std.specs.Prelude.{All, Contains, MatchResult, OnOk}
 use Rattle.std.proofs.Math.ListN as math
 use Rattle.std.proofs.lemmas.Bool.{cases_lt}
 use Rattle.std.proofs.lemmas.Grind.{get_or_default_zero}
 use Rattle.std.proofs.lemmas.List.{length-map, length-take-le, get_or-take, get_or_past}
 use Rattle.std.proofs.lemmas.List.Elements.{All-contains}
 use Rattle.oci_plan.specs.Graph.{successors_of, without_doubles, HasEdge, IsDistinct, IsGraph, IsCycle}
-use Rattle.oci_plan.specs.Order.{Ordered, IsTopological, IsOrder}
+use Rattle.oci_plan.specs.Order.{Ordered, IsTopological, IsOrder, IsOrderOf}
 use Rattle.oci_plan.proofs.Doubles.{All-without_doubles, IsDistinct-without_doubles}
 
 -- a number's list without doubles
@@ -87,6 +87,6 @@ no_cycle lists sequence numbers t cycle =
     nowhere lists sequence numbers t cycle (length sequence) here.0 0 here.1 here.1 cycle.some at
 
 -- so where an order was answered, the graph has no cycle
-pub no_cycle_if_ok : {F : Type 0} (lists : List (List ℕ)) (r : Result Ordered F) → IfOk r (λ o. IsTopological lists o.sequence) → OnOk r ((numbers : List ℕ) → IsCycle lists numbers → ⊥)
-no_cycle_if_ok lists (Ok o) topological = λ numbers cycle. no_cycle lists o.sequence numbers topological cycle
-no_cycle_if_ok lists (Err fault) topological = tt
+pub no_cycle_if_ok : {F : Type 0} (lists : List (List ℕ)) (r : Result Ordered F) (Q : F → Type 0) → MatchResult r (IsOrderOf lists) Q → OnOk r ((numbers : List ℕ) → IsCycle lists numbers → ⊥)
+no_cycle_if_ok lists (Ok o) Q is = λ numbers cycle. no_cycle lists o.sequence numbers is.topological cycle
+no_cycle_if_ok lists (Err fault) Q is = tt

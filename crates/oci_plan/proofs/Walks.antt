@@ -19,12 +19,11 @@ use Rattle.oci_plan.specs.Met.{IsMet, IsListedUnder, NamesMet}
 use Rattle.oci_plan.specs.Outside.{IsToBring, IsVisited}
 use Rattle.oci_plan.specs.Visiting.{successors_at, is_fresh, passes, IsOnlyInDestination, IsSoundItem, IsSoundVisit, IsNextVisited}
 use Rattle.oci_plan.specs.Plan.{Number}
-use Rattle.oci_plan.specs.Refusal.{IsOfKey, HasTooMany, IsFirstFault, IsTrueOfWalk, NamesNoneOnlyInDestination}
+use Rattle.oci_plan.specs.Refusal.{IsOfKey, HasTooMany, IsFirstFault, NamesNoneOnlyInDestination}
 use Rattle.oci_plan.specs.Walk.{IsListOf, IsPassed, MayPass, IsVisitPassed, IsWalk, IsGathered, held_at, visits_of, noted}
 use Rattle.oci_plan.specs.declared.gathering.Existing.{Existing}
 use Rattle.oci_plan.specs.declared.gathering.Existing.TheVariants.{Skip, Descend}
 use Rattle.oci_plan.specs.declared.fault.PlanFault.{PlanFault}
-use Rattle.oci_plan.specs.declared.fault.PlanFault.TheVariants as fault
 use Rattle.oci_store.proofs.Membership.{Keys, Contains-from_among, among_from_Contains, among-filter, among_filter_from, among-first_places, first_places-append, with_keys-grows, among-append_left, among-with_keys, All-from_among, All-among, among_from_place, slice_get-with_keys}
 use Rattle.oci_store.proofs.Visits.{next_visit-at, candidates-push, first_places-all}
 use Rattle.oci_plan.proofs.Fresh.{fresh_more, filter-push_kept, filter-push_dropped}
@@ -381,13 +380,3 @@ module _ (honest : Type 0) (existing : Existing) (entries : List Entry) (held : 
       number_first (with_keys keys (filter (is_fresh held) successors)) (take i all ++ k ∷ []) e fault (walk_visiting all keys lists i k walk at h)
       (All-push (IsSoundVisit existing entries held limit) (take i all) k (all_sound h (take i all) walk.passed) (sound_visit honest existing entries held limit h k (visit_passed all keys (take i all) lists i k walk at may)))
       (found_more (is_fresh held) keys (take i all) successors k (walk.found_keys h) (own h))
-
-  -- a fault that names no key is true where it is met and first
-  pub unnamed_true : (fails : Descriptor → Bool) (many : Type 0) (e : PlanFault) → Names (λ _. ⊥) (λ _. ⊥) many e → NamesMet existing entries held roots e → (honest → IsFirstFault existing entries held roots limit e) → IsTrueOfWalk honest fails existing entries held roots limit e
-  unnamed_true fails many (fault.NotFound k) none met first = absurd none
-  unnamed_true fails many (fault.TooLarge k l) none met first = absurd none
-  unnamed_true fails many (fault.Cycle ks) none met first = absurd none
-  unnamed_true fails many (fault.Manifest k f) none met first = absurd none
-  unnamed_true fails many (fault.Fetch k f) none met first = absurd none
-  unnamed_true fails many fault.Memory none met first = record { cause = tt; spared = tt; named = tt; met = met; first = first }
-  unnamed_true fails many fault.TooMany none met first = record { cause = tt; spared = tt; named = tt; met = met; first = first }

@@ -10,6 +10,7 @@ use Rattle.oci_manifest.specs.declared.fault.ManifestFault.{ManifestFault}
 use Rattle.oci_store.specs.Keyed.{value_at, has_key, HasAll}
 use Rattle.oci_store.specs.Content.{Entry, Matches, succ_of}
 use Rattle.oci_store.specs.Graph.{Node, nodes_of}
+use Rattle.oci_store.specs.State.{State}
 use Rattle.oci_store.specs.declared.fault.FetchFault.{FetchFault}
 use Rattle.oci_store.specs.declared.fault.FetchFault.TheVariants as fetch
 use Rattle.oci_plan.specs.Fault.{Names}
@@ -65,8 +66,8 @@ abbrev pub IsOfKey : Descriptor → PlanFault → Type 0
 IsOfKey k e = Names (λ named. named ≡ k) (λ keys. ⊥) ⊥ e
 
 -- the fault is true of this key, or is a memory error
-pub record IsTrueOfKey (honest : Type 0) (fails : Descriptor → Bool) (entries : List Entry) (limit : ℕ) (k : Descriptor) (e : PlanFault) : Type 0 where
-  pub cause : IsKeyFault honest fails entries limit e
+pub record IsTrueOfKey (source : State) (limit : ℕ) (k : Descriptor) (e : PlanFault) : Type 0 where
+  pub cause : IsKeyFault source.is_honest source.fails_at source.entries limit e
   pub named : IsOfKey k e
 
 -- the fault names no key that only the destination has
@@ -105,9 +106,9 @@ IsFirstFault existing entries held roots limit e = Names (IsNextVisited existing
 
 -- The fault is true of the keys that it names: the walk met and visits each, and none is only in
 -- the destination. If the source is honest, it is the first.
-pub record IsTrueOfWalk (honest : Type 0) (fails : Descriptor → Bool) (existing : Existing) (entries : List Entry) (held : List Node) (roots : List Descriptor) (limit : ℕ) (e : PlanFault) : Type 0 where
-  pub cause : IsKeyFault honest fails entries limit e
-  pub spared : NamesNoneOnlyInDestination entries held e
-  pub named : NamesVisited existing held e
-  pub met : NamesMet existing entries held roots e
-  pub first : honest → IsFirstFault existing entries held roots limit e
+pub record IsTrueOfWalk (existing : Existing) (source destination : State) (roots : List Descriptor) (limit : ℕ) (e : PlanFault) : Type 0 where
+  pub cause : IsKeyFault source.is_honest source.fails_at source.entries limit e
+  pub spared : NamesNoneOnlyInDestination source.entries destination.nodes e
+  pub named : NamesVisited existing destination.nodes e
+  pub met : NamesMet existing source.entries destination.nodes roots e
+  pub first : source.is_honest → IsFirstFault existing source.entries destination.nodes roots limit e

@@ -1,6 +1,6 @@
 -- The walk that finds the keys of a plan: the keys that were visited, and the numbers of their
 -- successors.
-use Rattle.std.specs.Prelude.{◌≡◌, ◌↔◌, ℕ, ◌≤◌, ◌⊎◌, Bool, true, false, List, length, Some, Ok, filter, slice_get, Contains}
+use Rattle.std.specs.Prelude.{◌≡◌, ◌↔◌, ℕ, ◌≤◌, ◌⊎◌, Bool, true, false, List, length, Some, Result, Ok, MatchResult, filter, slice_get, Contains}
 use Rattle.std.specs.List.{All, AllZip, IsDistinct}
 use Rattle.std.specs.Global.{Vec}
 use Rattle.oci_manifest.specs.Descriptor.{Descriptor, same_key}
@@ -8,6 +8,7 @@ use Rattle.oci_manifest.specs.Manifest.{first_places}
 use Rattle.oci_store.specs.Keyed.{value_at, has_key}
 use Rattle.oci_store.specs.Content.{Entry, Matches, succ_of}
 use Rattle.oci_store.specs.Graph.{Node, nodes_of}
+use Rattle.oci_store.specs.State.{State}
 use Rattle.oci_manifest.specs.declared.fault.ManifestFault.{ManifestFault}
 use Rattle.oci_manifest.specs.declared.fault.ManifestFault.TheVariants as reading
 use Rattle.oci_store.specs.declared.fault.FetchFault.{FetchFault}
@@ -17,6 +18,7 @@ use Rattle.oci_plan.specs.Met.{IsMet, IsListedUnder}
 use Rattle.oci_plan.specs.Outside.{IsVisited, IsToBring}
 use Rattle.oci_plan.specs.Visiting.{successors_at, is_fresh, passes, IsWithin, IsSoundVisit}
 use Rattle.oci_plan.specs.Plan.{Number}
+use Rattle.oci_plan.specs.Refusal.{IsTrueOfKey}
 use Rattle.oci_plan.specs.declared.gathering.Existing.{Existing}
 use Rattle.oci_plan.specs.declared.gathering.Existing.TheVariants.{Skip, Descend}
 use Rattle.oci_plan.specs.declared.fault.PlanFault.{PlanFault}
@@ -38,16 +40,20 @@ pub record IsListOf (honest : Type 0) (entries : List Entry) (held : List Node) 
   pub own : honest → named ≡ filter (is_fresh held) (successors_at (nodes_of entries) k)
 
 -- the bytes match the key; if the source is honest, they are the key's bytes
-pub record IsFetched (honest : Type 0) (entries : List Entry) (k : Descriptor) (bytes : List ℕ) : Type 0 where
+pub record IsFetched (source : State) (k : Descriptor) (bytes : List ℕ) : Type 0 where
   pub matching : Matches k bytes
-  pub own : honest → value_at entries k ≡ Some bytes
+  pub own : source.is_honest → value_at source.entries k ≡ Some bytes
 
 -- each of these distinct keys is listed under the key; if the source is honest, they are exactly
 -- the keys that it lists there
-pub record IsListing (honest : Type 0) (entries : List Entry) (k : Descriptor) (keys : List Descriptor) : Type 0 where
-  pub listed : honest → keys ≡ successors_at (nodes_of entries) k
-  pub under : All (IsListedUnder entries k) keys
+pub record IsListing (source : State) (k : Descriptor) (keys : List Descriptor) : Type 0 where
+  pub listed : source.is_honest → keys ≡ successors_at (nodes_of source.entries) k
+  pub under : All (IsListedUnder source.entries k) keys
   pub distinct : IsDistinct same_key keys
+
+-- what a key lists was read: these keys, or a fault that is true of it
+abbrev pub Lists : State → ℕ → Descriptor → Result (Vec Descriptor) PlanFault → Type 0
+Lists source limit k result = MatchResult result (λ keys. IsListing source k keys.items) (IsTrueOfKey source limit k)
 
 -- the key passed its checks
 pub record IsPassed (honest : Type 0) (entries : List Entry) (limit : ℕ) (k : Descriptor) : Type 0 where

@@ -1,10 +1,10 @@
-ghost use Rattle.std.specs.Prelude.{◌≡◌, ◌≢◌, ◌<◌, ◌≤◌, ◌⊎◌, true, false, Ok, IfOk, IfErr, OnOk, OnErr, MatchBool};
+ghost use Rattle.std.specs.Prelude.{◌≡◌, ◌≢◌, ◌<◌, ◌≤◌, ◌⊎◌, true, false, Ok, OnOk, OnErr, MatchBool, MatchResult};
 ghost use Rattle.oci_manifest.specs.MediaTypes.{kind_of};
 ghost use Rattle.oci_manifest.specs.declared.kind.Kind.TheVariants.{Leaf};
 ghost use Rattle.oci_store.specs.Keyed.{has_key};
 ghost use Rattle.oci_plan.specs.Refusal.{IsTrueOfKey};
 ghost use Rattle.oci_plan.specs.Visiting.{IsAdmitted};
-ghost use Rattle.oci_plan.specs.Walk.{IsFetched, IsListing, IsPassed, MayPass, fetch_refusal, read_refusal};
+ghost use Rattle.oci_plan.specs.Walk.{IsFetched, IsPassed, Lists, MayPass, fetch_refusal, read_refusal};
 
 use crate::fault::PlanFault;
 use bytes::Bytes;
@@ -24,9 +24,8 @@ fn is_within(kind: Kind, size: u64, limit: u64) -> bool
 
 /// Checks the size of a manifest, then that the source has the key.
 fn check_size_and_presence<A: Source>(source: &A, key: &Key, limit: u64) -> Result<(), PlanFault>
-    ensures admitted { OnOk result (IsAdmitted (A.state source.now).entries limit key.now) }
-    ensures refused { IfErr result (IsTrueOfKey (A.state source.now).is_honest
-        (A.state source.now).fails_at (A.state source.now).entries limit key.now) }
+    ensures { MatchResult result (λ _. IsAdmitted (A.state source.now).entries limit key.now)
+        (IsTrueOfKey (A.state source.now) limit key.now) }
 {
     if !is_within(Kind::of(key.media_type()), key.size(), limit) {
         return Err(PlanFault::TooLarge(key.try_clone()?, limit));
@@ -54,10 +53,8 @@ fn fetch_fault(key: Key, fault: FetchFault) -> PlanFault
 fn fetch<A: Source>(source: &A, key: &Key, limit: u64) -> Result<Bytes, PlanFault>
     requires manifest { kind_of key.now.media_type ≢ Leaf }
     requires admitted { IsAdmitted (A.state source.now).entries limit key.now }
-    ensures fetched { IfOk result (λ bytes. IsFetched (A.state source.now).is_honest
-        (A.state source.now).entries key.now bytes) }
-    ensures refused { IfErr result (IsTrueOfKey (A.state source.now).is_honest
-        (A.state source.now).fails_at (A.state source.now).entries limit key.now) }
+    ensures { MatchResult result (IsFetched (A.state source.now) key.now)
+        (IsTrueOfKey (A.state source.now) limit key.now) }
 {
     match source.fetch(key) {
         Ok(bytes) => Ok(bytes),
@@ -93,10 +90,7 @@ fn fetch_successors<A: Source>(
 ) -> Result<Vec<Key>, PlanFault>
     ensures passed { OnOk result (IsPassed (A.state source.now).is_honest
         (A.state source.now).entries limit key.now) }
-    ensures listing { IfOk result (λ keys. IsListing (A.state source.now).is_honest
-        (A.state source.now).entries key.now keys.items) }
-    ensures refused { IfErr result (IsTrueOfKey (A.state source.now).is_honest
-        (A.state source.now).fails_at (A.state source.now).entries limit key.now) }
+    ensures lists { Lists (A.state source.now) limit key.now result }
 {
     check_size_and_presence(source, key, limit)?;
     let kind = Kind::of(key.media_type());
@@ -123,10 +117,7 @@ pub(crate) fn visited_successors<A: Source>(
 ) -> Result<Vec<Key>, PlanFault>
     ensures passed { OnOk result (MayPass (A.state source.now).is_honest
         (A.state source.now).entries is_held limit key.now) }
-    ensures listing { IfOk result (λ keys. IsListing (A.state source.now).is_honest
-        (A.state source.now).entries key.now keys.items) }
-    ensures refused { IfErr result (IsTrueOfKey (A.state source.now).is_honest
-        (A.state source.now).fails_at (A.state source.now).entries limit key.now) }
+    ensures lists { Lists (A.state source.now) limit key.now result }
     ensures asked { OnErr result ((is_held ≡ false) ⊎
         (has_key (A.state source.now).entries key.now ≡ true)) }
 {

@@ -138,9 +138,8 @@ pub(crate) fn visit<A: Source, D: Dest>(
         (A.state source.now).entries (D.state destination.now).nodes roots.now limit w.keys.items
         w.lists.items) }
     ensures distinct { IfOk result (λ w. IsDistinct same_key w.keys.items) }
-    ensures refused { IfErr result (IsTrueOfWalk (A.state source.now).is_honest
-        (A.state source.now).fails_at existing (A.state source.now).entries
-        (D.state destination.now).nodes roots.now limit) }
+    ensures refused { IfErr result (IsTrueOfWalk existing (A.state source.now)
+        (D.state destination.now) roots.now limit) }
 {
     let mut keys = KeyList::new(alloc);
     let mut all = KeyList::new(alloc);

@@ -1,4 +1,4 @@
-ghost use Rattle.std.specs.Prelude.{◌≡◌, ◌≢◌, ℕ, ◌<◌, [], length, Contains, IfOk, IfErr, OnOk, OnSome, slice_get};
+ghost use Rattle.std.specs.Prelude.{◌≡◌, ◌≢◌, ℕ, ◌<◌, [], length, Contains, MatchResult, IfOk, IfErr, OnOk, OnSome, slice_get};
 ghost use Rattle.oci_plan.specs.Graph.{lists_of, successors_of, HasEdge, IsSmallGraph};
 ghost use Rattle.oci_plan.specs.Fault.{IsCauseOf};
 ghost use Rattle.oci_plan.specs.Order.{IsTopological};
@@ -157,8 +157,8 @@ pub(crate) fn topological_sequence(
     lists: &[Vec<u32>],
 ) -> Result<Vec<u32>, OrderFault>
     requires { IsSmallGraph lists.now }
-    ensures ordered { IfOk result (λ sequence. IsTopological (lists_of lists.now) sequence.items) }
-    ensures refused { IfErr result (IsCauseOf (lists_of lists.now)) }
+    ensures { MatchResult result (λ sequence. IsTopological (lists_of lists.now) sequence.items)
+        (IsCauseOf (lists_of lists.now)) }
 {
     let mut search = Search::new(alloc, lists)?;
     for start in 0..lists.len() {

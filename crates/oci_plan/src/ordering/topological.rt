@@ -1,4 +1,4 @@
-ghost use Rattle.std.specs.Prelude.{◌≡◌, ℕ, ◌≤◌, List, length, map, find, nat_le, IfOk, IfErr, IfNone, IfSome, OnOk, Err, vec_len};
+ghost use Rattle.std.specs.Prelude.{◌≡◌, ℕ, ◌≤◌, List, length, map, find, nat_le, IfOk, IfErr, IfNone, IfSome, OnOk, MatchResult, Err, vec_len};
 ghost use Rattle.oci_plan.specs.Graph.{lists_of, without_doubles, IsGraph, IsSmallGraph, IsCycle, IsFirstBad};
 ghost use Rattle.oci_plan.specs.Fault.{IsCauseOf};
 ghost use Rattle.oci_plan.specs.Order.{IsOrder, IsOrderOf};
@@ -34,8 +34,8 @@ fn first_bad_number(lists: &[Vec<u32>]) -> Option<(u32, u32)>
 /// Returns the order of a graph whose lists have only its numbers.
 fn order_of_graph(alloc: Global, lists: &[Vec<u32>]) -> Result<Order, OrderFault>
     requires { IsSmallGraph lists.now }
-    ensures order { IfOk result (IsOrderOf (lists_of lists.now)) }
-    ensures refused { IfErr result (IsCauseOf (lists_of lists.now)) }
+    ensures { MatchResult result (IsOrderOf (lists_of lists.now))
+        (IsCauseOf (lists_of lists.now)) }
 {
     let sequence = topological_sequence(alloc, lists)?;
     let distinct = drop_doubles(alloc, lists)?;

@@ -7,9 +7,9 @@ use Rattle.oci_plan.specs.Met.{IsListedUnder}
 use Rattle.oci_plan.proofs.Items.{absent_lists}
 use Rattle.oci_plan.proofs.gathering.successors.visited_successors.Goals as goal
 
-pub returns-then-not-exists-clause-listing : goal.returns-then-not-exists-clause-listing
+pub returns-then-not-exists-clause-lists : goal.returns-then-not-exists-clause-lists
 unfolding IsDistinct
-returns-then-not-exists-clause-listing g c =
+returns-then-not-exists-clause-lists g c =
     let none : has_key (g.A.Store.state c.args.source.now).entries c.args.key.now ≡ false = search rules in
     record {
       listed = λ _. c.new.ensures.items ∙ absent_lists (g.A.Store.state c.args.source.now).entries c.args.key.now none;

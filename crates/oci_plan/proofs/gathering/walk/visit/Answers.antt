@@ -7,8 +7,8 @@ use Rattle.oci_store.specs.Visiting.{with_keys}
 use Rattle.oci_plan.specs.Visiting.{is_fresh}
 use Rattle.oci_plan.specs.Walk.{IsWalk, IsGathered, visits_of, noted}
 use Rattle.oci_store.proofs.Membership.{past_from_none}
-use Rattle.oci_plan.proofs.Walks.{visits_start, visits_more, walk_start, walk_step, walk_end, place_passes, spared_of, place_met, item_first, roots_first, successors_first, successors_met, unnamed_true}
-use Rattle.oci_plan.proofs.Mets.{names_key, roots_met}
+use Rattle.oci_plan.proofs.Walks.{visits_start, visits_more, walk_start, walk_step, walk_end, place_passes, spared_of, place_met, item_first, roots_first, successors_first, successors_met}
+use Rattle.oci_plan.proofs.Mets.{names_key, unnamed_true, roots_met}
 use Rattle.oci_plan.proofs.gathering.walk.visit.Goals as goal
 
 pub returns-in_err-number_fresh-clause-refused : goal.returns-in_err-number_fresh-clause-refused
@@ -16,7 +16,7 @@ returns-in_err-number_fresh-clause-refused g c =
     let p = err_from_is_err_and c.from_residual.result c.from_residual.ensures.1 in
     let fault = rw c.new-keys.ensures at c.in_err-number_fresh.ensures.refused in
     let met = roots_met c.args.existing (g.A.Store.state c.args.source.now).entries (g.D.Store.state c.args.destination.now).nodes c.args.roots.now c.in_err-number_fresh.field-0.0 fault in
-    rw (p.1, p.2) (unnamed_true (g.A.Store.state c.args.source.now).is_honest c.args.existing (g.A.Store.state c.args.source.now).entries (g.D.Store.state c.args.destination.now).nodes c.args.roots.now c.args.limit (g.A.Store.state c.args.source.now).fails_at _ c.in_err-number_fresh.field-0.0 fault met (λ _. roots_first (g.A.Store.state c.args.source.now).is_honest c.args.existing (g.A.Store.state c.args.source.now).entries (g.D.Store.state c.args.destination.now).nodes c.args.roots.now c.args.limit c.in_err-number_fresh.field-0.0 fault))
+    rw (p.1, p.2) (unnamed_true c.args.existing (g.A.Store.state c.args.source.now) (g.D.Store.state c.args.destination.now) c.args.roots.now c.args.limit _ c.in_err-number_fresh.field-0.0 fault met (λ _. roots_first (g.A.Store.state c.args.source.now).is_honest c.args.existing (g.A.Store.state c.args.source.now).entries (g.D.Store.state c.args.destination.now).nodes c.args.roots.now c.args.limit c.in_err-number_fresh.field-0.0 fault))
 
 pub loop-key-init : goal.loop-key-init
 loop-key-init g c =
@@ -34,9 +34,9 @@ returns-in_err-successors-clause-refused g c =
     let pass = place_passes (g.A.Store.state c.args.source.now).is_honest c.args.existing (g.A.Store.state c.args.source.now).entries (g.D.Store.state c.args.destination.now).nodes c.args.roots.now c.args.limit (visits_of c.args.existing c.loop-key.keys c.loop-key.all) c.loop-key.keys (take c.loop-key.place (visits_of c.args.existing c.loop-key.keys c.loop-key.all)) c.loop-key.lists.items c.loop-key.place c.in-Some.key.now c.loop-key.invariant at in
     let was = place_met (g.A.Store.state c.args.source.now).is_honest c.args.existing (g.A.Store.state c.args.source.now).entries (g.D.Store.state c.args.destination.now).nodes c.args.roots.now c.args.limit (visits_of c.args.existing c.loop-key.keys c.loop-key.all) c.loop-key.keys (take c.loop-key.place (visits_of c.args.existing c.loop-key.keys c.loop-key.all)) c.loop-key.lists.items c.loop-key.place c.in-Some.key.now c.loop-key.invariant at in
     let asked = rw c.is_held-held.ensures at c.in_err-successors.ensures.asked in
-    let of_key = c.in_err-successors.ensures.refused.named in
+    let of_key = c.in_err-successors.ensures.lists.named in
     rw (p.1, p.2) (record {
-      cause = c.in_err-successors.ensures.refused.cause;
+      cause = c.in_err-successors.ensures.lists.cause;
       spared = spared_of c.args.existing (g.A.Store.state c.args.source.now).entries (g.D.Store.state c.args.destination.now).nodes c.in-Some.key.now c.in_err-successors.field-0.0 pass asked of_key;
       named = names_key _ _ _ c.in-Some.key.now c.in_err-successors.field-0.0 pass of_key;
       met = names_key _ _ _ c.in-Some.key.now c.in_err-successors.field-0.0 was of_key;
@@ -50,10 +50,10 @@ returns-in_err-numbers-clause-refused g c =
     let fault = rw c.deref.ensures.value at c.in_err-numbers.ensures.refused in
     let may = rw c.is_held-held.ensures at c.in_ok-successors.ensures.passed in
     let met = successors_met (g.A.Store.state c.args.source.now).is_honest c.args.existing (g.A.Store.state c.args.source.now).entries (g.D.Store.state c.args.destination.now).nodes c.args.roots.now c.args.limit (visits_of c.args.existing c.loop-key.keys c.loop-key.all) c.loop-key.keys (take c.loop-key.place (visits_of c.args.existing c.loop-key.keys c.loop-key.all)) c.in_ok-successors.successors.items c.loop-key.lists.items c.loop-key.place c.in-Some.key.now c.in_err-numbers.field-0.0
-    c.loop-key.invariant at c.in_ok-successors.ensures.listing.under fault in
-    rw (p.1, p.2) (unnamed_true (g.A.Store.state c.args.source.now).is_honest c.args.existing (g.A.Store.state c.args.source.now).entries (g.D.Store.state c.args.destination.now).nodes c.args.roots.now c.args.limit (g.A.Store.state c.args.source.now).fails_at _ c.in_err-numbers.field-0.0 fault met
+    c.loop-key.invariant at c.in_ok-successors.ensures.lists.under fault in
+    rw (p.1, p.2) (unnamed_true c.args.existing (g.A.Store.state c.args.source.now) (g.D.Store.state c.args.destination.now) c.args.roots.now c.args.limit _ c.in_err-numbers.field-0.0 fault met
     (successors_first (g.A.Store.state c.args.source.now).is_honest c.args.existing (g.A.Store.state c.args.source.now).entries (g.D.Store.state c.args.destination.now).nodes c.args.roots.now c.args.limit (visits_of c.args.existing c.loop-key.keys c.loop-key.all) c.loop-key.keys c.in_ok-successors.successors.items c.loop-key.lists.items c.loop-key.place c.in-Some.key.now c.in_err-numbers.field-0.0
-    c.loop-key.invariant at may c.in_ok-successors.ensures.listing.listed fault))
+    c.loop-key.invariant at may c.in_ok-successors.ensures.lists.listed fault))
 
 pub loop-key-preserved : goal.loop-key-preserved
 loop-key-preserved g c =
@@ -66,7 +66,7 @@ loop-key-preserved g c =
     let visits = visits_more c.args.existing (g.D.Store.state c.args.destination.now).nodes c.loop-key.keys c.loop-key.all c.in_ok-successors.successors.items c.number_fresh-in-Some.new.keys c.note_met-in-Some.new.all is_keys is_all in
     walk_step (g.A.Store.state c.args.source.now).is_honest c.args.existing (g.A.Store.state c.args.source.now).entries (g.D.Store.state c.args.destination.now).nodes c.args.roots.now c.args.limit (visits_of c.args.existing c.loop-key.keys c.loop-key.all) c.loop-key.keys c.in_ok-successors.successors.items (visits_of c.args.existing c.number_fresh-in-Some.new.keys c.note_met-in-Some.new.all) c.number_fresh-in-Some.new.keys
     c.loop-key.lists.items c.keep.new.lists.items c.in_ok-numbers.numbers c.loop-key.place c.in-Some.key.now c.loop-key.invariant at
-    (record { may = may; own = c.in_ok-successors.ensures.listing.listed; under = c.in_ok-successors.ensures.listing.under; distinct = c.in_ok-successors.ensures.listing.distinct; is_all = visits; is_keys = is_keys; names = names; few = c.in_ok-numbers.ensures.few })
+    (record { may = may; own = c.in_ok-successors.ensures.lists.listed; under = c.in_ok-successors.ensures.lists.under; distinct = c.in_ok-successors.ensures.lists.distinct; is_all = visits; is_keys = is_keys; names = names; few = c.in_ok-numbers.ensures.few })
     is_lists
 
 pub returns-clause-gathered : goal.returns-clause-gathered

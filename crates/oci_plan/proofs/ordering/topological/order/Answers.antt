@@ -1,4 +1,3 @@
-use Rattle.std.proofs.lemmas.Result.{IfOk-weaker}
 use Rattle.oci_plan.specs.Graph.{lists_of, IsGraph, IsFirstBad}
 use Rattle.oci_plan.proofs.Numbers.{no_bad_number, first_bad_same}
 use Rattle.oci_plan.proofs.Orders.{no_cycle_if_ok}
@@ -10,16 +9,10 @@ returns-in-Some-clause-bad_number c = λ i n bad.
     let same = first_bad_same (lists_of c.args.lists.items) c.in-Some.list c.in-Some.number i n here bad in
     rw (same.0, same.1)
 
-pub returns-clause-lists : goal.returns-clause-lists
-returns-clause-lists c = rw (← c.deref-2.ensures.value) (IfOk-weaker c.order_of_graph.result _ _ (λ o is. is.distinct) c.order_of_graph.ensures.order)
-
-pub returns-clause-order : goal.returns-clause-order
-returns-clause-order c = IfOk-weaker c.order_of_graph.result _ _ (λ o is. is.order) c.order_of_graph.ensures.order
-
 pub returns-clause-no_cycle : goal.returns-clause-no_cycle
 returns-clause-no_cycle c =
     rw (← c.deref-2.ensures.value)
-    (no_cycle_if_ok (lists_of c.deref-2.result.now) c.order_of_graph.result (IfOk-weaker c.order_of_graph.result _ _ (λ o is. is.topological) c.order_of_graph.ensures.order))
+    (no_cycle_if_ok (lists_of c.deref-2.result.now) c.order_of_graph.result _ c.order_of_graph.ensures)
 
 pub returns-clause-bad_number : goal.returns-clause-bad_number
 returns-clause-bad_number c = λ i n bad.
