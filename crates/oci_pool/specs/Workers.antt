@@ -1,5 +1,5 @@
 -- The results and the fault of a worker.
-use Rattle.std.specs.Prelude.{ℕ, ◌<◌, ◌≤◌, List, length, slice_index_or, Option, Some, None, IfSome, IsSome, All}
+use Rattle.std.specs.Prelude.{◌≡◌, ◌⊎◌, ℕ, ◌<◌, ◌≤◌, List, length, slice_index_or, Option, Some, None, IfSome, IsSome, All}
 use Rattle.oci_pool.specs.declared.fault.PoolFault.{PoolFault}
 use Rattle.oci_pool.specs.declared.fault.PoolFault.TheVariants.{Job, Incomplete, BadWorkers, Memory}
 
@@ -28,6 +28,13 @@ GivesWay (Some (Job k f)) reported = IsJobUpTo k reported
 GivesWay (Some (Incomplete k)) reported = IsSome reported
 GivesWay (Some BadWorkers) reported = IsSome reported
 GivesWay (Some Memory) reported = IsSome reported
+
+-- the reported one of two faults: each of them gives way to it
+pub record IsFirstOf {F : Type 0} (count : ℕ) (fails : ℕ → F → Type 0) (a b reported : Option (PoolFault F)) : Type 0 where
+  pub fault : MayCome count fails reported
+  pub over_a : GivesWay a reported
+  pub over_b : GivesWay b reported
+  pub came : (reported ≡ a) ⊎ (reported ≡ b)
 
 -- each result is at its number
 abbrev pub InPlace : {O : Type 0} → (ℕ → O → Type 0) → List (Option O) → Type 0

@@ -1,8 +1,7 @@
-ghost use Rattle.std.specs.Prelude.{◌≡◌, ℕ, ◌<◌, ◌++◌, ◌∷◌, [], cond, length, All, vec_len, slice_index, IfOk, OnOk};
-ghost use Rattle.oci_plan.specs.Graph.{lists_of, successors_of, IsDistinct};
+ghost use Rattle.std.specs.Prelude.{◌≡◌, ℕ, ◌<◌, ◌++◌, ◌∷◌, [], cond, length, vec_len, IfOk, OnOk};
+ghost use Rattle.oci_plan.specs.Graph.{lists_of, successors_of};
 ghost use Rattle.oci_plan.specs.Doubles.{has};
-ghost use Rattle.oci_plan.specs.Order.{IsOrder};
-ghost use Rattle.oci_pool.specs.Board.{predecessors_of};
+ghost use Rattle.oci_pool.specs.Kept.{AreDistinctBelow, ArePredecessors, AreCounts};
 
 use oci_digest::NoMemory;
 use oci_plan::Order;
@@ -14,8 +13,7 @@ fn add_predecessor(
     list: &[u32],
     number: u32,
 ) -> Result<(), NoMemory>
-    requires numbers { All (λ k. k < length predecessors.old.items) list.now }
-    requires distinct { IsDistinct list.now }
+    requires { AreDistinctBelow (length predecessors.old.items) list.now }
     ensures len { OnOk result (length predecessors.new.items ≡ length predecessors.old.items) }
     ensures added { OnOk result ((k : ℕ) → k < length predecessors.old.items
         → successors_of (lists_of predecessors.new.items) k ≡ successors_of
@@ -52,10 +50,7 @@ fn list_of(order: &Order, number: u32) -> &[u32]
 
 /// Returns, for each number, the numbers that list it in ascending order.
 pub(crate) fn predecessors(alloc: Global, order: &Order) -> Result<Vec<Vec<u32>>, NoMemory>
-    requires { IsOrder order.now }
-    ensures len { IfOk result (λ v. vec_len v ≡ length order.now.lists) }
-    ensures predecessors { IfOk result (λ v. (k : ℕ) → k < length order.now.lists
-        → successors_of (lists_of v.items) k ≡ predecessors_of order.now.lists k) }
+    ensures { IfOk result (ArePredecessors order.now.lists) }
 {
     let count = order.len();
     let mut predecessors = empty_lists(alloc, count)?;
@@ -71,10 +66,7 @@ pub(crate) fn predecessors(alloc: Global, order: &Order) -> Result<Vec<Vec<u32>>
 
 /// Returns how many successors each number has.
 pub(crate) fn counts(alloc: Global, order: &Order) -> Result<Vec<usize>, NoMemory>
-    requires { IsOrder order.now }
-    ensures len { IfOk result (λ v. vec_len v ≡ length order.now.lists) }
-    ensures counts { IfOk result (λ v. (n : ℕ) → n < length order.now.lists
-        → slice_index v.items n ≡ length (successors_of order.now.lists n)) }
+    ensures { IfOk result (AreCounts order.now.lists) }
 {
     let count = order.len();
     let mut counts = Vec::with_capacity(alloc, count)?;

@@ -1,6 +1,6 @@
-ghost use Rattle.std.specs.Prelude.{◌≡◌, ◌<◌, ◌≤◌, [], ℕ, IfOk, IfErr, vec_len, vec_capacity, slice_index_or};
+ghost use Rattle.std.specs.Prelude.{◌≡◌, ◌≤◌, [], MatchResult, vec_capacity};
 ghost use Rattle.oci_pool.specs.Workers.{MayCome};
-ghost use Rattle.oci_pool.specs.Run.{AreDone, IsCause, Reports};
+ghost use Rattle.oci_pool.specs.Run.{AreResults, IsStop};
 
 use crate::fault::PoolFault;
 use crate::job::{Job, RunStart};
@@ -20,12 +20,8 @@ pub(super) fn answer<J: Job, T: RunStart<J::Out, J::Fault>>(
     requires room { (done.items ≡ []) × (all.items ≡ []) × (T.count ≤ vec_capacity done)
         × (T.count ≤ vec_capacity all) × (T.count ≤ 4294967295) }
     requires fault { MayCome T.count T.fails fault }
-    ensures results { IfOk result (λ v. (k : ℕ) (d : _) → k < vec_len v
-        → T.answers k (slice_index_or v.items k d)) }
-    ensures len { IfOk result (λ v. vec_len v ≡ T.count) }
-    ensures done { IfErr result (λ s. AreDone T.count T.answers s.done.items) }
-    ensures cause { IfErr result (λ s. IsCause T.workers T.fails s.fault) }
-    ensures reported { IfErr result (λ s. Reports T.workers T.count s.done.items s.fault) }
+    ensures { MatchResult result (AreResults T.count T.answers)
+        (λ s. IsStop T.workers T.count T.answers T.fails s.done.items s.fault) }
 {
     if let Some(fault) = fault {
         let done = table.list_done(done);

@@ -1,5 +1,5 @@
-ghost use Rattle.std.specs.Prelude.{◌≡◌, ◌⊎◌, All};
-ghost use Rattle.oci_pool.specs.Workers.{MayCome, GivesWay};
+ghost use Rattle.std.specs.Prelude.{All};
+ghost use Rattle.oci_pool.specs.Workers.{MayCome, GivesWay, IsFirstOf};
 
 use crate::fault::PoolFault;
 use crate::job::{Job, RunStart};
@@ -14,10 +14,7 @@ fn first_of<J: Job, T: RunStart<J::Out, J::Fault>>(
 ) -> Option<PoolFault<J::Fault>>
     requires a { MayCome T.count T.fails a }
     requires b { MayCome T.count T.fails b }
-    ensures fault { MayCome T.count T.fails result }
-    ensures over_a { GivesWay a result }
-    ensures over_b { GivesWay b result }
-    ensures came { (result ≡ a) ⊎ (result ≡ b) }
+    ensures { IsFirstOf T.count T.fails a b result }
 {
     match (a, b) {
         (Some(PoolFault::Job(k, f)), Some(PoolFault::Job(m, g))) => {
@@ -41,10 +38,7 @@ fn merge_worker<J: Job, T: RunStart<J::Out, J::Fault>>(
     reported: Option<PoolFault<J::Fault>>,
 ) -> Option<PoolFault<J::Fault>>
     requires reported { MayCome T.count T.fails reported }
-    ensures fault { MayCome T.count T.fails result }
-    ensures over_reported { GivesWay reported result }
-    ensures over_worker { GivesWay worker result }
-    ensures came { (result ≡ reported) ⊎ (result ≡ worker) }
+    ensures { IsFirstOf T.count T.fails reported worker result }
 {
     let (done, fault) = worker.into_parts();
     table.put_all(done);

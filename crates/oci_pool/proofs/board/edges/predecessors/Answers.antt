@@ -13,7 +13,10 @@ loop-number-preserved c = record {
       c.loop-number.invariant.predecessors c.in_ok-add_predecessor.ensures.added;
 }
 
-pub returns-clause-predecessors : goal.returns-clause-predecessors
-returns-clause-predecessors c = λ k below.
+pub returns : goal.returns
+returns c =
     let end : c.loop-number.number ≡ length c.args.order.now.lists = omega (arith, c.loop-number-test.false, c.loop-number.auto.number-end, c.len-count.ensures.len) in
-    c.loop-number.invariant.predecessors k below ∙ ap (λ (n : ℕ). filter (λ m. has k (successors_of c.args.order.now.lists m)) (range_with_len 0 n)) end
+    record {
+      len = c.loop-number.predecessors.ok.0 ∙ c.loop-number.invariant.len;
+      predecessors_are = λ k below. c.loop-number.invariant.predecessors k below ∙ ap (λ (n : ℕ). filter (λ m. has k (successors_of c.args.order.now.lists m)) (range_with_len 0 n)) end;
+    }

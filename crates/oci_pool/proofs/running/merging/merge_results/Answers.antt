@@ -15,5 +15,5 @@ loop-worker-preserved g c =
           ∙ take-take (vec_len c.pop.new.self) (vec_len c.loop-worker.workers) c.args.workers.items (omega (arith, less));
       few = omega (arith, less, c.loop-worker.invariant.few);
       over = way_more (λ (x : Option (PoolFault g.row.J-Fault.Denot)). x) c.args.workers.items c.loop-worker.workers.items (vec_len c.args.workers) (vec_len c.loop-worker.workers) (vec_len c.pop.new.self) c.in-Some.worker c.loop-worker.reported c.merge_worker-reported.result
-          less c.loop-worker.invariant.front c.in-Some.ensures.value c.loop-worker.invariant.over c.merge_worker-reported.ensures.over_reported c.merge_worker-reported.ensures.over_worker;
+          less c.loop-worker.invariant.front c.in-Some.ensures.value c.loop-worker.invariant.over c.merge_worker-reported.ensures.over_a c.merge_worker-reported.ensures.over_b;
     }
