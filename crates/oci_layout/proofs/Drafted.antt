@@ -1,21 +1,39 @@
 -- Drafts that are kept, and parts that are read.
-use Rattle.std.proofs.Common.{◌≡◌, Bool, ℕ, List, true, false, Option, Some, None, Result, Ok, Err, refl}
-use Rattle.std.specs.Prelude.{◌↔◌, IfOk}
+use Rattle.std.proofs.Common.{◌≡◌, Bool, ℕ, List, true, false, Option, Some, None, Result, Ok, Err, refl, ◌∙◌}
+use Rattle.std.specs.Prelude.{◌↔◌, IfOk, IsErrOf}
 use Rattle.oci_manifest.specs.Descriptor.{Descriptor}
 use Rattle.oci_store.specs.Graph.{Node}
 use Rattle.oci_store.specs.Keyed.{has_key, value_at}
 use Rattle.oci_store.specs.Parts.{IsPart}
 use Rattle.oci_store.specs.declared.fault.FetchFault.{FetchFault}
-use Rattle.oci_layout.specs.Blobs.{stored, blob_path}
-use Rattle.oci_layout.specs.Device.{File, part_in}
-use Rattle.oci_layout.proofs.Stored.{value_at-read}
+use Rattle.oci_store.specs.declared.fault.FetchFault.TheVariants as fetch
+use Rattle.oci_layout.specs.Blobs.{stored, blob_path, IsBlobRead, IsFetch}
+use Rattle.oci_layout.specs.Device.{Device, File, part_in}
+use Rattle.oci_layout.proofs.Files.{on_ok}
+use Rattle.oci_layout.proofs.Stored.{has_key-stored, value_at-read}
 
--- a refusal that never comes, and one that comes where a key is not held
-pub never : (N : Type 0) (b : Bool) → b ≡ true → (N → ⊥) → N ↔ (b ≡ false)
+-- a refusal that never comes
+never : (N : Type 0) (b : Bool) → b ≡ true → (N → ⊥) → N ↔ (b ≡ false)
 never N b held none = (λ n. absurd (none n), λ f. cc (held, f))
 
-pub always : (b : Bool) (N : Type 0) → b ≡ false → N → N ↔ (b ≡ false)
-always b N f n = (λ _. f, λ _. n)
+-- a fetch of a key that is not held, and one that reads the key's file
+pub IsFetch-absent : (now : Device) (graph : List Node) (k : Descriptor) (wrong : Type 0) → has_key graph k ≡ false → IsFetch now graph k wrong (Err fetch.NotFound)
+IsFetch-absent now graph k wrong absent = record {
+  held = tt;
+  not_found = (λ _. has_key-stored now.file graph k ∙ absent, λ _. refl);
+  device = λ e. cc e;
+  corrupt = λ e. cc e;
+}
+
+pub IsFetch-held : (now : Device) (graph : List Node) (k : Descriptor) (wrong : Type 0) (answer : Result (List ℕ) FetchFault) → has_key graph k ≡ true → IsBlobRead now wrong answer → IsFetch now graph k wrong answer
+IsFetch-held now graph k wrong answer held read =
+    let there : has_key (stored now.file graph) k ≡ true = has_key-stored now.file graph k ∙ held in
+    record {
+      held = on_ok answer (has_key (stored now.file graph) k ≡ true) there;
+      not_found = never (IsErrOf answer fetch.NotFound) (has_key (stored now.file graph) k) there read.not_found;
+      device = read.device;
+      corrupt = read.corrupt;
+    }
 
 -- there is no part only where there is no file
 pub no_part : (found : Option (List ℕ)) (from most : ℕ) → None ≡ part_in found from most → found ≡ None

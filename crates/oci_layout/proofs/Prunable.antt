@@ -17,7 +17,7 @@ use Rattle.oci_layout.specs.Blobs.{blob_path, blob_at, stored, IsSound}
 use Rattle.oci_layout.specs.Device.{Device, File, Touches}
 use Rattle.oci_layout.specs.Files.{IsLayout}
 use Rattle.oci_layout.specs.Index.{layout_file}
-use Rattle.oci_layout.specs.Layout.{LayoutState, OnlyFiles, SameMemory}
+use Rattle.oci_layout.specs.Layout.{LayoutState, OnlyFile, SameMemory}
 use Rattle.oci_layout.specs.Prunable.{IsRemoval}
 use Rattle.oci_layout.specs.declared.fault.DirFault.{DirFault}
 use Rattle.oci_layout.proofs.Files.{HasLayoutFile-stays}
@@ -87,12 +87,17 @@ IsLayout-removed old new graph tags path answer apart removal is = record {
 }
 
 -- a removal of a file that no held key has leaves what a layout has in memory, and its contents
-pub OnlyFiles-removed : {D : Type 0} (device : D → Device) (old new : LayoutState D) (path : List ℕ) (answer : Result Bool DirFault) → SameMemory old new → All (IsApart path) old.graph → IsRemoval (device old.dir) (device new.dir) path answer → OnlyFiles device old new
-OnlyFiles-removed device old new path answer memory apart removal =
+pub OnlyFile-removed : {D : Type 0} (device : D → Device) (old new : LayoutState D) (path : List ℕ) (answer : Result Bool DirFault) → SameMemory old new → All (IsApart path) old.graph → IsRemoval (device old.dir) (device new.dir) path answer → OnlyFile device old new path
+OnlyFile-removed device old new path answer memory apart removal =
     let was = device old.dir in
     let is = device new.dir in
+    let touches = Touches-removed was is path answer removal in
     record {
-      memory = memory;
-      contents = λ honest. stored-apart was.file is.file path old.graph apart (Touches-removed was is path answer removal honest);
-      sound = rw memory.graph (λ sound. IsSound-apart was.is_honest is.is_honest was.file is.file path old.graph removal.device.honest.0 apart (Touches-removed was is path answer removal sound.is_honest) sound);
+      other = touches;
+      files = record {
+        memory = memory;
+        contents = λ honest. stored-apart was.file is.file path old.graph apart (touches honest);
+        sound = rw memory.graph (λ sound. IsSound-apart was.is_honest is.is_honest was.file is.file path old.graph removal.device.honest.0 apart (touches sound.is_honest) sound);
+      };
+      same = removal.device;
     }

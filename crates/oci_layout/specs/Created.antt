@@ -44,3 +44,9 @@ pub record IsNotCreated (old new : Device) (e : LayoutFault) : Type 0 where
   -- if a put failed, which is counted, the fault is that of the device
   pub raised : old.failures < new.failures → e ≡ fault.Device
   pub failures : old.failures ≤ new.failures
+
+-- no layout was created in a directory, which is returned with the fault
+pub record IsRefused {D : Type 0} (device : D → Device) (old : D) (refused : D × LayoutFault) : Type 0 where
+  pub not_created : IsNotCreated (device old) (device refused.0) refused.1
+  -- if it has a file `oci-layout`, it is unchanged
+  pub same : refused.1 ≡ fault.AlreadyLayout → refused.0 ≡ old

@@ -1,6 +1,6 @@
 -- The entries of an index, and the tags that they set (OCI image specification 1.1,
 -- image-layout.md).
-use Rattle.std.specs.Prelude.{◌≡◌, List, ℕ, [], ◌∷◌, map, filter, codes, not, Option, Some, None, option_map, option_and_then, String, string_bytes, Ok, if◌then◌else◌}
+use Rattle.std.specs.Prelude.{◌≡◌, List, ℕ, [], ◌∷◌, ◌++◌, map, filter, codes, not, Option, Some, None, option_map, option_and_then, String, string_bytes, Ok, if◌then◌else◌}
 use Rattle.std.specs.declared.alloc.Global.{Global}
 use Rattle.std.specs.Option.{unwrap_or}
 use Rattle.serde_json.specs.Data.{Data, Items, no_items, item}
@@ -20,6 +20,17 @@ pub record IndexEntry : Type 0 where
 -- the keys of entries
 abbrev pub entry_keys : List IndexEntry → List Descriptor
 entry_keys entries = map (λ (e : IndexEntry). e.key) entries
+
+-- the entry of a tag, and that of a key without one
+abbrev pub tag_entry : List ℕ × Descriptor → IndexEntry
+tag_entry t = record { key = t.1; name = Some t.0 }
+
+abbrev pub loose_entry : Descriptor → IndexEntry
+loose_entry k = record { key = k; name = None }
+
+-- the entries of these tags, and then of these keys
+abbrev pub saved_entries : Tags → List Descriptor → List IndexEntry
+saved_entries tags keys = map tag_entry tags ++ map loose_entry keys
 
 -- ---- reading
 

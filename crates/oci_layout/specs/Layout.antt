@@ -4,7 +4,7 @@ use Rattle.oci_manifest.specs.Descriptor.{Descriptor}
 use Rattle.oci_store.specs.Graph.{Node}
 use Rattle.oci_store.specs.Tags.{Tags}
 use Rattle.oci_layout.specs.Blobs.{IsSound, blob_path, stored}
-use Rattle.oci_layout.specs.Device.{Device, Touches}
+use Rattle.oci_layout.specs.Device.{Device, SameDevice, Touches}
 
 -- what a layout remembers of the index that it was opened from
 pub record OpenedIndex : Type 0 where
@@ -36,6 +36,14 @@ pub record OnlyFiles {D : Type 0} (device : D → Device) (old new : LayoutState
   pub memory : SameMemory old new
   pub contents : (device old.dir).is_honest → stored (device new.dir).file old.graph ≡ stored (device old.dir).file old.graph
   pub sound : IsSound (device old.dir).is_honest (device old.dir).file old.graph → IsSound (device new.dir).is_honest (device new.dir).file new.graph
+
+-- no file but the one at the path changed, which no held key needs: the layout has the same in
+-- memory, and the same bytes under each key
+pub record OnlyFile {D : Type 0} (device : D → Device) (old new : LayoutState D) (path : List ℕ) : Type 0 where
+  pub other : (device old.dir).is_honest → Touches (device old.dir).file (device new.dir).file path
+  pub files : OnlyFiles device old new
+  -- besides its files the directory is the same
+  pub same : SameDevice (device old.dir) (device new.dir)
 
 -- a push changed no file but the one of its digest, and what was opened stays
 pub record OnlyBlob {D : Type 0} (device : D → Device) (old new : LayoutState D) (digest : List ℕ) : Type 0 where

@@ -1,5 +1,5 @@
 -- A directory in memory, and its fuse.
-use Rattle.std.specs.Prelude.{◌≡◌, ◌-◌, ◌/◌, ℕ, List, length, take, Some, option_map, Result, Ok, Err, String, ⊤, false}
+use Rattle.std.specs.Prelude.{◌≡◌, ◌-◌, ◌/◌, ℕ, List, [], length, take, Option, Some, option_map, Result, Ok, Err, String, ⊤, false}
 use Rattle.std.specs.declared.alloc.Global.{Global}
 use Rattle.std.specs.BTreeMap.{BTreeMap, get_by_text}
 use Rattle.oci_layout.specs.Device.{Device, File, Puts}
@@ -18,6 +18,12 @@ half bytes = take (length bytes / 2) bytes
 -- a directory in memory is honest, and its reads never fail
 abbrev pub device_of : MemDir → Device
 device_of d = record { file = files_of d.files; is_honest = ⊤; fails_reads = false; failures = d.failures }
+
+-- a directory without files that no put failed in, with this fuse
+pub record IsNew (d : MemDir) (fuse : Option ℕ) : Type 0 where
+  pub empty : d.files.entries ≡ []
+  pub fuse_is : d.fuse ≡ fuse
+  pub failures : d.failures ≡ 0
 
 -- a put succeeds only if the fuse, if there is one, still allows it, and then it allows one less; a
 -- put that the fuse stops leaves the first half of its bytes; if memory ran out, the fuse is

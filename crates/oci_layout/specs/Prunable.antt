@@ -74,6 +74,11 @@ IsReadFault dir fault.Device = dir.fails_reads ≡ true
 IsReadFault dir fault.Memory = Unit {0}
 IsReadFault dir other = ⊥
 
+-- why a file was not removed; no file changed
+pub record IsNotRemoved (old new : Device) (e : LayoutFault) : Type 0 where
+  pub same : old.is_honest → Same old.file new.file
+  pub cause : IsReadFault old e
+
 -- ---- parts of the code
 
 -- a file of this list has the digest's encoded part as its name, and this length; `algorithm` has

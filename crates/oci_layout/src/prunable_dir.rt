@@ -1,5 +1,6 @@
-ghost use Rattle.std.specs.Prelude.{◌≡◌, None, true, IfOk, IsErrOf};
+ghost use Rattle.std.specs.Prelude.{◌≡◌, None, ⊤};
 ghost use Rattle.std.specs.List.{All};
+ghost use Rattle.oci_layout.specs.Device.{IsRead};
 ghost use Rattle.oci_layout.specs.Prunable.{by_name, IsRemoval, ListsFolder};
 
 use crate::dir::Dir;
@@ -16,9 +17,9 @@ pub trait PrunableDir: Dir {
     /// - 90 `Failed` if the folder cannot be read.
     /// - 91 `Memory` if memory runs out.
     fn list(&self, folder: &str) -> Result<Vec<(String, u64)>, DirFault>
-        ensures listed { IfOk result (λ files. (Self.device self.now).is_honest
-            → ListsFolder (Self.device self.now).file folder.now (by_name files.items)) }
-        ensures failed { IsErrOf result DirFault.Failed → (Self.device self.now).fails_reads ≡ true };
+        ensures { IsRead (Self.device self.now)
+            (λ files. ListsFolder (Self.device self.now).file folder.now (by_name files.items))
+            result };
 
     /// Returns the paths of the drafts that killed processes left, each with its length in bytes.
     /// Leaves out a draft that a process is still writing.
@@ -28,9 +29,9 @@ pub trait PrunableDir: Dir {
     /// - 90 `Failed` if a folder or a draft cannot be read.
     /// - 91 `Memory` if memory runs out.
     fn leftovers(&self) -> Result<Vec<(String, u64)>, DirFault>
-        ensures drafts { IfOk result (λ drafts. (Self.device self.now).is_honest
-            → All (λ draft. (Self.device self.now).file draft.0 ≡ None) (by_name drafts.items)) }
-        ensures failed { IsErrOf result DirFault.Failed → (Self.device self.now).fails_reads ≡ true };
+        ensures { IsRead (Self.device self.now) (λ drafts.
+            All (λ draft. (Self.device self.now).file draft.0 ≡ None) (by_name drafts.items))
+            result };
 
     /// Returns the first of `blobs`, `blobs/sha256` and `blobs/sha512` that is a link.
     ///
@@ -39,7 +40,7 @@ pub trait PrunableDir: Dir {
     /// - 90 `Failed` if that cannot be found out.
     /// - 91 `Memory` if memory runs out.
     fn linked(&self) -> Result<Option<&'static str>, DirFault>
-        ensures failed { IsErrOf result DirFault.Failed → (Self.device self.now).fails_reads ≡ true }
+        ensures { IsRead (Self.device self.now) (λ _. ⊤) result }
     {
         Ok(None)
     }
@@ -61,7 +62,7 @@ pub trait PrunableDir: Dir {
     /// - 90 `Failed` if that is not known, as when the disk failed.
     /// - 91 `Memory` if memory runs out.
     fn sync(&self, _path: &str) -> Result<(), DirFault>
-        ensures failed { IsErrOf result DirFault.Failed → (Self.device self.now).fails_reads ≡ true }
+        ensures { IsRead (Self.device self.now) (λ _. ⊤) result }
     {
         Ok(())
     }

@@ -1,7 +1,7 @@
 ghost use Rattle.std.specs.Prelude.{◌≡◌, ◌↔◌, ◌⊎◌, [], false, IsTrue, IfOk, OnOk, IfErr};
 ghost use Rattle.std.specs.List.{All};
 ghost use Rattle.oci_layout.specs.Blobs.{HasMatchingFiles, IsSound};
-ghost use Rattle.oci_layout.specs.Created.{IsCreated, IsFree, IsNotCreated, IsNotFree};
+ghost use Rattle.oci_layout.specs.Created.{IsCreated, IsFree, IsNotFree, IsRefused};
 ghost use Rattle.oci_layout.specs.Index.{empty_index_text};
 ghost use Rattle.oci_layout.specs.Layout.{no_index};
 ghost use Rattle.oci_layout.specs.Opened.{IsOpened};
@@ -42,11 +42,9 @@ impl<D: Dir> Layout<D> {
         ensures refused { IfErr result (λ refused. ((refused.0 ≡ dir)
             × IsOpenFault (D.device dir) refused.1)
             ⊎ (IsOpenFault (D.device dir) LayoutFault.NoLayoutFile
-            × IsNotCreated (D.device dir) (D.device refused.0) refused.1)) }
+            × IsRefused D.device dir refused)) }
         ensures taken { IfErr result (λ refused. refused.1 ≡ LayoutFault.NoLayoutFile
             → (D.device dir).is_honest → IsFree (D.device dir).file → ⊥) }
-        ensures kept { IfErr result (λ refused. refused.1 ≡ LayoutFault.AlreadyLayout
-            → refused.0 ≡ dir) }
     {
         match Layout::open(alloc, dir) {
             Ok(layout) => Ok(layout),
@@ -95,9 +93,7 @@ fn create_if_free<D: Dir>(alloc: Global, dir: D) -> Result<Layout<D>, (D, Layout
         × (layout.opened ≡ no_index)) }
     ensures refused { IfErr result (λ refused. ((refused.0 ≡ dir)
         × IsNotFree (D.device dir) refused.1)
-        ⊎ IsNotCreated (D.device dir) (D.device refused.0) refused.1) }
-    ensures kept { IfErr result (λ refused. refused.1 ≡ LayoutFault.AlreadyLayout
-        → refused.0 ≡ dir) }
+        ⊎ IsRefused D.device dir refused) }
 {
     match Layout::check_is_free(&dir) {
         Ok(()) => Layout::create(alloc, dir),

@@ -1,4 +1,4 @@
-ghost use Rattle.std.specs.Prelude.{◌≡◌, ◌≢◌, ◌↔◌, ◌∷◌, ◌++◌, [], ℕ, List, true, false, is_some, Some, None, IfOk, OnOk, OnErr, IfErr, MatchOption};
+ghost use Rattle.std.specs.Prelude.{◌≡◌, ◌≢◌, ◌↔◌, ◌∷◌, ◌++◌, [], ℕ, List, true, false, is_some, None, IfOk, OnOk, IfErr, MatchOption};
 ghost use Rattle.std.specs.BTreeMap.{IsOrdered};
 ghost use Rattle.std.specs.Cmp.Lexicographic.{slice_cmp};
 ghost use Rattle.std.specs.List.{All};
@@ -8,10 +8,10 @@ ghost use Rattle.oci_digest.specs.Digest.{IsDigest};
 ghost use Rattle.oci_manifest.specs.Descriptor.{Descriptor, IsKey};
 ghost use Rattle.oci_store.specs.Keyed.{has_key};
 ghost use Rattle.oci_layout.specs.Blobs.{blob_path};
-ghost use Rattle.oci_layout.specs.Device.{Same, SameDevice, Touches};
+ghost use Rattle.oci_layout.specs.Device.{Finds};
 ghost use Rattle.oci_layout.specs.Index.{index_file, layout_file};
-ghost use Rattle.oci_layout.specs.Layout.{OnlyFiles};
-ghost use Rattle.oci_layout.specs.Prunable.{by_name, AreBlobs, IsReadFault, Notes, Removes, is_draft_path};
+ghost use Rattle.oci_layout.specs.Layout.{OnlyFile};
+ghost use Rattle.oci_layout.specs.Prunable.{by_name, AreBlobs, IsNotRemoved, IsReadFault, Notes, Removes, is_draft_path};
 
 use crate::fault::LayoutFault;
 use crate::layout::Layout;
@@ -31,9 +31,9 @@ impl<D: PrunableDir> Layout<D> {
     /// - 74 `Device` if a folder could not be read.
     /// - 76 `Memory` if memory runs out.
     pub fn blobs(&self) -> Result<Vec<(Digest, u64)>, LayoutFault>
-        ensures found { IfOk result (λ blobs. (D.device self.now.dir).is_honest
-            → AreBlobs (D.device self.now.dir).file blobs.items) }
-        ensures cause { IfErr result (IsReadFault (D.device self.now.dir)) }
+        ensures { Finds (D.device self.now.dir)
+            (λ blobs. AreBlobs (D.device self.now.dir).file blobs.items)
+            (IsReadFault (D.device self.now.dir)) result }
     {
         blobs_in(self.alloc, &self.dir)
     }
@@ -59,14 +59,9 @@ impl<D: PrunableDir> Layout<D> {
             → All (λ k. k.digest ≢ digest.now) (keys_of self.old.graph)) }
         ensures held { (k : Descriptor) → has_key self.old.graph k ≡ true → k.digest ≡ digest.now
             → self.new ≡ self.old }
-        ensures refused { OnErr result ((D.device self.old.dir).is_honest
-            → Same (D.device self.old.dir).file (D.device self.new.dir).file) }
-        ensures other { (D.device self.old.dir).is_honest
-            → Touches (D.device self.old.dir).file (D.device self.new.dir).file
-            (blob_path digest.now) }
-        ensures only { OnlyFiles D.device self.old self.new }
-        ensures device { SameDevice (D.device self.old.dir) (D.device self.new.dir) }
-        ensures cause { IfErr result (IsReadFault (D.device self.old.dir)) }
+        ensures only { OnlyFile D.device self.old self.new (blob_path digest.now) }
+        ensures refused { IfErr result (IsNotRemoved (D.device self.old.dir)
+            (D.device self.new.dir)) }
     {
         if is_held(&self.graph, digest) {
             return Ok(false);
@@ -86,9 +81,9 @@ impl<D: PrunableDir> Layout<D> {
     /// - 74 `Device` if a folder or a draft could not be read.
     /// - 76 `Memory` if memory runs out.
     pub fn leftovers(&self) -> Result<Vec<(String, u64)>, LayoutFault>
-        ensures drafts { IfOk result (λ drafts. (D.device self.now.dir).is_honest
-            → All (λ draft. (D.device self.now.dir).file draft.0 ≡ None) (by_name drafts.items)) }
-        ensures cause { IfErr result (IsReadFault (D.device self.now.dir)) }
+        ensures { Finds (D.device self.now.dir) (λ drafts.
+            All (λ draft. (D.device self.now.dir).file draft.0 ≡ None) (by_name drafts.items))
+            (IsReadFault (D.device self.now.dir)) result }
     {
         match self.dir.leftovers() {
             Ok(drafts) => Ok(drafts),
@@ -112,18 +107,14 @@ impl<D: PrunableDir> Layout<D> {
             → Removes (D.device self.old.dir).file (D.device self.new.dir).file path.now) }
         ensures found { IfOk result (λ found. (D.device self.old.dir).is_honest → found ≡ true
             → is_some ((D.device self.old.dir).file path.now) ≡ true) }
-        ensures refused { OnErr result ((D.device self.old.dir).is_honest
-            → Same (D.device self.old.dir).file (D.device self.new.dir).file) }
-        ensures other { (D.device self.old.dir).is_honest
-            → Touches (D.device self.old.dir).file (D.device self.new.dir).file path.now }
         ensures blobs { (D.device self.old.dir).is_honest → (digest : List ℕ) → IsDigest digest
             → (D.device self.new.dir).file (blob_path digest)
             ≡ (D.device self.old.dir).file (blob_path digest) }
         ensures index { (D.device self.old.dir).is_honest
             → (D.device self.new.dir).file index_file ≡ (D.device self.old.dir).file index_file }
-        ensures only { OnlyFiles D.device self.old self.new }
-        ensures device { SameDevice (D.device self.old.dir) (D.device self.new.dir) }
-        ensures cause { IfErr result (IsReadFault (D.device self.old.dir)) }
+        ensures only { OnlyFile D.device self.old self.new path.now }
+        ensures refused { IfErr result (IsNotRemoved (D.device self.old.dir)
+            (D.device self.new.dir)) }
     {
         if !is_draft(path) {
             return Ok(false);
@@ -193,9 +184,8 @@ fn is_draft(path: &str) -> bool
 
 /// Returns the digests that files are named by, each with the length of its file.
 fn blobs_in<D: PrunableDir>(alloc: Global, dir: &D) -> Result<Vec<(Digest, u64)>, LayoutFault>
-    ensures found { IfOk result (λ blobs. (D.device dir.now).is_honest
-        → AreBlobs (D.device dir.now).file blobs.items) }
-    ensures cause { IfErr result (IsReadFault (D.device dir.now)) }
+    ensures { Finds (D.device dir.now) (λ blobs. AreBlobs (D.device dir.now).file blobs.items)
+        (IsReadFault (D.device dir.now)) result }
 {
     let mut sizes = BTreeMap::new(alloc);
     let files = dir.list("blobs/sha256")?;

@@ -1,4 +1,5 @@
-ghost use Rattle.std.specs.Prelude.{◌≡◌, IfOk, OnOk, IfErr};
+ghost use Rattle.std.specs.Prelude.{◌≡◌, IfOk};
+ghost use Rattle.oci_layout.specs.Device.{Finds};
 ghost use Rattle.oci_layout.specs.Index.{HasLayoutFile, version_in};
 ghost use Rattle.oci_layout.specs.Entries.{text_of};
 ghost use Rattle.oci_layout.specs.Refusal.{IsOpenFault};
@@ -13,9 +14,8 @@ use std::alloc::Global;
 /// Fails if the `oci-layout` of a directory does not state the version 1.0.0.
 #[tactic(auto, unfolding(crate::specs::Index::layout_file, crate::specs::Index::layout_version))]
 pub(crate) fn check_version<D: Dir>(alloc: Global, dir: &D) -> Result<(), LayoutFault>
-    ensures stated { OnOk result ((D.device dir.now).is_honest
-        → HasLayoutFile (D.device dir.now).file) }
-    ensures cause { IfErr result (IsOpenFault (D.device dir.now)) }
+    ensures { Finds (D.device dir.now) (λ _. HasLayoutFile (D.device dir.now).file)
+        (IsOpenFault (D.device dir.now)) result }
 {
     let Some(bytes) = dir.read("oci-layout")? else {
         return Err(LayoutFault::NoLayoutFile);

@@ -10,5 +10,5 @@ returns-clause-cause g c = λ stated.
     let dir = g.D.Dir.device c.args.dir.now in
     let bytes = c.as_slice.result.now in
     let read : dir.is_honest → dir.file index_file ≡ Some bytes =
-    λ honest. sym (c.in_ok-bytes.ensures.read honest) ∙ c.in-Some.is ∙ ap Some (sym c.as_slice.ensures) in
+    λ honest. sym (c.in_ok-bytes.ensures.found honest) ∙ c.in-Some.is ∙ ap Some (sym c.as_slice.ensures) in
     subst (IsOpenFault dir) (sym c.bad_index.ensures) (index_fault dir bytes c.in-Err.fault stated read c.in-Err.ensures.cause)

@@ -6,7 +6,7 @@ use Rattle.oci_store.proofs.Lookups.{Contains-from_has_key}
 use Rattle.oci_layout.specs.Blobs.{blob_path}
 use Rattle.oci_layout.specs.Prunable.{IsRemoval}
 use Rattle.oci_layout.proofs.Files.{blob_layout}
-use Rattle.oci_layout.proofs.Prunable.{OnlyFiles-removed, apart-unheld, IsLayout-removed}
+use Rattle.oci_layout.proofs.Prunable.{OnlyFile-removed, apart-unheld, IsLayout-removed}
 use Rattle.oci_layout.proofs.layout.Layout.remove_blob.Goals as goal
 
 pub invariant_of-self : goal.invariant_of-self
@@ -37,11 +37,11 @@ returns-in-Ok-clause-only g c =
     let s = c.self.inside in
     let removal : IsRemoval (g.D.Dir.device s.dir) (g.D.Dir.device c.remove.new.self) (blob_path c.args.digest.now) c.remove.result = rw (c.deref.ensures, c.in_ok-path.ensures) at c.remove.ensures in
     let apart = apart-unheld c.args.digest.now s.graph c.is_held.ensures.digest c.is_held.ensures.keys (c.is_held.ensures.held.0 c.if-is_held.false) in
-    rw (← c.self.view_is) (OnlyFiles-removed g.D.Dir.device _ _ (blob_path c.args.digest.now) c.remove.result (record { graph = refl; tags = refl; opened = refl }) apart removal)
+    rw (← c.self.view_is) (OnlyFile-removed g.D.Dir.device _ _ (blob_path c.args.digest.now) c.remove.result (record { graph = refl; tags = refl; opened = refl }) apart removal)
 
 pub returns-clause-only : goal.returns-clause-only
 returns-clause-only g c =
     let s = c.self.inside in
     let removal : IsRemoval (g.D.Dir.device s.dir) (g.D.Dir.device c.remove.new.self) (blob_path c.args.digest.now) c.remove.result = rw (c.deref.ensures, c.in_ok-path.ensures) at c.remove.ensures in
     let apart = apart-unheld c.args.digest.now s.graph c.is_held.ensures.digest c.is_held.ensures.keys (c.is_held.ensures.held.0 c.if-is_held.false) in
-    rw (← c.self.view_is) (OnlyFiles-removed g.D.Dir.device _ _ (blob_path c.args.digest.now) c.remove.result (record { graph = refl; tags = refl; opened = refl }) apart removal)
+    rw (← c.self.view_is) (OnlyFile-removed g.D.Dir.device _ _ (blob_path c.args.digest.now) c.remove.result (record { graph = refl; tags = refl; opened = refl }) apart removal)
