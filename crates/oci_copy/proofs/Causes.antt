@@ -20,8 +20,8 @@ use Rattle.oci_copy.specs.declared.fault.CopyFault.{CopyFault}
 use Rattle.oci_copy.specs.declared.fault.CopyFault.TheVariants as fault
 use Rattle.oci_plan.specs.declared.fault.PlanFault.{PlanFault}
 use Rattle.oci_copy.specs.Cause.{HasFailed, IsTooEarly, IsStepCause, IsTurnCause, IsRefusal}
-use Rattle.oci_copy.specs.Fault.{of_push}
-use Rattle.oci_copy.specs.Destination.{IsClosedWhenSkipping, IsNotClosedWhenSkipping}
+use Rattle.oci_copy.specs.Fault.{IsEarly, of_push}
+use Rattle.oci_copy.specs.Destination.{IsNotClosedWhenSkipping}
 use Rattle.oci_copy.specs.Grown.{graph_of}
 use Rattle.oci_copy.specs.Planned.{IsPlanOf}
 use Rattle.oci_copy.proofs.Checks.{closed_check-read}
@@ -123,16 +123,16 @@ turn_earlier source opening before now k reported halts earlier cause = (cause.0
 -- it
 pub refused_in_run : {source : State} {options : Options} {opening : State} {roots : List Descriptor} {p : Planned} (step : State → State → Descriptor → CopyFault → Type 0)
     → ((k holder missing : Descriptor) → step source opening k (fault.DestinationOpen holder missing) → ⊥) → ((k : Descriptor) (e : PlanFault) → step source opening k (fault.Plan e) → ⊥)
-    → (reported : CopyFault) → IsPlanOf source options opening roots p → IsClosedWhenSkipping options.existing opening.nodes → (k : Descriptor) → Contains p.keys k
+    → (reported : CopyFault) → IsPlanOf source options opening roots p → (k : Descriptor) → Contains p.keys k
     → step source opening k reported → IsRefusal step options source opening roots reported
-refused_in_run step opens plans (fault.DestinationOpen holder missing) plan closed k there cause = absurd (opens k holder missing cause)
-refused_in_run step opens plans (fault.Plan e) plan closed k there cause = absurd (plans k e cause)
-refused_in_run step opens plans fault.Memory plan closed k there cause = tt
-refused_in_run step opens plans other plan closed k there cause = (closed, (k, λ h. (plan.outside h k).0 there, cause))
+refused_in_run step opens plans (fault.DestinationOpen holder missing) plan k there cause = absurd (opens k holder missing cause)
+refused_in_run step opens plans (fault.Plan e) plan k there cause = absurd (plans k e cause)
+refused_in_run step opens plans fault.Memory plan k there cause = tt
+refused_in_run step opens plans other plan k there cause = (plan.closed, (k, λ h. (plan.outside h k).0 there, cause))
 
 -- why a copy on one thread is refused once it has a plan
 pub refused_at_turn : {source : State} {options : Options} {opening : State} {roots : List Descriptor} {p : Planned} (now : State) (reported : CopyFault) → IsPlanOf source options opening roots p
-    → IsClosedWhenSkipping options.existing opening.nodes → (k : Descriptor) → Contains p.keys k → IsTurnCause now source opening k reported
+    → (k : Descriptor) → Contains p.keys k → IsTurnCause now source opening k reported
     → IsRefusal (IsTurnCause now) options source opening roots reported
 refused_at_turn now = refused_in_run (IsTurnCause now)
     (λ k holder missing cause. elim cause.1 [ inl never ↦ never | inr early ↦ (let no = early.0 in cc no) ])
@@ -152,3 +152,17 @@ refused_at_start step options source opening roots (fault.DestinationOpen holder
 refused_at_start step options source opening roots (fault.Plan e) cause = cause
 refused_at_start step options source opening roots fault.Memory cause = tt
 refused_at_start step options source opening roots other cause = absurd (cause.1.2)
+
+-- a copy that has no plan is not refused for the number of workers
+pub other_at_start : (options : Options) (source opening : State) (roots : List Descriptor) (reported : CopyFault)
+    → IsRefusal (λ (s o : State) (k : Descriptor) (e : CopyFault). ⊥) options source opening roots reported → reported ≡ fault.BadWorkers → ⊥
+other_at_start options source opening roots reported cause same =
+    (subst (IsRefusal (λ (s o : State) (k : Descriptor) (e : CopyFault). ⊥) options source opening roots) same cause).1.2
+
+-- no step is refused as a copy is before its first push
+pub step_later : (failed : Type 0) (source opening : State) (k : Descriptor) (reported : CopyFault) → IsStepCause failed source opening k reported → IsEarly reported → ⊥
+step_later failed source opening k (fault.DestinationOpen holder missing) cause early = cause
+step_later failed source opening k (fault.Plan e) cause early = cause
+step_later failed source opening k fault.BadWorkers cause early = cause
+step_later failed source opening k (fault.Reference e) cause early = cause
+step_later failed source opening k other cause early = early

@@ -124,12 +124,12 @@ module _ {shares : Type 0} {source : State} {options : Options} {opening now : S
       held k (inl old) = subst (λ (l : List Node). has_key l k ≡ true) (sym keeps.is) (has_key-append_left opening.nodes keeps.added k old)
       held k (inr new) = All-contains (λ d. has_key now.nodes d ≡ true) p.keys k all new
 
-  module _ (was_closed : IsClosedWhenSkipping options.existing opening.nodes) (all : HasAll now.nodes p.keys) where
+  module _ (all : HasAll now.nodes p.keys) where
     agrees : source.is_honest → Agree (graph_of source) opening.nodes → Agree (graph_of source) (opening.nodes ++ keeps.added)
     agrees h agree = Agree-grown (graph_of source) opening.nodes keeps.added agree (keeps.own h)
 
     reached_held : source.is_honest → Agree (graph_of source) opening.nodes → (k : Descriptor) → Reaches (graph_of source) roots k → has_key now.nodes k ≡ true
-    reached_held h agree = holds options.existing was_closed (λ k bring. (plan.outside h k).1 bring)
+    reached_held h agree = holds options.existing plan.closed (λ k bring. (plan.outside h k).1 bring)
       where
         after : Agree (graph_of source) now.nodes
         after = subst (Agree (graph_of source)) (sym keeps.is) (agrees h agree)
@@ -162,14 +162,16 @@ module _ {shares : Type 0} {source : State} {options : Options} {opening now : S
         (λ k r. subst (λ (l : List Entry). has_key l k ≡ true) was.is (holds k r)))
 
     -- a run that holds all that is planned made a copy
-    pub is_copy : (opening.is_sound → opening.nodes ≡ graph_of opening) → keys_of now.nodes ≡ keys_of now.entries → IsCopy shares options source opening roots now
-    is_copy listed same = record {
+    pub is_copy : (opening.is_sound → opening.nodes ≡ graph_of opening) → keys_of now.nodes ≡ keys_of now.entries → (report : Report) → IsReport options.existing source opening roots now report
+        → IsCopy shares options source opening roots now report
+    is_copy listed same report reported = record {
       graph = copied;
       reached = reached_held;
       content = copied_content listed same;
       roots_held = roots_held all;
-      was_closed = was_closed;
+      was_closed = plan.closed;
       was_sound = plan.visited;
+      reported = reported;
     }
 
 -- the report of a run that holds all that is planned

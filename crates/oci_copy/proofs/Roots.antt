@@ -1,6 +1,6 @@
 -- Extended copies: the key is one of the roots, and a copy from the roots is refused as a copy is.
-use Rattle.std.proofs.Common.{◌≡◌, ℕ, zero, true, List, inl, inr, refl, arith}
-use Rattle.std.specs.Prelude.{Contains}
+use Rattle.std.proofs.Common.{◌≡◌, ℕ, zero, true, List, Result, Ok, Err, inl, inr, refl, arith}
+use Rattle.std.specs.Prelude.{Contains, IfOk, OnOk}
 use Rattle.std.proofs.lemmas.List.Elements.{All-contains}
 use Rattle.oci_manifest.specs.Descriptor.{Descriptor}
 use Rattle.oci_store.specs.Graph.{Node}
@@ -18,6 +18,11 @@ key_is_up {k = k} up = (up.each k).1 (zero, λ limited. omega arith, refl)
 
 pub key_held : {graph : List Node} {k : Descriptor} {depth : ℕ} {roots : List Descriptor} (now : List Node) → IsUp graph k depth roots → HasAll now roots → has_key now k ≡ true
 key_held {k = k} {roots = roots} now up all = All-contains (λ d. has_key now d ≡ true) roots k all (key_is_up up)
+
+-- what follows from a copy, whatever its report is
+pub on_ok_from : {X : Type 0} (answer : Result X CopyFault) (copy : X → Type 0) (holds : Type 0) → ((x : X) → copy x → holds) → IfOk answer copy → OnOk answer holds
+on_ok_from (Ok x) copy holds from is = from x is
+on_ok_from (Err e) copy holds from is = tt
 
 -- the roots of a key that a reference resolves to
 pub roots_of_reference : (source : State) (name : List ℕ) (k : Descriptor) (depth : ℕ) (roots : List Descriptor) → AreRootsOf source k depth roots → ResolvesIn source name k → AreRootsOfReference source name depth roots

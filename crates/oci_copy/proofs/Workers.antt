@@ -1,10 +1,10 @@
 -- What workers keep of a destination under a lock, how many keys they pushed, and why they fail.
 use Rattle.std.proofs.Common.{◌≡◌, ◌+◌, ◌<◌, ◌≤◌, ◌⊎◌, inl, inr, ℕ, Bool, true, false, List, [], ◌∷◌, ◌++◌, length, Option, Some, None, Result, Ok, Err, refl, sym, ap, subst, ◌∙◌, arith, length-append}
-use Rattle.std.specs.Prelude.{◌↔◌, Contains, IfErr, IsErrOf, IsSomeAnd, slice_get}
+use Rattle.std.specs.Prelude.{Contains, IfErr, IsSomeAnd, slice_get}
 use Rattle.std.specs.List.{All, IsDistinct}
 use Rattle.std.specs.Map.{keys_of}
 use Rattle.std.specs.Result.{result_unwrap_or}
-use Rattle.std.proofs.lemmas.Bool.{false≢true, cases_lt}
+use Rattle.std.proofs.lemmas.Bool.{false≢true}
 use Rattle.std.proofs.lemmas.List.Elements.{All-contains, Contains-push}
 use Rattle.std.proofs.lemmas.Map.Made.{is_member-Decides, length-le_from_is_member}
 use Rattle.oci_manifest.specs.Descriptor.{Descriptor, same_key}
@@ -27,13 +27,12 @@ use Rattle.oci_plan.specs.Refusal.{IsUnread}
 use Rattle.oci_copy.specs.declared.options.Options.{Options}
 use Rattle.oci_copy.specs.declared.fault.CopyFault.{CopyFault}
 use Rattle.oci_copy.specs.declared.fault.CopyFault.TheVariants as fault
-use Rattle.oci_copy.specs.Cause.{CanFail, IsContentCause, IsStepCause, RefusedAt, IsRefusal, RefusedByWorkers}
-use Rattle.oci_copy.specs.Fault.{of_push}
-use Rattle.oci_copy.specs.Destination.{IsClosedWhenSkipping}
+use Rattle.oci_copy.specs.Cause.{CanFail, IsContentCause, IsStepCause, RefusedAt, IsRefusal, RefusedByWorkers, IsAnswerByWorkers}
+use Rattle.oci_copy.specs.Fault.{IsEarly, of_push}
 use Rattle.oci_copy.specs.Kept.{IsNoted, Keeps}
 use Rattle.oci_copy.specs.Plain.{IsUnfailing, RefusedForPlan}
 use Rattle.oci_copy.specs.Planned.{IsPlanOf}
-use Rattle.oci_copy.proofs.Causes.{push_cause, refused_in_run}
+use Rattle.oci_copy.proofs.Causes.{push_cause, refused_in_run, step_later}
 use Rattle.oci_copy.proofs.Checks.{closed_check-read}
 use Rattle.oci_copy.proofs.Places.{Contains-from_slice_get, length-keys_of}
 use Rattle.oci_copy.proofs.Unfailing.{refused_for_plan, step_for_memory}
@@ -155,24 +154,47 @@ stop_from_job failed source opening planned n reported cause = at (slice_get pla
     at None is h = absurd h
     at (Some k) is h = inr (k, Contains-from_slice_get planned n k is, h)
 
+-- what stops a run is no fault of a copy before its first push
+pub stopped_later : (failed : Type 0) (source opening : State) (planned : List Descriptor) (reported : CopyFault) → RefusedAt (Contains planned) (IsStepCause failed source opening) reported
+    → IsEarly reported → ⊥
+stopped_later failed source opening planned reported (inl memory) early = subst IsEarly memory early
+stopped_later failed source opening planned reported (inr it) early = step_later failed source opening it.0 reported it.2 early
+
+pub stopped_other : (failed : Type 0) (source opening : State) (planned : List Descriptor) (reported : CopyFault) → RefusedAt (Contains planned) (IsStepCause failed source opening) reported
+    → reported ≡ fault.BadWorkers → ⊥
+stopped_other failed source opening planned reported cause same = stopped_later failed source opening planned reported cause (subst IsEarly (sym same) (tt))
+
+-- the answer of a copy that more than 64 workers are asked for, or at most 64
+pub answered_many : (X : Type 0) (workers : ℕ) (cause : CopyFault → Type 0) → 64 < workers → IsAnswerByWorkers {X = X} workers cause (Err fault.BadWorkers)
+answered_many X workers cause many = ((λ same. many, λ over. refl), inl (refl, many))
+
+pub answered_within : (X : Type 0) (workers : ℕ) (cause : CopyFault → Type 0) (e : CopyFault) → workers ≤ 64 → (e ≡ fault.BadWorkers → ⊥) → cause e → IsAnswerByWorkers {X = X} workers cause (Err e)
+answered_within X workers cause e within other is = ((λ same. absurd (other same), λ over. absurd (omega (arith, over, within))), inr (within, is))
+
+-- a weaker cause, also where it is so only if neither store fails
+pub answered_weaker : {X : Type 0} (workers : ℕ) (cause weaker : CopyFault → Type 0) → ((e : CopyFault) → cause e → weaker e) → (answer : Result X CopyFault)
+    → IsAnswerByWorkers workers cause answer → IsAnswerByWorkers workers weaker answer
+answered_weaker workers cause weaker from (Ok x) within = within
+answered_weaker workers cause weaker from (Err e) it = (it.0, elim it.1 [ inl many ↦ inl many | inr is ↦ inr (is.0, from e is.1) ])
+
+pub answered_plainly : {X : Type 0} (workers : ℕ) (cause plain : CopyFault → Type 0) (neither : Type 0) → neither → (answer : Result X CopyFault) → IsAnswerByWorkers workers cause answer
+    → IfErr answer (λ e. neither → RefusedByWorkers workers plain e) → IsAnswerByWorkers workers plain answer
+answered_plainly workers cause plain neither unfailing (Ok x) within refused = within
+answered_plainly workers cause plain neither unfailing (Err e) it refused = (it.0, refused unfailing)
+
 -- why a copy by workers is refused whose plan was run: for the number of workers, or for what
 -- stopped the run
 module _ {source : State} {options : Options} {opening : State} {roots : List Descriptor} {p : Planned} (failed : Type 0) (workers : ℕ)
-    (plan : IsPlanOf source options opening roots p) (closed : IsClosedWhenSkipping options.existing opening.nodes) where
+    (plan : IsPlanOf source options opening roots p) where
   refused_in_work : (reported : CopyFault) → RefusedAt (Contains p.keys) (IsStepCause failed source opening) reported → IsRefusal (IsStepCause failed) options source opening roots reported
   refused_in_work reported (inl memory) = rw memory tt
   refused_in_work reported (inr it) =
-      refused_in_run (IsStepCause failed) (λ k holder missing never. never) (λ k e never. never) reported plan closed it.0 it.1 it.2
+      refused_in_run (IsStepCause failed) (λ k holder missing never. never) (λ k e never. never) reported plan it.0 it.1 it.2
 
-  pub refused_once_planned : {X : Type 0} (answer : Result X CopyFault) → (IsErrOf answer fault.BadWorkers ↔ (64 < workers))
-      → IfErr answer (λ e. (e ≡ fault.BadWorkers) ⊎ RefusedAt (Contains p.keys) (IsStepCause failed source opening) e)
-      → IfErr answer (RefusedByWorkers workers (IsRefusal (IsStepCause failed) options source opening roots))
-  refused_once_planned (Ok x) many cause = cause
-  refused_once_planned (Err e) many (inl is) = inl (is, many.0 (ap (λ (t : CopyFault). Err t) is))
-  refused_once_planned (Err e) many (inr stop) = elim (cases_lt 64 workers) [
-    | inl over ↦ (let same = many.1 over in inl (cc same, over))
-    | inr under ↦ inr (under, refused_in_work e stop)
-  ]
+  pub refused_once_planned : {X : Type 0} (answer : Result X CopyFault) → IsAnswerByWorkers workers (RefusedAt (Contains p.keys) (IsStepCause failed source opening)) answer
+      → IsAnswerByWorkers workers (IsRefusal (IsStepCause failed) options source opening roots) answer
+  refused_once_planned =
+      answered_weaker workers (RefusedAt (Contains p.keys) (IsStepCause failed source opening)) (IsRefusal (IsStepCause failed) options source opening roots) refused_in_work
 
 -- why a copy by workers is refused where neither store fails
 module _ (failed : Type 0) (source opening : State) (not_failed : failed → ⊥) (options : Options) (unfailing : IsUnfailing options.existing source opening opening) where

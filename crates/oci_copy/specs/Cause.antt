@@ -1,5 +1,5 @@
 -- Why a copy is refused.
-use Rattle.std.specs.Prelude.{◌≡◌, ◌≢◌, ℕ, ◌-◌, ◌^◌, ◌<◌, ◌≤◌, ◌⊎◌, true, false, List, Some, Ok}
+use Rattle.std.specs.Prelude.{◌≡◌, ◌≢◌, ℕ, ◌-◌, ◌^◌, ◌<◌, ◌≤◌, ◌⊎◌, ◌↔◌, true, false, List, Some, Result, Ok, Err}
 use Rattle.oci_manifest.specs.Descriptor.{Descriptor}
 use Rattle.oci_store.specs.Keyed.{has_key, first_missing}
 use Rattle.oci_store.specs.Content.{Matches, succ_of}
@@ -59,6 +59,12 @@ IsStepCause failed source opening k (fault.Push named push.Device) = (named ≡ 
 IsStepCause failed source opening k (fault.Push named push.Halted) = (named ≡ k) × opening.is_halted
 IsStepCause failed source opening k e = IsContentCause source k e
 
+-- the answer of a step that pushes a planned key: the key that is held now, or a fault with such a
+-- cause
+abbrev pub IsStepAnswer : Type 0 → State → State → Descriptor → Result Descriptor CopyFault → Type 0
+IsStepAnswer failed source opening k (Ok held) = held ≡ k
+IsStepAnswer failed source opening k (Err e) = IsStepCause failed source opening k e
+
 -- the fetched bytes match the key and list a key that the destination does not hold, and `missing`
 -- is the first such key; no honest source has such bytes at the turn of the key
 pub record IsTooEarly (source now : State) (k : Descriptor) : Type 0 where
@@ -96,3 +102,9 @@ IsRefusal step options source opening roots e = IsClosedWhenSkipping options.exi
 -- copy has this cause
 abbrev pub RefusedByWorkers : ℕ → (CopyFault → Type 0) → CopyFault → Type 0
 RefusedByWorkers workers cause e = ((e ≡ fault.BadWorkers) × (64 < workers)) ⊎ ((workers ≤ 64) × cause e)
+
+-- the answer of a copy by workers: a success with at most 64 workers, or a fault with such a cause;
+-- it is refused for the number of workers exactly if more than 64 are asked for
+abbrev pub IsAnswerByWorkers : {X : Type 0} → ℕ → (CopyFault → Type 0) → Result X CopyFault → Type 0
+IsAnswerByWorkers {X} workers cause (Ok x) = workers ≤ 64
+IsAnswerByWorkers {X} workers cause (Err e) = ((e ≡ fault.BadWorkers) ↔ (64 < workers)) × RefusedByWorkers workers cause e

@@ -1,5 +1,5 @@
 -- The effect of a copy on its destination.
-use Rattle.std.specs.Prelude.{◌≡◌, ◌≤◌, true, List, ◌++◌}
+use Rattle.std.specs.Prelude.{◌≡◌, ◌≤◌, true, List, ◌++◌, Result, IfErr}
 use Rattle.std.specs.List.{All}
 use Rattle.oci_manifest.specs.Descriptor.{Descriptor}
 use Rattle.oci_store.specs.Keyed.{has_key, HasAll}
@@ -11,14 +11,18 @@ use Rattle.oci_plan.specs.Met.{IsMet}
 use Rattle.oci_plan.specs.Outside.{IsVisited}
 use Rattle.oci_plan.specs.Visiting.{IsSoundVisit}
 use Rattle.oci_plan.specs.declared.gathering.Existing.TheVariants.{Descend}
+use Rattle.oci_copy.specs.declared.fault.CopyFault.{CopyFault}
 use Rattle.oci_copy.specs.declared.options.Options.{Options}
+use Rattle.oci_copy.specs.declared.report.Report.{Report}
 use Rattle.oci_copy.specs.Options.{limit_of}
 use Rattle.oci_copy.specs.Destination.{IsClosedWhenSkipping}
+use Rattle.oci_copy.specs.Fault.{IsEarly}
 use Rattle.oci_copy.specs.Grown.{graph_of, BeginsWith, IsGrown, HasKnownBytes, ListsByBytes}
+use Rattle.oci_copy.specs.Report.{IsReport}
 
--- the destination is a copy: it has its earlier contents and all that the source reaches from the
--- roots, and nothing else
-pub record IsCopy (shares : Type 0) (options : Options) (source opening : State) (roots : List Descriptor) (now : State) : Type 0 where
+-- the destination is a copy with this report: it has its earlier contents and all that the source
+-- reaches from the roots, and nothing else
+pub record IsCopy (shares : Type 0) (options : Options) (source opening : State) (roots : List Descriptor) (now : State) (report : Report) : Type 0 where
   -- so for the keys and what each lists, if the source is honest and the two graphs agree
   pub graph : source.is_honest → Agree (graph_of source) opening.nodes
       → IsCopied (graph_of source) (graph_of source) roots opening.nodes now.nodes
@@ -36,6 +40,8 @@ pub record IsCopy (shares : Type 0) (options : Options) (source opening : State)
   -- reads; if the copy visits held keys, the source may lack these
   pub was_sound : source.is_honest → (k : Descriptor) → IsVisited options.existing (graph_of source) opening.nodes roots k
       → IsSoundVisit options.existing source.entries opening.nodes (limit_of options) k
+  -- the report has the numbers of the copy
+  pub reported : IsReport options.existing source opening roots now report
 
 -- the destination lost nothing, and gained only what the source reaches from the roots, also after
 -- an error
@@ -60,3 +66,8 @@ pub record OnlyGrows (shares : Type 0) (source opening : State) (roots : List De
   -- the count of failed puts does not fall, and it is the same store
   pub failures : opening.failures ≤ now.failures
   pub name : now.name ≡ opening.name
+
+-- a copy sets no tag, and changes nothing if it is refused before its first push
+pub record Spares {D : Type 0} (state : D → State) (opening now : D) (answer : Result Report CopyFault) : Type 0 where
+  pub tags : (state now).tags ≡ (state opening).tags
+  pub unchanged : IfErr answer (λ fault. IsEarly fault → now ≡ opening)

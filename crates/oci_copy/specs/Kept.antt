@@ -2,7 +2,7 @@
 use Rattle.std.specs.Prelude.{◌≡◌, ◌≤◌, ◌↔◌, List, ◌++◌, Some, Contains}
 use Rattle.std.specs.List.{All}
 use Rattle.oci_manifest.specs.Descriptor.{Descriptor}
-use Rattle.oci_store.specs.Keyed.{value_at, HasAll}
+use Rattle.oci_store.specs.Keyed.{value_at, HasAll, HasDistinctKeys}
 use Rattle.oci_store.specs.Graph.{Node}
 use Rattle.oci_store.specs.State.{State}
 use Rattle.oci_copy.specs.Grown.{graph_of, HasKnownBytes, ListsByBytes}
@@ -36,6 +36,18 @@ pub record Keeps (shares : Type 0) (source : State) (planned : List Descriptor) 
   pub rising : opening.failures ≤ now.failures
   pub tags : now.tags ≡ opening.tags
   pub name : now.name ≡ opening.name
+
+-- a run of pushes can begin: all that it keeps holds, and the destination had halted only if it had
+-- at the opening
+pub record CanBegin (shares : Type 0) (source : State) (planned : List Descriptor) (opening now : State) : Type 0 where
+  pub keeps : Keeps shares source planned opening now
+  pub halted : now.is_halted → opening.is_halted
+
+-- a run of pushes has ended, and its lock had this graph
+pub record HasEnded (shares : Type 0) (source : State) (planned : List Descriptor) (opening : State) (graph : List Node) (now : State) : Type 0 where
+  pub nodes : now.nodes ≡ graph
+  pub distinct : HasDistinctKeys now.nodes
+  pub keeps : Keeps shares source planned opening now
 
 -- the source is as a run noted it when it began
 pub record IsNoted (noted now : State) : Type 0 where

@@ -3,9 +3,9 @@ pub mod Destination
 pub mod Grown
 pub mod Kept
 pub mod Planned
-pub mod Copy
 pub mod Report
 pub mod Fault
+pub mod Copy
 pub mod Cause
 pub mod Brought
 pub mod Tagged

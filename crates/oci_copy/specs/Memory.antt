@@ -1,5 +1,5 @@
 -- The promises of a copy between stores in memory, in terms of their entries.
-use Rattle.std.specs.Prelude.{◌≡◌, ◌+◌, ◌++◌, true, List, length}
+use Rattle.std.specs.Prelude.{◌≡◌, ◌+◌, ◌++◌, true, List, length, Result, IfErr}
 use Rattle.std.specs.List.{All}
 use Rattle.oci_manifest.specs.Descriptor.{Descriptor}
 use Rattle.oci_store.specs.Keyed.{has_key, HasAll}
@@ -9,8 +9,10 @@ use Rattle.oci_store.specs.Contents.{Contents}
 use Rattle.oci_store.specs.Copied.{Agree, IsCopied}
 use Rattle.oci_store.specs.Graph.{Node, nodes_of, Reaches}
 use Rattle.oci_plan.specs.declared.gathering.Existing.{Existing}
+use Rattle.oci_copy.specs.Fault.{IsEarly}
 use Rattle.oci_copy.specs.Grown.{BeginsWith, IsGrown}
 use Rattle.oci_copy.specs.Report.{IsToBringCount, held_count}
+use Rattle.oci_copy.specs.declared.fault.CopyFault.{CopyFault}
 use Rattle.oci_copy.specs.declared.report.Report.{Report}
 
 -- a successful copy, from the source to a destination that had the opening contents and now has the
@@ -32,7 +34,7 @@ pub record IsMemoryCopy (existing : Existing) (source : Contents) (roots : List 
 
 -- the destination lost nothing, and gained only what the source reaches from the roots, also after
 -- an error
-pub record OnlyGrowsInMemory (source : Contents) (roots : List Descriptor) (opening now : Contents) : Type 0 where
+pub record OnlyGrowsInMemory (source : Contents) (roots : List Descriptor) (opening now : Contents) (answer : Result Report CopyFault) : Type 0 where
   -- its entries begin with its earlier entries, and the others are the source's
   pub begins : BeginsWith opening.entries now.entries
   pub grown : IsGrown (nodes_of source.entries) source.entries roots opening.entries now.entries
@@ -45,3 +47,5 @@ pub record OnlyGrowsInMemory (source : Contents) (roots : List Descriptor) (open
   pub closed : IsClosed (nodes_of opening.entries) → IsClosed (nodes_of now.entries)
   -- its tags are unchanged
   pub tags : now.tags ≡ opening.tags
+  -- all is unchanged if the copy was refused before its first push
+  pub unchanged : IfErr answer (λ fault. IsEarly fault → now ≡ opening)

@@ -11,6 +11,7 @@ use Rattle.oci_plan.specs.Met.{IsMet}
 use Rattle.oci_plan.specs.Outside.{IsVisited, IsToBring}
 use Rattle.oci_plan.specs.Plan.{Planned, IsPlan, FollowsListed}
 use Rattle.oci_plan.specs.Visiting.{IsSoundItem, IsSoundVisit}
+use Rattle.oci_copy.specs.Destination.{IsClosedWhenSkipping}
 use Rattle.oci_copy.specs.Grown.{graph_of}
 use Rattle.oci_copy.specs.declared.options.Options.{Options}
 use Rattle.oci_copy.specs.Options.{limit_of}
@@ -29,10 +30,12 @@ pub record CanPush (source opening : State) (p : Planned) : Type 0 where
   pub reads : source.is_honest → All (CanBeRead source.entries) p.keys
   pub follows : source.is_honest → FollowsListed (graph_of source) opening.nodes p
 
--- it is the plan of a copy from these roots: each root is held or planned, the held ones are listed
--- as skipped, and each planned key was met on the way from the roots; with an honest source, the
--- planned keys are exactly the keys to bring, and each visited key is sound under the limit
+-- it is the plan of a copy from these roots: the destination is closed if the copy skips the keys
+-- that it has; each root is held or planned, the held ones are listed as skipped, and each planned
+-- key was met on the way from the roots; with an honest source, the planned keys are exactly the
+-- keys to bring, and each visited key is sound under the limit
 pub record IsPlanOf (source : State) (options : Options) (opening : State) (roots : List Descriptor) (p : Planned) : Type 0 where
+  pub closed : IsClosedWhenSkipping options.existing opening.nodes
   pub can_push : CanPush source opening p
   pub roots_held : All (λ k. (has_key opening.nodes k ≡ true) ⊎ Contains p.keys k) roots
   pub skipped : p.skipped ≡ first_places (filter (has_key opening.nodes) roots)

@@ -1,12 +1,15 @@
 -- Copies by reference: the root that a reference resolves to, and the tag that is set.
-use Rattle.std.specs.Prelude.{◌≡◌, ◌≢◌, ℕ, ◌==◌, length, ◌⊎◌, List, [], ◌∷◌, if◌then◌else◌}
+use Rattle.std.specs.Prelude.{◌≡◌, ◌≢◌, ℕ, ◌==◌, true, length, ◌⊎◌, List, [], ◌∷◌, if◌then◌else◌, Result, IfOk, OnErr, IfErr}
 use Rattle.std.specs.Map.{keys_of}
 use Rattle.oci_manifest.specs.Descriptor.{Descriptor}
+use Rattle.oci_store.specs.Keyed.{has_key}
 use Rattle.oci_store.specs.State.{State}
-use Rattle.oci_store.specs.Tags.{Resolves}
+use Rattle.oci_store.specs.Tags.{Resolves, set_tag}
 use Rattle.oci_store.specs.declared.fault.RefFault.TheVariants as reference
+use Rattle.oci_copy.specs.Fault.{IsEarly}
 use Rattle.oci_copy.specs.declared.fault.CopyFault.{CopyFault}
 use Rattle.oci_copy.specs.declared.fault.CopyFault.TheVariants as fault
+use Rattle.oci_copy.specs.declared.report.Report.{Report}
 
 -- the tag that a copy sets: the destination's reference, or the source's if that is empty
 abbrev pub name_of : List ℕ → List ℕ → List ℕ
@@ -28,6 +31,16 @@ RefusedByReference store name cause e = (e ≡ fault.Memory)
     ⊎ ((e ≡ fault.Reference reference.EmptyReference) × (name ≡ []))
     ⊎ ((e ≡ fault.Reference reference.UnknownReference) × (name ≢ []) × ((k : Descriptor) → ResolvesIn store name k → ⊥))
     ⊎ ((k : Descriptor) × ResolvesIn store name k × cause k e)
+
+-- the root and the tag of a copy by reference, by its result; `name` is the tag that it sets
+pub record IsTagged {D : Type 0} (state : D → State) (source : State) (source_reference name : List ℕ) (opening now : D) (answer : Result (Descriptor × Report) CopyFault) : Type 0 where
+  -- the root is the key that the source's reference resolves to; it is held, and tagged
+  pub root : IfOk answer (λ it. ResolvesIn source source_reference it.0)
+  pub held : IfOk answer (λ it. has_key (state now).nodes it.0 ≡ true)
+  pub tagged : IfOk answer (λ it. (state now).tags ≡ set_tag (state opening).tags name it.0)
+  -- a refusal sets no tag, and before the first push it changes nothing
+  pub untagged : OnErr answer ((state now).tags ≡ (state opening).tags)
+  pub unchanged : IfErr answer (λ fault. IsEarly fault → now ≡ opening)
 
 -- only the tags may differ
 pub record IsRetagged (old new : State) : Type 0 where

@@ -1,13 +1,11 @@
-ghost use Rattle.std.specs.Prelude.{◌≡◌, ◌≤◌, [], ◌∷◌, List, true, OnOk, OnErr, IfOk, IfErr, ◌≢◌};
+ghost use Rattle.std.specs.Prelude.{◌≡◌, ◌≤◌, [], ◌∷◌, List, true, OnOk, OnErr, IfOk, IfErr, ◌≢◌, MatchResult};
 ghost use Rattle.oci_manifest.specs.Descriptor.{Descriptor};
 ghost use Rattle.oci_store.specs.Keyed.{has_key};
 ghost use Rattle.oci_store.specs.Tags.{set_tag};
 ghost use Rattle.oci_copy.specs.Cause.{CanFail, IsRefusal, IsStepCause, RefusedByWorkers};
 ghost use Rattle.oci_copy.specs.Copy.{IsCopy, OnlyGrows};
-ghost use Rattle.oci_copy.specs.Fault.{IsEarly};
 ghost use Rattle.oci_copy.specs.Plain.{NeitherFails, RefusedForPlan};
-ghost use Rattle.oci_copy.specs.Report.{IsReport};
-ghost use Rattle.oci_copy.specs.Tagged.{name_of, ResolvesIn, IsRootOf, RefusedByReference, IsRetagged};
+ghost use Rattle.oci_copy.specs.Tagged.{name_of, ResolvesIn, IsRootOf, RefusedByReference, IsRetagged, IsTagged};
 
 use crate::fault::CopyFault;
 use crate::graph::copy_graph;
@@ -54,20 +52,15 @@ pub fn copy<
 ) -> (D, Result<(Key, Report), CopyFault>)
 where
     D::Draft: Send,
-    ensures root { IfOk result.1 (λ it. ResolvesIn (A.state source.now) source_reference.now it.0) }
     ensures copied { IfOk result.1 (λ it. IsCopy D.shares options.now (A.state source.now)
-        (D.state destination) (it.0 ∷ []) (D.state result.0)) }
-    ensures report { IfOk result.1 (λ it. IsReport options.now.existing (A.state source.now)
         (D.state destination) (it.0 ∷ []) (D.state result.0) it.1) }
-    ensures tagged { IfOk result.1 (λ it. (D.state result.0).tags ≡ set_tag
-        (D.state destination).tags (name_of source_reference.now destination_reference.now) it.0) }
-    ensures held { IfOk result.1 (λ it. has_key (D.state result.0).nodes it.0 ≡ true) }
-    ensures workers { OnOk result.1 (options.now.workers ≤ 64) }
+    ensures tagged { IsTagged D.state (A.state source.now) source_reference.now
+        (name_of source_reference.now destination_reference.now) destination result.0 result.1 }
     ensures grows { (roots : List Descriptor)
         × IsRootOf (A.state source.now) source_reference.now roots
         × OnlyGrows D.shares (A.state source.now) (D.state destination) roots (D.state result.0) }
-    ensures untagged { OnErr result.1 ((D.state result.0).tags ≡ (D.state destination).tags) }
-    ensures refused { IfErr result.1 (RefusedByReference (A.state source.now) source_reference.now
+    ensures refused { MatchResult result.1 (λ it. options.now.workers ≤ 64)
+        (RefusedByReference (A.state source.now) source_reference.now
         (λ root. RefusedByWorkers options.now.workers
         (IsRefusal (IsStepCause (CanFail D.state (D.state destination))) options.now
         (A.state source.now) (D.state destination) (root ∷ [])))) }
@@ -76,7 +69,6 @@ where
         → RefusedByReference (A.state source.now) source_reference.now
         (λ root. RefusedByWorkers options.now.workers (RefusedForPlan (A.state source.now).entries
         options.now (D.state destination).nodes (root ∷ []))) fault) }
-    ensures unchanged { IfErr result.1 (λ fault. IsEarly fault → result.0 ≡ destination) }
 {
     let root = match resolve_root(source, source_reference) {
         Ok(root) => root,

@@ -3,7 +3,7 @@ ghost use Rattle.oci_store.specs.Keyed.{HasAll, HasDistinctKeys};
 ghost use Rattle.oci_pool.specs.Run.{IsCause};
 ghost use Rattle.oci_copy.specs.Cause.{CanFail, IsStepCause, RefusedAt};
 ghost use Rattle.oci_copy.specs.Fault.{reported_fault};
-ghost use Rattle.oci_copy.specs.Kept.{IsNoted, Keeps};
+ghost use Rattle.oci_copy.specs.Kept.{CanBegin, HasEnded, IsNoted, Keeps};
 ghost use Rattle.oci_copy.specs.Planned.{CanPush};
 
 use super::copy_start::CopyStart;
@@ -20,9 +20,7 @@ use std::thread::Threads;
 
 /// Returns the destination of a run, with the facts that every state of the lock kept.
 fn finish<D: Dest, T: CopyStart>(locked: LockedDestination<D, T>) -> D
-    ensures nodes { (D.state result).nodes ≡ locked }
-    ensures distinct { HasDistinctKeys (D.state result).nodes }
-    ensures keeps { Keeps D.shares T.source T.planned T.opening (D.state result) }
+    ensures { HasEnded D.shares T.source T.planned T.opening locked (D.state result) }
 {
     let destination = locked.into_destination();
     // A no-op at run time: its contract states that no key is held twice.
@@ -72,8 +70,7 @@ where
     requires noted { IsNoted T.source (A.state source.now) }
     requires planned { plan.now.keys ≡ T.planned }
     requires can_push { CanPush T.source T.opening plan.now }
-    requires keeps { Keeps D.shares T.source T.planned T.opening (D.state destination) }
-    requires halted { (D.state destination).is_halted → T.opening.is_halted }
+    requires begins { CanBegin D.shares T.source T.planned T.opening (D.state destination) }
     ensures held { OnOk result.1 (HasAll (D.state result.0).nodes plan.now.keys) }
     ensures distinct { HasDistinctKeys (D.state result.0).nodes }
     ensures keeps { Keeps D.shares T.source T.planned T.opening (D.state result.0) }

@@ -1,15 +1,12 @@
-ghost use Rattle.std.specs.Prelude.{◌≡◌, ◌↔◌, ◌<◌, true, List, OnOk, IfOk, IfErr, IsErrOf, ◌≤◌, OnErr};
+ghost use Rattle.std.specs.Prelude.{◌≡◌, ◌≤◌, true, List, OnOk, IfOk, IfErr, MatchResult};
 ghost use Rattle.oci_manifest.specs.Descriptor.{Descriptor};
 ghost use Rattle.oci_store.specs.Keyed.{has_key};
 ghost use Rattle.oci_plan.specs.Up.{IsUp};
-ghost use Rattle.oci_copy.specs.Cause.{CanFail, IsRefusal, IsStepCause, RefusedAt, RefusedByWorkers};
-ghost use Rattle.oci_copy.specs.Copy.{IsCopy, OnlyGrows};
+ghost use Rattle.oci_copy.specs.Cause.{CanFail, IsAnswerByWorkers, IsRefusal, IsStepCause, RefusedAt, RefusedByWorkers};
+ghost use Rattle.oci_copy.specs.Copy.{IsCopy, OnlyGrows, Spares};
 ghost use Rattle.oci_copy.specs.Extended.{OfUp, AreRootsOf, AreRootsOfReference};
-ghost use Rattle.oci_copy.specs.Fault.{IsEarly};
 ghost use Rattle.oci_copy.specs.Plain.{NeitherFails, RefusedForPlan};
-ghost use Rattle.oci_copy.specs.Report.{IsReport};
-ghost use Rattle.oci_store.specs.Tags.{set_tag};
-ghost use Rattle.oci_copy.specs.Tagged.{name_of, ResolvesIn, RefusedByReference};
+ghost use Rattle.oci_copy.specs.Tagged.{name_of, RefusedByReference, IsTagged};
 
 use crate::by_reference::{resolve_root, tag_copied};
 use crate::fault::CopyFault;
@@ -54,27 +51,22 @@ pub fn extended_copy_graph<
 ) -> (D, Result<Report, CopyFault>)
 where
     D::Draft: Send,
-    ensures copied { OnOk result.1 (OfUp (A.state source.now) key.now depth
+    ensures copied { IfOk result.1 (λ report. OfUp (A.state source.now) key.now depth
         (λ roots. IsCopy D.shares options.now (A.state source.now) (D.state destination) roots
-        (D.state result.0))) }
-    ensures report { IfOk result.1 (λ report. OfUp (A.state source.now) key.now depth
-        (λ roots. IsReport options.now.existing (A.state source.now) (D.state destination) roots
         (D.state result.0) report)) }
     ensures held { OnOk result.1 (has_key (D.state result.0).nodes key.now ≡ true) }
     ensures grows { (roots : List Descriptor) × AreRootsOf (A.state source.now) key.now depth roots
         × OnlyGrows D.shares (A.state source.now) (D.state destination) roots (D.state result.0) }
-    ensures tags { (D.state result.0).tags ≡ (D.state destination).tags }
-    ensures workers { IsErrOf result.1 CopyFault.BadWorkers ↔ (64 < options.now.workers) }
-    ensures refused { IfErr result.1 (RefusedByWorkers options.now.workers
+    ensures spared { Spares D.state destination result.0 result.1 }
+    ensures refused { IsAnswerByWorkers options.now.workers
         (RefusedAt (IsUp (A.state source.now).nodes key.now depth)
         (IsRefusal (IsStepCause (CanFail D.state (D.state destination))) options.now
-        (A.state source.now) (D.state destination)))) }
+        (A.state source.now) (D.state destination))) result.1 }
     ensures plain { IfErr result.1 (λ fault. NeitherFails options.now.existing D.state
         (A.state source.now) (D.state destination) → RefusedByWorkers options.now.workers
         (RefusedAt (IsUp (A.state source.now).nodes key.now depth)
         (RefusedForPlan (A.state source.now).entries options.now (D.state destination).nodes))
         fault) }
-    ensures unchanged { IfErr result.1 (λ fault. IsEarly fault → result.0 ≡ destination) }
 {
     if options.workers > MAX_WORKERS {
         return (destination, Err(CopyFault::BadWorkers));
@@ -119,22 +111,16 @@ pub fn extended_copy<
 ) -> (D, Result<(Key, Report), CopyFault>)
 where
     D::Draft: Send,
-    ensures root { IfOk result.1 (λ it. ResolvesIn (A.state source.now) source_reference.now it.0) }
     ensures copied { IfOk result.1 (λ it. OfUp (A.state source.now) it.0 depth
         (λ roots. IsCopy D.shares options.now (A.state source.now) (D.state destination) roots
-        (D.state result.0))) }
-    ensures report { IfOk result.1 (λ it. OfUp (A.state source.now) it.0 depth
-        (λ roots. IsReport options.now.existing (A.state source.now) (D.state destination) roots
         (D.state result.0) it.1)) }
-    ensures tagged { IfOk result.1 (λ it. (D.state result.0).tags ≡ set_tag
-        (D.state destination).tags (name_of source_reference.now destination_reference.now) it.0) }
-    ensures held { IfOk result.1 (λ it. has_key (D.state result.0).nodes it.0 ≡ true) }
-    ensures workers { OnOk result.1 (options.now.workers ≤ 64) }
+    ensures tagged { IsTagged D.state (A.state source.now) source_reference.now
+        (name_of source_reference.now destination_reference.now) destination result.0 result.1 }
     ensures grows { (roots : List Descriptor)
         × AreRootsOfReference (A.state source.now) source_reference.now depth roots
         × OnlyGrows D.shares (A.state source.now) (D.state destination) roots (D.state result.0) }
-    ensures untagged { OnErr result.1 ((D.state result.0).tags ≡ (D.state destination).tags) }
-    ensures refused { IfErr result.1 (RefusedByReference (A.state source.now) source_reference.now
+    ensures refused { MatchResult result.1 (λ it. options.now.workers ≤ 64)
+        (RefusedByReference (A.state source.now) source_reference.now
         (λ root. RefusedByWorkers options.now.workers
         (RefusedAt (IsUp (A.state source.now).nodes root depth)
         (IsRefusal (IsStepCause (CanFail D.state (D.state destination))) options.now
@@ -146,7 +132,6 @@ where
         (RefusedAt (IsUp (A.state source.now).nodes root depth)
         (RefusedForPlan (A.state source.now).entries options.now (D.state destination).nodes)))
         fault) }
-    ensures unchanged { IfErr result.1 (λ fault. IsEarly fault → result.0 ≡ destination) }
 {
     let root = match resolve_root(source, source_reference) {
         Ok(root) => root,

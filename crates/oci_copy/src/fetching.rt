@@ -1,9 +1,9 @@
-ghost use Rattle.std.specs.Prelude.{◌≡◌, ◌⊎◌, true, [], List, Some, IfOk, OnOk, IfErr, IsTrue};
+ghost use Rattle.std.specs.Prelude.{◌≡◌, ◌⊎◌, true, [], List, Some, IfOk, IfErr, IsTrue, MatchResult};
 ghost use Rattle.oci_manifest.specs.Descriptor.{Descriptor};
 ghost use Rattle.oci_store.specs.Content.{IsChecked};
 ghost use Rattle.oci_store.specs.Keyed.{value_at, has_key};
 ghost use Rattle.oci_store.specs.Parts.{IsLeaf};
-ghost use Rattle.oci_copy.specs.Brought.{IsDrafted};
+ghost use Rattle.oci_copy.specs.Brought.{IsDrafted, MayBeRefused};
 ghost use Rattle.oci_copy.specs.Cause.{IsContentCause};
 ghost use Rattle.oci_copy.specs.Fault.{of_fetch, of_push};
 ghost use Rattle.oci_copy.specs.Planned.{CanBeRead};
@@ -53,11 +53,9 @@ pub(crate) fn draft_planned<A: Source, W: Drafting, P: PartWatcher>(
     watcher: &P,
 ) -> Result<(), CopyFault>
     requires empty { W.drafted draft.old [] }
-    requires fails { (A.state source.now).fails_at key.now ≡ true }
-    requires there { has_key (A.state source.now).entries key.now ≡ true }
-    ensures drafted { OnOk result (IsDrafted (W.is_lost draft.new) (W.drafted draft.new)
-        (A.state source.now) key.now) }
-    ensures cause { IfErr result (IsContentCause (A.state source.now) key.now) }
+    requires refused { MayBeRefused (A.state source.now) key.now }
+    ensures { MatchResult result (λ _. IsDrafted (W.is_lost draft.new) (W.drafted draft.new)
+        (A.state source.now) key.now) (IsContentCause (A.state source.now) key.now) }
 {
     match fetch_into(source, key, draft, watcher) {
         Ok(()) => Ok(()),

@@ -1,9 +1,7 @@
-ghost use Rattle.std.specs.Prelude.{◌≡◌, ◌↔◌, ◌<◌, OnOk, IfOk, IfErr, IsErrOf};
-ghost use Rattle.oci_copy.specs.Cause.{CanFail, IsRefusal, IsStepCause, RefusedByWorkers};
-ghost use Rattle.oci_copy.specs.Copy.{IsCopy, OnlyGrows};
-ghost use Rattle.oci_copy.specs.Fault.{IsEarly};
+ghost use Rattle.std.specs.Prelude.{IfOk, IfErr};
+ghost use Rattle.oci_copy.specs.Cause.{CanFail, IsAnswerByWorkers, IsRefusal, IsStepCause, RefusedByWorkers};
+ghost use Rattle.oci_copy.specs.Copy.{IsCopy, OnlyGrows, Spares};
 ghost use Rattle.oci_copy.specs.Plain.{NeitherFails, RefusedForPlan};
-ghost use Rattle.oci_copy.specs.Report.{IsReport};
 
 use crate::fault::CopyFault;
 use crate::options::Options;
@@ -65,22 +63,18 @@ pub fn copy_graph<
 ) -> (D, Result<Report, CopyFault>)
 where
     D::Draft: Send,
-    ensures copied { OnOk result.1 (IsCopy D.shares options.now (A.state source.now)
-        (D.state destination) roots.now (D.state result.0)) }
-    ensures report { IfOk result.1 (IsReport options.now.existing (A.state source.now)
+    ensures copied { IfOk result.1 (IsCopy D.shares options.now (A.state source.now)
         (D.state destination) roots.now (D.state result.0)) }
     ensures grows { OnlyGrows D.shares (A.state source.now) (D.state destination) roots.now
         (D.state result.0) }
-    ensures tags { (D.state result.0).tags ≡ (D.state destination).tags }
-    ensures workers { IsErrOf result.1 CopyFault.BadWorkers ↔ (64 < options.now.workers) }
-    ensures refused { IfErr result.1 (RefusedByWorkers options.now.workers
+    ensures spared { Spares D.state destination result.0 result.1 }
+    ensures refused { IsAnswerByWorkers options.now.workers
         (IsRefusal (IsStepCause (CanFail D.state (D.state destination))) options.now
-        (A.state source.now) (D.state destination) roots.now)) }
+        (A.state source.now) (D.state destination) roots.now) result.1 }
     ensures plain { IfErr result.1 (λ fault. NeitherFails options.now.existing D.state
         (A.state source.now) (D.state destination)
         → RefusedByWorkers options.now.workers (RefusedForPlan (A.state source.now).entries
         options.now (D.state destination).nodes roots.now) fault) }
-    ensures unchanged { IfErr result.1 (λ fault. IsEarly fault → result.0 ≡ destination) }
 {
     if options.workers > MAX_WORKERS {
         return (destination, Err(CopyFault::BadWorkers));

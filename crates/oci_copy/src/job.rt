@@ -1,5 +1,5 @@
-ghost use Rattle.std.specs.Prelude.{◌≡◌, Contains, IfOk, IfErr};
-ghost use Rattle.oci_copy.specs.Cause.{CanFail, IsStepCause};
+ghost use Rattle.std.specs.Prelude.{Contains};
+ghost use Rattle.oci_copy.specs.Cause.{CanFail, IsStepAnswer};
 
 use super::copy_start::CopyStart;
 use super::held::Held;
@@ -47,10 +47,8 @@ impl<'a, A: Source, D: Dest + Drop, T: CopyStart, R: Wait, H: Hooks> CopyJob<'a,
     ///
     /// If the key is read part by part, each part is written to a draft outside the lock.
     fn copy_key(&self, key: &'a Key) -> Result<Held<'a>, CopyFault>
-        requires planned { Contains T.planned key.now }
-        ensures held { IfOk result (λ held. held ≡ key.now) }
-        ensures cause { IfErr result (IsStepCause (CanFail D.state T.opening) T.source T.opening
-            key.now) }
+        requires { Contains T.planned key.now }
+        ensures { IsStepAnswer (CanFail D.state T.opening) T.source T.opening key.now result }
     {
         if goes_by_parts(self.source, key) {
             let mut draft = begin_draft(self.rt, self.lock, self.pushed, key)?;

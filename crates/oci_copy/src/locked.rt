@@ -1,15 +1,14 @@
-ghost use Rattle.std.specs.Prelude.{◌≡◌, ◌⊎◌, ◌++◌, List, true, false, Some, Contains, All, IfOk, IfErr, IsErrOf};
+ghost use Rattle.std.specs.Prelude.{◌≡◌, ◌⊎◌, ◌++◌, List, true, false, Contains, All, IsErrOf};
 ghost use Rattle.oci_manifest.specs.Descriptor.{Descriptor};
 ghost use Rattle.oci_store.specs.Closed.{IsClosed};
 ghost use Rattle.oci_store.specs.Content.{IsChecked, successors_in};
 ghost use Rattle.oci_store.specs.Graph.{Node};
-ghost use Rattle.oci_store.specs.Keyed.{value_at, HasAll};
-ghost use Rattle.oci_store.specs.Parts.{IsLeaf};
-ghost use Rattle.oci_copy.specs.Brought.{IsDrafted};
-ghost use Rattle.oci_copy.specs.Cause.{CanFail, IsStepCause};
+ghost use Rattle.oci_store.specs.Keyed.{HasAll};
+ghost use Rattle.oci_copy.specs.Brought.{IsPlannedContent, IsPlannedDraft};
+ghost use Rattle.oci_copy.specs.Cause.{CanFail, IsStepAnswer};
 ghost use Rattle.oci_copy.specs.Fault.{of_push};
 ghost use Rattle.oci_copy.specs.Grown.{graph_of, HasKnownBytes};
-ghost use Rattle.oci_copy.specs.Kept.{Keeps, IsOpeningAnd};
+ghost use Rattle.oci_copy.specs.Kept.{CanBegin, Keeps, IsOpeningAnd};
 
 use super::copy_start::CopyStart;
 use super::held::Held;
@@ -48,8 +47,7 @@ impl<D: Dest, T: CopyStart> Model for LockedDestination<D, T> {
 impl<D: Dest, T: CopyStart> LockedDestination<D, T> {
     /// Wraps a destination at the start of a run.
     pub(crate) fn new(destination: D) -> Self
-        requires keeps { Keeps D.shares T.source T.planned T.opening (D.state destination) }
-        requires halted { (D.state destination).is_halted → T.opening.is_halted }
+        requires { CanBegin D.shares T.source T.planned T.opening (D.state destination) }
         ensures { result ≡ (D.state destination).nodes }
     {
         LockedDestination {
@@ -93,14 +91,10 @@ impl<D: Dest, T: CopyStart> LockedDestination<D, T> {
         key: &'k Key,
         content: CheckedContent,
     ) -> Result<Held<'k>, CopyFault>
-        requires same { content.0 ≡ key.now }
-        requires planned { Contains T.planned key.now }
+        requires content { IsPlannedContent T.source T.planned key.now content }
         requires ready { HasAll self.old (successors_in key.now content.1) }
         requires checked { (listed : List Descriptor) × IsChecked key.now content.1 listed }
-        requires own { T.source.is_honest → value_at T.source.entries key.now ≡ Some content.1 }
-        ensures held { IfOk result (λ held. held ≡ key.now) }
-        ensures cause { IfErr result (IsStepCause (CanFail D.state T.opening) T.source T.opening
-            key.now) }
+        ensures { IsStepAnswer (CanFail D.state T.opening) T.source T.opening key.now result }
     {
         if self.destination.has(key) {
             return Ok(Held::by(self, key));
@@ -119,12 +113,9 @@ impl<D: Dest, T: CopyStart> LockedDestination<D, T> {
         key: &'k Key,
         draft: D::Draft,
     ) -> Result<Held<'k>, CopyFault>
-        requires planned { Contains T.planned key.now }
-        requires leaf { IsLeaf key.now }
-        requires own { IsDrafted (D.Draft.is_lost draft) (D.Draft.drafted draft) T.source key.now }
-        ensures held { IfOk result (λ held. held ≡ key.now) }
-        ensures cause { IfErr result (IsStepCause (CanFail D.state T.opening) T.source T.opening
-            key.now) }
+        requires { IsPlannedDraft (D.Draft.is_lost draft) (D.Draft.drafted draft) T.source
+            T.planned key.now }
+        ensures { IsStepAnswer (CanFail D.state T.opening) T.source T.opening key.now result }
     {
         if self.destination.has(key) {
             return Ok(Held::by(self, key));

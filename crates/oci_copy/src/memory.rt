@@ -1,11 +1,10 @@
-ghost use Rattle.std.specs.Prelude.{◌≡◌, IfOk, IfErr, ◌↔◌, ◌<◌, IsErrOf};
+ghost use Rattle.std.specs.Prelude.{IfOk, IfErr};
 ghost use Rattle.oci_store.specs.Closed.{IsClosed};
 ghost use Rattle.oci_store.specs.Graph.{nodes_of};
-ghost use Rattle.oci_copy.specs.Fault.{IsEarly};
+ghost use Rattle.oci_copy.specs.Cause.{IsAnswerByWorkers};
 ghost use Rattle.oci_copy.specs.Memory.{IsMemoryCopy, OnlyGrowsInMemory};
 ghost use Rattle.oci_copy.specs.Options.{descending};
 ghost use Rattle.oci_copy.specs.Plain.{RefusedForPlan};
-ghost use Rattle.oci_copy.specs.Cause.{RefusedByWorkers};
 
 use crate::fault::CopyFault;
 use crate::graph::copy_graph;
@@ -40,11 +39,10 @@ pub fn copy_memory(
 ) -> (ClosedStore, Result<Report, CopyFault>)
     ensures copied { IfOk result.1 (IsMemoryCopy options.now.existing
         source.now roots.now destination result.0) }
-    ensures grows { OnlyGrowsInMemory source.now roots.now destination result.0 }
+    ensures grows { OnlyGrowsInMemory source.now roots.now destination result.0 result.1 }
     ensures closed { IsClosed (nodes_of result.0.entries) }
     ensures refused { IfErr result.1 (RefusedForPlan source.now.entries options.now
         (nodes_of destination.entries) roots.now) }
-    ensures unchanged { IfErr result.1 (λ fault. IsEarly fault → result.0 ≡ destination) }
 {
     // No-ops at run time: they bring the stores' invariants into the proof. So does the call below,
     // after the copy.
@@ -78,10 +76,9 @@ pub fn repair_memory(
 ) -> (MemoryStore, Result<Report, CopyFault>)
     ensures copied { IfOk result.1 (IsMemoryCopy Existing.Descend source.now roots.now destination
         result.0) }
-    ensures grows { OnlyGrowsInMemory source.now roots.now destination result.0 }
+    ensures grows { OnlyGrowsInMemory source.now roots.now destination result.0 result.1 }
     ensures refused { IfErr result.1 (RefusedForPlan source.now.entries (descending options.now)
         (nodes_of destination.entries) roots.now) }
-    ensures unchanged { IfErr result.1 (λ fault. IsEarly fault → result.0 ≡ destination) }
 {
     // A no-op at run time: it brings the store's invariant into the proof. So does the call below,
     // after the copy.
@@ -114,13 +111,10 @@ pub fn copy_memory_by_workers<R: Threads + Wait + Sync, H: Hooks + Sync>(
 ) -> (ClosedStore, Result<Report, CopyFault>)
     ensures copied { IfOk result.1 (IsMemoryCopy options.now.existing
         source.now roots.now destination result.0) }
-    ensures grows { OnlyGrowsInMemory source.now roots.now destination result.0 }
+    ensures grows { OnlyGrowsInMemory source.now roots.now destination result.0 result.1 }
     ensures closed { IsClosed (nodes_of result.0.entries) }
-    ensures workers { IsErrOf result.1 CopyFault.BadWorkers ↔ (64 < options.now.workers) }
-    ensures refused { IfErr result.1 (RefusedByWorkers options.now.workers
-        (RefusedForPlan source.now.entries options.now (nodes_of destination.entries)
-        roots.now)) }
-    ensures unchanged { IfErr result.1 (λ fault. IsEarly fault → result.0 ≡ destination) }
+    ensures refused { IsAnswerByWorkers options.now.workers (RefusedForPlan source.now.entries
+        options.now (nodes_of destination.entries) roots.now) result.1 }
 {
     // No-ops at run time: they bring the stores' invariants into the proof. So does the call below,
     // after the copy.
@@ -157,12 +151,9 @@ pub fn repair_memory_by_workers<R: Threads + Wait + Sync, H: Hooks + Sync>(
 ) -> (MemoryStore, Result<Report, CopyFault>)
     ensures copied { IfOk result.1 (IsMemoryCopy Existing.Descend source.now roots.now destination
         result.0) }
-    ensures grows { OnlyGrowsInMemory source.now roots.now destination result.0 }
-    ensures workers { IsErrOf result.1 CopyFault.BadWorkers ↔ (64 < options.now.workers) }
-    ensures refused { IfErr result.1 (RefusedByWorkers options.now.workers
-        (RefusedForPlan source.now.entries (descending options.now)
-        (nodes_of destination.entries) roots.now)) }
-    ensures unchanged { IfErr result.1 (λ fault. IsEarly fault → result.0 ≡ destination) }
+    ensures grows { OnlyGrowsInMemory source.now roots.now destination result.0 result.1 }
+    ensures refused { IsAnswerByWorkers options.now.workers (RefusedForPlan source.now.entries
+        (descending options.now) (nodes_of destination.entries) roots.now) result.1 }
 {
     // A no-op at run time: it brings the store's invariant into the proof. So does the call below,
     // after the copy.

@@ -1,11 +1,8 @@
-ghost use Rattle.std.specs.Prelude.{◌≡◌, ◌↔◌, ◌<◌, ◌⊎◌, Contains, OnOk, IfOk, IfErr, IsErrOf};
-ghost use Rattle.oci_copy.specs.Cause.{CanFail, IsStepCause, RefusedAt};
-ghost use Rattle.oci_copy.specs.Copy.{IsCopy, OnlyGrows};
-ghost use Rattle.oci_copy.specs.Destination.{IsClosedWhenSkipping};
-ghost use Rattle.oci_copy.specs.Fault.{IsEarly};
+ghost use Rattle.std.specs.Prelude.{◌≡◌, ◌⊎◌, Contains, IfOk, IfErr};
+ghost use Rattle.oci_copy.specs.Cause.{CanFail, IsAnswerByWorkers, IsStepCause, RefusedAt};
+ghost use Rattle.oci_copy.specs.Copy.{IsCopy, OnlyGrows, Spares};
 ghost use Rattle.oci_copy.specs.Plain.{NeitherFails};
 ghost use Rattle.oci_copy.specs.Planned.{IsPlanOf};
-ghost use Rattle.oci_copy.specs.Report.{IsReport};
 
 use crate::copy_jobs::run_copy_jobs;
 use crate::fault::CopyFault;
@@ -57,24 +54,18 @@ pub fn copy_plan<
 ) -> (D, Result<Report, CopyFault>)
 where
     D::Draft: Send,
-    requires closed { IsClosedWhenSkipping options.now.existing (D.state destination).nodes }
-    requires plan { IsPlanOf (A.state source.now) options.now (D.state destination) roots.now
-        plan.now }
-    ensures copied { OnOk result.1 (IsCopy D.shares options.now (A.state source.now)
-        (D.state destination) roots.now (D.state result.0)) }
-    ensures report { IfOk result.1 (IsReport options.now.existing (A.state source.now)
+    requires { IsPlanOf (A.state source.now) options.now (D.state destination) roots.now plan.now }
+    ensures copied { IfOk result.1 (IsCopy D.shares options.now (A.state source.now)
         (D.state destination) roots.now (D.state result.0)) }
     ensures grows { OnlyGrows D.shares (A.state source.now) (D.state destination) roots.now
         (D.state result.0) }
-    ensures tags { (D.state result.0).tags ≡ (D.state destination).tags }
-    ensures workers { IsErrOf result.1 CopyFault.BadWorkers ↔ (64 < options.now.workers) }
-    ensures refused { IfErr result.1 (λ fault. (fault ≡ CopyFault.BadWorkers)
-        ⊎ RefusedAt (Contains plan.now.keys) (IsStepCause (CanFail D.state (D.state destination))
-        (A.state source.now) (D.state destination)) fault) }
+    ensures spared { Spares D.state destination result.0 result.1 }
+    ensures refused { IsAnswerByWorkers options.now.workers (RefusedAt (Contains plan.now.keys)
+        (IsStepCause (CanFail D.state (D.state destination)) (A.state source.now)
+        (D.state destination))) result.1 }
     ensures plain { IfErr result.1 (λ fault. NeitherFails options.now.existing D.state
         (A.state source.now) (D.state destination)
         → (fault ≡ CopyFault.BadWorkers) ⊎ (fault ≡ CopyFault.Memory)) }
-    ensures unchanged { IfErr result.1 (λ fault. IsEarly fault → result.0 ≡ destination) }
 {
     if options.workers > MAX_WORKERS {
         return (destination, Err(CopyFault::BadWorkers));

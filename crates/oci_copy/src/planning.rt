@@ -29,8 +29,6 @@ pub fn plan_copy<A: Source, D: Dest>(
     roots: &[Key],
     options: &Options,
 ) -> Result<Plan, CopyFault>
-    ensures closed { OnOk result (IsClosedWhenSkipping options.now.existing
-        (D.state destination.now).nodes) }
     ensures plan { IfOk result (IsPlanOf (A.state source.now) options.now (D.state destination.now)
         roots.now) }
     ensures cause { IfErr result (IsRefusal (λ source opening k fault. ⊥) options.now

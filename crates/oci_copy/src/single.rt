@@ -1,15 +1,12 @@
-ghost use Rattle.std.specs.Prelude.{◌≡◌, OnOk, IfOk, IfErr, ◌+◌, length, true, List, Contains};
+ghost use Rattle.std.specs.Prelude.{◌≡◌, OnOk, IfOk, IfErr, ◌+◌, length, Contains};
 ghost use Rattle.oci_manifest.specs.Descriptor.{Descriptor};
 ghost use Rattle.oci_store.specs.Keyed.{HasAll};
-ghost use Rattle.oci_store.specs.Parts.{IsLeaf};
-ghost use Rattle.oci_copy.specs.Brought.{CanBring, IsBrought};
+ghost use Rattle.oci_copy.specs.Brought.{CanBring, CanBringByParts, IsBrought};
 ghost use Rattle.oci_copy.specs.Cause.{IsRefusal, IsTurnCause};
-ghost use Rattle.oci_copy.specs.Copy.{IsCopy, OnlyGrows};
-ghost use Rattle.oci_copy.specs.Fault.{IsEarly};
+ghost use Rattle.oci_copy.specs.Copy.{IsCopy, OnlyGrows, Spares};
 ghost use Rattle.oci_copy.specs.Kept.{Keeps};
 ghost use Rattle.oci_copy.specs.Plain.{IsUnfailing, RefusedForPlan};
 ghost use Rattle.oci_copy.specs.Planned.{CanPush};
-ghost use Rattle.oci_copy.specs.Report.{IsReport};
 
 use crate::fault::CopyFault;
 use crate::fetching::{draft_planned, fetch_planned, goes_by_parts, push_fault};
@@ -51,20 +48,17 @@ pub fn copy_one<A: Source, D: Dest>(
     roots: &[Key],
     options: &Options,
 ) -> (D, Result<Report, CopyFault>)
-    ensures copied { OnOk result.1 (IsCopy D.shares options.now (A.state source.now)
-        (D.state destination) roots.now (D.state result.0)) }
-    ensures report { IfOk result.1 (IsReport options.now.existing (A.state source.now)
+    ensures copied { IfOk result.1 (IsCopy D.shares options.now (A.state source.now)
         (D.state destination) roots.now (D.state result.0)) }
     ensures grows { OnlyGrows D.shares (A.state source.now) (D.state destination) roots.now
         (D.state result.0) }
-    ensures tags { (D.state result.0).tags ≡ (D.state destination).tags }
+    ensures spared { Spares D.state destination result.0 result.1 }
     ensures refused { IfErr result.1 (IsRefusal (IsTurnCause (D.state result.0)) options.now
         (A.state source.now) (D.state destination) roots.now) }
     ensures plain { IfErr result.1 (λ fault. IsUnfailing options.now.existing (A.state source.now)
         (D.state destination) (D.state result.0)
         → RefusedForPlan (A.state source.now).entries options.now (D.state destination).nodes
         roots.now fault) }
-    ensures unchanged { IfErr result.1 (λ fault. IsEarly fault → result.0 ≡ destination) }
 {
     let plan = match plan_copy(alloc, source, &destination, roots, options) {
         Ok(plan) => plan,
@@ -108,12 +102,9 @@ pub(crate) fn push_planned<A: Source, D: Dest>(
     destination: &mut D,
     key: &Key,
 ) -> Result<(), CopyFault>
-    requires can { CanBring (A.state source.now) (D.state destination.old) key.now }
-    ensures brought { IsBrought (A.state source.now) (D.state destination.old)
+    requires { CanBring (A.state source.now) (D.state destination.old) key.now }
+    ensures { IsBrought D.state D.shares (A.state source.now) (D.state destination.old)
         (D.state destination.new) key.now result }
-    ensures keeps { (planned : List Descriptor) (opening : D) → Contains planned key.now
-        → Keeps D.shares (A.state source.now) planned (D.state opening) (D.state destination.old)
-        → Keeps D.shares (A.state source.now) planned (D.state opening) (D.state destination.new) }
 {
     if goes_by_parts(source, key) {
         return push_parts(source, destination, key);
@@ -131,14 +122,9 @@ fn push_parts<A: Source, D: Dest>(
     destination: &mut D,
     key: &Key,
 ) -> Result<(), CopyFault>
-    requires leaf { IsLeaf key.now }
-    requires fails { (A.state source.now).fails_at key.now ≡ true }
-    requires can { CanBring (A.state source.now) (D.state destination.old) key.now }
-    ensures brought { IsBrought (A.state source.now) (D.state destination.old)
+    requires { CanBringByParts (A.state source.now) (D.state destination.old) key.now }
+    ensures { IsBrought D.state D.shares (A.state source.now) (D.state destination.old)
         (D.state destination.new) key.now result }
-    ensures keeps { (planned : List Descriptor) (opening : D) → Contains planned key.now
-        → Keeps D.shares (A.state source.now) planned (D.state opening) (D.state destination.old)
-        → Keeps D.shares (A.state source.now) planned (D.state opening) (D.state destination.new) }
 {
     let Ok(mut draft) = destination.draft(key) else {
         return Err(CopyFault::Memory);

@@ -1,9 +1,8 @@
-ghost use Rattle.std.specs.Prelude.{◌≡◌, ◌↔◌, [], Some, Contains, IfOk, IfErr, IsSomeAnd, IsTrue};
+ghost use Rattle.std.specs.Prelude.{◌↔◌, [], IfOk, IfErr, IsSomeAnd, IsTrue};
 ghost use Rattle.std.specs.Sync.Mutex.{mutex_guard_value};
-ghost use Rattle.oci_store.specs.Keyed.{value_at, HasAll};
-ghost use Rattle.oci_store.specs.Parts.{IsLeaf};
-ghost use Rattle.oci_copy.specs.Brought.{IsDrafted};
-ghost use Rattle.oci_copy.specs.Cause.{CanFail, IsStepCause};
+ghost use Rattle.oci_store.specs.Keyed.{HasAll};
+ghost use Rattle.oci_copy.specs.Brought.{IsPlannedContent, IsPlannedDraft};
+ghost use Rattle.oci_copy.specs.Cause.{CanFail, IsStepAnswer, IsStepCause};
 
 use super::copy_start::CopyStart;
 use super::held::Held;
@@ -62,12 +61,8 @@ pub(crate) fn push_later<'k, D: Dest + Drop, T: CopyStart, R: Wait>(
     key: &'k Key,
     content: CheckedContent,
 ) -> Result<Held<'k>, CopyFault>
-    requires same { content.0 ≡ key.now }
-    requires planned { Contains T.planned key.now }
-    requires own { T.source.is_honest → value_at T.source.entries key.now ≡ Some content.1 }
-    ensures held { IfOk result (λ held. held ≡ key.now) }
-    ensures cause { IfErr result (IsStepCause (CanFail D.state T.opening) T.source T.opening
-        key.now) }
+    requires { IsPlannedContent T.source T.planned key.now content }
+    ensures { IsStepAnswer (CanFail D.state T.opening) T.source T.opening key.now result }
 {
     let mut guard = wait_for(rt, lock, pushed, content.successors());
     let Some(locked) = &mut *guard else {
@@ -112,12 +107,9 @@ pub(crate) fn push_draft_now<'k, D: Dest + Drop, T: CopyStart, R: Wait>(
     key: &'k Key,
     draft: D::Draft,
 ) -> Result<Held<'k>, CopyFault>
-    requires planned { Contains T.planned key.now }
-    requires leaf { IsLeaf key.now }
-    requires own { IsDrafted (D.Draft.is_lost draft) (D.Draft.drafted draft) T.source key.now }
-    ensures held { IfOk result (λ held. held ≡ key.now) }
-    ensures cause { IfErr result (IsStepCause (CanFail D.state T.opening) T.source T.opening
-        key.now) }
+    requires { IsPlannedDraft (D.Draft.is_lost draft) (D.Draft.drafted draft) T.source T.planned
+        key.now }
+    ensures { IsStepAnswer (CanFail D.state T.opening) T.source T.opening key.now result }
 {
     let mut guard = wait_for(rt, lock, pushed, &[]);
     let Some(locked) = &mut *guard else {

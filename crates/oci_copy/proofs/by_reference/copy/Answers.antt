@@ -1,16 +1,16 @@
-use Rattle.std.proofs.Common.{◌≡◌, true, [], ◌∷◌, inl, inr, refl}
+use Rattle.std.proofs.Common.{◌≡◌, ◌≤◌, true, [], ◌∷◌, inl, inr, refl}
 use Rattle.std.proofs.lemmas.List.Elements.{All-head}
 use Rattle.oci_manifest.specs.Descriptor.{Descriptor}
 use Rattle.oci_store.specs.Keyed.{has_key}
 use Rattle.oci_copy.specs.Cause.{CanFail, IsRefusal, IsStepCause, RefusedByWorkers}
 use Rattle.oci_copy.specs.Copy.{IsCopy}
-use Rattle.oci_copy.specs.Fault.{IsEarly}
 use Rattle.oci_copy.specs.Plain.{NeitherFails, RefusedForPlan}
-use Rattle.oci_copy.specs.Tagged.{RefusedByReference}
+use Rattle.oci_copy.specs.Tagged.{name_of, RefusedByReference}
 use Rattle.oci_copy.specs.declared.fault.CopyFault.{CopyFault}
+use Rattle.oci_copy.specs.declared.fault.CopyFault.TheVariants as fault
 use Rattle.oci_copy.specs.declared.report.Report.{Report}
 use Rattle.oci_copy.proofs.Headline.{unchanged_grows}
-use Rattle.oci_copy.proofs.Tagging.{ok_tagged, refused_tag, copy_tagged, growth_tagged}
+use Rattle.oci_copy.proofs.Tagging.{ok_tagged, refused_tag, answered_tag, tagged_copy, copy_tagged, growth_tagged}
 use Rattle.oci_copy.proofs.by_reference.copy.Goals as goal
 
 pub returns-in-Err-clause-grows : goal.returns-in-Err-clause-grows
@@ -20,22 +20,34 @@ pub returns-in-Err-copied-clause-refused : goal.returns-in-Err-copied-clause-ref
 returns-in-Err-copied-clause-refused g c = inr (inr (inr (
   c.in-Ok.root,
   c.in-Ok.ensures.found,
-  rw c.from_ref-roots.ensures.value at (rw c.in-Err-copied.is at c.copy_graph-destination.ensures.refused),
+  rw c.from_ref-roots.ensures.value at (rw c.in-Err-copied.is at c.copy_graph-destination.ensures.refused).1,
 )))
+
+pub returns-in-Err-copied-clause-tagged : goal.returns-in-Err-copied-clause-tagged
+returns-in-Err-copied-clause-tagged g c = record {
+  root = tt;
+  held = tt;
+  tagged = tt;
+  untagged = c.copy_graph-destination.ensures.spared.tags;
+  unchanged = rw c.in-Err-copied.is at c.copy_graph-destination.ensures.spared.unchanged;
+}
 
 pub returns-in-Ok-copied-clause-copied : goal.returns-in-Ok-copied-clause-copied
 returns-in-Ok-copied-clause-copied g c =
     let done = rw c.from_ref-roots.ensures.value at (rw c.in-Ok-copied.is at c.copy_graph-destination.ensures.copied) in
     ok_tagged c.tag_copied.result.1 c.in-Ok.root c.in-Ok-copied.report
-    (λ (k : Descriptor) (r : Report). IsCopy g.D.Dest.shares c.args.options.now (g.A.Store.state c.args.source.now) (g.D.Store.state c.args.destination) (k ∷ []) (g.D.Store.state c.tag_copied.result.0))
+    (λ (k : Descriptor) (r : Report). IsCopy g.D.Dest.shares c.args.options.now (g.A.Store.state c.args.source.now) (g.D.Store.state c.args.destination) (k ∷ []) (g.D.Store.state c.tag_copied.result.0) r)
     c.tag_copied.ensures.root c.tag_copied.ensures.report (copy_tagged c.tag_copied.ensures.stays done)
 
-pub returns-in-Ok-copied-clause-held : goal.returns-in-Ok-copied-clause-held
-returns-in-Ok-copied-clause-held g c =
-    let nodes = (g.D.Store.state c.tag_copied.result.0).nodes in
+pub returns-in-Ok-copied-clause-tagged : goal.returns-in-Ok-copied-clause-tagged
+returns-in-Ok-copied-clause-tagged g c =
     let done = rw c.from_ref-roots.ensures.value at (rw c.in-Ok-copied.is at c.copy_graph-destination.ensures.copied) in
-    ok_tagged c.tag_copied.result.1 c.in-Ok.root c.in-Ok-copied.report (λ (k : Descriptor) (r : Report). has_key nodes k ≡ true)
-    c.tag_copied.ensures.root c.tag_copied.ensures.report (All-head (λ k. has_key nodes k ≡ true) c.in-Ok.root [] (copy_tagged c.tag_copied.ensures.stays done).roots_held)
+    let there = All-head (λ k. has_key (g.D.Store.state c.copy_graph-destination.result.0).nodes k ≡ true) c.in-Ok.root [] done.roots_held in
+    tagged_copy g.D.Store.state (g.A.Store.state c.args.source.now) c.args.source_reference.now (name_of c.args.source_reference.now c.args.destination_reference.now)
+    c.args.destination c.copy_graph-destination.result.0 c.tag_copied.result.0 c.in-Ok.root c.tag_copied.result.1
+    c.in-Ok.ensures.found there c.copy_graph-destination.ensures.spared.tags c.tag_copied.ensures.stays
+    c.tag_copied.ensures.root c.tag_copied.ensures.tagged c.tag_copied.ensures.untagged
+    (refused_tag c.tag_copied.result.1 (λ (e : CopyFault). e ≡ fault.Memory) c.in-Ok.ensures.named there refl c.tag_copied.ensures.wants)
 
 pub returns-in-Ok-copied-clause-grows : goal.returns-in-Ok-copied-clause-grows
 returns-in-Ok-copied-clause-grows g c = (
@@ -48,19 +60,13 @@ pub returns-in-Ok-copied-clause-refused : goal.returns-in-Ok-copied-clause-refus
 returns-in-Ok-copied-clause-refused g c =
     let done = rw c.from_ref-roots.ensures.value at (rw c.in-Ok-copied.is at c.copy_graph-destination.ensures.copied) in
     let there = All-head (λ k. has_key (g.D.Store.state c.copy_graph-destination.result.0).nodes k ≡ true) c.in-Ok.root [] done.roots_held in
-    refused_tag c.tag_copied.result.1
+    answered_tag c.tag_copied.result.1 (c.args.options.now.workers ≤ 64)
     (RefusedByReference (g.A.Store.state c.args.source.now) c.args.source_reference.now
     (λ (root : Descriptor). RefusedByWorkers c.args.options.now.workers
     (IsRefusal (IsStepCause (CanFail g.D.Store.state (g.D.Store.state c.args.destination))) c.args.options.now
     (g.A.Store.state c.args.source.now) (g.D.Store.state c.args.destination) (root ∷ []))))
-    c.in-Ok.ensures.named there (inl refl) c.tag_copied.ensures.wants
-
-pub returns-in-Ok-copied-clause-unchanged : goal.returns-in-Ok-copied-clause-unchanged
-returns-in-Ok-copied-clause-unchanged g c =
-    let done = rw c.from_ref-roots.ensures.value at (rw c.in-Ok-copied.is at c.copy_graph-destination.ensures.copied) in
-    let there = All-head (λ k. has_key (g.D.Store.state c.copy_graph-destination.result.0).nodes k ≡ true) c.in-Ok.root [] done.roots_held in
-    refused_tag c.tag_copied.result.1 (λ (e : CopyFault). IsEarly e → c.tag_copied.result.0 ≡ c.args.destination)
-    c.in-Ok.ensures.named there (λ early. absurd early) c.tag_copied.ensures.wants
+    (rw c.in-Ok-copied.is at c.copy_graph-destination.ensures.refused) (inl refl)
+    (refused_tag c.tag_copied.result.1 (λ (e : CopyFault). e ≡ fault.Memory) c.in-Ok.ensures.named there refl c.tag_copied.ensures.wants)
 
 pub returns-in-Err-copied-clause-plain : goal.returns-in-Err-copied-clause-plain
 returns-in-Err-copied-clause-plain g c unfailing = inr (inr (inr (

@@ -12,12 +12,11 @@ pub returns-clause-copied : goal.returns-clause-copied
 returns-clause-copied c =
     copied c.args.options.now c.args.source.now c.args.destination c.copy_one-destination.result.0 c.args.roots.now c.copy_one-destination.result.1
     c.copy_one-destination.ensures.copied
-    c.copy_one-destination.ensures.report
 
 pub returns-clause-grows : goal.returns-clause-grows
 returns-clause-grows c =
-    grows c.args.source.now c.args.destination c.copy_one-destination.result.0 c.args.roots.now c.copy_one-destination.ensures.grows
-    (rw c.memory.ensures.same at c.len-content.ensures.content) c.copy_one-destination.ensures.tags
+    grows c.args.source.now c.args.destination c.copy_one-destination.result.0 c.args.roots.now c.copy_one-destination.result.1 c.copy_one-destination.ensures.grows
+    (rw c.memory.ensures.same at c.len-content.ensures.content) c.copy_one-destination.ensures.spared.tags c.copy_one-destination.ensures.spared.unchanged
 
 pub returns-clause-refused : goal.returns-clause-refused
 returns-clause-refused c =

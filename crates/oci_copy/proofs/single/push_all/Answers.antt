@@ -29,12 +29,10 @@ push_planned-requires g c =
     let now = (g.D.Store.state c.loop-place.destination).nodes in
     let planned = Contains-from_slice_get c.args.plan.now.keys at.0 k at.2 in
     record {
-      can = record {
-        there = All-contains (λ (k : Descriptor). has_key source.entries k ≡ true) c.args.plan.now.keys k c.requires.there planned;
-        fresh = fresh_at c.args.plan.now c.requires.plan c.requires.order opening now c.loop-place.place at.0 k c.requires.fresh c.loop-place.invariant.keys at.1 at.2;
-        reads = λ honest. All-contains (CanBeRead source.entries) c.args.plan.now.keys k (c.requires.reads honest) planned;
-        ready = λ honest. ready_at c.args.plan.now c.requires.plan c.requires.order (graph_of source) opening now c.loop-place.place at.0 k (c.requires.follows honest) c.loop-place.invariant.keys at.1 at.2;
-      };
+      there = All-contains (λ (k : Descriptor). has_key source.entries k ≡ true) c.args.plan.now.keys k c.requires.there planned;
+      fresh = fresh_at c.args.plan.now c.requires.plan c.requires.order opening now c.loop-place.place at.0 k c.requires.fresh c.loop-place.invariant.keys at.1 at.2;
+      reads = λ honest. All-contains (CanBeRead source.entries) c.args.plan.now.keys k (c.requires.reads honest) planned;
+      ready = λ honest. ready_at c.args.plan.now c.requires.plan c.requires.order (graph_of source) opening now c.loop-place.place at.0 k (c.requires.follows honest) c.loop-place.invariant.keys at.1 at.2;
     }
 
 pub returns-in_err-push_planned-clause-keeps : goal.returns-in_err-push_planned-clause-keeps
@@ -50,13 +48,13 @@ returns-in_err-push_planned-clause-cause g c =
       c.in-Some.key.now,
       Contains-from_slice_get c.args.plan.now.keys at.0 c.in-Some.key.now at.2,
       turn_earlier (g.A.Store.state c.args.source.now) (g.D.Store.state c.args.destination.now) (g.D.Store.state c.loop-place.destination) (g.D.Store.state c.push_planned.new.destination) c.in-Some.key.now _
-          c.loop-place.invariant.running c.loop-place.invariant.keeps.rising c.in_err-push_planned.ensures.brought.cause,
+          c.loop-place.invariant.running c.loop-place.invariant.keeps.rising c.in_err-push_planned.ensures.cause,
     )
 
 pub loop-place-preserved : goal.loop-place-preserved
 loop-place-preserved g c =
     let at = c.in-Some.ensures.key in
-    let pushed = c.in_ok-push_planned.ensures.brought.pushed in
+    let pushed = c.in_ok-push_planned.ensures.pushed in
     let more = length-more (g.D.Store.state c.loop-place.destination).nodes (g.D.Store.state c.push_planned.new.destination).nodes c.in-Some.key.now pushed in
     record {
       keys = pushed ∙ (ap (λ (ks : List Descriptor). ks ++ c.in-Some.key.now ∷ []) c.loop-place.invariant.keys
@@ -64,7 +62,7 @@ loop-place-preserved g c =
           (sym (keys_before-more c.args.plan.now c.requires.plan c.requires.order c.loop-place.place at.0 c.in-Some.key.now at.1 at.2))));
       count = omega (arith, more, c.loop-place.invariant.count);
       keeps = c.push_planned.ensures.keeps c.args.plan.now.keys c.args.destination.now (Contains-from_slice_get c.args.plan.now.keys at.0 c.in-Some.key.now at.2) c.loop-place.invariant.keeps;
-      running = λ halted. c.loop-place.invariant.running (c.in_ok-push_planned.ensures.brought.running halted);
+      running = λ halted. c.loop-place.invariant.running (c.in_ok-push_planned.ensures.running halted);
     }
 
 pub returns-clause-held : goal.returns-clause-held

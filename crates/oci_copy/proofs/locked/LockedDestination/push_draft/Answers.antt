@@ -36,8 +36,8 @@ by-requires-in-Ok g c =
           record { held = held_after old new k (successors_in k drafted.0) (rw c.in-Ok.is at did.keys.pushed) }
     ]
 
-pub returns-in-Err-clause-cause : goal.returns-in-Err-clause-cause
-returns-in-Err-clause-cause g c =
+pub returns-in-Err : goal.returns-in-Err
+returns-in-Err g c =
     let k = c.args.key.now in
     let was = c.self.invariant in
     let before = g.D.Store.state c.self.inside.destination in
