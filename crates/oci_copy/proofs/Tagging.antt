@@ -3,14 +3,14 @@ use Rattle.std.proofs.Common.{◌≡◌, ◌∙◌, ℕ, true, List, Result, Ok,
 use Rattle.std.specs.Prelude.{IfOk, IfErr, OnOk, OnErr, MatchResult}
 use Rattle.oci_manifest.specs.Descriptor.{Descriptor}
 use Rattle.oci_store.specs.Keyed.{has_key}
-use Rattle.oci_store.specs.State.{State}
+use Rattle.oci_store.specs.State.{State, OnlyTagsDiffer}
 use Rattle.oci_store.specs.Tags.{Tags, set_tag}
 use Rattle.oci_plan.specs.declared.gathering.Existing.{Existing}
 use Rattle.oci_copy.specs.Copy.{IsCopy, OnlyGrows}
 use Rattle.oci_copy.specs.Fault.{IsEarly}
 use Rattle.oci_copy.specs.Grown.{HasKnownBytes}
 use Rattle.oci_copy.specs.Report.{IsReport}
-use Rattle.oci_copy.specs.Tagged.{IsRetagged, IsTagged, ResolvesIn}
+use Rattle.oci_copy.specs.Tagged.{IsTagged, ResolvesIn}
 use Rattle.oci_copy.specs.declared.options.Options.{Options}
 use Rattle.oci_copy.specs.declared.fault.CopyFault.{CopyFault}
 use Rattle.oci_copy.specs.declared.fault.CopyFault.TheVariants as fault
@@ -33,7 +33,7 @@ answered_tag (Ok x) within cause is memory wants = is
 answered_tag (Err e) within cause is memory wants = rw wants memory
 
 pub tagged_copy : {D : Type 0} (state : D → State) (source : State) (source_reference name : List ℕ) (opening copied now : D) (root : Descriptor) (r : Result (Descriptor × Report) CopyFault)
-    → ResolvesIn source source_reference root → has_key (state copied).nodes root ≡ true → (state copied).tags ≡ (state opening).tags → IsRetagged (state copied) (state now)
+    → ResolvesIn source source_reference root → has_key (state copied).nodes root ≡ true → (state copied).tags ≡ (state opening).tags → OnlyTagsDiffer (state copied) (state now)
     → IfOk r (λ it. it.0 ≡ root) → OnOk r ((state now).tags ≡ set_tag (state copied).tags name root) → OnErr r ((state now).tags ≡ (state copied).tags) → IfErr r (λ e. e ≡ fault.Memory)
     → IsTagged state source source_reference name opening now r
 tagged_copy state source source_reference name opening copied now root (Ok it) found there tags stays same tagged untagged memory = record {
@@ -55,11 +55,11 @@ tagged_copy state source source_reference name opening copied now root (Err e) f
 known : {shares : Type 0} {source opening : State} (now tagged : State) → tagged.failures ≡ now.failures → HasKnownBytes shares source opening tagged → HasKnownBytes shares source opening now
 known now tagged failures t = record { is_honest = t.is_honest; is_sound = t.is_sound; is_calm = rw failures at t.is_calm; same_old = t.same_old; same_source = t.same_source }
 
-pub report_tagged : {existing : Existing} {source opening : State} {roots : List Descriptor} {now tagged : State} → IsRetagged now tagged → (report : Report)
+pub report_tagged : {existing : Existing} {source opening : State} {roots : List Descriptor} {now tagged : State} → OnlyTagsDiffer now tagged → (report : Report)
     → IsReport existing source opening roots now report → IsReport existing source opening roots tagged report
 report_tagged stays report is = record { planned = is.planned; pushed = is.pushed; gained = rw stays.nodes is.gained; skipped = is.skipped }
 
-module _ {shares : Type 0} {source opening now tagged : State} {roots : List Descriptor} (stays : IsRetagged now tagged) where
+module _ {shares : Type 0} {source opening now tagged : State} {roots : List Descriptor} (stays : OnlyTagsDiffer now tagged) where
   pub copy_tagged : {options : Options} {report : Report} → IsCopy shares options source opening roots now report → IsCopy shares options source opening roots tagged report
   copy_tagged {report = report} copy = record {
     graph = λ h agree. rw stays.nodes (copy.graph h agree);

@@ -41,11 +41,3 @@ pub record IsTagged {D : Type 0} (state : D → State) (source : State) (source_
   -- a refusal sets no tag, and before the first push it changes nothing
   pub untagged : OnErr answer ((state now).tags ≡ (state opening).tags)
   pub unchanged : IfErr answer (λ fault. IsEarly fault → now ≡ opening)
-
--- only the tags may differ
-pub record IsRetagged (old new : State) : Type 0 where
-  pub nodes : new.nodes ≡ old.nodes
-  pub entries : new.entries ≡ old.entries
-  pub sound : old.is_sound → new.is_sound
-  pub failures : new.failures ≡ old.failures
-  pub name : new.name ≡ old.name

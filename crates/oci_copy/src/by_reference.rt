@@ -1,11 +1,12 @@
 ghost use Rattle.std.specs.Prelude.{◌≡◌, ◌≤◌, [], ◌∷◌, List, true, OnOk, OnErr, IfOk, IfErr, ◌≢◌, MatchResult};
 ghost use Rattle.oci_manifest.specs.Descriptor.{Descriptor};
 ghost use Rattle.oci_store.specs.Keyed.{has_key};
+ghost use Rattle.oci_store.specs.State.{OnlyTagsDiffer};
 ghost use Rattle.oci_store.specs.Tags.{set_tag};
 ghost use Rattle.oci_copy.specs.Cause.{CanFail, IsRefusal, IsStepCause, RefusedByWorkers};
 ghost use Rattle.oci_copy.specs.Copy.{IsCopy, OnlyGrows};
 ghost use Rattle.oci_copy.specs.Plain.{NeitherFails, RefusedForPlan};
-ghost use Rattle.oci_copy.specs.Tagged.{name_of, ResolvesIn, IsRootOf, RefusedByReference, IsRetagged, IsTagged};
+ghost use Rattle.oci_copy.specs.Tagged.{name_of, ResolvesIn, IsRootOf, RefusedByReference, IsTagged};
 
 use crate::fault::CopyFault;
 use crate::graph::copy_graph;
@@ -114,7 +115,7 @@ pub(crate) fn tag_copied<D: Tagger>(
     ensures tagged { OnOk result.1 ((D.state result.0).tags ≡ set_tag (D.state destination).tags
         (name_of source_reference.now destination_reference.now) root) }
     ensures untagged { OnErr result.1 ((D.state result.0).tags ≡ (D.state destination).tags) }
-    ensures stays { IsRetagged (D.state destination) (D.state result.0) }
+    ensures stays { OnlyTagsDiffer (D.state destination) (D.state result.0) }
     ensures wants { IfErr result.1 (λ fault. source_reference.now ≢ []
         → has_key (D.state destination).nodes root ≡ true → fault ≡ CopyFault.Memory) }
 {
