@@ -6,6 +6,13 @@ use Rattle.oci_store.specs.Keyed.{value_at, has_key}
 use Rattle.oci_live.specs.declared.fault.LookFault.{LookFault}
 use Rattle.oci_live.specs.declared.fault.LookFault.TheVariants as fault
 
+-- it holds of the answer; or the answer is `Unavailable`, and the look is unchanged
+abbrev pub IsAnswer : {X : Type 0} → Type 0 → (Result X LookFault → Type 0) → Result X LookFault → Type 0
+IsAnswer {X} unchanged holds (Ok x) = holds (Ok x)
+IsAnswer {X} unchanged holds (Err fault.NotFound) = holds (Err fault.NotFound)
+IsAnswer {X} unchanged holds (Err fault.Unavailable) = unchanged
+IsAnswer {X} unchanged holds (Err fault.Memory) = holds (Err fault.Memory)
+
 -- the bytes under the key, which match it; `NotFound` only if the key is not held, and a memory
 -- error only if it is held
 abbrev pub IsContentAt : List Entry → Descriptor → Result (List ℕ) LookFault → Type 0

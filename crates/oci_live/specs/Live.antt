@@ -1,5 +1,7 @@
 -- The meaning of a live store, and of a look or a note.
-use Rattle.std.specs.Prelude.{◌≡◌, ℕ, Bool, true, false, List, [], ⊤}
+use Rattle.std.specs.Prelude.{◌≡◌, ◌⊎◌, ℕ, Bool, true, false, List, [], length, ⊤}
+use mathlib.Core.List.{IsPrefix}
+use Rattle.oci_store.specs.Closed.{IsClosed}
 use Rattle.oci_store.specs.Content.{Entry}
 use Rattle.oci_store.specs.Graph.{nodes_of}
 use Rattle.oci_store.specs.State.{State}
@@ -14,6 +16,25 @@ pub record Live : Type 0 where
 pub record Beginning : Type 0 where
   pub name : List ℕ
   pub entries : List Entry
+
+-- a look or a note of a store moved on: its list only grew, and is closed
+pub record MovesOn (old new : Beginning) : Type 0 where
+  pub name : new.name ≡ old.name
+  pub later : IsPrefix old.entries new.entries
+  pub closed : IsClosed (nodes_of new.entries)
+
+-- a look or a note took the longer of its list and the list of a note, and one of the two begins the
+-- other
+pub record Learns (old note new : Beginning) : Type 0 where
+  pub name : new.name ≡ old.name
+  pub one : (new.entries ≡ old.entries) ⊎ (new.entries ≡ note.entries)
+  pub later : IsPrefix old.entries new.entries
+  pub told : IsPrefix note.entries new.entries
+
+-- the list is closed and has this length
+pub record IsClosedList (entries : List Entry) (n : ℕ) : Type 0 where
+  pub len : n ≡ length entries
+  pub closed : IsClosed (nodes_of entries)
 
 -- a live store as a store: it holds exactly its published entries
 abbrev pub state_of : Live → State

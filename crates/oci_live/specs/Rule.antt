@@ -18,6 +18,11 @@ knows n l = record { is_told = true; name = n; list = l }
 abbrev pub newcomer : View
 newcomer = record { is_told = false; name = []; list = [] }
 
+-- the seat has seen a list of the store of this name
+pub record IsTold (v : View) (n : List ℕ) : Type 0 where
+  pub told : v.is_told ≡ true
+  pub name : v.name ≡ n
+
 -- the knowledge of a seat holds for the shelf
 pub record Knows (v : View) (x : Shelf) : Type 0 where
   pub name : v.is_told ≡ true → v.name ≡ name_of x.witness.book

@@ -1,10 +1,10 @@
-ghost use Rattle.std.specs.Prelude.{◌≡◌, ◌⊎◌, true, false, Some, length, slice_get, IfOk, IfErr, IsErrOf, IsSome};
-ghost use mathlib.Core.List.{IsPrefix};
+ghost use Rattle.std.specs.Prelude.{◌≡◌, length, MatchResult};
 ghost use Rattle.left_right.specs.Sides.{view};
-ghost use Rattle.oci_store.specs.Closed.{IsClosed};
-ghost use Rattle.oci_store.specs.Content.{IsContent, Matches};
-ghost use Rattle.oci_store.specs.Graph.{nodes_of};
-ghost use Rattle.oci_store.specs.Keyed.{value_at, has_key};
+ghost use Rattle.oci_store.specs.Content.{IsContent};
+ghost use Rattle.oci_store.specs.Keyed.{has_key};
+ghost use Rattle.oci_live.specs.Answers.{IsAnswer, IsContentAt, IsEntryAt};
+ghost use Rattle.oci_live.specs.Live.{Learns, MovesOn};
+ghost use Rattle.oci_live.specs.Rule.{IsTold};
 ghost use Rattle.oci_live.specs.declared.fault.LookFault.TheVariants.{Unavailable};
 
 use crate::fault::LookFault;
@@ -28,22 +28,20 @@ pub struct Look {
 }
 
 impl Model for Look {
-    ghost use Rattle.std.specs.Prelude.{◌≡◌, true};
     ghost use Rattle.left_right.specs.Sides.{view as seat_view};
     ghost use Rattle.oci_live.specs.Live.{Beginning};
+    ghost use Rattle.oci_live.specs.Rule.{IsTold};
 
     ghost Value = { Beginning };
 
     ghost view = { λ s. s.note };
 
-    ghost invariant = { λ s. ((seat_view s.viewer.place).is_told ≡ true)
-        × ((seat_view s.viewer.place).name ≡ s.note.name) };
+    ghost invariant = { λ s. IsTold (seat_view s.viewer.place) s.note.name };
 }
 
 impl Look {
     pub(crate) fn new(viewer: Viewer, note: Note) -> Look
-        requires told { (view viewer.place).is_told ≡ true }
-        requires name { (view viewer.place).name ≡ note.name }
+        requires { IsTold (view viewer.place) note.name }
         ensures { result ≡ note }
     {
         Look { viewer, note }
@@ -53,11 +51,7 @@ impl Look {
     /// the longer. Does not allocate.
     pub fn learn(&mut self, note: &Note)
         requires name { self.old.name ≡ note.now.name }
-        ensures name { self.new.name ≡ self.old.name }
-        ensures one { (self.new.entries ≡ self.old.entries) ⊎
-            (self.new.entries ≡ note.now.entries) }
-        ensures later { IsPrefix self.old.entries self.new.entries }
-        ensures told { IsPrefix note.now.entries self.new.entries }
+        ensures { Learns self.old note.now self.new }
     {
         self.note.learn(note);
     }
@@ -68,11 +62,9 @@ impl Look {
     ///
     /// - 46 `Unavailable`: the store is gone. The look is unchanged.
     pub fn exists(&mut self, key: &Key) -> Result<bool, LookFault>
-        ensures name { self.new.name ≡ self.old.name }
-        ensures later { IsPrefix self.old.entries self.new.entries }
-        ensures closed { IsClosed (nodes_of self.new.entries) }
-        ensures held { IfOk result (λ held. held ≡ has_key self.new.entries key.now) }
-        ensures refused { IfErr result (λ fault. (fault ≡ Unavailable) × (self.new ≡ self.old)) }
+        ensures later { MovesOn self.old self.new }
+        ensures held { MatchResult result (λ held. held ≡ has_key self.new.entries key.now)
+            (λ fault. (fault ≡ Unavailable) × (self.new ≡ self.old)) }
     {
         self.ask(&Held { key })
     }
@@ -83,12 +75,9 @@ impl Look {
     ///
     /// - 46 `Unavailable`: the store is gone. The look is unchanged.
     pub fn len(&mut self) -> Result<usize, LookFault>
-        ensures name { self.new.name ≡ self.old.name }
-        ensures later { IsPrefix self.old.entries self.new.entries }
-        ensures closed { IsClosed (nodes_of self.new.entries) }
-        ensures count { IfOk result (λ n. (n ≡ length self.new.entries)
-            × IsContent self.new.entries) }
-        ensures refused { IfErr result (λ fault. (fault ≡ Unavailable) × (self.new ≡ self.old)) }
+        ensures later { MovesOn self.old self.new }
+        ensures count { MatchResult result (λ n. (n ≡ length self.new.entries)
+            × IsContent self.new.entries) (λ fault. (fault ≡ Unavailable) × (self.new ≡ self.old)) }
     {
         self.ask(&Count)
     }
@@ -101,14 +90,8 @@ impl Look {
     /// - 46 `Unavailable`: the store is gone. The look is unchanged.
     /// - 47 `Memory`: there is an entry, and an allocation failed.
     pub fn entry(&mut self, place: usize) -> Result<Option<(Key, Bytes)>, LookFault>
-        ensures name { self.new.name ≡ self.old.name }
-        ensures later { IsPrefix self.old.entries self.new.entries }
-        ensures closed { IsClosed (nodes_of self.new.entries) }
-        ensures found { IfOk result (λ found. found ≡ slice_get self.new.entries place) }
-        ensures not_found { IsErrOf result LookFault.NotFound → ⊥ }
-        ensures memory { IsErrOf result LookFault.Memory
-            → IsSome (slice_get self.new.entries place) }
-        ensures unavailable { IsErrOf result LookFault.Unavailable → self.new ≡ self.old }
+        ensures later { MovesOn self.old self.new }
+        ensures found { IsAnswer (self.new ≡ self.old) (IsEntryAt self.new.entries place) result }
     {
         self.ask(&EntryAt { place })?
     }
@@ -121,26 +104,18 @@ impl Look {
     /// - 46 `Unavailable`: the store is gone. The look is unchanged.
     /// - 47 `Memory`: the key is held, and an allocation failed.
     pub fn fetch(&mut self, key: &Key) -> Result<Bytes, LookFault>
-        ensures name { self.new.name ≡ self.old.name }
-        ensures later { IsPrefix self.old.entries self.new.entries }
-        ensures closed { IsClosed (nodes_of self.new.entries) }
-        ensures found { IfOk result (λ bytes. value_at self.new.entries key.now ≡ Some bytes) }
-        ensures matching { IfOk result (λ bytes. Matches key.now bytes) }
-        ensures not_found { IsErrOf result LookFault.NotFound
-            → has_key self.new.entries key.now ≡ false }
-        ensures memory { IsErrOf result LookFault.Memory → has_key self.new.entries key.now ≡ true }
-        ensures unavailable { IsErrOf result LookFault.Unavailable → self.new ≡ self.old }
+        ensures later { MovesOn self.old self.new }
+        ensures found { IsAnswer (self.new ≡ self.old) (IsContentAt self.new.entries key.now)
+            result }
     {
         self.ask(&ContentAt { key })?
     }
 
     /// Asks a question. The list that the answer refers to becomes the look's list.
     fn ask<Q: Question>(&mut self, question: &Q) -> Result<Q::Answer, LookFault>
-        ensures name { self.new.name ≡ self.old.name }
-        ensures later { IsPrefix self.old.entries self.new.entries }
-        ensures closed { IsClosed (nodes_of self.new.entries) }
-        ensures answer { IfOk result (λ answer. Q.answers question.now self.new.entries answer) }
-        ensures refused { IfErr result (λ fault. (fault ≡ Unavailable) × (self.new ≡ self.old)) }
+        ensures later { MovesOn self.old self.new }
+        ensures answer { MatchResult result (λ answer. Q.answers question.now self.new.entries
+            answer) (λ fault. (fault ≡ Unavailable) × (self.new ≡ self.old)) }
     {
         let Look { viewer, note } = self;
         let Some((answer, witness, len)) = ask(viewer, question) else {

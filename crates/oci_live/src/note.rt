@@ -1,8 +1,8 @@
-ghost use Rattle.std.specs.Prelude.{◌≡◌, ◌⊎◌, true, false, length};
-ghost use mathlib.Core.List.{IsPrefix};
+ghost use Rattle.std.specs.Prelude.{◌≡◌, true, false};
 ghost use Rattle.oci_store.specs.Closed.{IsClosed};
 ghost use Rattle.oci_store.specs.Graph.{nodes_of};
 ghost use Rattle.oci_live.specs.History.{name_of};
+ghost use Rattle.oci_live.specs.Live.{IsClosedList, Learns, MovesOn};
 
 use crate::history::Witness;
 use std::marker::Model;
@@ -16,24 +16,20 @@ pub struct Note {
 }
 
 impl Model for Note {
-    ghost use Rattle.std.specs.Prelude.{◌≡◌, length};
-    ghost use Rattle.oci_store.specs.Closed.{IsClosed};
-    ghost use Rattle.oci_store.specs.Graph.{nodes_of};
     ghost use Rattle.oci_live.specs.History.{name_of};
-    ghost use Rattle.oci_live.specs.Live.{Beginning};
+    ghost use Rattle.oci_live.specs.Live.{Beginning, IsClosedList};
 
     ghost Value = { Beginning };
 
     ghost view = { λ n. record { name = name_of n.witness.book; entries = n.witness.log } };
 
-    ghost invariant = { λ n. (n.len ≡ length n.witness.log) × IsClosed (nodes_of n.witness.log) };
+    ghost invariant = { λ n. IsClosedList n.witness.log n.len };
 }
 
 impl Note {
     /// Creates a note of the list that a witness shows.
     pub(crate) fn new(witness: Witness, len: u64) -> Note
-        requires len { len ≡ length witness.log }
-        requires closed { IsClosed (nodes_of witness.log) }
+        requires { IsClosedList witness.log len }
         ensures { result ≡ record { name = name_of witness.book; entries = witness.log } }
     {
         Note { witness, len }
@@ -51,13 +47,10 @@ impl Note {
     /// shorter.
     pub(crate) fn advance(&mut self, witness: Witness, len: u64) -> bool
         requires name { name_of witness.book ≡ self.old.name }
-        requires len { len ≡ length witness.log }
-        requires closed { IsClosed (nodes_of witness.log) }
-        ensures name { self.new.name ≡ self.old.name }
+        requires list { IsClosedList witness.log len }
+        ensures later { MovesOn self.old self.new }
         ensures shown { result ≡ true → self.new.entries ≡ witness.log }
-        ensures later { IsPrefix self.old.entries self.new.entries }
         ensures less { result ≡ false → self.new.entries ≡ self.old.entries }
-        ensures closed { IsClosed (nodes_of self.new.entries) }
     {
         let now = Note { witness, len };
         if len < self.len {
@@ -71,11 +64,7 @@ impl Note {
     /// other.
     pub(crate) fn learn(&mut self, note: &Note)
         requires name { self.old.name ≡ note.now.name }
-        ensures name { self.new.name ≡ self.old.name }
-        ensures one { (self.new.entries ≡ self.old.entries) ⊎
-            (self.new.entries ≡ note.now.entries) }
-        ensures later { IsPrefix self.old.entries self.new.entries }
-        ensures told { IsPrefix note.now.entries self.new.entries }
+        ensures { Learns self.old note.now self.new }
     {
         // This witness has seen both lists, so both are prefixes of its list.
         let mut both = self.witness.again();

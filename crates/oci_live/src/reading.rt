@@ -3,6 +3,7 @@ ghost use Rattle.left_right.specs.Sides.{view};
 ghost use Rattle.oci_store.specs.Closed.{IsClosed};
 ghost use Rattle.oci_store.specs.Graph.{nodes_of};
 ghost use Rattle.oci_live.specs.History.{name_of};
+ghost use Rattle.oci_live.specs.Rule.{IsTold};
 
 use crate::history::Witness;
 use crate::question::Question;
@@ -30,8 +31,7 @@ pub(crate) fn ask<Q: Question>(
     question: &Q,
 ) -> Option<(Q::Answer, Witness, usize)>
     requires { (view viewer.old.place).is_told ≡ true }
-    ensures viewer { ((view viewer.new.place).is_told ≡ true)
-        × ((view viewer.new.place).name ≡ (view viewer.old.place).name) }
+    ensures viewer { IsTold (view viewer.new.place) (view viewer.old.place).name }
     ensures answer { IfSome result (λ r. Q.answers question.now r.1.log r.0 × (r.2 ≡ length r.1.log)
         × IsClosed (nodes_of r.1.log) × (name_of r.1.book ≡ (view viewer.old.place).name)) }
 {
@@ -47,8 +47,7 @@ pub(crate) fn ask<Q: Question>(
 /// Asks a question, and returns the viewer with the result.
 fn asked<Q: Question>(viewer: Viewer, question: &Q) -> (Viewer, Option<(Q::Answer, Witness, usize)>)
     requires { (view viewer.place).is_told ≡ true }
-    ensures viewer { ((view result.0.place).is_told ≡ true)
-        × ((view result.0.place).name ≡ (view viewer.place).name) }
+    ensures viewer { IsTold (view result.0.place) (view viewer.place).name }
     ensures answer { IfSome result.1 (λ r. Q.answers question.now r.1.log r.0
         × (r.2 ≡ length r.1.log)
         × IsClosed (nodes_of r.1.log) × (name_of r.1.book ≡ (view viewer.place).name)) }

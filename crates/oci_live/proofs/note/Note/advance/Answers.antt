@@ -9,5 +9,5 @@ returns-clause-shown c _ =
     let new = c.learn.new.self.entries in
     let log = c.args.witness.log in
     let was : c.self.inside.witness.log ≡ old = ap (λ p. p.entries) c.self.view_is in
-    let few : length old ≤ length log = omega (arith, c.self.invariant.0, ap length was, c.requires.len, c.if-len-self.false) in
+    let few : length old ≤ length log = omega (arith, c.self.invariant.len, ap length was, c.requires.list.len, c.if-len-self.false) in
     ⊎_elim (λ (same : new ≡ old). same ∙ sym (prefix_whole log old (subst (λ l. IsPrefix log l) same c.learn.ensures.told) few)) (λ (is : new ≡ log). is) c.learn.ensures.one
