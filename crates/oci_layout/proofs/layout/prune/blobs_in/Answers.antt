@@ -13,7 +13,7 @@ returns g c =
     let noted_too = rw c.deref-2.ensures.value at c.in_ok-note_blobs-2.ensures in
     record {
       found = λ honest. subst (λ blobs. AreBlobs file blobs) (sym c.in_ok-blobs.ensures.exact)
-    (AreBlobs-noted file first second c.new-sizes.result c.note_blobs.new.sizes c.note_blobs-2.new.sizes c.new-sizes.ensures.empty (c.in_ok-files.ensures.found honest) (c.in_ok-files-2.ensures.found honest)
-    noted noted_too c.in_ok-blobs.ensures.order);
+          (AreBlobs-noted file first second c.new-sizes.result c.note_blobs.new.sizes c.note_blobs-2.new.sizes c.new-sizes.ensures.empty (c.in_ok-files.ensures.found honest) (c.in_ok-files-2.ensures.found honest)
+          noted noted_too c.in_ok-blobs.ensures.order);
       cause = tt;
     }

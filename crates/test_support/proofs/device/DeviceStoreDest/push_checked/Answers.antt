@@ -40,7 +40,7 @@ returns-clause-pushed c =
         place = c.in_ok-push.ensures.place ∙ sym (length-map s.held node_of);
         pushed = ap nodes_of c.in_ok-push.ensures.pushed ∙ map-append node_of s.held (content ∷ []);
         refused = tt;
-        checked = rw (c.graph.ensures) at c.in_ok-check_closed.ensures.checked;
+        checked = rw (c.graph.ensures) at c.in_ok-check_closed.ensures.checked.0;
       };
       bytes = record {
         pushed = λ u. written-pushed s.files.entries c.put-2.new.files.entries content.0 content.1 s.held c.push.new.self changes (u.agrees tt) c.in_ok-push.ensures.pushed;

@@ -10,7 +10,7 @@ pub publish-requires-clause-closed : goal.publish-requires-clause-closed
 publish-requires-clause-closed g c =
     let es = c.args.self.now.entries in
     let e : Entry = c.args.content in
-    let checked = c.in_ok-check_closed.ensures.checked in
+    let checked = c.in_ok-check_closed.ensures.checked.0 in
     let graph : c.graph.result.now ≡ nodes_of es = c.graph.ensures ∙ ap nodes_of c.shelf.ensures.entries in
     IsClosed-after (nodes_of es) (nodes_of (es ++ e ∷ [])) e.0 e.1 (Ok 0) c.shelf.ensures.closed (map-append node_of es (e ∷ [])) tt
     (checked.0, ap (λ (n : List Node). closed_check n e.0 e.1) (sym graph) ∙ checked.1)
