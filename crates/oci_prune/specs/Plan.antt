@@ -1,5 +1,5 @@
 -- What a prune keeps and removes.
-use Rattle.std.specs.Prelude.{◌≡◌, ◌↔◌, ℕ, Bool, true, false, List, map, None, Contains, IsTrue}
+use Rattle.std.specs.Prelude.{◌≡◌, ◌≢◌, ◌↔◌, ℕ, Bool, true, false, List, [], map, None, Contains, IsTrue}
 use Rattle.std.specs.BTreeSet.{BTreeSet, contains}
 use Rattle.std.specs.Cmp.Lexicographic.{slice_cmp}
 use Rattle.std.specs.List.{All}
@@ -9,9 +9,9 @@ use Rattle.std.specs.Ordering.{nat_cmp}
 use Rattle.oci_digest.specs.Digest.{IsDigest}
 use Rattle.oci_manifest.specs.Descriptor.{Descriptor, key_cmp}
 use Rattle.oci_store.specs.Graph.{Node, IsEdge, Reaches}
-use Rattle.oci_store.specs.Keyed.{has_key}
+use Rattle.oci_store.specs.Keyed.{has_key, HasAll}
 use Rattle.oci_store.specs.State.{State}
-use Rattle.oci_store.specs.Tags.{Tags}
+use Rattle.oci_store.specs.Tags.{Tags, AreNames}
 use Rattle.oci_layout.specs.Blobs.{blob_path}
 use Rattle.oci_layout.specs.Device.{Device, File}
 use Rattle.oci_layout.specs.Prunable.{HasLength, by_name}
@@ -23,6 +23,16 @@ use Rattle.oci_prune.specs.declared.plan.PrunePlan.{PrunePlan}
 pub record AreHeld (graph : List Node) (keys : List Descriptor) : Type 0 where
   pub each : (k : Descriptor) → Contains keys k ↔ (has_key graph k ≡ true)
   pub order : IsStrictlySortedBy key_cmp keys
+
+-- a graph has roots, and these are its keys
+pub record AreRoots (graph : List Node) (roots held : List Descriptor) : Type 0 where
+  pub rooted : HasAll graph roots
+  pub are_held : AreHeld graph held
+
+-- there are tags, and each names a held key
+pub record HasNames (graph : List Node) (tags : Tags) : Type 0 where
+  pub names : AreNames graph tags
+  pub some : tags ≢ []
 
 -- the first key is held and states the second as its subject; never, if referrers are left out
 abbrev pub RefersIf : Bool → State → Descriptor → Descriptor → Type 0

@@ -1,5 +1,5 @@
 -- What a prune leaves of a layout.
-use Rattle.std.specs.Prelude.{◌≡◌, ◌≢◌, ◌↔◌, ◌⊎◌, ℕ, Bool, true, not, List, filter, take, slice_get, Some, None, is_some, IsSome, Contains}
+use Rattle.std.specs.Prelude.{◌≡◌, ◌≢◌, ◌↔◌, ◌⊎◌, ℕ, Bool, true, not, List, [], filter, take, slice_get, Option, Some, None, is_some, IsSome, Contains}
 use Rattle.std.specs.BTreeSet.{BTreeSet, contains}
 use Rattle.std.specs.List.{All}
 use Rattle.oci_digest.specs.Digest.{IsDigest}
@@ -8,9 +8,12 @@ use Rattle.oci_store.specs.Graph.{Node, Reaches}
 use Rattle.oci_store.specs.Keyed.{value_at, has_key}
 use Rattle.oci_layout.specs.Blobs.{blob_path, stored, IsSound}
 use Rattle.oci_layout.specs.Device.{Device, File}
-use Rattle.oci_layout.specs.Index.{index_file}
+use Rattle.oci_layout.specs.Index.{index_file, HasIndex}
+use Rattle.oci_layout.specs.Layout.{LayoutState, SameMemory}
 use Rattle.oci_layout.specs.Prunable.{by_name}
 use Rattle.oci_prune.specs.Plan.{HasDigestIn}
+use Rattle.oci_prune.specs.Refusal.{Notes}
+use Rattle.oci_prune.specs.declared.fault.PruneFault.{PruneFault}
 use Rattle.oci_prune.specs.declared.plan.PrunedFile.{PrunedFile}
 use Rattle.oci_prune.specs.declared.plan.PrunePlan.{PrunePlan}
 
@@ -54,6 +57,13 @@ pub record Spares (old new : Device) (graph : List Node) (touched : List ℕ →
   pub honest : old.is_honest ↔ new.is_honest
   pub reads : new.fails_reads ≡ old.fails_reads
 
+-- removals of files at such paths, which no held key needs, from a layout; the first fault is kept
+pub record Removal {D : Type 0} (device : D → Device) (old new : LayoutState D) (is_one : List ℕ → Type 0) (before after : Option PruneFault) : Type 0 where
+  pub memory : SameMemory old new
+  pub spared : Spares (device old.dir) (device new.dir) old.graph is_one
+  pub fault : after ≡ None → before ≡ None
+  pub notes : Notes (device old.dir) is_one before after
+
 -- the path is that of a file or a draft that a plan removes
 abbrev pub IsPlanned : PrunePlan → List ℕ → Type 0
 IsPlanned plan path = IsPathOf plan.files.items path ⊎ IsDraftIn (by_name plan.drafts.items) path
@@ -66,3 +76,22 @@ IsTouchedBy plan path = (index_file ≡ path) ⊎ IsPlanned plan path
 pub record AreSameBlobs (old new : Device) : Type 0 where
   pub blobs : old.is_honest → (digest : List ℕ) → IsDigest digest → new.file (blob_path digest) ≡ old.file (blob_path digest)
   pub index : old.is_honest → new.file index_file ≡ old.file index_file
+
+-- ---- the save before the removals
+
+-- a layout has the same tags, and the same keys or the kept ones
+pub record StaysOrDrops {D : Type 0} (kept : BTreeSet Descriptor) (old new : LayoutState D) : Type 0 where
+  pub either : (new.graph ≡ old.graph) ⊎ (new.graph ≡ kept_of kept old.graph)
+  pub tags : new.tags ≡ old.tags
+  pub opened : new.opened ≡ old.opened
+
+-- only the index changed in a layout's directory, and the layout is sound if it was
+pub record OnlyIndex {D : Type 0} (device : D → Device) (old new : LayoutState D) : Type 0 where
+  pub spared : Spares (device old.dir) (device new.dir) new.graph (λ path. index_file ≡ path)
+  pub sound : IsSound (device old.dir).is_honest (device old.dir).file old.graph → IsSound (device new.dir).is_honest (device new.dir).file new.graph
+
+-- the kept keys are held and saved; if no key goes, nothing changed
+pub record IsSaved {D : Type 0} (device : D → Device) (old new : LayoutState D) (plan : PrunePlan) : Type 0 where
+  pub kept : new.graph ≡ kept_of plan.kept old.graph
+  pub index : plan.removed.items ≢ [] → (device old.dir).is_honest → HasIndex (device new.dir).file new.graph new.tags
+  pub unwritten : plan.removed.items ≡ [] → new ≡ old

@@ -1,5 +1,5 @@
 -- Why there is no plan of a prune, or why it is not carried out.
-use Rattle.std.specs.Prelude.{◌≡◌, ◌≢◌, ◌⊎◌, ℕ, Bool, true, List, [], Option, Some, Result, Ok, IfSome, IsErr, String, string_bytes, slice_get}
+use Rattle.std.specs.Prelude.{◌≡◌, ◌≢◌, ◌⊎◌, ℕ, Bool, true, List, [], Option, Some, Result, Ok, IfSome, IfErr, OnOk, IsErr, String, string_bytes, slice_get}
 use Rattle.std.specs.declared.alloc.Global.{Global}
 use Rattle.std.specs.Map.{values_of}
 use Rattle.oci_digest.specs.declared.fault.NoMemory.{NoMemory}
@@ -36,6 +36,11 @@ abbrev pub IsDeviceFault : Type 0 → PruneFault → Type 0
 IsDeviceFault cause (fault.Layout layout.Device) = cause
 IsDeviceFault cause fault.Memory = Unit {0}
 IsDeviceFault cause other = ⊥
+
+-- a layout without absent entries passes, and its first absent entry is refused
+pub record ChecksWhole (absent : List Descriptor) (answer : Result Unit PruneFault) : Type 0 where
+  pub whole : OnOk answer (absent ≡ [])
+  pub first : absent ≢ [] → IfErr answer (IsUnknownFault (λ k. slice_get absent 0 ≡ Some k))
 
 -- why a layout is not pruned before anything is read: its first absent entry, a link, or a fault of
 -- a read

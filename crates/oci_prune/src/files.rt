@@ -1,8 +1,4 @@
-ghost use Rattle.std.specs.Prelude.{◌≡◌, ◌↔◌, ℕ, List, true, map, filter, not, Contains, IfOk, IfErr};
-ghost use Rattle.std.specs.BTreeSet.{contains};
-ghost use Rattle.std.specs.Cmp.Lexicographic.{slice_cmp};
-ghost use Rattle.std.specs.Ordering.{nat_cmp};
-ghost use Rattle.oci_manifest.specs.Descriptor.{Descriptor};
+ghost use Rattle.std.specs.Prelude.{◌≡◌, true, IfOk, IfErr};
 ghost use Rattle.oci_prune.specs.Files.{HasDigests, unneeded_in};
 ghost use Rattle.oci_prune.specs.Plan.{AreHeld, AreUnneeded};
 ghost use Rattle.oci_prune.specs.Refusal.{IsDeviceFault};

@@ -1,9 +1,9 @@
-ghost use Rattle.std.specs.Prelude.{◌≡◌, ◌≢◌, ◌⊎◌, [], not, filter, IfOk, IfErr, OnOk};
+ghost use Rattle.std.specs.Prelude.{◌≡◌, ◌⊎◌, [], not, filter, IfOk, IfErr, OnOk};
 ghost use Rattle.std.specs.BTreeSet.{contains};
 ghost use Rattle.std.specs.Map.{values_of};
 ghost use Rattle.oci_manifest.specs.Descriptor.{key_cmp};
-ghost use Rattle.oci_store.specs.Tags.{by_bytes, AreNames};
-ghost use Rattle.oci_prune.specs.Plan.{AreHeld};
+ghost use Rattle.oci_store.specs.Tags.{by_bytes};
+ghost use Rattle.oci_prune.specs.Plan.{AreHeld, HasNames};
 
 use crate::fault::PruneFault;
 use oci_digest::NoMemory;
@@ -36,8 +36,7 @@ pub(crate) fn held_keys<D: Dir>(alloc: Global, layout: &Layout<D>) -> Result<Vec
 /// - 89 `Memory` if memory runs out.
 pub(crate) fn tagged_keys<D: Dir>(alloc: Global, layout: &Layout<D>) -> Result<Vec<Key>, PruneFault>
     ensures tagged { IfOk result (λ keys. keys.items ≡ values_of layout.now.tags) }
-    ensures names { OnOk result (AreNames layout.now.graph layout.now.tags) }
-    ensures some { OnOk result (layout.now.tags ≢ []) }
+    ensures names { OnOk result (HasNames layout.now.graph layout.now.tags) }
     ensures cause { IfErr result (λ e. (e ≡ PruneFault.Memory)
         ⊎ ((e ≡ PruneFault.NoTags) × (layout.now.tags ≡ []))) }
 {

@@ -1,14 +1,14 @@
 ghost use Rattle.std.specs.Prelude.{◌≡◌, ◌≢◌, false, IfOk, IfErr, OnOk, ◌↔◌, true};
 ghost use Rattle.oci_manifest.specs.MediaTypes.{kind_of};
 ghost use Rattle.oci_manifest.specs.declared.kind.Kind.TheVariants.{Leaf};
-ghost use Rattle.oci_store.specs.Keyed.{has_key, HasAll};
+ghost use Rattle.oci_store.specs.Keyed.{has_key};
 ghost use Rattle.oci_store.specs.Visiting.{with_keys};
 ghost use Rattle.oci_prune.specs.Kept.{AreKept, AllKnown, IsUnknown};
 ghost use Rattle.oci_prune.specs.Refusal.{IsUnknownFault, IsKeyFault};
 ghost use Rattle.oci_prune.specs.Subjects.{RefersBy, referrers_in, IsSubjectFault};
 ghost use Rattle.oci_prune.specs.Walk.{IsVisit, KeepsHeld, HasOneMore};
 ghost use Rattle.oci_manifest.specs.Descriptor.{Descriptor};
-ghost use Rattle.oci_prune.specs.Plan.{AreHeld, IsSafe, RefersIf};
+ghost use Rattle.oci_prune.specs.Plan.{AreHeld, AreRoots, IsSafe, RefersIf};
 
 use crate::fault::PruneFault;
 use crate::referrers::referrers_of;
@@ -34,8 +34,7 @@ pub(crate) fn plan_keys<S: GraphSource>(
     held: &[Key],
     keeps_referrers: bool,
 ) -> Result<BTreeSet<Key>, PruneFault>
-    requires roots { HasAll (S.state source.now).nodes roots.now }
-    requires held { AreHeld (S.state source.now).nodes held.now }
+    requires { AreRoots (S.state source.now).nodes roots.now held.now }
     ensures kept { IfOk result (λ kept. (S.state source.now).is_honest
         → AreKept (S.state source.now).nodes roots.now
         (RefersIf keeps_referrers (S.state source.now)) kept) }

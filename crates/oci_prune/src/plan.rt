@@ -3,7 +3,7 @@ ghost use Rattle.std.specs.Map.{values_of};
 ghost use Rattle.oci_layout.specs.Blobs.{meaning, blob_path};
 ghost use Rattle.oci_prune.specs.Kept.{AreKept, AllKnown};
 ghost use Rattle.oci_prune.specs.Plan.{IsPrunePlan, RefersIf};
-ghost use Rattle.oci_prune.specs.Refusal.{IsCheckFault, IsPlanFault, IsUnknownFault};
+ghost use Rattle.oci_prune.specs.Refusal.{ChecksWhole, IsCheckFault, IsPlanFault, IsUnknownFault};
 
 use crate::fault::PruneFault;
 use crate::files::plan_files;
@@ -93,8 +93,8 @@ pub fn plan_prune<D: PrunableDir>(
         ⊎ (e ≡ PruneFault.Memory)) }
     ensures second { layout.now.tags ≢ [] → layout.now.opened.absent ≢ []
         → IfErr result (IsUnknownFault (λ k. slice_get layout.now.opened.absent 0 ≡ Some k)) }
-    ensures cause { IfErr result (IsPlanFault (D.device layout.now.dir) layout.now.graph layout.now.tags
-        layout.now.opened.absent keeps_referrers) }
+    ensures cause { IfErr result (IsPlanFault (D.device layout.now.dir) layout.now.graph
+        layout.now.tags layout.now.opened.absent keeps_referrers) }
 {
     let roots = tagged_keys(alloc, layout)?;
     check_whole(layout)?;
@@ -113,9 +113,7 @@ pub fn plan_prune<D: PrunableDir>(
 
 /// Refuses a layout with an absent entry, and one whose folders of blobs are links.
 fn check_whole<D: PrunableDir>(layout: &Layout<D>) -> Result<(), PruneFault>
-    ensures whole { OnOk result (layout.now.opened.absent ≡ []) }
-    ensures first { layout.now.opened.absent ≢ []
-        → IfErr result (IsUnknownFault (λ k. slice_get layout.now.opened.absent 0 ≡ Some k)) }
+    ensures whole { ChecksWhole layout.now.opened.absent result }
     ensures cause { IfErr result (IsCheckFault (D.device layout.now.dir) layout.now.opened.absent) }
 {
     if let Some(key) = layout.absent().first() {

@@ -2,10 +2,9 @@ ghost use Rattle.std.specs.Prelude.{◌≡◌, ◌≢◌, ◌⊎◌, None, Some,
 ghost use Rattle.std.specs.List.{All};
 ghost use Rattle.std.specs.Map.{keys_of};
 ghost use Rattle.oci_layout.specs.Blobs.{blob_path};
-ghost use Rattle.oci_layout.specs.Layout.{SameMemory};
 ghost use Rattle.oci_layout.specs.Prunable.{by_name};
-ghost use Rattle.oci_prune.specs.Pruned.{is_gone, AreThere, AreApart, IsPathOf, IsDraftIn, Spares, AreSameBlobs};
-ghost use Rattle.oci_prune.specs.Refusal.{IsNotRemoved, Notes};
+ghost use Rattle.oci_prune.specs.Pruned.{is_gone, AreThere, AreApart, IsPathOf, IsDraftIn, AreSameBlobs, Removal};
+ghost use Rattle.oci_prune.specs.Refusal.{IsNotRemoved};
 
 use crate::fault::PruneFault;
 use crate::plan::PrunedFile;
@@ -27,13 +26,10 @@ pub(crate) fn remove_files<D: PrunableDir>(
         → AreThere (D.device layout.old.dir).file files.now }
     requires apart { (D.device layout.old.dir).is_honest → AreApart files.now }
     requires noted { length gone.old.items ≡ length files.now }
-    ensures memory { SameMemory layout.old layout.new }
-    ensures spared { Spares (D.device layout.old.dir) (D.device layout.new.dir) layout.old.graph
-        (IsPathOf files.now) }
-    ensures fault { fault.new ≡ None → fault.old ≡ None }
+    ensures removal { Removal D.device layout.old layout.new (IsPathOf files.now)
+        fault.old fault.new }
     ensures removed { fault.new ≡ None → (D.device layout.old.dir).is_honest → All
         (λ f. (D.device layout.new.dir).file (blob_path f.digest) ≡ None) files.now }
-    ensures notes { Notes (D.device layout.old.dir) (IsPathOf files.now) fault.old fault.new }
     ensures flags { (D.device layout.old.dir).is_honest
         → gone.new.items ≡ map (is_gone (D.device layout.new.dir).file) files.now }
     ensures noted { length gone.new.items ≡ length files.now }
@@ -53,17 +49,13 @@ fn remove_file<D: PrunableDir>(
 ) -> bool
     requires unneeded { (D.device layout.old.dir).is_honest → All
         (λ k. k.digest ≢ file.now.digest) (keys_of layout.old.graph) }
-    ensures memory { SameMemory layout.old layout.new }
-    ensures spared { Spares (D.device layout.old.dir) (D.device layout.new.dir) layout.old.graph
-        (λ path. blob_path file.now.digest ≡ path) }
+    ensures removal { Removal D.device layout.old layout.new
+        (λ path. blob_path file.now.digest ≡ path) fault.old fault.new }
     ensures removed { fault.new ≡ None → (D.device layout.old.dir).is_honest
         → (D.device layout.new.dir).file (blob_path file.now.digest) ≡ None }
     ensures flag { (D.device layout.old.dir).is_honest
         → IsSome ((D.device layout.old.dir).file (blob_path file.now.digest))
         → result ≡ is_gone (D.device layout.new.dir).file file.now }
-    ensures fault { fault.new ≡ None → fault.old ≡ None }
-    ensures notes { Notes (D.device layout.old.dir) (λ path. blob_path file.now.digest ≡ path)
-        fault.old fault.new }
 {
     match layout.remove_blob(&file.digest) {
         Ok(found) => found,
@@ -84,13 +76,9 @@ pub(crate) fn remove_drafts<D: PrunableDir>(
     fault: &mut Option<PruneFault>,
 )
     requires noted { length gone.old.items ≡ length drafts.now }
-    ensures memory { SameMemory layout.old layout.new }
-    ensures spared { Spares (D.device layout.old.dir) (D.device layout.new.dir) layout.old.graph
-        (IsDraftIn (by_name drafts.now)) }
-    ensures files { AreSameBlobs (D.device layout.old.dir) (D.device layout.new.dir) }
-    ensures fault { fault.new ≡ None → fault.old ≡ None }
-    ensures notes { Notes (D.device layout.old.dir) (IsDraftIn (by_name drafts.now))
+    ensures removal { Removal D.device layout.old layout.new (IsDraftIn (by_name drafts.now))
         fault.old fault.new }
+    ensures files { AreSameBlobs (D.device layout.old.dir) (D.device layout.new.dir) }
     ensures noted { length gone.new.items ≡ length drafts.now }
 {
     for place in 0..drafts.len() {
@@ -106,13 +94,9 @@ fn remove_draft<D: PrunableDir>(
     path: &str,
     fault: &mut Option<PruneFault>,
 ) -> bool
-    ensures memory { SameMemory layout.old layout.new }
-    ensures spared { Spares (D.device layout.old.dir) (D.device layout.new.dir) layout.old.graph
-        (λ touched. path.now ≡ touched) }
-    ensures files { AreSameBlobs (D.device layout.old.dir) (D.device layout.new.dir) }
-    ensures fault { fault.new ≡ None → fault.old ≡ None }
-    ensures notes { Notes (D.device layout.old.dir) (λ touched. path.now ≡ touched)
+    ensures removal { Removal D.device layout.old layout.new (λ touched. path.now ≡ touched)
         fault.old fault.new }
+    ensures files { AreSameBlobs (D.device layout.old.dir) (D.device layout.new.dir) }
 {
     match layout.remove_leftover(path) {
         Ok(found) => found,

@@ -6,7 +6,7 @@ ghost use Rattle.oci_store.specs.Closed.{IsClosed};
 ghost use Rattle.oci_layout.specs.Blobs.{IsSound, stored};
 ghost use Rattle.oci_layout.specs.Index.{index_file, HasIndex};
 ghost use Rattle.oci_prune.specs.Plan.{AreRemoved, IsPrunePlan, IsSafe};
-ghost use Rattle.oci_prune.specs.Pruned.{is_gone, kept_of, HasOnlyNeeded, IsPlanned, IsTouchedBy, KeepsReached, Spares};
+ghost use Rattle.oci_prune.specs.Pruned.{is_gone, kept_of, HasOnlyNeeded, IsPlanned, IsSaved, IsTouchedBy, KeepsReached, OnlyIndex, Spares, StaysOrDrops};
 ghost use Rattle.oci_prune.specs.Refusal.{IsDeviceFault, IsRemovalFault, MayNotSave};
 
 use crate::fault::PruneFault;
@@ -60,7 +60,8 @@ pub fn prune<D: PrunableDir>(
     ensures reached { KeepsReached layout.old.graph layout.new.graph (values_of layout.old.tags) }
     ensures closed { IsClosed layout.old.graph → IsClosed layout.new.graph }
     ensures sound { IsSound (D.device layout.old.dir).is_honest (D.device layout.old.dir).file
-        layout.old.graph → IsSound (D.device layout.new.dir).is_honest (D.device layout.new.dir).file
+        layout.old.graph
+        → IsSound (D.device layout.new.dir).is_honest (D.device layout.new.dir).file
         layout.new.graph }
     ensures honest { (D.device layout.old.dir).is_honest ↔ (D.device layout.new.dir).is_honest }
 
@@ -77,7 +78,8 @@ pub fn prune<D: PrunableDir>(
         → (D.device layout.new.dir).file path ≡ (D.device layout.old.dir).file path }
     ensures index { OnOk result (plan.now.removed.items ≢ [] → (D.device layout.old.dir).is_honest
         → HasIndex (D.device layout.new.dir).file layout.new.graph layout.new.tags) }
-    ensures unwritten { OnOk result (plan.now.removed.items ≡ [] → (D.device layout.old.dir).is_honest
+    ensures unwritten { OnOk result (plan.now.removed.items ≡ []
+        → (D.device layout.old.dir).is_honest
         → (D.device layout.new.dir).file index_file ≡ (D.device layout.old.dir).file index_file) }
 
     // If the index is not saved, no other file changes.
@@ -120,19 +122,9 @@ fn flags(alloc: Global, count: usize) -> Result<Vec<bool>, NoMemory>
 fn save_kept<D: PrunableDir>(layout: &mut Layout<D>, plan: &PrunePlan) -> Result<(), PruneFault>
     requires safe { IsSafe layout.old.graph (values_of layout.old.tags) plan.now.kept }
     requires removed { AreRemoved layout.old.graph plan.now.kept plan.now.removed.items }
-    ensures kept { OnOk result (layout.new.graph ≡ kept_of plan.now.kept layout.old.graph) }
-    ensures either { (layout.new.graph ≡ layout.old.graph)
-        ⊎ (layout.new.graph ≡ kept_of plan.now.kept layout.old.graph) }
-    ensures tags { layout.new.tags ≡ layout.old.tags }
-    ensures opened { layout.new.opened ≡ layout.old.opened }
-    ensures spared { Spares (D.device layout.old.dir) (D.device layout.new.dir) layout.new.graph
-        (λ path. index_file ≡ path) }
-    ensures sound { IsSound (D.device layout.old.dir).is_honest (D.device layout.old.dir).file
-        layout.old.graph → IsSound (D.device layout.new.dir).is_honest (D.device layout.new.dir).file
-        layout.new.graph }
-    ensures index { OnOk result (plan.now.removed.items ≢ [] → (D.device layout.old.dir).is_honest
-        → HasIndex (D.device layout.new.dir).file layout.new.graph layout.new.tags) }
-    ensures unwritten { OnOk result (plan.now.removed.items ≡ [] → layout.new ≡ layout.old) }
+    ensures stays { StaysOrDrops plan.now.kept layout.old layout.new }
+    ensures only { OnlyIndex D.device layout.old layout.new }
+    ensures saved { OnOk result (IsSaved D.device layout.old layout.new plan.now) }
     ensures cause { IfErr result (IsDeviceFault (MayNotSave (D.device layout.old.dir)
         (D.device layout.new.dir))) }
 {

@@ -13,7 +13,7 @@ returns-clause-kept g c =
 pub returns-clause-safe : goal.returns-clause-safe
 returns-clause-safe g c =
     let store = g.S.Store.state c.args.source.now in
-    IfOk-weaker c.kept_keys.result _ _ (λ kept are. safe_from_kept store.nodes c.args.roots.now (RefersBy c.in_ok-referrers.referrers) kept are c.requires.roots) c.kept_keys.ensures.kept
+    IfOk-weaker c.kept_keys.result _ _ (λ kept are. safe_from_kept store.nodes c.args.roots.now (RefersBy c.in_ok-referrers.referrers) kept are c.requires.rooted) c.kept_keys.ensures.kept
 
 pub returns-clause-known : goal.returns-clause-known
 returns-clause-known g c =

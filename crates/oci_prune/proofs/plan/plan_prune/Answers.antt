@@ -1,7 +1,8 @@
-use Rattle.std.proofs.Common.{List, subst, ◌∙◌}
+use Rattle.std.proofs.Common.{List, sym, subst, ◌∙◌}
 use Rattle.std.proofs.lemmas.Result.{err_from_is_err_and}
 use Rattle.oci_manifest.specs.Descriptor.{Descriptor}
-use Rattle.oci_prune.specs.Plan.{IsSafe}
+use Rattle.oci_store.specs.Keyed.{HasAll}
+use Rattle.oci_prune.specs.Plan.{AreHeld, IsSafe}
 use Rattle.oci_prune.proofs.Plans.{tags_fault, are_removed}
 use Rattle.oci_prune.proofs.plan.plan_prune.Goals as goal
 
@@ -10,6 +11,15 @@ returns-in_err-roots-clause-cause g c =
     let p = err_from_is_err_and c.from_residual.result c.from_residual.ensures.1 in
     rw (p.1, p.2)
     (tags_fault (g.D.Dir.device c.args.layout.now.dir) c.args.layout.now.graph c.args.layout.now.tags c.args.layout.now.opened.absent c.args.keeps_referrers c.in_err-roots.field-0.0 c.in_err-roots.ensures.cause)
+
+pub plan_keys-requires : goal.plan_keys-requires
+plan_keys-requires g c =
+    let graph = c.args.layout.now.graph in
+    let roots = c.deref.ensures.value ∙ c.in_ok-roots.ensures.tagged in
+    record {
+      rooted = subst (λ (ks : List Descriptor). HasAll graph ks) (sym roots) c.in_ok-roots.ensures.names.names.held;
+      are_held = subst (λ (ks : List Descriptor). AreHeld graph ks) (sym c.deref-2.ensures.value) c.in_ok-held.ensures;
+    }
 
 pub returns-clause-planned : goal.returns-clause-planned
 returns-clause-planned g c =
@@ -20,5 +30,5 @@ returns-clause-planned g c =
       safe = subst (λ (ks : List Descriptor). IsSafe graph ks c.in_ok-kept.kept) roots c.in_ok-kept.ensures.safe;
       removed = are_removed graph c.in_ok-kept.kept c.in_ok-held.held.items c.in_ok-removed.removed.items c.in_ok-held.ensures (rw c.deref-3.ensures.value at c.in_ok-removed.ensures);
       files = λ honest. c.in_ok-files.ensures.files honest;
-      drafts = λ honest. c.in_ok-drafts.ensures.drafts honest;
+      drafts = λ honest. c.in_ok-drafts.ensures.found honest;
     }

@@ -12,16 +12,18 @@ loop-place-preserved g c =
     let b = g.D.Dir.device c.loop-place.layout.dir in
     let d = g.D.Dir.device c.remove_file.new.layout.dir in
     record {
-      memory = same_memory_both c.args.layout.now c.loop-place.layout c.remove_file.new.layout w.memory c.remove_file.ensures.memory;
-      spared = spares_file a b d c.args.layout.now.graph c.loop-place.layout.graph c.args.files.now c.loop-place.place c.index-files-place.result c.loop-place-test.true c.index-files-place.is w.spared w.memory.graph c.remove_file.ensures.spared;
+      removal = record {
+        memory = same_memory_both c.args.layout.now c.loop-place.layout c.remove_file.new.layout w.removal.memory c.remove_file.ensures.removal.memory;
+        spared = spares_file a b d c.args.layout.now.graph c.loop-place.layout.graph c.args.files.now c.loop-place.place c.index-files-place.result c.loop-place-test.true c.index-files-place.is w.removal.spared w.removal.memory.graph c.remove_file.ensures.removal.spared;
+        fault = λ none. w.removal.fault (c.remove_file.ensures.removal.fault none);
+        notes = notes_file a b c.args.files.now c.loop-place.place c.index-files-place.result c.args.fault.now c.loop-place.fault c.remove_file.new.fault c.loop-place-test.true c.index-files-place.is w.removal.spared.reads w.removal.notes c.remove_file.ensures.removal.notes;
+      };
       removed = λ none honest.
-          all_gone b d c.loop-place.layout.graph c.args.files.now c.loop-place.place c.index-files-place.result c.loop-place-test.true c.index-files-place.is (w.spared.honest.0 honest) c.remove_file.ensures.spared
-          (c.remove_file.ensures.removed none (w.spared.honest.0 honest)) (w.removed (c.remove_file.ensures.fault none) honest);
-      fault = λ none. w.fault (c.remove_file.ensures.fault none);
-      notes = notes_file a b c.args.files.now c.loop-place.place c.index-files-place.result c.args.fault.now c.loop-place.fault c.remove_file.new.fault c.loop-place-test.true c.index-files-place.is w.spared.reads w.notes c.remove_file.ensures.notes;
+          all_gone b d c.loop-place.layout.graph c.args.files.now c.loop-place.place c.index-files-place.result c.loop-place-test.true c.index-files-place.is (w.removal.spared.honest.0 honest) c.remove_file.ensures.removal.spared
+          (c.remove_file.ensures.removed none (w.removal.spared.honest.0 honest)) (w.removed (c.remove_file.ensures.removal.fault none) honest);
       flags = λ honest.
           flags_more a b d c.args.layout.now.graph c.loop-place.layout.graph c.args.files.now c.loop-place.place c.index-files-place.result c.loop-place.gone.items c.remove_file.result c.loop-place-test.true c.index-files-place.is w.noted
-          (c.requires.there honest) (c.requires.apart honest) w.spared c.remove_file.ensures.spared honest (w.flags honest) (c.remove_file.ensures.flag (w.spared.honest.0 honest));
+          (c.requires.there honest) (c.requires.apart honest) w.removal.spared c.remove_file.ensures.removal.spared honest (w.flags honest) (c.remove_file.ensures.flag (w.removal.spared.honest.0 honest));
       noted = length-set c.loop-place.gone.items c.loop-place.place c.remove_file.result ∙ w.noted;
     }
 

@@ -1,20 +1,15 @@
 use Rattle.std.proofs.Common.{◌≡◌, None, length, map, take}
 use Rattle.std.specs.List.{All}
 use Rattle.oci_layout.specs.Blobs.{blob_path}
-use Rattle.oci_prune.specs.Pruned.{is_gone, IsPathOf, Spares}
+use Rattle.oci_prune.specs.Pruned.{is_gone, IsPathOf, Removal}
 use Rattle.oci_prune.specs.declared.plan.PrunedFile.{PrunedFile}
-use Rattle.oci_layout.specs.Layout.{SameMemory}
-use Rattle.oci_prune.specs.Refusal.{Notes}
 use Rattle.oci_prune.proofs.removal.remove_files.Given as goal
 
 -- as far as the loop has come
 abbrev pub invariant-loop-place : goal.invariant-loop-place
 invariant-loop-place g l = record {
-  memory : SameMemory l.initial.layout l.layout;
-  spared : Spares (g.D.Dir.device l.initial.layout.dir) (g.D.Dir.device l.layout.dir) l.initial.layout.graph (IsPathOf (take l.place l.files));
+  removal : Removal g.D.Dir.device l.initial.layout l.layout (IsPathOf (take l.place l.files)) l.initial.fault l.fault;
   removed : l.fault ≡ None → (g.D.Dir.device l.initial.layout.dir).is_honest → All (λ (f : PrunedFile). (g.D.Dir.device l.layout.dir).file (blob_path f.digest) ≡ None) (take l.place l.files);
-  fault : l.fault ≡ None → l.initial.fault ≡ None;
-  notes : Notes (g.D.Dir.device l.initial.layout.dir) (IsPathOf (take l.place l.files)) l.initial.fault l.fault;
   flags : (g.D.Dir.device l.initial.layout.dir).is_honest → take l.place l.gone.items ≡ map (is_gone (g.D.Dir.device l.layout.dir).file) (take l.place l.files);
   noted : length l.gone.items ≡ length l.files;
 }

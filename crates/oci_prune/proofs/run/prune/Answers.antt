@@ -17,28 +17,28 @@ use Rattle.oci_prune.proofs.run.prune.Goals as goal
 
 pub returns-in_err-save_kept-clause-reached : goal.returns-in_err-save_kept-clause-reached
 returns-in_err-save_kept-clause-reached g c =
-    reached_either c.args.layout.now.graph c.save_kept.new.layout.graph (values_of c.args.layout.now.tags) c.args.plan.now.kept c.requires.safe c.in_err-save_kept.ensures.either
+    reached_either c.args.layout.now.graph c.save_kept.new.layout.graph (values_of c.args.layout.now.tags) c.args.plan.now.kept c.requires.safe c.in_err-save_kept.ensures.stays.either
 
 pub returns-in_err-save_kept-clause-closed : goal.returns-in_err-save_kept-clause-closed
 returns-in_err-save_kept-clause-closed g c =
-    closed_either c.args.layout.now.graph c.save_kept.new.layout.graph (values_of c.args.layout.now.tags) c.args.plan.now.kept c.count.ensures.distinct c.requires.safe c.in_err-save_kept.ensures.either
+    closed_either c.args.layout.now.graph c.save_kept.new.layout.graph (values_of c.args.layout.now.tags) c.args.plan.now.kept c.count.ensures.distinct c.requires.safe c.in_err-save_kept.ensures.stays.either
 
 pub remove_files-requires-clause-unneeded : goal.remove_files-requires-clause-unneeded
 remove_files-requires-clause-unneeded g c = λ honest.
     let old = g.D.Dir.device c.args.layout.now.dir in
     let graph = c.save_kept.new.layout.graph in
     subst (λ (fs : List PrunedFile). All (λ (f : PrunedFile). All (λ (k : Descriptor). k.digest ≡ f.digest → ⊥) (keys_of graph)) fs) (sym c.deref.ensures.value)
-    (unneeded_left old.file c.args.layout.now.graph graph c.args.plan.now.kept c.args.plan.now.files.items (c.requires.files (c.in_ok-save_kept.ensures.spared.honest.1 honest)) c.in_ok-save_kept.ensures.kept)
+    (unneeded_left old.file c.args.layout.now.graph graph c.args.plan.now.kept c.args.plan.now.files.items (c.requires.files (c.in_ok-save_kept.ensures.only.spared.honest.1 honest)) c.in_ok-save_kept.ensures.saved.kept)
 
 pub returns-clause-reached : goal.returns-clause-reached
 returns-clause-reached g c =
     reached_either c.args.layout.now.graph c.remove_drafts.new.layout.graph (values_of c.args.layout.now.tags) c.args.plan.now.kept c.requires.safe
-    (inr (c.remove_drafts.ensures.memory.graph ∙ c.remove_files.ensures.memory.graph ∙ c.in_ok-save_kept.ensures.kept))
+    (inr (c.remove_drafts.ensures.removal.memory.graph ∙ c.remove_files.ensures.removal.memory.graph ∙ c.in_ok-save_kept.ensures.saved.kept))
 
 pub returns-clause-closed : goal.returns-clause-closed
 returns-clause-closed g c =
     closed_either c.args.layout.now.graph c.remove_drafts.new.layout.graph (values_of c.args.layout.now.tags) c.args.plan.now.kept c.count.ensures.distinct c.requires.safe
-    (inr (c.remove_drafts.ensures.memory.graph ∙ c.remove_files.ensures.memory.graph ∙ c.in_ok-save_kept.ensures.kept))
+    (inr (c.remove_drafts.ensures.removal.memory.graph ∙ c.remove_files.ensures.removal.memory.graph ∙ c.in_ok-save_kept.ensures.saved.kept))
 
 pub returns-clause-contents : goal.returns-clause-contents
 returns-clause-contents g c = λ honest.
@@ -46,11 +46,11 @@ returns-clause-contents g c = λ honest.
     let mid = g.D.Dir.device c.save_kept.new.layout.dir in
     let last = g.D.Dir.device c.remove_files.new.layout.dir in
     let new = g.D.Dir.device c.remove_drafts.new.layout.dir in
-    let first = c.in_ok-save_kept.ensures.spared in
-    let second = c.remove_files.ensures.spared in
+    let first = c.in_ok-save_kept.ensures.only.spared in
+    let second = c.remove_files.ensures.removal.spared in
     let saved = first.honest.0 honest in
-    contents_left old.file mid.file last.file new.file c.args.layout.now.graph c.save_kept.new.layout.graph c.remove_files.new.layout.graph c.remove_drafts.new.layout.graph c.args.plan.now.kept c.remove_drafts.ensures.memory.graph c.remove_files.ensures.memory.graph
-    c.in_ok-save_kept.ensures.kept (c.remove_drafts.ensures.spared.contents (second.honest.0 saved)) (second.contents saved) (first.contents honest)
+    contents_left old.file mid.file last.file new.file c.args.layout.now.graph c.save_kept.new.layout.graph c.remove_files.new.layout.graph c.remove_drafts.new.layout.graph c.args.plan.now.kept c.remove_drafts.ensures.removal.memory.graph c.remove_files.ensures.removal.memory.graph
+    c.in_ok-save_kept.ensures.saved.kept (c.remove_drafts.ensures.removal.spared.contents (second.honest.0 saved)) (second.contents saved) (first.contents honest)
 
 pub returns-clause-files : goal.returns-clause-files
 returns-clause-files g c = λ none honest.
@@ -59,10 +59,10 @@ returns-clause-files g c = λ none honest.
     let last = g.D.Dir.device c.remove_files.new.layout.dir in
     let new = g.D.Dir.device c.remove_drafts.new.layout.dir in
     let files = c.args.plan.now.files.items in
-    let second = subst (λ (fs : List PrunedFile). Spares mid last c.save_kept.new.layout.graph (IsPathOf fs)) c.deref.ensures.value c.remove_files.ensures.spared in
-    let gone = c.remove_files.ensures.removed (c.remove_drafts.ensures.fault none) (c.in_ok-save_kept.ensures.spared.honest.0 honest) in
+    let second = subst (λ (fs : List PrunedFile). Spares mid last c.save_kept.new.layout.graph (IsPathOf fs)) c.deref.ensures.value c.remove_files.ensures.removal.spared in
+    let gone = c.remove_files.ensures.removed (c.remove_drafts.ensures.removal.fault none) (c.in_ok-save_kept.ensures.only.spared.honest.0 honest) in
     only_needed old mid last new c.args.layout.now.graph c.save_kept.new.layout.graph c.save_kept.new.layout.graph c.remove_drafts.new.layout.graph (values_of c.args.layout.now.tags) c.args.plan.now.kept files honest c.requires.safe (c.requires.files honest)
-    (c.remove_drafts.ensures.memory.graph ∙ c.remove_files.ensures.memory.graph ∙ c.in_ok-save_kept.ensures.kept) c.in_ok-save_kept.ensures.spared second
+    (c.remove_drafts.ensures.removal.memory.graph ∙ c.remove_files.ensures.removal.memory.graph ∙ c.in_ok-save_kept.ensures.saved.kept) c.in_ok-save_kept.ensures.only.spared second
     (subst (λ (fs : List PrunedFile). All (λ (f : PrunedFile). last.file (blob_path f.digest) ≡ None) fs) c.deref.ensures.value gone) c.remove_drafts.ensures.files
 
 pub returns-clause-index : goal.returns-clause-index
@@ -70,23 +70,23 @@ returns-clause-index g c = λ some honest.
     let mid = g.D.Dir.device c.save_kept.new.layout.dir in
     let last = g.D.Dir.device c.remove_files.new.layout.dir in
     let new = g.D.Dir.device c.remove_drafts.new.layout.dir in
-    let stays = index_stays mid last new c.save_kept.new.layout.graph c.deref.result.now (c.in_ok-save_kept.ensures.spared.honest.0 honest) c.remove_files.ensures.spared c.remove_drafts.ensures.files in
-    has_index-stays mid.file new.file c.save_kept.new.layout.graph c.remove_drafts.new.layout.graph c.save_kept.new.layout.tags c.remove_drafts.new.layout.tags stays (c.remove_drafts.ensures.memory.graph ∙ c.remove_files.ensures.memory.graph)
-    (c.remove_drafts.ensures.memory.tags ∙ c.remove_files.ensures.memory.tags) (c.in_ok-save_kept.ensures.index some honest)
+    let stays = index_stays mid last new c.save_kept.new.layout.graph c.deref.result.now (c.in_ok-save_kept.ensures.only.spared.honest.0 honest) c.remove_files.ensures.removal.spared c.remove_drafts.ensures.files in
+    has_index-stays mid.file new.file c.save_kept.new.layout.graph c.remove_drafts.new.layout.graph c.save_kept.new.layout.tags c.remove_drafts.new.layout.tags stays (c.remove_drafts.ensures.removal.memory.graph ∙ c.remove_files.ensures.removal.memory.graph)
+    (c.remove_drafts.ensures.removal.memory.tags ∙ c.remove_files.ensures.removal.memory.tags) (c.in_ok-save_kept.ensures.saved.index some honest)
 
 pub returns-clause-unwritten : goal.returns-clause-unwritten
 returns-clause-unwritten g c = λ none honest.
     let mid = g.D.Dir.device c.save_kept.new.layout.dir in
     let last = g.D.Dir.device c.remove_files.new.layout.dir in
     let new = g.D.Dir.device c.remove_drafts.new.layout.dir in
-    let stays = index_stays mid last new c.save_kept.new.layout.graph c.deref.result.now (c.in_ok-save_kept.ensures.spared.honest.0 honest) c.remove_files.ensures.spared c.remove_drafts.ensures.files in
-    stays ∙ ap (λ (dir : g.row.D.Denot). (g.D.Dir.device dir).file index_file) (ap (λ (l : LayoutState g.row.D.Denot). l.dir) (c.in_ok-save_kept.ensures.unwritten none))
+    let stays = index_stays mid last new c.save_kept.new.layout.graph c.deref.result.now (c.in_ok-save_kept.ensures.only.spared.honest.0 honest) c.remove_files.ensures.removal.spared c.remove_drafts.ensures.files in
+    stays ∙ ap (λ (dir : g.row.D.Denot). (g.D.Dir.device dir).file index_file) (ap (λ (l : LayoutState g.row.D.Denot). l.dir) (c.in_ok-save_kept.ensures.saved.unwritten none))
 
 pub remove_files-requires-clause-there : goal.remove_files-requires-clause-there
 remove_files-requires-clause-there g c = λ honest.
     let old = g.D.Dir.device c.args.layout.now.dir in
     let mid = g.D.Dir.device c.save_kept.new.layout.dir in
-    let first = c.in_ok-save_kept.ensures.spared in
+    let first = c.in_ok-save_kept.ensures.only.spared in
     subst (λ (fs : List PrunedFile). AreThere mid.file fs) (sym c.deref.ensures.value)
     (are_there old mid c.args.layout.now.graph c.save_kept.new.layout.graph c.args.plan.now.kept c.args.plan.now.files.items (first.honest.1 honest) (c.requires.files (first.honest.1 honest)) first)
 
@@ -94,7 +94,7 @@ pub remove_files-requires-clause-apart : goal.remove_files-requires-clause-apart
 remove_files-requires-clause-apart g c = λ honest.
     let old = g.D.Dir.device c.args.layout.now.dir in
     subst (λ (fs : List PrunedFile). AreApart fs) (sym c.deref.ensures.value)
-    (are_apart old.file c.args.layout.now.graph c.args.plan.now.kept c.args.plan.now.files.items (c.requires.files (c.in_ok-save_kept.ensures.spared.honest.1 honest)))
+    (are_apart old.file c.args.layout.now.graph c.args.plan.now.kept c.args.plan.now.files.items (c.requires.files (c.in_ok-save_kept.ensures.only.spared.honest.1 honest)))
 
 pub returns-clause-flags : goal.returns-clause-flags
 returns-clause-flags g c = λ honest.
@@ -102,18 +102,18 @@ returns-clause-flags g c = λ honest.
     let last = g.D.Dir.device c.remove_files.new.layout.dir in
     let new = g.D.Dir.device c.remove_drafts.new.layout.dir in
     let files = c.args.plan.now.files.items in
-    let saved = c.in_ok-save_kept.ensures.spared.honest.0 honest in
+    let saved = c.in_ok-save_kept.ensures.only.spared.honest.0 honest in
     let flags = subst (λ (fs : List PrunedFile). c.remove_files.new.gone.items ≡ map (is_gone last.file) fs) c.deref.ensures.value (c.remove_files.ensures.flags saved) in
-    flags_stay last new files c.remove_files.new.gone.items (c.remove_files.ensures.spared.honest.0 saved) (are_digests old.file c.args.layout.now.graph c.args.plan.now.kept files (c.requires.files honest)) c.remove_drafts.ensures.files flags
+    flags_stay last new files c.remove_files.new.gone.items (c.remove_files.ensures.removal.spared.honest.0 saved) (are_digests old.file c.args.layout.now.graph c.args.plan.now.kept files (c.requires.files honest)) c.remove_drafts.ensures.files flags
 
 pub returns-clause-either : goal.returns-clause-either
-returns-clause-either g c = inr (c.remove_drafts.ensures.memory.graph ∙ c.remove_files.ensures.memory.graph ∙ c.in_ok-save_kept.ensures.kept)
+returns-clause-either g c = inr (c.remove_drafts.ensures.removal.memory.graph ∙ c.remove_files.ensures.removal.memory.graph ∙ c.in_ok-save_kept.ensures.saved.kept)
 
 pub returns-clause-faults : goal.returns-clause-faults
 returns-clause-faults g c =
     let old = g.D.Dir.device c.args.layout.now.dir in
     let mid = g.D.Dir.device c.save_kept.new.layout.dir in
     let last = g.D.Dir.device c.remove_files.new.layout.dir in
-    let files = subst (λ (fs : List PrunedFile). Notes mid (IsPathOf fs) None c.remove_files.new.fault) c.deref.ensures.value c.remove_files.ensures.notes in
-    let drafts = subst (λ (ds : Drafts). Notes last (IsDraftIn (by_name ds)) c.remove_files.new.fault c.remove_drafts.new.fault) c.deref-2.ensures.value c.remove_drafts.ensures.notes in
-    planned_fault old mid last c.args.plan.now c.remove_files.new.fault c.remove_drafts.new.fault c.in_ok-save_kept.ensures.spared.reads c.remove_files.ensures.spared.reads files drafts
+    let files = subst (λ (fs : List PrunedFile). Notes mid (IsPathOf fs) None c.remove_files.new.fault) c.deref.ensures.value c.remove_files.ensures.removal.notes in
+    let drafts = subst (λ (ds : Drafts). Notes last (IsDraftIn (by_name ds)) c.remove_files.new.fault c.remove_drafts.new.fault) c.deref-2.ensures.value c.remove_drafts.ensures.removal.notes in
+    planned_fault old mid last c.args.plan.now c.remove_files.new.fault c.remove_drafts.new.fault c.in_ok-save_kept.ensures.only.spared.reads c.remove_files.ensures.removal.spared.reads files drafts

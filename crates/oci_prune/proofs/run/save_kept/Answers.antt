@@ -1,4 +1,4 @@
-use Rattle.std.proofs.Common.{◌≡◌, ℕ, List, sym, subst, ◌∙◌, arith}
+use Rattle.std.proofs.Common.{◌≡◌, ℕ, List, [], refl, sym, subst, ◌∙◌, arith}
 use Rattle.std.specs.Vec.{vec_len}
 use Rattle.std.proofs.lemmas.Bool.{eqb-true}
 use Rattle.oci_store.specs.Graph.{Node}
@@ -10,20 +10,28 @@ use Rattle.oci_prune.proofs.Leaving.{whole_left}
 use Rattle.oci_prune.proofs.Sparing.{spares_index}
 use Rattle.oci_prune.proofs.run.save_kept.Goals as goal
 
-pub returns-then-is_empty-clause-kept : goal.returns-then-is_empty-clause-kept
-returns-then-is_empty-clause-kept g c =
+pub returns-then-is_empty-clause-saved : goal.returns-then-is_empty-clause-saved
+returns-then-is_empty-clause-saved g c =
     let removed = c.args.plan.now.removed in
-    whole_left c.args.layout.now.graph c.args.plan.now.kept removed.items c.requires.removed
-    (empty_list removed.items (let e = eqb-true (vec_len removed) 0 (sym c.is_empty.ensures ∙ c.if-is_empty.true) in omega (arith, e, removed.ok.0)))
+    let none : removed.items ≡ [] =
+    empty_list removed.items (let e = eqb-true (vec_len removed) 0 (sym c.is_empty.ensures ∙ c.if-is_empty.true) in omega (arith, e, removed.ok.0)) in
+    record {
+      kept = whole_left c.args.layout.now.graph c.args.plan.now.kept removed.items c.requires.removed none;
+      index = λ some. absurd (some none);
+      unwritten = λ _. refl;
+    }
 
 pub retain-requires : goal.retain-requires
 retain-requires g c = record { tagged = c.requires.safe.rooted }
 
-pub returns-clause-spared : goal.returns-clause-spared
-returns-clause-spared g c =
+pub returns-clause-only : goal.returns-clause-only
+returns-clause-only g c =
     let b = g.D.Dir.device c.save.new.self.dir in
     let retained = c.retain.new.self in
     let saved = c.in_ok-save.ensures in
-    subst (λ (graph : List Node). Spares (g.D.Dir.device c.args.layout.now.dir) b graph (λ (path : List ℕ). index_file ≡ path)) (sym saved.only.memory.graph)
-    (subst (λ (dir : g.row.D.Denot). Spares (g.D.Dir.device dir) b retained.graph (λ (path : List ℕ). index_file ≡ path)) c.in_ok-retain.ensures.dir
-    (spares_index (g.D.Dir.device retained.dir) b retained.graph saved.other saved.only.contents (λ h. subst (λ (graph : List Node). IsSound b.is_honest b.file graph) saved.only.memory.graph (saved.only.sound h)) saved.device.honest saved.device.reads))
+    record {
+      spared = subst (λ (graph : List Node). Spares (g.D.Dir.device c.args.layout.now.dir) b graph (λ (path : List ℕ). index_file ≡ path)) (sym saved.only.memory.graph)
+          (subst (λ (dir : g.row.D.Denot). Spares (g.D.Dir.device dir) b retained.graph (λ (path : List ℕ). index_file ≡ path)) c.in_ok-retain.ensures.dir
+          (spares_index (g.D.Dir.device retained.dir) b retained.graph saved.other saved.only.contents (λ h. subst (λ (graph : List Node). IsSound b.is_honest b.file graph) saved.only.memory.graph (saved.only.sound h)) saved.device.honest saved.device.reads));
+      sound = λ h. saved.only.sound (c.in_ok-retain.ensures.sound h);
+    }
