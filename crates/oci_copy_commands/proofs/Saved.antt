@@ -53,7 +53,7 @@ module _ {source old copied new : State} {roots : List Descriptor} (alike : Same
   pub report_after : (existing : Existing) (report : Report) → IsReport existing source old roots copied report → IsReport existing source old roots new report
   report_after existing report is = record { planned = is.planned; pushed = is.pushed; gained = rw saved.nodes is.gained; skipped = is.skipped }
 
-  pub copied_after : {options : Options} → IsCopy ⊤ options source old roots copied → IsCopiedBetween source old roots new
+  pub copied_after : {options : Options} {report : Report} → IsCopy ⊤ options source old roots copied report → IsCopiedBetween source old roots new
   copied_after copy trusted =
       rw (saved.entries (sound_before trusted)) (copy.content (known_before trusted) (λ k x y at_source at_old. sym (trusted.same k k x y at_source at_old refl)))
 

@@ -4,8 +4,7 @@ ghost use Rattle.std.specs.Map.{keys_of, values_of};
 ghost use Rattle.oci_store.specs.Closed.{IsClosed};
 ghost use Rattle.oci_store.specs.Keyed.{HasAll};
 ghost use Rattle.oci_store.specs.Tags.{by_bytes};
-ghost use Rattle.oci_copy.specs.Cause.{CanFail, IsStepCause, RefusedAt};
-ghost use Rattle.oci_copy.specs.Destination.{IsClosedWhenSkipping};
+ghost use Rattle.oci_copy.specs.Cause.{CanFail, IsStepCause, RefusedAt, RefusedByWorkers};
 ghost use Rattle.oci_copy.specs.Grown.{BeginsWith};
 ghost use Rattle.oci_copy.specs.Planned.{IsPlanOf};
 ghost use Rattle.oci_copy.specs.Report.{IsReport};
@@ -56,8 +55,7 @@ pub fn copy_between<
 where
     S::Draft: Send,
     D::Draft: Send,
-    requires closed { IsClosedWhenSkipping options.now.existing destination.graph }
-    requires plan { IsPlanOf (⟦<Layout<S> as Store>⟧.state source.now) options.now
+    requires { IsPlanOf (⟦<Layout<S> as Store>⟧.state source.now) options.now
         (⟦<Layout<D> as Store>⟧.state destination) selected.now.0 plan.now }
     ensures held { OnOk result.1 (HasAll result.0.graph selected.now.0) }
     ensures begins { BeginsWith destination.graph result.0.graph }
@@ -71,11 +69,10 @@ where
         selected.now.0 (⟦<Layout<D> as Store>⟧.state result.0)) }
     ensures tagged { OnOk result.1 (result.0.tags ≡ set_tags destination.tags selected.now.1) }
     ensures untagged { IfErr result.1 (AfterRefusedCopy (result.0.tags ≡ destination.tags)) }
-    ensures refused { IfErr result.1 (IsRefusedBetween (λ fault. (fault ≡ CopyFault.BadWorkers)
-        ⊎ RefusedAt (Contains plan.now.keys) (IsStepCause
+    ensures refused { IfErr result.1 (IsRefusedBetween (RefusedByWorkers options.now.workers
+        (RefusedAt (Contains plan.now.keys) (IsStepCause
         (CanFail ⟦<Layout<D> as Store>⟧.state (⟦<Layout<D> as Store>⟧.state destination))
-        (⟦<Layout<S> as Store>⟧.state source.now) (⟦<Layout<D> as Store>⟧.state destination))
-        fault)
+        (⟦<Layout<S> as Store>⟧.state source.now) (⟦<Layout<D> as Store>⟧.state destination))))
         (λ fault. (before : ℕ) × ((⟦<Layout<D> as Store>⟧.state destination).failures ≤ before)
         × IsPutFault before (⟦<Layout<D> as Store>⟧.state result.0).failures fault)) }
     ensures reached { OnOk result.1 (HasReached (⟦<Layout<S> as Store>⟧.state source.now)

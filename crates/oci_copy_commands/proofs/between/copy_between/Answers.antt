@@ -10,15 +10,15 @@ returns-clause-report g c =
     let from = c.args.source.now in
     let left = c.copy_plan-destination in
     let grows = rw c.roots-roots.ensures at left.ensures.grows in
-    after_report left.result.1 c.finish.result.1 (report_after (keys_of_one_digest (g.S.Dir.device from.dir).file from.graph) grows c.finish.ensures.saved c.args.options.now.existing)
-    c.finish.ensures.report (rw c.roots-roots.ensures at left.ensures.report)
+    after_report left.result.1 c.finish.result.1 (λ report copy. report_after (keys_of_one_digest (g.S.Dir.device from.dir).file from.graph) grows c.finish.ensures.saved c.args.options.now.existing report copy.reported)
+    c.finish.ensures.report (rw c.roots-roots.ensures at left.ensures.copied)
 
 pub returns-clause-copied : goal.returns-clause-copied
 returns-clause-copied g c =
     let from = c.args.source.now in
     let left = c.copy_plan-destination in
     let grows = rw c.roots-roots.ensures at left.ensures.grows in
-    after_ok left.result.1 c.finish.result.1 (copied_after (keys_of_one_digest (g.S.Dir.device from.dir).file from.graph) grows c.finish.ensures.saved)
+    after_report left.result.1 c.finish.result.1 (λ report copy. copied_after (keys_of_one_digest (g.S.Dir.device from.dir).file from.graph) grows c.finish.ensures.saved copy)
     c.finish.ensures.report (rw c.roots-roots.ensures at left.ensures.copied)
 
 pub returns-clause-sound : goal.returns-clause-sound

@@ -25,7 +25,7 @@ returns-clause-copied g c =
     let told : IsPrefix n.entries shown = subst (λ (es : List Entry). IsPrefix es shown) c.note.ensures.entries c.learn-2.ensures.told in
     let known : HasKnownBytes ⊥ (in_memory s.entries s.tags) (state_of d) (state_of n) = record { is_honest = tt; is_sound = tt; is_calm = (refl, omega arith); same_old = λ shared. absurd shared; same_source = λ shared. absurd shared } in
     IfOk-weaker c.copy_graph-live.result.1
-    (λ (r : Report). IsCopy ⊥ c.args.options.now (in_memory s.entries s.tags) (state_of d) c.args.roots.now (state_of n))
+    (λ (r : Report). IsCopy ⊥ c.args.options.now (in_memory s.entries s.tags) (state_of d) c.args.roots.now (state_of n) r)
     (λ (r : Report). Agree s.entries d.entries → (k : Descriptor) (bytes : List ℕ) → (value_at d.entries k ≡ Some bytes) ⊎ ((value_at s.entries k ≡ Some bytes) × Reaches (nodes_of s.entries) c.args.roots.now k) → value_at shown k ≡ Some bytes)
     (λ r copy agree k bytes either. subst (λ (es : List Entry). value_at es k ≡ Some bytes) told.1 (value_at-append_left n.entries told.0 k bytes ((copy.content known agree k bytes).1 either)))
     c.copy_graph-live.ensures.copied
@@ -38,7 +38,7 @@ returns-clause-reached g c =
     let shown = c.learn-2.new.self.entries in
     let told : IsPrefix n.entries shown = subst (λ (es : List Entry). IsPrefix es shown) c.note.ensures.entries c.learn-2.ensures.told in
     IfOk-weaker c.copy_graph-live.result.1
-    (λ (r : Report). IsCopy ⊥ c.args.options.now (in_memory s.entries s.tags) (state_of d) c.args.roots.now (state_of n))
+    (λ (r : Report). IsCopy ⊥ c.args.options.now (in_memory s.entries s.tags) (state_of d) c.args.roots.now (state_of n) r)
     (λ (r : Report). Agree s.entries d.entries → (k : Descriptor) → Reaches (nodes_of s.entries) c.args.roots.now k → has_key shown k ≡ true)
     (λ r copy agree k there. subst (λ (es : List Entry). has_key es k ≡ true) told.1 (has_key-append_left n.entries told.0 k
     (has_key-same_keys (nodes_of n.entries) n.entries k (keys_of-nodes_of n.entries) (copy.reached tt (Agree-nodes_of s.entries d.entries agree) k there))))
