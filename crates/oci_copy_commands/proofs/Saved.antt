@@ -1,27 +1,46 @@
 -- The promises of a copy between layouts still hold after its tags are set and it is saved.
-use Rattle.std.proofs.Common.{◌≡◌, List, Result, Ok, Err, refl, sym, subst, arith}
-use Rattle.std.specs.Prelude.{⊤, ◌<◌, ◌^◌, ◌-◌, IfOk, OnOk}
+use Rattle.std.proofs.Common.{◌≡◌, ◌⊎◌, inl, inr, ℕ, List, Result, Ok, Err, refl, sym, subst, arith}
+use Rattle.std.specs.Prelude.{⊤, ◌<◌, ◌^◌, ◌-◌, IsOk, IfErr, IfOk, OnOk}
+use Rattle.std.proofs.lemmas.Bool.{false≢true}
 use Rattle.std.proofs.lemmas.Result.{IfOk-at_ok, on_ok_weaker}
 use Rattle.oci_manifest.specs.Descriptor.{Descriptor}
 use Rattle.oci_store.specs.Content.{Entry}
 use Rattle.oci_store.specs.State.{State}
 use Rattle.oci_plan.specs.declared.gathering.Existing.{Existing}
+use Rattle.oci_copy.specs.Cause.{IsAnswerByWorkers, RefusedByWorkers}
 use Rattle.oci_copy.specs.Copy.{IsCopy, OnlyGrows}
 use Rattle.oci_copy.specs.Grown.{HasKnownBytes, SameByDigest}
 use Rattle.oci_copy.specs.Report.{IsReport}
+use Rattle.oci_copy.specs.declared.fault.CopyFault.{CopyFault}
+use Rattle.oci_copy.specs.declared.fault.CopyFault.TheVariants as fault
 use Rattle.oci_copy.specs.declared.options.Options.{Options}
 use Rattle.oci_copy.specs.declared.report.Report.{Report}
+use Rattle.oci_layout.specs.declared.fault.LayoutFault.{LayoutFault}
+use Rattle.oci_program.specs.declared.fault.ProgramFault.{ProgramFault}
+use Rattle.oci_program.specs.declared.fault.ProgramFault.TheVariants as program
 use Rattle.oci_copy_commands.specs.Between.{IsTrusted, IsSaved, BringsOnlyMet, BringsOnlyChecked, IsCopiedBetween, HoldsWhatCame}
+use Rattle.oci_copy_commands.specs.Refusal.{IsRefusedBetween}
 
--- a consequence of a successful copy holds if the copy and its save both succeeded
-pub after_ok : {X E F P Q : Type 0} (copied : Result X E) (saved : Result X F) → (P → Q) → IfOk saved (λ it. copied ≡ Ok it) → OnOk copied P → OnOk saved Q
-after_ok {P = P} copied (Ok x) gives same holds = gives (subst (λ r. OnOk r P) same holds)
-after_ok copied (Err e) gives same holds = same
-
--- as `after_ok`, for a fact about the report
+-- a consequence for the report of a successful copy holds if the copy and its save both succeeded
 pub after_report : {X E F : Type 0} {P Q : X → Type 0} (copied : Result X E) (saved : Result X F) → ((x : X) → P x → Q x) → IfOk saved (λ it. copied ≡ Ok it) → IfOk copied P → IfOk saved Q
 after_report {P = P} copied (Ok x) gives same holds = gives x (IfOk-at_ok P same holds)
 after_report copied (Err e) gives same holds = same
+
+-- a copy that succeeded has few enough workers for a cause of its own; a refused one has its cause
+refused_with : {X : Type 0} (workers : ℕ) (cause : CopyFault → Type 0) → cause fault.Memory → (copied : Result X CopyFault) → IsAnswerByWorkers workers cause copied
+    → (e : CopyFault) → (copied ≡ Err e) ⊎ (IsOk copied × (e ≡ fault.Memory)) → RefusedByWorkers workers cause e
+refused_with workers cause memory copied answers e (inl same) = (subst (IsAnswerByWorkers workers cause) same answers).1
+refused_with workers cause memory (Ok x) within e (inr it) = inr (within, subst cause (sym it.1) memory)
+refused_with workers cause memory (Err other) answers e (inr it) = absurd (false≢true it.0)
+
+-- a copy by workers and its save are refused for a cause of the copy, or for one of the save
+pub refused_after : {X Y : Type 0} (workers : ℕ) (cause : CopyFault → Type 0) (save after : LayoutFault → Type 0) → cause fault.Memory → ((e : LayoutFault) → save e → after e)
+    → (copied : Result X CopyFault) → IsAnswerByWorkers workers cause copied → (answer : Result Y ProgramFault)
+    → IfErr answer (IsRefusedBetween (λ e. (copied ≡ Err e) ⊎ (IsOk copied × (e ≡ fault.Memory))) save) → IfErr answer (IsRefusedBetween (RefusedByWorkers workers cause) after)
+refused_after workers cause save after memory saves copied answers (Ok y) is = is
+refused_after workers cause save after memory saves copied answers (Err (program.Copy e)) is = refused_with workers cause memory copied answers e is
+refused_after workers cause save after memory saves copied answers (Err (program.Destination e)) is = saves e is
+refused_after workers cause save after memory saves copied answers (Err e) is = is
 
 -- a destination that only grew, and then was saved
 module _ {source old copied new : State} {roots : List Descriptor} (alike : SameByDigest source.entries source.entries) (grows : OnlyGrows ⊤ source old roots copied) (saved : IsSaved copied new) where

@@ -1,4 +1,4 @@
-ghost use Rattle.std.specs.Prelude.{◌≡◌, ◌≢◌, ◌≤◌, ◌⊎◌, ℕ, List, [], Ok, Err, Contains, IfOk, OnOk, OnErr, IfErr};
+ghost use Rattle.std.specs.Prelude.{◌≡◌, ◌≢◌, ◌≤◌, ◌⊎◌, ℕ, List, [], Ok, Err, Contains, IsOk, IfOk, OnOk, OnErr, IfErr};
 ghost use Rattle.std.specs.List.{All};
 ghost use Rattle.std.specs.Map.{keys_of, values_of};
 ghost use Rattle.oci_store.specs.Closed.{IsClosed};
@@ -119,7 +119,7 @@ fn finish<D: Dir>(
         → HasFiles (D.device result.0.dir).file (⟦<Layout<D> as Store>⟧.state destination).entries
         result.0.graph result.0.tags) }
     ensures refused { IfErr result.1 (IsRefusedBetween
-        (λ fault. (copied ≡ Err fault) ⊎ (fault ≡ CopyFault.Memory))
+        (λ fault. (copied ≡ Err fault) ⊎ (IsOk copied × (fault ≡ CopyFault.Memory)))
         (IsPutFault (D.device destination.dir).failures (D.device result.0.dir).failures)) }
 {
     let mut destination = destination;

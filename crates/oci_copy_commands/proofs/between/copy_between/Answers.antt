@@ -1,8 +1,8 @@
-use Rattle.std.proofs.Common.{List}
+use Rattle.std.proofs.Common.{inl, refl, List}
 use Rattle.oci_store.specs.Content.{Entry}
 use Rattle.oci_layout.specs.Files.{HasFiles}
 use Rattle.oci_layout.proofs.Law.{keys_of_one_digest}
-use Rattle.oci_copy_commands.proofs.Saved.{after_ok, after_report, sound_after, came_after, checked_after, met_after, report_after, copied_after, files_after}
+use Rattle.oci_copy_commands.proofs.Saved.{after_report, sound_after, came_after, checked_after, met_after, report_after, copied_after, files_after, refused_after}
 use Rattle.oci_copy_commands.proofs.between.copy_between.Goals as goal
 
 pub returns-clause-report : goal.returns-clause-report
@@ -49,3 +49,9 @@ returns-clause-files g c =
     let left = c.finish.result.0 in
     files_after (keys_of_one_digest (g.S.Dir.device from.dir).file from.graph) c.copy_plan-destination.ensures.grows c.finish.ensures.saved c.finish.result.1
     (λ (content : List Entry). HasFiles (g.D.Dir.device left.dir).file content left.graph left.tags) c.finish.ensures.files
+
+pub returns-clause-refused : goal.returns-clause-refused
+returns-clause-refused g c =
+    let left = c.copy_plan-destination in
+    refused_after c.args.options.now.workers _ _ _ (inl refl) (λ fault is. ((g.D.Dir.device left.result.0.dir).failures, left.ensures.grows.failures, is))
+    left.result.1 left.ensures.refused c.finish.result.1 c.finish.ensures.refused
