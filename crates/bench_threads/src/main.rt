@@ -30,13 +30,16 @@ mod pushing;
 mod stores;
 
 use jobs::run_jobs;
+use std::alloc::Global;
 use std::process::ExitCode;
+use std::sync::Wait;
+use std::thread::Threads;
 use std::{env, io};
 use stores::run_pushes;
 
 fn main(rt: HostRuntime) -> io::Result<ExitCode> {
     let words: Vec<String> = env::args(&rt)?.skip(1).collect(rt.alloc())?;
-    let Some(told) = told(rt, &words) else {
+    let Some(told) = told(rt, rt.alloc(), &words) else {
         return Ok(ExitCode::from(3));
     };
     println!(rt; "{told}")?;
@@ -44,16 +47,20 @@ fn main(rt: HostRuntime) -> io::Result<ExitCode> {
 }
 
 /// Does what the words say, and returns the output.
-fn told(rt: HostRuntime, words: &[String]) -> Option<String> {
+fn told<R: Threads + Wait + Send + Sync + Copy + Drop>(
+    rt: R,
+    alloc: Global,
+    words: &[String],
+) -> Option<String> {
     let (first, rest) = words.split_first()?;
     match first.as_str() {
         "jobs" => {
-            let count = run_jobs(&rt, rt.alloc(), rest)?;
-            format!(in rt.alloc(); "{count}").ok()
+            let count = run_jobs(&rt, alloc, rest)?;
+            format!(in alloc; "{count}").ok()
         }
         "pushes" => {
-            let tally = run_pushes(rt, rt.alloc(), rest)?;
-            format!(in rt.alloc(); "{tally}").ok()
+            let tally = run_pushes(rt, alloc, rest)?;
+            format!(in alloc; "{tally}").ok()
         }
         _ => None,
     }
