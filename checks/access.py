@@ -1,5 +1,6 @@
 """The mode, the group and the owner of `index.json`, which a save keeps. As root also of an owner that the program is not run as."""
 import os
+import shutil
 import stat
 
 from support.layouts import BAR, E, FOO, M2, write_layout
@@ -17,6 +18,8 @@ def access(path):
 
 def wrong_access(room, words, mode):
     """Return the problem with a command that saves a layout whose index has this mode, or None."""
+    for layout in "layout", "source":
+        shutil.rmtree("%s/%s" % (room, layout), ignore_errors=True)
     write_layout(room + "/layout", [E, FOO, BAR, M2], {"v1": M2, "v2": M2})
     write_layout(room + "/source", [E, FOO, BAR, M2], {"v1": M2})
     index = room + "/layout/index.json"
