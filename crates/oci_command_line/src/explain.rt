@@ -213,7 +213,7 @@ Check the permissions and the free space of the disk. The files of a layout have
 
 75 Corrupt
 The file of the named manifest does not match its size and digest, so the layout cannot be opened.
-Note its tags in `index.json`, and delete the file of its digest, `blobs/sha256/DIGITS` or `blobs/sha512/DIGITS`. Then run `ocicp copy --descend` for each tag from a layout that has it. A copy drops the other tags of a missing manifest.
+Note its tags in `index.json`, and delete the file of its digest, `blobs/sha256/DIGITS` or `blobs/sha512/DIGITS`. Then run `ocicp copy --descend` for each tag from a layout that has it.
 
 76 Memory
 Memory ran out while a layout was opened, created or saved.

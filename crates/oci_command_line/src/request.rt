@@ -14,6 +14,9 @@ pub struct CommandLine<'w> {
     /// Whether `--json` was given: whether the command prints its result, or its refusal, as one
     /// JSON document. It is false for [`Request::Text`].
     pub as_json: bool,
+    /// Whether a second line explains a refusal: if stderr is a terminal or `--hint` was given, but
+    /// not with `--json`.
+    pub hints: bool,
 }
 
 /// The command of a command line, with its words and flags, or a text to print.
@@ -94,10 +97,12 @@ impl<'w> CommandLine<'w> {
             Some((name, matches)) => Ok(CommandLine {
                 request: request_of(alloc, name, matches, on_terminal, most_workers)?,
                 as_json: matches.get_flag("json"),
+                hints: hints(matches, on_terminal),
             }),
             None => Ok(CommandLine {
                 request: Request::Mem(MemWords::none(alloc)),
                 as_json: false,
+                hints: on_terminal,
             }),
         }
     }
@@ -110,6 +115,7 @@ fn text_or_usage<'w>(alloc: Global, error: &Error) -> Result<CommandLine<'w>, Co
         ErrorKind::DisplayHelp | ErrorKind::DisplayVersion => Ok(CommandLine {
             request: Request::Text(text_of(alloc, error)?),
             as_json: false,
+            hints: false,
         }),
         _ => Err(CommandLineFault::Usage(text_of(alloc, error)?)),
     }
@@ -144,6 +150,11 @@ fn request_of<'w>(
         )),
         _ => Ok(Request::Mem(mem_words(alloc, matches)?)),
     }
+}
+
+/// Whether a second line explains a refusal.
+fn hints(matches: &ArgMatches<'_>, on_terminal: bool) -> bool {
+    (on_terminal || matches.get_flag("hint")) && !matches.get_flag("json")
 }
 
 /// The word for an argument, or the empty text if there is none.

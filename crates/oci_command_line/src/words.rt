@@ -5,7 +5,7 @@ mod pruning;
 mod queries;
 mod text;
 
-use crate::words::argument::{Argument, json};
+use crate::words::argument::{Argument, hint, json};
 use crate::words::copying::{COPY, copy_arguments};
 use crate::words::memory::{MEM, mem_arguments};
 use crate::words::pruning::{PRUNE, UNTAG, prune_arguments, untag_arguments};
@@ -18,7 +18,7 @@ use clap::Command;
 use std::alloc::{AllocError, Global};
 
 /// The version that `--version` prints.
-const VERSION: &str = "0.9.0";
+const VERSION: &str = "0.10.0";
 
 /// The `clap` command; `most_workers` bounds `--workers`.
 pub(crate) fn command<'w>(alloc: Global, most_workers: u32) -> Result<Command<'w>, AllocError> {
@@ -26,13 +26,16 @@ pub(crate) fn command<'w>(alloc: Global, most_workers: u32) -> Result<Command<'w
         (COPY, &copy_arguments(most_workers)),
         (UNTAG, &untag_arguments()),
         (PRUNE, &prune_arguments()),
-        (TAGS, &[json(), folder()]),
-        (RESOLVE, &[json(), folder(), reference()]),
-        (PREDECESSORS, &[json(), folder(), reference()]),
-        (TREE, &[tree_referrers(), json(), folder(), reference()]),
-        (VERIFY, &[json(), folder()]),
+        (TAGS, &[hint(), json(), folder()]),
+        (RESOLVE, &[hint(), json(), folder(), reference()]),
+        (PREDECESSORS, &[hint(), json(), folder(), reference()]),
+        (
+            TREE,
+            &[tree_referrers(), hint(), json(), folder(), reference()],
+        ),
+        (VERIFY, &[hint(), json(), folder()]),
         (MEM, &mem_arguments(most_workers)),
-        (EXPLAIN, &[json(), error_number()]),
+        (EXPLAIN, &[hint(), json(), error_number()]),
     ];
     let mut built = Vec::new(alloc);
     for (text, arguments) in &commands {

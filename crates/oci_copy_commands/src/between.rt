@@ -87,7 +87,7 @@ where
     ensures files { OnOk result.1 (IsTrusted (⟦<Layout<S> as Store>⟧.state source.now)
         (⟦<Layout<D> as Store>⟧.state destination) (⟦<Layout<D> as Store>⟧.state result.0)
         → HasFiles (D.device result.0.dir).file (⟦<Layout<D> as Store>⟧.state result.0).entries
-        result.0.graph result.0.tags) }
+        result.0.graph result.0.tags result.0.opened) }
 {
     let roots = selected.roots();
     let (destination, copied) = copy_plan(
@@ -117,7 +117,7 @@ fn finish<D: Dir>(
         (⟦<Layout<D> as Store>⟧.state result.0) }
     ensures files { OnOk result.1 ((⟦<Layout<D> as Store>⟧.state destination).is_sound
         → HasFiles (D.device result.0.dir).file (⟦<Layout<D> as Store>⟧.state destination).entries
-        result.0.graph result.0.tags) }
+        result.0.graph result.0.tags result.0.opened) }
     ensures refused { IfErr result.1 (IsRefusedBetween
         (λ fault. (copied ≡ Err fault) ⊎ (IsOk copied × (fault ≡ CopyFault.Memory)))
         (IsPutFault (D.device destination.dir).failures (D.device result.0.dir).failures)) }
@@ -145,7 +145,7 @@ fn tag_and_save<D: Dir>(
     ensures files { OnOk result ((⟦<Layout<D> as Store>⟧.state destination.old).is_sound
         → HasFiles (D.device destination.new.dir).file
         (⟦<Layout<D> as Store>⟧.state destination.old).entries destination.new.graph
-        destination.new.tags) }
+        destination.new.tags destination.new.opened) }
     ensures refused { IfErr result (IsRefusedBetween (λ fault. fault ≡ CopyFault.Memory)
         (IsPutFault (D.device destination.old.dir).failures
         (D.device destination.new.dir).failures)) }

@@ -29,8 +29,9 @@ use std::io::Write;
 ///
 /// With 80, 81, 99 and the faults before them, no blob, tag or entry of DST is changed.
 ///
-/// - 70 to 75 and 77 if SRC or DST is not a layout or cannot be read; 70 for DST only if it has an
-///   `index.json` with contents; 74 also if DST cannot be created or locked.
+/// - 70 to 75 and 77 if SRC or DST is not a layout or cannot be read; 70 for DST only if it has
+///   another `index.json` than that of an empty layout; 74 also if DST cannot be created or locked,
+///   or its folder `blobs/sha256` cannot be made.
 /// - 35 `EmptyReference` and 36 `UnknownReference` for the reference.
 /// - 99 `Locked` if another process has the lock of DST, and the words say not to wait.
 /// - 97 `NoTags`, 96 `Unknown` and 98 `LinkedBlobs` with `--prune`, if SRC has no tag, SRC or DST
@@ -91,7 +92,7 @@ where
     S::Draft: Send,
     D::Draft: Send,
 {
-    let source = Layout::open(rt.alloc(), source)?;
+    let source = Layout::open_as_is(rt.alloc(), source)?;
     let selected = Selected::of(rt.alloc(), &source, words)?;
     if words.prunes {
         check_source(&source)?;

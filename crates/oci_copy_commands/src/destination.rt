@@ -20,8 +20,8 @@ pub(crate) fn remove_leftovers<R: Files<File: Lockable> + AllocGlobal>(
     }
 }
 
-/// Creates the folder `blobs/sha256` of a layout in a folder, if it is missing. Every layout has it,
-/// even one without blobs (OCI image specification 1.1, image-layout.md, "Blobs").
+/// Creates the folder `blobs/sha256` of a layout in a folder, if it is missing. Every layout has
+/// it, even one without blobs (OCI image specification 1.1, image-layout.md, "Blobs").
 ///
 /// # Errors
 ///
@@ -40,12 +40,13 @@ pub(crate) fn make_blobs_folder<R: Files + AllocGlobal>(
     }
 }
 
-/// Opens the layout in a directory. It is created if there is no `oci-layout`, and no index that
-/// the creation would replace.
+/// Opens the layout in a directory as it is. Creates one if there is no `oci-layout` and no index
+/// that the creation would replace.
 ///
 /// # Errors
 ///
-/// - 70 `NoLayoutFile` if there is an `index.json` with contents, but no `oci-layout`.
+/// - 70 `NoLayoutFile` if there is no `oci-layout`, and another `index.json` than that of an empty
+///   layout.
 /// - 71 to 75 and 77 if the directory has a layout that cannot be opened.
 /// - 74 `Device` if a layout cannot be created.
 /// - Out of memory, at any point.
@@ -53,7 +54,11 @@ pub(crate) fn open_or_create<D: Dir + Drop>(
     alloc: Global,
     dir: D,
 ) -> Result<Layout<D>, ProgramFault> {
-    match Layout::open_or_create(alloc, dir) {
+    let opened = match Layout::open_as_is(alloc, dir) {
+        Err((dir, LayoutFault::NoLayoutFile)) => Layout::create_if_free(alloc, dir),
+        opened => opened,
+    };
+    match opened {
         Ok(layout) => Ok(layout),
         Err((_dir, fault)) => Err(ProgramFault::Destination(fault)),
     }

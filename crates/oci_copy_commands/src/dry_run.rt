@@ -19,12 +19,13 @@ use std::io::Write;
 /// how many roots the destination already has.
 ///
 /// Nothing is changed and nothing is locked. A destination without `oci-layout` counts as an empty
-/// layout, and is not created, unless it has an `index.json` with contents.
+/// layout, and is not created. It is refused if it has another `index.json` than that of an empty
+/// layout.
 ///
 /// # Errors
 ///
 /// - 70 to 75 and 77 if one of the two is not a layout or cannot be read; 70 for the destination
-///   only if it has an `index.json` with contents.
+///   only if it has another `index.json` than that of an empty layout.
 /// - 35 `EmptyReference` and 36 `UnknownReference` for the reference.
 /// - 80 `DestinationOpen` and 81 `Plan` if there is no plan.
 /// - 94 `Output` if `out` cannot be written.
@@ -37,7 +38,7 @@ pub(crate) fn show_plan<S: Dir + Drop, D: Dir + Drop, W: Write>(
     form: Form,
     out: &mut W,
 ) -> Result<Outcome, ProgramFault> {
-    let source = Layout::open(alloc, source)?;
+    let source = Layout::open_as_is(alloc, source)?;
     let selected = Selected::of(alloc, &source, words)?;
     let options = options_of(words);
     let plan = plan_into(alloc, &source, destination, selected.roots(), &options)?;
@@ -52,7 +53,7 @@ fn plan_into<S: Dir, D: Dir + Drop>(
     roots: &[Key],
     options: &Options,
 ) -> Result<Plan, ProgramFault> {
-    let plan = match Layout::open(alloc, destination) {
+    let plan = match Layout::open_as_is(alloc, destination) {
         Ok(destination) => plan_copy(alloc, source, &destination, roots, options),
         Err((dir, LayoutFault::NoLayoutFile)) => {
             Layout::check_is_free(&dir).map_err(ProgramFault::Destination)?;

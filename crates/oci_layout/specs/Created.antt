@@ -4,6 +4,7 @@ use Rattle.oci_layout.specs.Blobs.{IsSound}
 use Rattle.oci_layout.specs.Device.{Device, File, TouchesTwo}
 use Rattle.oci_layout.specs.Files.{HasFiles}
 use Rattle.oci_layout.specs.Index.{layout_file, index_file, empty_index_text, HasFreshTexts}
+use Rattle.oci_layout.specs.Layout.{no_index}
 use Rattle.oci_layout.specs.Prunable.{IsReadFault}
 use Rattle.oci_layout.specs.Refusal.{IsCreateFault}
 use Rattle.oci_layout.specs.declared.fault.LayoutFault.{LayoutFault}
@@ -11,7 +12,7 @@ use Rattle.oci_layout.specs.declared.fault.LayoutFault.TheVariants as fault
 
 -- the files are the ones of an empty layout, to the byte
 pub record IsFresh (file : File) : Type 0 where
-  pub files : HasFiles file [] [] []
+  pub files : HasFiles file [] [] [] no_index
   pub texts : HasFreshTexts file
 
 -- the directory has no index, or the one of an empty layout

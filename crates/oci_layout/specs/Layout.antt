@@ -5,15 +5,18 @@ use Rattle.oci_store.specs.Graph.{Node}
 use Rattle.oci_store.specs.Tags.{Tags}
 use Rattle.oci_layout.specs.Blobs.{IsSound, blob_path, stored}
 use Rattle.oci_layout.specs.Device.{Device, SameDevice, Touches}
+use Rattle.oci_layout.specs.Entries.{ReadIndex, nothing_read}
 
 -- what a layout remembers of the index that it was opened from
 pub record OpenedIndex : Type 0 where
   -- the keys of the entries that had no file, in the order of the index
   pub absent : List Descriptor
+  -- what the index says, if the layout was opened as it is, and otherwise nothing
+  pub content : ReadIndex
 
 -- a layout that was created was opened from no index
 abbrev pub no_index : OpenedIndex
-no_index = record { absent = [] }
+no_index = record { absent = []; content = nothing_read }
 
 -- the value of a layout: its directory, and what it has in memory
 pub record LayoutState (D : Type 0) : Type 0 where

@@ -13,7 +13,7 @@ use Rattle.oci_layout.specs.Device.{Device, File}
 use Rattle.oci_layout.specs.Index.{index_file, layout_file, layout_version, version_in, HasLayoutFile}
 use Rattle.oci_store.specs.Push.{IsRaised}
 use Rattle.oci_store.specs.Visiting.{IsVisiting}
-use Rattle.oci_layout.specs.Entries.{IndexEntry, IsIndexFile, entry_keys}
+use Rattle.oci_layout.specs.Entries.{IndexContent, IsIndexFile, entry_keys}
 use Rattle.oci_layout.specs.Opened.{IsGood, listed_in, any}
 use Rattle.oci_layout.specs.declared.fault.LayoutFault.{LayoutFault}
 use Rattle.oci_layout.specs.declared.fault.LayoutFault.TheVariants as fault
@@ -55,9 +55,9 @@ pub record IsNextVisited (file : File) (starts : List Descriptor) (k : Descripto
 -- the key is the next one that a walk from the keys of the index visits, and the manifests before
 -- it are good
 pub record IsNextOfIndex (file : File) (k : Descriptor) : Type 0 where
-  pub entries : List IndexEntry
-  pub index : IsIndexFile (file index_file) entries
-  pub next : IsNextVisited file (entry_keys entries) k
+  pub content : IndexContent
+  pub index : IsIndexFile (file index_file) content
+  pub next : IsNextVisited file (entry_keys content.entries) k
 
 -- ---- the faults of public calls
 

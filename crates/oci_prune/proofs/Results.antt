@@ -23,6 +23,7 @@ use Rattle.oci_store.proofs.Lookups.{has_key-from_Contains}
 use Rattle.oci_layout.specs.Blobs.{blob_path, stored}
 use Rattle.oci_layout.specs.Device.{Device, File}
 use Rattle.oci_layout.specs.Index.{index_file, HasIndex}
+use Rattle.oci_layout.specs.Layout.{OpenedIndex}
 use Rattle.oci_layout.proofs.Files.{index_blob}
 use Rattle.oci_layout.proofs.Stored.{blob_path-injective}
 use Rattle.oci_prune.specs.Plan.{AreUnneeded, HasDigestIn, IsSafe}
@@ -86,8 +87,8 @@ pub index_stays : (mid last new : Device) (rest : List Node) (files : List Prune
 index_stays mid last new rest files honest second same =
     same.index (second.honest.0 honest) ∙ second.other honest index_file (λ p. not_index p.0.digest (sym p.2))
 
-pub has_index-stays : (old new : File) (graph now : List Node) (tags later : Tags) → new index_file ≡ old index_file → now ≡ graph → later ≡ tags → HasIndex old graph tags → HasIndex new now later
-has_index-stays old new graph now tags later e g t h = rw (g, t) (record { loose = h.loose; are_loose = h.are_loose; bytes = h.bytes; is_there = e ∙ h.is_there; is_index = h.is_index })
+pub has_index-stays : (old new : File) (graph now : List Node) (tags later : Tags) (opened left : OpenedIndex) → new index_file ≡ old index_file → now ≡ graph → later ≡ tags → left ≡ opened → HasIndex old graph tags opened → HasIndex new now later left
+has_index-stays old new graph now tags later opened left e g t o h = rw (g, t, o) (record { loose = h.loose; are_loose = h.are_loose; bytes = h.bytes; is_there = e ∙ h.is_there; is_index = h.is_index })
 
 -- ---- the flags of the files
 

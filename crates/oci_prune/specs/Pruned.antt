@@ -93,5 +93,5 @@ pub record OnlyIndex {D : Type 0} (device : D → Device) (old new : LayoutState
 -- the kept keys are held and saved; if no key goes, nothing changed
 pub record IsSaved {D : Type 0} (device : D → Device) (old new : LayoutState D) (plan : PrunePlan) : Type 0 where
   pub kept : new.graph ≡ kept_of plan.kept old.graph
-  pub index : plan.removed.items ≢ [] → (device old.dir).is_honest → HasIndex (device new.dir).file new.graph new.tags
+  pub index : plan.removed.items ≢ [] → (device old.dir).is_honest → HasIndex (device new.dir).file new.graph new.tags new.opened
   pub unwritten : plan.removed.items ≡ [] → new ≡ old

@@ -77,7 +77,8 @@ pub fn prune<D: PrunableDir>(
         → (IsTouchedBy plan.now path → ⊥)
         → (D.device layout.new.dir).file path ≡ (D.device layout.old.dir).file path }
     ensures index { OnOk result (plan.now.removed.items ≢ [] → (D.device layout.old.dir).is_honest
-        → HasIndex (D.device layout.new.dir).file layout.new.graph layout.new.tags) }
+        → HasIndex (D.device layout.new.dir).file layout.new.graph layout.new.tags
+        layout.new.opened) }
     ensures unwritten { OnOk result (plan.now.removed.items ≡ []
         → (D.device layout.old.dir).is_honest
         → (D.device layout.new.dir).file index_file ≡ (D.device layout.old.dir).file index_file) }

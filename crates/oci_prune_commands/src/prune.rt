@@ -56,7 +56,7 @@ fn plan_folder<D: PrunableDir + Drop>(
     dir: D,
     words: &PruneWords<'_>,
 ) -> Result<PruneAnswer, ProgramFault> {
-    let layout = Layout::open(alloc, dir)?;
+    let layout = Layout::open_as_is(alloc, dir)?;
     let plan = plan_prune(alloc, &layout, words.keeps_referrers)?;
     let pruned = all_of(alloc, &plan)?;
     Ok(PruneAnswer::of(alloc, plan, &pruned)?)
@@ -81,7 +81,7 @@ fn prune_folder<R: Files<File: Lockable> + AllocGlobal, D: PrunableDir + Drop, X
 ) -> Result<(PruneAnswer, Option<PruneFault>), ProgramFault> {
     check_is_layout(&dir)?;
     let _lock = lock_folder(rt, words.folder, words.waits, err)?;
-    let mut layout = Layout::open(rt.alloc(), dir)?;
+    let mut layout = Layout::open_as_is(rt.alloc(), dir)?;
     let plan = plan_prune(rt.alloc(), &layout, words.keeps_referrers)?;
     let pruned = prune(rt.alloc(), &mut layout, &plan)?;
     let answer = PruneAnswer::of(rt.alloc(), plan, &pruned)?;

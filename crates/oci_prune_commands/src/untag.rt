@@ -71,7 +71,7 @@ fn untag_folder<R: Files<File: Lockable> + AllocGlobal, D: Dir + Drop, X: Write>
     let tag = String::from_str(rt.alloc(), words.tag)?;
     check_is_layout(&dir)?;
     let _lock = lock_folder(rt, words.folder, words.waits, err)?;
-    let mut layout = Layout::open(rt.alloc(), dir)?;
+    let mut layout = Layout::open_as_is(rt.alloc(), dir)?;
     let descriptor = untag_and_save(&mut layout, words.tag)?;
     Ok(Untagged(Tagged { tag, descriptor }))
 }
@@ -89,7 +89,7 @@ pub fn untag_and_save<D: Dir>(layout: &mut Layout<D>, tag: &str) -> Result<Key, 
     ensures untagged { OnOk result (layout.new.tags ≡ without_tag layout.old.tags tag.now) }
     ensures saved { OnOk result ((D.device layout.old.dir).is_honest
         → HasIndex (D.device layout.new.dir).file layout.old.graph
-        (without_tag layout.old.tags tag.now)) }
+        (without_tag layout.old.tags tag.now) layout.old.opened) }
     ensures graph { layout.new.graph ≡ layout.old.graph }
     ensures other { (D.device layout.old.dir).is_honest
         → Touches (D.device layout.old.dir).file (D.device layout.new.dir).file index_file }

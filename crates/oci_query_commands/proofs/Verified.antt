@@ -8,7 +8,7 @@ use Rattle.std.proofs.lemmas.Option.{slice_get-get_or}
 use Rattle.oci_layout.specs.Blobs.{blob_path, blob_at, meaning, HasMatchingFiles}
 use Rattle.oci_layout.specs.Device.{Device, File}
 use Rattle.oci_layout.specs.Layout.{OpenedIndex}
-use Rattle.oci_layout.specs.Opened.{IsOpened, held_in, is_there, listed_in}
+use Rattle.oci_layout.specs.Opened.{IsOpenedAsIs, held_in, is_there, listed_in}
 use Rattle.oci_layout.proofs.Stored.{has_key-stored, value_at-stored}
 use Rattle.oci_manifest.specs.Descriptor.{Descriptor, Matches}
 use Rattle.oci_store.specs.Graph.{Node}
@@ -63,7 +63,7 @@ all_match file (n ∷ graph) there matching =
     (all_match file graph (All-tail (HasFile file) n graph there) (All-tail P n graph matching))
 
 -- a layout that was opened and is whole is verified
-pub IsVerified-whole : (dir : Device) (graph : List Node) (tags : Tags) (index : OpenedIndex) → dir.is_honest → IsOpened dir.file graph tags index → IsWhole dir graph index.absent → IsVerified dir
+pub IsVerified-whole : (dir : Device) (graph : List Node) (tags : Tags) (index : OpenedIndex) → dir.is_honest → IsOpenedAsIs dir.file graph tags index → IsWhole dir graph index.absent → IsVerified dir
 IsVerified-whole dir graph tags index honest opened whole = record {
   graph = graph;
   tags = tags;
@@ -71,7 +71,7 @@ IsVerified-whole dir graph tags index honest opened whole = record {
   opened = opened;
   entries = whole.entries;
   matching = all_match dir.file graph
-      (subst (λ (g : List Node). All (HasFile dir.file) g) (sym opened.walked.held) (held_there dir.file opened.walked.visited))
+      (subst (λ (g : List Node). All (HasFile dir.file) g) (sym opened.read.walked.held) (held_there dir.file opened.read.walked.visited))
       (whole.intact honest);
   closed = whole.closed;
 }

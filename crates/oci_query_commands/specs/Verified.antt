@@ -6,7 +6,7 @@ use Rattle.oci_command_line.specs.declared.request.Query.TheVariants as query
 use Rattle.oci_layout.specs.Blobs.{blob_at, HasMatchingFiles}
 use Rattle.oci_layout.specs.Device.{Device}
 use Rattle.oci_layout.specs.Layout.{OpenedIndex}
-use Rattle.oci_layout.specs.Opened.{IsOpened}
+use Rattle.oci_layout.specs.Opened.{IsOpenedAsIs}
 use Rattle.oci_manifest.specs.Descriptor.{Descriptor}
 use Rattle.oci_store.specs.Closed.{IsClosed}
 use Rattle.oci_store.specs.Content.{Matches}
@@ -27,7 +27,7 @@ pub record IsVerified (dir : Device) : Type 0 where
   pub graph : List Node
   pub tags : Tags
   pub index : OpenedIndex
-  pub opened : IsOpened dir.file graph tags index
+  pub opened : IsOpenedAsIs dir.file graph tags index
   pub entries : index.absent ≡ []
   pub matching : HasMatchingFiles dir.file graph
   pub closed : IsClosed graph

@@ -22,7 +22,7 @@ use std::time::Clock;
 /// If the query is refused, nothing was printed on `out`, unless the fault is that of a write: text
 /// that was printed before it stays.
 ///
-/// - 70 to 75 and 77, as from [`oci_layout::Layout::open`].
+/// - 70 to 75 and 77, as from [`oci_layout::Layout::open_as_is`].
 /// - 35 `EmptyReference` if the reference is empty, and 36 `UnknownReference` if it is unknown.
 /// - 21 `Corrupt` if `tree` reads a referrer whose file does not match its key.
 /// - 22 `Device` if a blob cannot be read by `tree` or `verify`.
@@ -40,7 +40,7 @@ pub fn run_query<
     ensures verified { IfOk result (λ outcome. outcome ≡ Outcome.Good → is_verify query.entry ≡ true
         → (D.device dir).is_honest → IsVerified (D.device dir)) }
 {
-    let layout = match Layout::open(rt.alloc(), dir) {
+    let layout = match Layout::open_as_is(rt.alloc(), dir) {
         Ok(layout) => layout,
         Err((_dir, fault)) => return Err(F::from(ProgramFault::Layout(fault))),
     };

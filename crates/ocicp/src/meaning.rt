@@ -2,7 +2,7 @@ use oci_command_line::{Query, Request, Selection, UntagWords, first_sentence};
 use oci_program::{Refusal, Subject};
 use std::io::Write;
 
-/// Prints a line for a person at a terminal: the word that a refusal is about, the meaning of its
+/// Prints a line for a person: the word that a refusal is about, the meaning of its
 /// number, and where to read more. If the line cannot be written, it is left out.
 pub(crate) fn print_meaning<X: Write>(request: &Request<'_>, refusal: Refusal, err: &mut X) {
     let number = refusal.number;

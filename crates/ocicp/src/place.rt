@@ -38,7 +38,7 @@ impl<'r, R: Files<File: ReadAt> + AllocGlobal> Place<'r, R> {
 /// # Errors
 ///
 /// - 95 `NotWritable` if the destination is a regular file, or a link to one, or does not exist and
-///   has the name of an archive. The source is not touched then.
+///   ends in `.tar` or begins with `oci:` or `oci-archive:`. The source is not touched then.
 /// - 100 to 105 if the source is a file, and is not an archive or cannot be read.
 /// - Out of memory, at any point.
 pub(crate) fn open_copy<'r, R: Files<File: ReadAt> + AllocGlobal>(
@@ -72,7 +72,7 @@ pub(crate) fn open_folder<'r, R: Files + AllocGlobal>(
 }
 
 /// Returns whether a path is named like an archive, or has a prefix by which other tools tell
-/// archives and layouts apart. Nobody wants a new folder of that name.
+/// archives and layouts apart. A new folder of that name is most likely a mistake.
 fn names_archive(path: &str) -> bool {
     path.ends_with(".tar") || path.starts_with("oci:") || path.starts_with("oci-archive:")
 }

@@ -15,7 +15,8 @@ use std::io::Write;
 ///
 /// - 0: the command was done, and its result is on `out`.
 /// - 1: the command was refused. `err` has one line, `ocicp:` and the faults from the outermost to
-///   the innermost. Or `verify` found a problem, which is on `out`.
+///   the innermost, and with `--hint` a second line, which says what the innermost number means. Or
+///   `verify` found a problem, which is on `out`.
 /// - 2: the command line is invalid, and the usage is on `err`.
 /// - 3: memory ran out. `err` has the line `ocicp: memory`.
 ///
@@ -36,8 +37,8 @@ pub fn run_words<R: Host, W: Write, X: Write + Send>(
 
 /// Runs the program as [`run_words`] does. If `err` is a terminal, `verify`, and `copy` without
 /// `--progress`, draw a line on it that shows how much has been checked or has arrived, and erase
-/// that line at the end. Also, a second line below the line of a refusal then says what its
-/// innermost number means, unless the command has `--json`.
+/// that line at the end. A refusal is then explained as with `--hint`, unless the command has
+/// `--json`.
 pub fn run_words_on<R: Host, W: Write, X: Write + Send>(
     rt: &R,
     words: &[String],
@@ -54,8 +55,7 @@ pub fn run_words_on<R: Host, W: Write, X: Write + Send>(
     let form = form_of(line.as_json);
     let done = run_request(rt, &line.request, form, out, err);
     let ended = finish_run(rt.alloc(), done, form, out, err);
-    if on_terminal
-        && !line.as_json
+    if line.hints
         && let Some(refusal) = ended.refusal
     {
         print_meaning(&line.request, refusal, err);

@@ -105,6 +105,14 @@ pub(crate) fn no_wait() -> Argument {
     )
 }
 
+/// `--hint`
+pub(crate) fn hint() -> Argument {
+    flag(
+        "hint",
+        "Explains an error in a second line on stderr, as on a terminal; not with --json",
+    )
+}
+
 /// `--json`
 pub(crate) fn json() -> Argument {
     flag(

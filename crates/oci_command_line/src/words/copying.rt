@@ -1,4 +1,4 @@
-use crate::words::argument::{Argument, Kind, flag, json, no_wait};
+use crate::words::argument::{Argument, Kind, flag, hint, json, no_wait};
 use crate::words::text::CommandText;
 
 const EXAMPLES: &str = "\
@@ -38,7 +38,7 @@ pub(crate) const COPY: CommandText = CommandText {
 
 /// The arguments of `copy`; `most_workers` bounds `--workers`. With `--all` the second word is the
 /// destination's folder, and there is no third one.
-pub(crate) fn copy_arguments(most_workers: u32) -> [Argument; 14] {
+pub(crate) fn copy_arguments(most_workers: u32) -> [Argument; 15] {
     [
         all(),
         flag(
@@ -68,6 +68,7 @@ pub(crate) fn copy_arguments(most_workers: u32) -> [Argument; 14] {
             "dry-run",
             "Changes nothing; prints the blobs that would be copied, then their number, their total size, and how many requested blobs DST already has",
         ),
+        hint(),
         json(),
         no_wait(),
         Argument::new(

@@ -1,4 +1,4 @@
-use crate::words::argument::{Argument, Kind, flag, json};
+use crate::words::argument::{Argument, Kind, flag, hint, json};
 use crate::words::text::CommandText;
 
 const EXAMPLES: &str = "\
@@ -23,7 +23,7 @@ pub(crate) const MEM: CommandText = CommandText {
 };
 
 /// The arguments of `mem`; `most_workers` bounds `--workers`.
-pub(crate) fn mem_arguments(most_workers: u32) -> [Argument; 4] {
+pub(crate) fn mem_arguments(most_workers: u32) -> [Argument; 5] {
     let workers = Kind::Number {
         name: "N",
         most: most_workers,
@@ -39,6 +39,7 @@ pub(crate) fn mem_arguments(most_workers: u32) -> [Argument; 4] {
             "sha512",
             "Uses SHA-512 digests; without it, they are SHA-256",
         ),
+        hint(),
         json(),
         Argument::new(
             "item",

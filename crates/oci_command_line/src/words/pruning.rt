@@ -1,4 +1,4 @@
-use crate::words::argument::{Argument, Kind, flag, json, no_wait};
+use crate::words::argument::{Argument, Kind, flag, hint, json, no_wait};
 use crate::words::text::CommandText;
 
 const EXAMPLES_OF_PRUNE: &str = "\
@@ -17,9 +17,8 @@ pub(crate) const UNTAG: CommandText = CommandText {
          Prints `untagged` with the digest, the size and the media type of the blob that the tag named.\n\n\
          An empty tag (35) and a tag that the layout does not have (36) are refused, and nothing is \
          changed. FOLDER is not created, and cannot be an archive (95).\n\n\
-         `index.json` is written anew, as `copy` writes it: each entry keeps its media type, digest, size \
-         and tag. `platform` and annotations are removed from all entries, and entries whose blob is \
-         missing are left out.\n\n\
+         `index.json` is written anew, without the entries of the tag. The other entries keep all that \
+         other tools wrote into them, such as `platform` and annotations.\n\n\
          Locks FOLDER. While another process on the same machine has the lock, it waits.",
     ),
     usage: "ocicp untag [OPTIONS] <FOLDER> <TAG>",
@@ -27,9 +26,10 @@ pub(crate) const UNTAG: CommandText = CommandText {
 };
 
 /// The arguments of `untag`.
-pub(crate) fn untag_arguments() -> [Argument; 4] {
+pub(crate) fn untag_arguments() -> [Argument; 5] {
     let tag = "The tag to remove; it is never read as the digest of a blob";
     [
+        hint(),
         json(),
         no_wait(),
         folder(),
@@ -62,8 +62,8 @@ pub(crate) const PRUNE: CommandText = CommandText {
          and cannot be an archive (95).\n\n\
          `index.json` is saved first. If the prune is then killed, or a file cannot be removed (79), no \
          tag has lost anything, and the next prune removes the rest. If a blob is removed, `index.json` is \
-         written anew, as `copy` writes it: each entry keeps its media type, digest, size and tag, and \
-         `platform` and annotations are removed from all entries.\n\n\
+         written anew, without the entries of removed blobs. The other entries keep all that other tools \
+         wrote into them, such as `platform` and annotations.\n\n\
          Locks FOLDER, but not for --dry-run. While another process on the same machine has the lock, it \
          waits.",
     ),
@@ -72,7 +72,7 @@ pub(crate) const PRUNE: CommandText = CommandText {
 };
 
 /// The arguments of `prune`.
-pub(crate) fn prune_arguments() -> [Argument; 5] {
+pub(crate) fn prune_arguments() -> [Argument; 6] {
     [
         flag(
             "dry-run",
@@ -82,6 +82,7 @@ pub(crate) fn prune_arguments() -> [Argument; 5] {
             "no-referrers",
             "Removes also the referrers of kept blobs that no tag reaches, such as signatures and SBOMs",
         ),
+        hint(),
         json(),
         no_wait(),
         folder(),

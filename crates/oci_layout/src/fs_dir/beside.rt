@@ -112,9 +112,9 @@ where
     }
 }
 
-/// Gives a file the mode, the group and the owner of a regular file. What the system refuses stays as
-/// it is: only a privileged process may change an owner. The owner comes first, because a change of
-/// it may clear bits of the mode.
+/// Gives a file the mode, the group and the owner of a regular file. What the system refuses stays
+/// as it is: only a privileged process may change an owner. The owner comes first, because a change
+/// of it may clear bits of the mode.
 fn copy_access<R: Files>(rt: &R, from: &str, to: &str) {
     let Ok(metadata) = fs::symlink_metadata(rt, from) else {
         return;

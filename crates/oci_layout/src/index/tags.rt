@@ -1,6 +1,6 @@
-ghost use Rattle.std.specs.Prelude.{◌≡◌, [], map, IfOk, OnOk};
-ghost use Rattle.oci_layout.specs.Entries.{entry_of, named, tag_with, text_of};
-ghost use Rattle.oci_store.specs.Tags.{AreNames};
+ghost use Rattle.std.specs.Prelude.{◌≡◌, ◌≢◌, [], map, IfOk, OnOk};
+ghost use Rattle.oci_layout.specs.Entries.{entry_of, named, owned, tag_named, tag_owned, text_of};
+ghost use Rattle.oci_store.specs.Tags.{without_tag, AreNames};
 
 use crate::index::IndexEntry;
 use oci_digest::NoMemory;
@@ -28,7 +28,7 @@ pub(crate) fn tags_of(
 fn tag_one(graph: &Graph, key: &Key, name: &Option<String>, tags: &mut Tags) -> Result<(), NoMemory>
     requires names { AreNames graph.now tags.old }
     ensures set { OnOk result (tags.new
-        ≡ tag_with graph.now (record { key = key.now; name = text_of name.now }) tags.old) }
+        ≡ tag_named graph.now key.now (text_of name.now) tags.old) }
     ensures names { AreNames graph.now tags.new }
 {
     let Some(name) = name else {
@@ -43,4 +43,53 @@ fn tag_one(graph: &Graph, key: &Key, name: &Option<String>, tags: &mut Tags) -> 
     }
     tags.set(text, key)?;
     Ok(())
+}
+
+/// Returns the tags of an index's entries, where a name belongs to its last entry: if the key of
+/// that one is not held, there is no such tag.
+pub(crate) fn owned_tags_of(
+    alloc: Global,
+    graph: &Graph,
+    entries: &[IndexEntry],
+) -> Result<Tags, NoMemory>
+    ensures tags { IfOk result (λ tags. tags ≡ owned graph.now (map entry_of entries.now) []) }
+    ensures names { IfOk result (λ tags. AreNames graph.now tags) }
+{
+    let mut tags = Tags::new(alloc);
+    for entry in entries {
+        own_one(graph, &entry.key, &entry.name, &mut tags)?;
+    }
+    Ok(tags)
+}
+
+/// Sets the tag of an entry, if it has a name. Removes it if the key of the entry is not held.
+fn own_one(graph: &Graph, key: &Key, name: &Option<String>, tags: &mut Tags) -> Result<(), NoMemory>
+    requires names { AreNames graph.now tags.old }
+    ensures set { OnOk result (tags.new
+        ≡ tag_owned graph.now key.now (text_of name.now) tags.old) }
+    ensures names { AreNames graph.now tags.new }
+{
+    let Some(name) = name else {
+        return Ok(());
+    };
+    let text = name.as_str();
+    if text.is_empty() {
+        return Ok(());
+    }
+    if !graph.holds(key) {
+        drop_tag(graph, text, tags);
+        return Ok(());
+    }
+    tags.set(text, key)?;
+    Ok(())
+}
+
+/// Removes a tag, if it is there.
+fn drop_tag(graph: &Graph, name: &str, tags: &mut Tags)
+    requires name { name.now ≢ [] }
+    requires names { AreNames graph.now tags.old }
+    ensures removed { tags.new ≡ without_tag tags.old name.now }
+    ensures names { AreNames graph.now tags.new }
+{
+    let _ = tags.untag(graph, name);
 }

@@ -1,70 +1,91 @@
 //! The contents of `index.json`, as JSON.
-ghost use Rattle.std.specs.Prelude.{◌≡◌, map, Some, None, IfOk};
-ghost use Rattle.serde_json.specs.View.{view};
-ghost use Rattle.oci_layout.specs.Entries.{entry_of, saved_entries, text_of};
-ghost use Rattle.oci_layout.specs.Index.{entry_value, index_value, named_value, IsCompact};
-ghost use Rattle.oci_store.specs.Tags.{by_bytes};
+ghost use Rattle.std.specs.Prelude.{◌≡◌, map, Some, None, IfOk, OnOk};
+ghost use Rattle.serde_json.specs.Data.{put};
+ghost use Rattle.serde_json.specs.View.{view, members_view};
+ghost use Rattle.oci_layout.specs.Entries.{content_of, entry_of, named_value, new_entry, object_members, text_of, IsShallow};
+ghost use Rattle.oci_layout.specs.Index.{index_value, IsCompact};
 
 use crate::index::IndexEntry;
 use oci_digest::NoMemory;
 use oci_manifest::Key;
-use serde_json::{Value, json};
+use serde_json::{Map, Value, json};
 use std::alloc::Global;
 
-/// Returns the entries of these tags, and then of these keys.
-pub(crate) fn saved_entries(
+/// Returns the index with these members and entries, as compact JSON.
+pub(crate) fn index_text(
     alloc: Global,
-    tags: Vec<(String, Key)>,
-    keys: Vec<Key>,
-) -> Result<Vec<IndexEntry>, NoMemory>
-    ensures { IfOk result (λ entries. map entry_of entries.items
-        ≡ saved_entries (by_bytes tags.items) keys.items) }
-{
-    let mut entries = Vec::new(alloc);
-    for (name, key) in tags {
-        entries.push(IndexEntry {
-            key,
-            name: Some(name),
-        })?;
-    }
-    for key in keys {
-        entries.push(IndexEntry { key, name: None })?;
-    }
-    Ok(entries)
-}
-
-/// Returns the index of these entries, as compact JSON.
-pub(crate) fn index_text(alloc: Global, entries: &[IndexEntry]) -> Result<Vec<u8>, NoMemory>
+    members: &Value,
+    entries: &[IndexEntry],
+) -> Result<Vec<u8>, NoMemory>
+    requires { IsShallow (content_of entries.now members.now) }
     ensures { IfOk result (λ bytes. IsCompact bytes.items
-        (index_value (map entry_of entries.now))) }
+        (index_value (content_of entries.now members.now))) }
 {
-    let value = index_of(alloc, entries)?;
+    let value = index_of(alloc, members, entries)?;
     Ok(value.to_vec(alloc)?)
 }
 
-/// Returns the index of these entries.
+/// Returns the index with these members and entries.
 #[tactic(auto, unfolding(crate::specs::Index::index_value))]
-fn index_of(alloc: Global, entries: &[IndexEntry]) -> Result<Value, NoMemory>
-    ensures { IfOk result (λ v. view v ≡ index_value (map entry_of entries.now)) }
+fn index_of(alloc: Global, members: &Value, entries: &[IndexEntry]) -> Result<Value, NoMemory>
+    ensures { IfOk result (λ v. view v ≡ index_value (content_of entries.now members.now)) }
 {
-    let manifests = entry_values(alloc, entries)?;
-    let index = json!(in alloc; {
-        "schemaVersion": 2u64,
-        "mediaType": "application/vnd.oci.image.index.v1+json",
-        "manifests": Value::Array(manifests)
-    })?;
-    Ok(index)
+    let manifests = values_of(alloc, entries)?;
+    let media_type = String::from_str(alloc, "application/vnd.oci.image.index.v1+json")?;
+    let mut index = owned_members(alloc, members)?;
+    put(alloc, &mut index, "schemaVersion", json!(in alloc; 2u64)?)?;
+    put(alloc, &mut index, "mediaType", Value::String(media_type))?;
+    put(alloc, &mut index, "manifests", Value::Array(manifests))?;
+    Ok(Value::Object(index))
+}
+
+/// Returns the members of an object, or none of another value.
+fn owned_members(alloc: Global, object: &Value) -> Result<Map<String, Value>, NoMemory>
+    ensures { IfOk result (λ members. members_view members.entries
+        ≡ object_members (view object.now)) }
+{
+    match object.clone()? {
+        Value::Object(members) => Ok(members),
+        _ => Ok(Map::new(alloc)),
+    }
+}
+
+/// Sets a member.
+fn put(
+    alloc: Global,
+    members: &mut Map<String, Value>,
+    name: &str,
+    value: Value,
+) -> Result<(), NoMemory>
+    ensures { OnOk result (members_view members.new.entries
+        ≡ put name.now (view value) (members_view members.old.entries)) }
+{
+    members.insert(String::from_str(alloc, name)?, value)?;
+    Ok(())
 }
 
 /// Returns the descriptors of these entries.
-fn entry_values(alloc: Global, entries: &[IndexEntry]) -> Result<Vec<Value>, NoMemory>
-    ensures { IfOk result (λ vs. map view vs.items ≡ map entry_value (map entry_of entries.now)) }
+fn values_of(alloc: Global, entries: &[IndexEntry]) -> Result<Vec<Value>, NoMemory>
+    ensures { IfOk result (λ vs. map view vs.items
+        ≡ map (λ e. e.value) (map entry_of entries.now)) }
 {
     let mut values = Vec::new(alloc);
     for entry in entries {
-        values.push(named_value(alloc, &entry.key, &entry.name)?)?;
+        values.push(entry.value.clone()?)?;
     }
     Ok(values)
+}
+
+/// Returns the entry of a key with a name, without other members.
+pub(crate) fn new_entry(
+    alloc: Global,
+    key: Key,
+    name: Option<String>,
+) -> Result<IndexEntry, NoMemory>
+    ensures { IfOk result (λ entry. entry_of entry ≡ new_entry key (text_of name)) }
+{
+    let value = named_value(alloc, &key, &name)?;
+    Ok(IndexEntry { key, name, value })
 }
 
 /// Returns the descriptor of a key, with its name if it has one.
@@ -78,7 +99,7 @@ fn named_value(alloc: Global, key: &Key, name: &Option<String>) -> Result<Value,
 }
 
 /// Returns the descriptor of a key with its name.
-#[tactic(auto, unfolding(crate::specs::Index::named_value, crate::specs::Index::key_members))]
+#[tactic(auto, unfolding(crate::specs::Entries::named_value, crate::specs::Entries::key_members))]
 fn tagged_entry(alloc: Global, name: &str, key: &Key) -> Result<Value, NoMemory>
     ensures { IfOk result (λ v. view v ≡ named_value key.now (Some name.now)) }
 {
@@ -94,7 +115,7 @@ fn tagged_entry(alloc: Global, name: &str, key: &Key) -> Result<Value, NoMemory>
 }
 
 /// Returns the descriptor of a key without a name.
-#[tactic(auto, unfolding(crate::specs::Index::named_value, crate::specs::Index::key_members))]
+#[tactic(auto, unfolding(crate::specs::Entries::named_value, crate::specs::Entries::key_members))]
 fn key_entry(alloc: Global, key: &Key) -> Result<Value, NoMemory>
     ensures { IfOk result (λ v. view v ≡ named_value key.now None) }
 {

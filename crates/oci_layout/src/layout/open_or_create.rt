@@ -19,8 +19,8 @@ const EMPTY_INDEX: &[u8] =
 
 impl<D: Dir> Layout<D> {
     /// Opens the layout in a directory, as [`open`](Layout::open) does. If there is no file
-    /// `oci-layout`, creates an empty layout there, as [`create`](Layout::create) does, if
-    /// [`check_is_free`](Layout::check_is_free) allows it.
+    /// `oci-layout`, creates an empty layout there, as [`create_if_free`](Layout::create_if_free)
+    /// does.
     ///
     /// # Errors
     ///
@@ -48,14 +48,35 @@ impl<D: Dir> Layout<D> {
     {
         match Layout::open(alloc, dir) {
             Ok(layout) => Ok(layout),
-            Err((dir, LayoutFault::NoLayoutFile)) => create_if_free(alloc, dir),
+            Err((dir, LayoutFault::NoLayoutFile)) => Layout::create_if_free(alloc, dir),
             Err(refused) => Err(refused),
         }
     }
 
-    /// Refuses a directory that has an `index.json` but perhaps no `oci-layout`, such as a layout
-    /// that lost this file: if a layout were created there, the index would be replaced. The index
-    /// of an empty layout is allowed, since a killed `create` may leave it.
+    /// Creates an empty layout in a directory, as [`create`](Layout::create) does, if
+    /// [`check_is_free`](Layout::check_is_free) allows it.
+    ///
+    /// # Errors
+    ///
+    /// Those of `check_is_free`: the directory is then unchanged. Those of `create`.
+    pub fn create_if_free(alloc: Global, dir: D) -> Result<Layout<D>, (D, LayoutFault)>
+        ensures created { IfOk result (λ layout. IsCreated (D.device dir) (D.device layout.dir)) }
+        ensures free { OnOk result ((D.device dir).is_honest → IsFree (D.device dir).file) }
+        ensures empty { IfOk result (λ layout. (layout.graph ≡ []) × (layout.tags ≡ [])
+            × (layout.opened ≡ no_index)) }
+        ensures refused { IfErr result (λ refused. ((refused.0 ≡ dir)
+            × IsNotFree (D.device dir) refused.1)
+            ⊎ IsRefused D.device dir refused) }
+    {
+        match Layout::check_is_free(&dir) {
+            Ok(()) => Layout::create(alloc, dir),
+            Err(fault) => Err((dir, fault)),
+        }
+    }
+
+    /// Refuses a directory with an `index.json` that a creation would replace, such as a layout that
+    /// lost its `oci-layout`. Does not look at that file. The index of an empty layout is allowed,
+    /// since a killed `create` may leave it.
     ///
     /// # Errors
     ///
@@ -83,20 +104,4 @@ fn is_empty_index(bytes: &[u8]) -> bool
     ensures { IsTrue result ↔ (bytes.now ≡ empty_index_text) }
 {
     bytes == EMPTY_INDEX
-}
-
-/// Creates an empty layout in a directory without `oci-layout`, if its index allows it.
-fn create_if_free<D: Dir>(alloc: Global, dir: D) -> Result<Layout<D>, (D, LayoutFault)>
-    ensures created { IfOk result (λ layout. IsCreated (D.device dir) (D.device layout.dir)) }
-    ensures free { OnOk result ((D.device dir).is_honest → IsFree (D.device dir).file) }
-    ensures empty { IfOk result (λ layout. (layout.graph ≡ []) × (layout.tags ≡ [])
-        × (layout.opened ≡ no_index)) }
-    ensures refused { IfErr result (λ refused. ((refused.0 ≡ dir)
-        × IsNotFree (D.device dir) refused.1)
-        ⊎ IsRefused D.device dir refused) }
-{
-    match Layout::check_is_free(&dir) {
-        Ok(()) => Layout::create(alloc, dir),
-        Err(fault) => Err((dir, fault)),
-    }
 }

@@ -2,7 +2,7 @@
 
 use crate::tests::files::FileStep::{Blobs, Put, Text};
 use crate::tests::layouts::LayoutStep::{Resolve, Save};
-use crate::tests::steps::Step::{In, Open, OpenOrCreate, With};
+use crate::tests::steps::Step::{In, Open, OpenAsIs, OpenOrCreate, With};
 use crate::tests::steps::{Ground, Row, assert_run};
 use std::test::Fail;
 use test_support::Sample::{Bar, Empty, Foo, Image0, Image2, Image3, Image4, Index1};
@@ -156,9 +156,22 @@ const NAMES: &[Row] = &[
     Row(With(Resolve("latest")), "<key Image0>"),
 ];
 
-/// A directory without a layout becomes an empty one, which is then opened, also with an index of
-/// another tool. A layout that cannot be opened is unchanged.
+/// A directory with an index and no `oci-layout` is refused. One with neither becomes an empty
+/// layout, which is then opened, also with an index of another tool. A layout that cannot be opened
+/// is unchanged.
 const OPENED_OR_CREATED: &[Row] = &[
+    Row(In("index.json", Put("[]")), "put"),
+    Row(OpenOrCreate, "70 NoLayoutFile"),
+    Row(In("index.json", Text), "[]"),
+    Row(
+        In(
+            "index.json",
+            Put(
+                "{\"manifests\":[],\"mediaType\":\"application/vnd.oci.image.index.v1+json\",\"schemaVersion\":2}",
+            ),
+        ),
+        "put",
+    ),
     Row(OpenOrCreate, "held 0"),
     Row(Open, "held 0"),
     NAMED_BLOBS,
@@ -195,4 +208,27 @@ const SAVED_AGAIN: &[Row] = &[
 #[test]
 fn saved_after_another_tool(rt: HostRuntime) -> Result<(), Fail> {
     assert_run(&rt, Ground::Memory, SAVED_AGAIN)
+}
+
+/// The index after a save of the layout that was opened as it is. First come the earlier entry of
+/// `latest` and the entry without a file, then the tags, then the entries without a tag.
+const AS_WRITTEN: &str =
+    "{\"annotations\":{\"com.example.index.revision\":\"r124356\"},\"manifests\":[{\"annotations\":{\"org.opencontainers.image.ref.name\":\"latest\"},<saved Image2>},{\"annotations\":{\"org.opencontainers.image.ref.name\":\"gone\"},<saved Image3>},{\"annotations\":{\"org.opencontainers.image.ref.name\":\"b\"},\"artifactType\":\"application/example\",\"data\":\"e30=\",<saved Image0>,\"urls\":[\"https://example.org\"]},{\"annotations\":{\"io.containerd.image.name\":\"docker.io/library/a:b\",\"org.opencontainers.image.created\":\"2024-01-01T00:00:00Z\",\"org.opencontainers.image.ref.name\":\"latest\"},<saved Image0>},{<saved Image2>},{\"annotations\":{\"org.opencontainers.image.ref.name\":7},<saved Image0>},{\"annotations\":{\"org.opencontainers.image.ref.name\":\"\"},<saved Image0>},{\"annotations\":[],<saved Image0>}],\"mediaType\":\"application/vnd.oci.image.index.v1+json\",\"schemaVersion\":2}";
+
+const SAVED_AS_WRITTEN: &[Row] = &[
+    LAYOUT_FILE,
+    NAMED_BLOBS,
+    NAMED_INDEX,
+    Row(OpenAsIs, "held 4 b latest"),
+    Row(With(Save), "saved"),
+    Row(In("index.json", Text), AS_WRITTEN),
+    Row(OpenAsIs, "held 4 b latest"),
+    Row(With(Save), "saved"),
+    Row(In("index.json", Text), AS_WRITTEN),
+];
+
+/// A save of a layout that was opened as it is keeps all members, and a second one changes nothing.
+#[test]
+fn saved_as_written(rt: HostRuntime) -> Result<(), Fail> {
+    assert_run(&rt, Ground::Memory, SAVED_AS_WRITTEN)
 }

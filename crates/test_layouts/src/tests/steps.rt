@@ -23,6 +23,8 @@ pub(crate) enum Step<'a> {
     Create,
     /// Opens the layout in the directory. Result: its contents, or the fault.
     Open,
+    /// Opens the layout in the directory as it is. Result: its contents, or the fault.
+    OpenAsIs,
     /// Opens the layout in the directory, or creates one. Result: its contents, or the fault.
     OpenOrCreate,
     /// Saves the layout and opens it again. Result: its contents, or the fault.
@@ -149,6 +151,14 @@ fn open<D: Dir + Drop>(alloc: Global, place: &mut Place<D>) -> Result<String, Fa
     }
 }
 
+fn open_as_is<D: Dir + Drop>(alloc: Global, place: &mut Place<D>) -> Result<String, Fail> {
+    let answer = Layout::open_as_is(alloc, place.take_dir()?);
+    match settle(place, answer) {
+        None => held(alloc, place),
+        Some(fault) => Ok(format!(in alloc; "{fault}")?),
+    }
+}
+
 fn open_or_create<D: Dir + Drop>(alloc: Global, place: &mut Place<D>) -> Result<String, Fail> {
     let answer = Layout::open_or_create(alloc, place.take_dir()?);
     match settle(place, answer) {
@@ -223,6 +233,7 @@ where
     match step {
         Step::Create => create(rt.alloc(), place),
         Step::Open => open(rt.alloc(), place),
+        Step::OpenAsIs => open_as_is(rt.alloc(), place),
         Step::OpenOrCreate => open_or_create(rt.alloc(), place),
         Step::SaveAndOpen => opened_again(rt.alloc(), place),
         Step::Copy(copying) => copied_into(rt, place, copying),

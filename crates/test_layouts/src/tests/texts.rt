@@ -28,7 +28,7 @@ enum Form {
 }
 
 /// The marks, and the texts that they are replaced by.
-static MARKS: [(&str, Form, Sample); 22] = [
+static MARKS: [(&str, Form, Sample); 23] = [
     ("<key Empty>", Form::Whole, Empty),
     ("<key Foo>", Form::Whole, Foo),
     ("<key FooBySha512>", Form::Whole, FooBySha512),
@@ -49,6 +49,7 @@ static MARKS: [(&str, Form, Sample); 22] = [
     ("<members Index1>", Form::Members, Index1),
     ("<saved Image0>", Form::Saved, Image0),
     ("<saved Image2>", Form::Saved, Image2),
+    ("<saved Image3>", Form::Saved, Image3),
     ("<saved Index3>", Form::Saved, Index3),
     ("<saved Referrer>", Form::Saved, Referrer),
 ];

@@ -1,6 +1,10 @@
+use denote.Exit.{no}
+use denote.Param.{param}
+use denote.Param.Send.{param_send, param_sync, arg_send, arg_sync}
 use Rattle.std.proofs.Common.{inl, refl, List}
 use Rattle.oci_store.specs.Content.{Entry}
 use Rattle.oci_layout.specs.Files.{HasFiles}
+use Rattle.oci_layout.proofs.Crosses.{layout_send, layout_sync}
 use Rattle.oci_layout.proofs.Law.{keys_of_one_digest}
 use Rattle.oci_copy_commands.proofs.Saved.{after_report, sound_after, came_after, checked_after, met_after, report_after, copied_after, files_after, refused_after}
 use Rattle.oci_copy_commands.proofs.between.copy_between.Goals as goal
@@ -48,10 +52,16 @@ returns-clause-files g c =
     let from = c.args.source.now in
     let left = c.finish.result.0 in
     files_after (keys_of_one_digest (g.S.Dir.device from.dir).file from.graph) c.copy_plan-destination.ensures.grows c.finish.ensures.saved c.finish.result.1
-    (λ (content : List Entry). HasFiles (g.D.Dir.device left.dir).file content left.graph left.tags) c.finish.ensures.files
+    (λ (content : List Entry). HasFiles (g.D.Dir.device left.dir).file content left.graph left.tags left.opened) c.finish.ensures.files
 
 pub returns-clause-refused : goal.returns-clause-refused
 returns-clause-refused g c =
     let left = c.copy_plan-destination in
     refused_after c.args.options.now.workers _ _ _ (inl refl) (λ fault is. ((g.D.Dir.device left.result.0.dir).failures, left.ensures.grows.failures, is))
     left.result.1 left.ensures.refused c.finish.result.1 c.finish.ensures.refused
+
+pub copy_plan-destination-requires-send-D : goal.copy_plan-destination-requires-send-D
+copy_plan-destination-requires-send-D g c κs within = param_send _ _ (arg_send _ no _ (layout_send _ (param 5 g.row.D-Draft) _ g.D.Draft.Drafting c.type_bounds.send-D))
+
+pub copy_plan-destination-requires-sync-A : goal.copy_plan-destination-requires-sync-A
+copy_plan-destination-requires-sync-A g c κs within = param_sync _ _ (arg_sync _ no _ (layout_sync _ (param 4 g.row.S-Draft) _ g.S.Draft.Drafting c.type_bounds.sync-S))

@@ -71,8 +71,9 @@ returns-clause-index g c = λ some honest.
     let last = g.D.Dir.device c.remove_files.new.layout.dir in
     let new = g.D.Dir.device c.remove_drafts.new.layout.dir in
     let stays = index_stays mid last new c.save_kept.new.layout.graph c.deref.result.now (c.in_ok-save_kept.ensures.only.spared.honest.0 honest) c.remove_files.ensures.removal.spared c.remove_drafts.ensures.files in
-    has_index-stays mid.file new.file c.save_kept.new.layout.graph c.remove_drafts.new.layout.graph c.save_kept.new.layout.tags c.remove_drafts.new.layout.tags stays (c.remove_drafts.ensures.removal.memory.graph ∙ c.remove_files.ensures.removal.memory.graph)
-    (c.remove_drafts.ensures.removal.memory.tags ∙ c.remove_files.ensures.removal.memory.tags) (c.in_ok-save_kept.ensures.saved.index some honest)
+    has_index-stays mid.file new.file c.save_kept.new.layout.graph c.remove_drafts.new.layout.graph c.save_kept.new.layout.tags c.remove_drafts.new.layout.tags c.save_kept.new.layout.opened c.remove_drafts.new.layout.opened stays (c.remove_drafts.ensures.removal.memory.graph ∙ c.remove_files.ensures.removal.memory.graph)
+    (c.remove_drafts.ensures.removal.memory.tags ∙ c.remove_files.ensures.removal.memory.tags)
+    (c.remove_drafts.ensures.removal.memory.opened ∙ c.remove_files.ensures.removal.memory.opened) (c.in_ok-save_kept.ensures.saved.index some honest)
 
 pub returns-clause-unwritten : goal.returns-clause-unwritten
 returns-clause-unwritten g c = λ none honest.
