@@ -89,12 +89,14 @@ def of_predecessors(value, words):
 
 
 def of_verify(value, words):
-    absent, corrupt, open_, held = taken(value, {"absent": list, "corrupt": list, "open": (dict, type(None)), "held": int})
+    types = {"absent": list, "corrupt": list, "open": (dict, type(None)), "shadowed": list, "held": int}
+    absent, corrupt, open_, shadowed, held = taken(value, types)
     pair = [taken(open_, {"holder": dict, "missing": dict})] if open_ else []
     return [
         *("absent " + key(it) for it in absent),
         *("corrupt " + key(it) for it in corrupt),
         *("open %s %s" % (key(holder), key(missing)) for holder, missing in pair),
+        *("shadowed %s %s" % tagged(it) for it in shadowed),
         "held %d" % held,
     ]
 
@@ -104,10 +106,12 @@ def of_explain(value, words):
 
 
 def of_untag(value, words):
-    tag, removed = tagged(value)
+    tag, descriptor, descriptors = taken(value, {"tag": str, "descriptor": dict, "descriptors": list})
     if tag != words[-1]:
         raise ValueError("the tag is %r" % tag)
-    return ["untagged " + removed]
+    if descriptors[-1] != descriptor:
+        raise ValueError("the last entry has %s" % key(descriptors[-1]))
+    return ["untagged " + key(it) for it in descriptors]
 
 
 def of_mem(value, words):

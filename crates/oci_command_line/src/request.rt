@@ -42,7 +42,10 @@ pub enum Request<'w> {
 #[derive(Clone, Copy)]
 pub enum Query<'w> {
     /// `tags`.
-    Tags,
+    Tags {
+        /// Whether the blobs of entries without a tag are listed too.
+        lists_all: bool,
+    },
     /// `resolve`, with the reference.
     Resolve(&'w str),
     /// `predecessors`, with the reference.
@@ -138,7 +141,12 @@ fn request_of<'w>(
         "copy" => Ok(Request::Copy(copy_words(matches, on_terminal))),
         "untag" => Ok(Request::Untag(untag_words(matches))),
         "prune" => Ok(Request::Prune(prune_words(matches))),
-        "tags" => Ok(of_folder(matches, Query::Tags)),
+        "tags" => Ok(of_folder(
+            matches,
+            Query::Tags {
+                lists_all: matches.get_flag("all"),
+            },
+        )),
         "resolve" => Ok(of_folder(matches, Query::Resolve(word(matches, "reference")))),
         "predecessors" => Ok(of_folder(matches, Query::Predecessors(word(matches, "reference")))),
         "tree" => Ok(of_folder(matches, tree_of(matches))),

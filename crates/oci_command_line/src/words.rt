@@ -10,7 +10,7 @@ use crate::words::copying::{COPY, copy_arguments};
 use crate::words::memory::{MEM, mem_arguments};
 use crate::words::pruning::{PRUNE, UNTAG, prune_arguments, untag_arguments};
 use crate::words::queries::{
-    EXPLAIN, PREDECESSORS, RESOLVE, TAGS, TREE, VERIFY, error_number, folder, reference,
+    EXPLAIN, PREDECESSORS, RESOLVE, TAGS, TREE, VERIFY, error_number, folder, reference, tags_all,
     tree_referrers,
 };
 use crate::words::text::CommandText;
@@ -26,7 +26,7 @@ pub(crate) fn command<'w>(alloc: Global, most_workers: u32) -> Result<Command<'w
         (COPY, &copy_arguments(most_workers)),
         (UNTAG, &untag_arguments()),
         (PRUNE, &prune_arguments()),
-        (TAGS, &[hint(), json(), folder()]),
+        (TAGS, &[tags_all(), hint(), json(), folder()]),
         (RESOLVE, &[hint(), json(), folder(), reference()]),
         (PREDECESSORS, &[hint(), json(), folder(), reference()]),
         (

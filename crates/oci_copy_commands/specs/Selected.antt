@@ -1,10 +1,14 @@
 -- The roots of a copy, and the tags that it sets.
-use Rattle.std.specs.Prelude.{◌≡◌, ◌≢◌, ◌↔◌, ℕ, not, List, [], ◌∷◌, filter, Option, None, Some, is_some, Contains}
+use Rattle.std.specs.Prelude.{◌≡◌, ◌≢◌, ◌↔◌, ℕ, Bool, true, not, List, [], ◌∷◌, filter, Option, None, Some, is_some, Contains}
 use Rattle.std.specs.List.{All, IsDistinct}
 use Rattle.std.specs.Map.{keys_of, values_of}
 use Rattle.oci_manifest.specs.Descriptor.{Descriptor, same_key}
 use Rattle.oci_store.specs.Graph.{Node}
+use Rattle.oci_store.specs.Keyed.{has_key}
 use Rattle.oci_store.specs.Tags.{Tags, set_tag, tag_at, without_tag}
+use Rattle.oci_layout.specs.Entries.{text_of}
+use Rattle.oci_layout.specs.Saved.{no_name}
+use Rattle.oci_layout.specs.declared.index.IndexEntry.{IndexEntry}
 use Rattle.oci_plan.specs.Up.{HasPath, IsUp, IsWithinDepth}
 
 -- no tag is empty, and each tags a root
@@ -32,6 +36,18 @@ IsRootOfKeys graph referrers keys root = (k : Descriptor) × Contains keys k × 
 pub record AreRootsOfTags (graph : List Node) (referrers : Option ℕ) (tags : Tags) (roots : List Descriptor) : Type 0 where
   pub each : (root : Descriptor) → Contains roots root ↔ IsRootOfKeys graph referrers (values_of tags) root
   pub distinct : IsDistinct same_key roots
+
+-- whether an entry has a name
+abbrev pub has_name : IndexEntry → Bool
+has_name e = not (no_name (text_of e.name))
+
+-- the key of an entry is held, if the entry has a name
+abbrev pub IsNamedHeld : List Node → IndexEntry → Type 0
+IsNamedHeld graph e = has_name e ≡ true → has_key graph e.key ≡ true
+
+-- the keys of these entries that have a name are held
+abbrev pub AreNamedHeld : List Node → List IndexEntry → Type 0
+AreNamedHeld graph entries = All (IsNamedHeld graph) entries
 
 -- the tags, with each of these set in turn
 abbrev pub set_tags : Tags → Tags → Tags

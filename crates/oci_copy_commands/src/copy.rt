@@ -34,8 +34,10 @@ use std::io::Write;
 ///   or its folder `blobs/sha256` cannot be made.
 /// - 35 `EmptyReference` and 36 `UnknownReference` for the reference.
 /// - 99 `Locked` if another process has the lock of DST, and the words say not to wait.
-/// - 97 `NoTags`, 96 `Unknown` and 98 `LinkedBlobs` with `--prune`, if SRC has no tag, SRC or DST
-///   lacks the blob of an entry of its index, or DST has a link to a folder of blobs.
+/// - 97 `NoTags` with `--all`, if SRC has no tag, and 96 `Unknown` if it lacks the blob of an entry
+///   of its index that has a tag.
+/// - 96 `Unknown` and 98 `LinkedBlobs` with `--prune`, if SRC or DST lacks the blob of an entry of
+///   its index, or DST has a link to a folder of blobs.
 /// - 80 `DestinationOpen` and 81 `Plan` if there is no plan.
 /// - 82 `Push` and 88 `Fetch` if a blob cannot be copied, and 74 `Device` if the index cannot be
 ///   written. Blobs that arrived stay.

@@ -1,15 +1,17 @@
-ghost use Rattle.std.specs.Prelude.{◌≡◌, ◌≢◌, ◌↔◌, ◌⊎◌, [], ◌∷◌, string_bytes, Contains, IfOk, OnOk};
+ghost use Rattle.std.specs.Prelude.{◌≡◌, ◌≢◌, ◌↔◌, ◌⊎◌, [], ◌∷◌, true, string_bytes, Contains, IfOk, OnOk};
 ghost use Rattle.oci_manifest.specs.Descriptor.{Descriptor};
 ghost use Rattle.oci_copy.specs.Tagged.{name_of, ResolvesIn};
 ghost use Rattle.oci_store.specs.Tags.{by_bytes};
-ghost use Rattle.oci_copy_commands.specs.Selected.{AreOfRoots, AreRoots, AreRootsOfTags, IsRootOfKey};
+ghost use Rattle.oci_store.specs.Keyed.{has_key};
+ghost use Rattle.oci_copy_commands.specs.Selected.{has_name, AreNamedHeld, AreOfRoots, AreRoots, AreRootsOfTags, IsNamedHeld, IsRootOfKey};
 
 use oci_command_line::{CopyWords, Selection};
-use oci_layout::{Dir, Layout};
+use oci_layout::{Dir, IndexEntry, Layout};
 use oci_manifest::Key;
 use oci_plan::climb;
 use oci_program::ProgramFault;
-use oci_store::{GraphSource, KeyList, Store, Tagger};
+use oci_prune::PruneFault;
+use oci_store::{Dest, GraphSource, KeyList, Store, Tagger};
 use std::alloc::Global;
 use std::marker::Model;
 
@@ -40,6 +42,7 @@ impl Selected {
     /// # Errors
     ///
     /// - 35 `EmptyReference` if the reference is empty, and 36 `UnknownReference` if it is unknown.
+    /// - 96 `Unknown` and 97 `NoTags` for every tag, as from [`Selected::all_tags`].
     /// - Out of memory, at any point.
     pub(crate) fn of<D: Dir>(
         alloc: Global,
@@ -103,17 +106,27 @@ impl Selected {
     ///
     /// # Errors
     ///
-    /// Out of memory.
+    /// - 96 `Unknown` if an entry of the index has a tag and no file: the first one. A copy would
+    ///   leave it out.
+    /// - 97 `NoTags` if there is no tag.
+    /// - Out of memory, at any point.
     pub fn all_tags<D: Dir>(
         alloc: Global,
         source: &Layout<D>,
         referrers: Option<u32>,
     ) -> Result<Selected, ProgramFault>
+        ensures named { OnOk result (AreNamedHeld source.now.graph
+            source.now.opened.content.entries) }
+        ensures tagged { OnOk result (source.now.tags ≢ []) }
         ensures tags { IfOk result (λ selected. selected.1 ≡ source.now.tags) }
         ensures roots { IfOk result (λ selected. AreRootsOfTags source.now.graph referrers
             source.now.tags selected.0) }
     {
+        check_entries(source, source.entries())?;
         let tags = source.tags()?;
+        if tags.is_empty() {
+            return Err(ProgramFault::Prune(PruneFault::NoTags));
+        }
         let roots = roots_of_tags(alloc, source, &tags, referrers)?;
         Ok(Selected { roots, tags })
     }
@@ -139,6 +152,46 @@ impl Selected {
     {
         let Selected { tags, .. } = self;
         tags
+    }
+}
+
+/// Refuses the first entry with a name whose key a layout does not hold.
+fn check_entries<D: Dir>(layout: &Layout<D>, entries: &[IndexEntry]) -> Result<(), ProgramFault>
+    ensures { OnOk result (AreNamedHeld layout.now.graph entries.now) }
+{
+    for entry in entries {
+        check_entry(layout, entry)?;
+    }
+    Ok(())
+}
+
+/// Refuses an entry with a name whose key a layout does not hold.
+fn check_entry<D: Dir>(layout: &Layout<D>, entry: &IndexEntry) -> Result<(), ProgramFault>
+    ensures { OnOk result (IsNamedHeld layout.now.graph entry.now) }
+{
+    if !has_name(entry) {
+        return Ok(());
+    }
+    check_held(layout, &entry.key)
+}
+
+/// Refuses a key that a layout does not hold.
+fn check_held<D: Dir>(layout: &Layout<D>, key: &Key) -> Result<(), ProgramFault>
+    ensures { OnOk result (has_key layout.now.graph key.now ≡ true) }
+{
+    if layout.has(key) {
+        return Ok(());
+    }
+    Err(ProgramFault::Prune(PruneFault::Unknown(key.try_clone()?)))
+}
+
+/// Returns whether an entry has a name. An empty text is none.
+fn has_name(entry: &IndexEntry) -> bool
+    ensures { result ≡ has_name entry.now }
+{
+    match &entry.name {
+        Some(name) => !name.is_empty(),
+        None => false,
     }
 }
 

@@ -3,16 +3,17 @@ ghost use Rattle.oci_layout.specs.Device.{Touches};
 ghost use Rattle.oci_layout.specs.Index.{index_file, HasIndex};
 ghost use Rattle.oci_layout.specs.Refusal.{IsPutFault};
 ghost use Rattle.oci_store.specs.Tags.{tag_at, without_tag};
+ghost use Rattle.oci_prune_commands.specs.Named.{has_name, keys_named};
 ghost use Rattle.oci_prune_commands.specs.Refusal.{IsRefusedUntag};
 
 use oci_command_line::UntagWords;
-use oci_layout::{Dir, Layout, Lockable};
+use oci_digest::NoMemory;
+use oci_layout::{Dir, IndexEntry, Layout, Lockable};
 use oci_manifest::Key;
-use oci_program::{
-    Form, Outcome, ProgramFault, Tagged, check_is_layout, lock_folder, print_answer,
-};
+use oci_program::{Form, Outcome, ProgramFault, check_is_layout, lock_folder, print_answer};
 use oci_store::Untagger;
 use serde::Serialize;
+use std::alloc::Global;
 use std::fmt;
 use std::fmt::Display;
 use std::io::Write;
@@ -20,7 +21,7 @@ use std::rt::Files;
 
 /// `untag FOLDER TAG`: removes a tag from the layout in a directory, and saves it. The directory is
 /// the words' folder, which is locked from before the layout is opened until after it is saved.
-/// Prints in this form which key the tag named. `F` is [`ProgramFault`] or another type that is
+/// Prints in this form the keys of the entries that had the tag, the key that it named last. `F` is [`ProgramFault`] or another type that is
 /// made from one.
 ///
 /// # Errors
@@ -51,13 +52,23 @@ pub fn run_untag<
     Ok(print_answer(rt.alloc(), &untagged, form, out)?)
 }
 
-/// The tag that was removed, with the key that it named.
+/// The tag that was removed. `Display` prints each key of `descriptors` on a line.
 #[derive(Drop, Serialize)]
-struct Untagged(Tagged);
+struct Untagged {
+    tag: String,
+    /// The key that the tag named.
+    descriptor: Key,
+    /// The keys of the entries that went with the tag, in the order of the index. The last one is
+    /// that of the tag.
+    descriptors: Vec<Key>,
+}
 
 impl Display for Untagged {
     fn fmt<W: fmt::Write>(&self, f: &mut fmt::Formatter<W>) -> fmt::Result {
-        writeln!(f, "untagged {}", self.0.descriptor)
+        for key in &self.descriptors {
+            writeln!(f, "untagged {key}")?;
+        }
+        Ok(())
     }
 }
 
@@ -72,8 +83,39 @@ fn untag_folder<R: Files<File: Lockable> + AllocGlobal, D: Dir + Drop, X: Write>
     check_is_layout(&dir)?;
     let _lock = lock_folder(rt, words.folder, words.waits, err)?;
     let mut layout = Layout::open_as_is(rt.alloc(), dir)?;
+    let descriptors = keys_named(rt.alloc(), &layout, words.tag)?;
     let descriptor = untag_and_save(&mut layout, words.tag)?;
-    Ok(Untagged(Tagged { tag, descriptor }))
+    Ok(Untagged {
+        tag,
+        descriptor,
+        descriptors,
+    })
+}
+
+/// Returns the keys of the entries that a layout remembers with a name, in the order of the index.
+fn keys_named<D: Dir>(alloc: Global, layout: &Layout<D>, name: &str) -> Result<Vec<Key>, NoMemory>
+    ensures { IfOk result (λ keys. keys.items
+        ≡ keys_named name.now layout.now.opened.content.entries) }
+{
+    let entries = layout.entries();
+    let mut keys = Vec::new(alloc);
+    for entry in entries {
+        if !has_name(entry, name) {
+            continue;
+        }
+        keys.push(entry.key.try_clone()?)?;
+    }
+    Ok(keys)
+}
+
+/// Returns whether an entry has a name.
+fn has_name(entry: &IndexEntry, name: &str) -> bool
+    ensures { result ≡ has_name name.now entry.now }
+{
+    match &entry.name {
+        Some(found) => found.as_str() == name,
+        None => false,
+    }
 }
 
 /// Removes a tag from a layout, and saves the layout. Returns the key that the tag named, which is

@@ -1,34 +1,90 @@
 use oci_digest::NoMemory;
-use oci_layout::{Dir, Layout};
+use oci_layout::{Dir, IndexEntry, Layout};
 use oci_manifest::Key;
-use oci_program::Tagged;
-use oci_store::{GraphSource, RefFault, Tagger};
+use oci_store::{GraphSource, RefFault, Source, Tagger, keys_of_set};
 use serde::Serialize;
 use std::alloc::Global;
+use std::collections::BTreeSet;
 use std::fmt;
 
-/// The tags of a layout and their keys, in byte order of the tags. `Display` prints them unchanged,
-/// one a line.
+/// The tags of a layout and their keys, in byte order of the tags, and then keys without a tag, in
+/// key order. `Display` prints them unchanged, one a line.
 #[derive(Drop, Serialize)]
 pub(crate) struct Tags {
-    tags: Vec<Tagged>,
+    tags: Vec<Listed>,
+}
+
+/// A key with its tag, or without one. `Display` prints `-` in the place of no tag.
+#[derive(Drop, Serialize)]
+struct Listed {
+    tag: Option<String>,
+    descriptor: Key,
 }
 
 impl Tags {
-    /// Returns the tags of a layout.
-    pub(crate) fn of<D: Dir>(alloc: Global, layout: &Layout<D>) -> Result<Tags, NoMemory> {
+    /// Returns the tags of a layout, and if it `lists_all`, the held keys of the entries that have
+    /// no name.
+    pub(crate) fn of<D: Dir>(
+        alloc: Global,
+        layout: &Layout<D>,
+        lists_all: bool,
+    ) -> Result<Tags, NoMemory> {
         let mut tags = Vec::new(alloc);
         for (tag, descriptor) in layout.tags()? {
-            tags.push(Tagged { tag, descriptor })?;
+            tags.push(Listed {
+                tag: Some(tag),
+                descriptor,
+            })?;
+        }
+        if lists_all {
+            add_unnamed(alloc, layout, &mut tags)?;
         }
         Ok(Tags { tags })
     }
 }
 
+/// Adds the held keys of the entries that have no name, in key order.
+fn add_unnamed<D: Dir>(
+    alloc: Global,
+    layout: &Layout<D>,
+    tags: &mut Vec<Listed>,
+) -> Result<(), NoMemory> {
+    let unnamed = unnamed_keys(alloc, layout)?;
+    for descriptor in keys_of_set(alloc, &unnamed)? {
+        tags.push(Listed {
+            tag: None,
+            descriptor,
+        })?;
+    }
+    Ok(())
+}
+
+/// Returns the held keys of the entries that have no name.
+fn unnamed_keys<D: Dir>(alloc: Global, layout: &Layout<D>) -> Result<BTreeSet<Key>, NoMemory> {
+    let mut unnamed = BTreeSet::new(alloc);
+    for entry in layout.entries() {
+        if name_of(entry).is_none() && layout.exists(&entry.key) {
+            unnamed.insert(entry.key.try_clone()?)?;
+        }
+    }
+    Ok(unnamed)
+}
+
+/// Returns the name of an entry. An empty text is none.
+pub(crate) fn name_of(entry: &IndexEntry) -> Option<&str> {
+    match &entry.name {
+        Some(name) if !name.is_empty() => Some(name.as_str()),
+        _ => None,
+    }
+}
+
 impl fmt::Display for Tags {
     fn fmt<W: fmt::Write>(&self, f: &mut fmt::Formatter<W>) -> fmt::Result {
-        for Tagged { tag, descriptor } in &self.tags {
-            writeln!(f, "{tag} {descriptor}")?;
+        for Listed { tag, descriptor } in &self.tags {
+            match tag {
+                Some(tag) => writeln!(f, "{tag} {descriptor}")?,
+                None => writeln!(f, "- {descriptor}")?,
+            }
         }
         Ok(())
     }

@@ -61,7 +61,9 @@ fn answer_from<R: AllocGlobal + Clock + Wait, D: Dir, W: Write, X: Write>(
 {
     let alloc = rt.alloc();
     match query {
-        Query::Tags => print_answer(alloc, &Tags::of(alloc, layout)?, form, out),
+        Query::Tags { lists_all } => {
+            print_answer(alloc, &Tags::of(alloc, layout, lists_all)?, form, out)
+        }
         Query::Resolve(reference) => {
             print_answer(alloc, &Resolved::of(layout, reference)?, form, out)
         }

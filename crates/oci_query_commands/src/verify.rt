@@ -2,13 +2,15 @@ ghost use Rattle.std.specs.Prelude.{◌≡◌, [], false, None, IfOk, OnOk};
 ghost use Rattle.oci_store.specs.Closed.{IsClosed};
 ghost use Rattle.oci_query_commands.specs.Verified.{AreIntact, FindsNothing, IsIntact, IsWhole};
 
+use crate::listing::name_of;
 use oci_digest::NoMemory;
-use oci_layout::{Dir, Layout};
+use oci_layout::{Dir, IndexEntry, Layout};
 use oci_manifest::{Key, Kind};
-use oci_program::{Amount, Outcome, ProgramFault, ProgressLine};
+use oci_program::{Amount, Outcome, ProgramFault, ProgressLine, Tagged};
 use oci_store::{Dest, Drafting, FetchFault, PartWatcher, Source, fetch_into};
 use serde::Serialize;
 use std::alloc::Global;
+use std::collections::BTreeMap;
 use std::fmt;
 use std::fmt::Display;
 use std::io::Write;
@@ -24,6 +26,8 @@ pub(crate) struct Findings<'l> {
     corrupt: Vec<&'l Key>,
     /// The first key that lists a missing key, with that key.
     open: Option<Open>,
+    /// The tag and the key of each entry whose tag a later entry has, in the order of the entries.
+    shadowed: Vec<Tagged>,
     /// The number of held keys.
     held: usize,
 }
@@ -55,6 +59,9 @@ impl Display for Findings<'_> {
         print_each("corrupt", &self.corrupt, f)?;
         if let Some(Open { holder, missing }) = &self.open {
             writeln!(f, "open {holder} {missing}")?;
+        }
+        for Tagged { tag, descriptor } in &self.shadowed {
+            writeln!(f, "shadowed {tag} {descriptor}")?;
         }
         writeln!(f, "held {}", self.held)
     }
@@ -90,6 +97,7 @@ pub(crate) fn verify<'l, R: AllocGlobal + Clock + Wait, D: Dir, X: Write>(
         absent: layout.absent(),
         corrupt: corrupt?,
         open: open_key(layout)?,
+        shadowed: shadowed_entries(rt.alloc(), layout.entries())?,
         held: layout.count(),
     })
 }
@@ -190,6 +198,37 @@ fn open_key<D: Dest>(store: &D) -> Result<Option<Open>, NoMemory>
         Some((holder, missing)) => Ok(Some(Open { holder, missing })),
         None => Ok(None),
     }
+}
+
+/// Returns the name and the key of each entry whose name a later entry has, in the order of the
+/// entries.
+fn shadowed_entries(alloc: Global, entries: &[IndexEntry]) -> Result<Vec<Tagged>, NoMemory> {
+    let last_places = last_places(alloc, entries)?;
+    let mut shadowed = Vec::new(alloc);
+    for (place, entry) in entries.iter().enumerate() {
+        let Some(name) = name_of(entry) else {
+            continue;
+        };
+        if last_places.get(name) == Some(&place) {
+            continue;
+        }
+        shadowed.push(Tagged {
+            tag: String::from_str(alloc, name)?,
+            descriptor: entry.key.try_clone()?,
+        })?;
+    }
+    Ok(shadowed)
+}
+
+/// Returns the place of the last entry of each name.
+fn last_places(alloc: Global, entries: &[IndexEntry]) -> Result<BTreeMap<String, usize>, NoMemory> {
+    let mut places = BTreeMap::new(alloc);
+    for (place, entry) in entries.iter().enumerate() {
+        if let Some(name) = name_of(entry) {
+            places.insert(String::from_str(alloc, name)?, place)?;
+        }
+    }
+    Ok(places)
 }
 
 /// Counts the keys that were checked and their bytes on a line on the terminal, if it is shown. Of

@@ -56,7 +56,7 @@ fn reference_in<'w>(query: Query<'w>) -> &'w str {
         Query::Resolve(reference) => reference,
         Query::Predecessors(reference) => reference,
         Query::Tree { reference, .. } => reference,
-        Query::Tags => "",
+        Query::Tags { .. } => "",
         Query::Verify { .. } => "",
     }
 }

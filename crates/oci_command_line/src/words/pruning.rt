@@ -14,7 +14,8 @@ pub(crate) const UNTAG: CommandText = CommandText {
     details: Some(
         "Removes a tag from a layout. The blob that it names stays, with everything that it reaches; \
          `prune` removes blobs that no tag needs.\n\n\
-         Prints `untagged` with the digest, the size and the media type of the blob that the tag named.\n\n\
+         Prints `untagged` with the digest, the size and the media type of the blob of each entry of \
+         `index.json` that had the tag. The last one is what the tag resolved to.\n\n\
          An empty tag (35) and a tag that the layout does not have (36) are refused, and nothing is \
          changed. FOLDER is not created, and cannot be an archive (95).\n\n\
          `index.json` is written anew, without the entries of the tag. The other entries keep all that \

@@ -1,16 +1,18 @@
 use crate::words::argument::{Argument, Kind, flag};
 use crate::words::text::CommandText;
 
-/// `tags [--json] FOLDER`
+/// `tags [--all] FOLDER`
 pub(crate) const TAGS: CommandText = CommandText {
     name: "tags",
     about: "Lists the tags of a layout, each with the digest, size and media type it resolves to",
     details: Some(
         "Lists the tags of a layout in byte order, each with the digest, the size and the media type of \
-         the blob that it resolves to. A tag whose blob is missing is left out.",
+         the blob that it resolves to. A tag whose blob is missing is left out.\n\n\
+         With `--all` the blobs of the entries of `index.json` that have no tag follow, each with `-` in \
+         the place of the tag.",
     ),
     usage: "ocicp tags [OPTIONS] <FOLDER>",
-    examples: "Example:\n  ocicp tags mirror",
+    examples: "Examples:\n  ocicp tags mirror\n  ocicp tags --all mirror",
 };
 
 /// `resolve [--json] FOLDER REF`
@@ -66,8 +68,9 @@ pub(crate) const VERIFY: CommandText = CommandText {
          Prints `absent` with the digest, the size and the media type of each entry of `index.json` whose \
          own blob is missing. Then prints `corrupt` with those of each blob whose file does not match. If \
          a listed blob is missing, prints `open` with the first manifest that lists one, and with the \
-         missing blob. Then prints `held` and the number of blobs. The status is 1 if it finds a \
-         problem.",
+         missing blob. Then prints `shadowed` with the tag and the blob of each entry whose tag a later \
+         entry has too, which is no problem by itself. Then prints `held` and the number of blobs. The \
+         status is 1 if it finds a problem.",
     ),
     usage: "ocicp verify [OPTIONS] <FOLDER>",
     examples: "Example:\n  ocicp verify mirror",
@@ -81,6 +84,14 @@ pub(crate) const EXPLAIN: CommandText = CommandText {
     usage: "ocicp explain [OPTIONS] <NUMBER>",
     examples: "Example:\n  ocicp explain 53",
 };
+
+/// `--all` of `tags`
+pub(crate) fn tags_all() -> Argument {
+    flag(
+        "all",
+        "Then lists the blobs that have an entry without a tag",
+    )
+}
 
 /// `--referrers` of `tree`
 pub(crate) fn tree_referrers() -> Argument {
