@@ -47,13 +47,9 @@ INTO = {
 
 OLD, TAGS = [E, BAR, OLD_IMAGE], {"layer": BAR, "old": OLD_IMAGE}
 NEW = [FOO, M2]
-# The tags and blobs after a copy into such a layout that succeeded, if these are not all.
-LEFT = {"an old manifest": ({"layer": BAR}, [BAR, E, *NEW])}
-# The findings of `verify` if an old layer is no regular file or has other bytes.
-VERIFIED = {
-    "a sparse file of 1 TB": "corrupt %s\nheld 5\n" % key(BAR),
-    "a link to another file": "corrupt %s\nheld 5\n" % key(BAR),
-}
+# What `verify` finds if an old layer is no regular file or has other bytes, and if an old manifest has no file: its entry stays.
+CORRUPT = {harm: "corrupt %s\nheld 5\n" % key(BAR) for harm in ("a sparse file of 1 TB", "a link to another file")}
+ABSENT = "absent %s\nheld 4\n" % key(OLD_IMAGE)
 
 
 def harmed(folder, file, harm):
@@ -96,22 +92,23 @@ def wrong_into(folder, file, harm):
     if wanted != [""]:
         wrong = None if after == before else "the destination is not as it was"
     elif file == "an old layer":
-        wrong = wrong_held(folder, harm)
+        verified = (1, CORRUPT[harm], "") if harm in CORRUPT else (1, "", "ocicp: 22 Device\n")
+        wrong = wrong_findings(folder, {**TAGS, "new": M2}, verified)
+    elif file == "an old manifest":
+        wrong = wrong_findings(folder, {"layer": BAR, "new": M2}, (1, ABSENT, ""))
     else:
-        tags, contents = LEFT.get(file, (TAGS, [*OLD, *NEW]))
-        wrong = wrong_layout(folder, "copied", contents, {**tags, "new": M2})
+        wrong = wrong_layout(folder, "copied", [*OLD, *NEW], {**TAGS, "new": M2})
     return first([complaint, wrong, leftovers(folder + "/copied", [*OLD, *NEW]), wrong_secret(folder)])
 
 
-def wrong_held(folder, harm):
-    """Return the problem with a destination that holds an old layer which is no regular file or has other bytes, or None."""
-    lines = ["%s %s\n" % (name, key(it)) for name, it in sorted({**TAGS, "new": M2}.items())]
-    tags, verified = run(["tags", "copied"], folder), run(["verify", "copied"], folder)
-    wanted = (1, VERIFIED[harm], "") if harm in VERIFIED else (1, "", "ocicp: 22 Device\n")
-    if tags[:3] != (0, "".join(lines), ""):
-        return "tags: " + told(tags)
-    if verified[:3] != wanted:
-        return "verify: " + told(verified)
+def wrong_findings(folder, tags, verified):
+    """Return the problem with the tags of the destination, or with what `verify` ends with there, or None."""
+    lines = ["%s %s\n" % (name, key(it)) for name, it in sorted(tags.items())]
+    listed, found = run(["tags", "copied"], folder), run(["verify", "copied"], folder)
+    if listed[:3] != (0, "".join(lines), ""):
+        return "tags: " + told(listed)
+    if found[:3] != verified:
+        return "verify: " + told(found)
 
 
 def harms(room):

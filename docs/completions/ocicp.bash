@@ -8,35 +8,35 @@ _ocicp() {
   fi
   case ${COMP_WORDS[1]} in
     copy)
-      flags='--all --referrers --depth --descend --prune --workers --progress --dry-run --json --no-wait --help' valued='--depth --workers' kinds=(folder tag folder tag)
+      flags='--all --referrers --depth --descend --prune --workers --progress --dry-run --hint --json --no-wait --help' valued='--depth --workers' kinds=(folder tag folder tag)
       [[ " ${COMP_WORDS[*]} " != *' --all '* ]] || kinds=(folder folder)
       ;;
     untag)
-      flags='--json --no-wait --help' kinds=(folder tag)
+      flags='--hint --json --no-wait --help' kinds=(folder tag)
       ;;
     prune)
-      flags='--dry-run --no-referrers --json --no-wait --help' kinds=(folder)
+      flags='--dry-run --no-referrers --hint --json --no-wait --help' kinds=(folder)
       ;;
     tags)
-      flags='--json --help' kinds=(folder)
+      flags='--all --hint --json --help' kinds=(folder)
       ;;
     resolve)
-      flags='--json --help' kinds=(folder tag)
+      flags='--hint --json --help' kinds=(folder tag)
       ;;
     predecessors)
-      flags='--json --help' kinds=(folder tag)
+      flags='--hint --json --help' kinds=(folder tag)
       ;;
     tree)
-      flags='--referrers --json --help' kinds=(folder tag)
+      flags='--referrers --hint --json --help' kinds=(folder tag)
       ;;
     verify)
-      flags='--json --help' kinds=(folder)
+      flags='--hint --json --help' kinds=(folder)
       ;;
     mem)
-      flags='--workers --sha512 --json --help' valued='--workers' last=file
+      flags='--workers --sha512 --hint --json --help' valued='--workers' last=file
       ;;
     explain)
-      flags='--json --help' kinds=(none)
+      flags='--hint --json --help' kinds=(none)
       ;;
   esac
   for ((at = 2; at < COMP_CWORD; at++)); do
