@@ -296,7 +296,7 @@ The named path is a file, or is new and has the name of an archive, and `ocicp` 
 Copy into a folder, without `oci:` before its path. To change an archive, unpack it into a folder, and change the layout there. `tar -cf FILE -C FOLDER .` makes an archive of a folder.
 
 96 Unknown
-The layout does not have the named blob, so it is not known what that blob needs. It is an entry of `index.json`, or a manifest that a kept manifest lists. Nothing was copied or removed.
+The layout does not have the named blob, so it is not known what that blob needs. It is an entry of `index.json`, or a manifest that a kept manifest lists. Nothing was removed, and no tag was set.
 Restore the blob with `ocicp copy --descend` from a layout that has it. If it is an entry of `index.json` that is no longer needed, delete that entry.
 
 97 NoTags

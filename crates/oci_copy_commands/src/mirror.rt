@@ -158,7 +158,10 @@ fn clean_up<D: PrunableDir>(
         (other_tags destination.old.tags selected.now.1)) }
 {
     let untagged = retag(alloc, destination, selected)?;
-    let plan = plan_prune(alloc, destination, true).map_err(fault_of)?;
+    let plan = match plan_prune(alloc, destination, true) {
+        Ok(plan) => plan,
+        Err(fault) => return Err(fault_of(fault)),
+    };
     let pruned = prune(alloc, destination, &plan).map_err(fault_of)?;
     // A prune saves the layout, before it removes a file, only if it drops a key. If it does not,
     // it removes only files that the old index does not need either.

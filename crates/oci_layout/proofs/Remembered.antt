@@ -14,7 +14,6 @@ use Rattle.oci_manifest.specs.Manifest.{present}
 use Rattle.oci_manifest.specs.Reading.{◌>>=◌, descriptor_of, descriptors_from, index_keys, keys_of as member_keys, listed_in as keys_listed, or_fault}
 use Rattle.oci_store.specs.Graph.{Node}
 use Rattle.oci_store.specs.Keyed.{has_key}
-use Rattle.oci_layout.specs.Device.{File}
 use Rattle.oci_layout.specs.Entries.{IndexContent, IsIndexFile, elements_of, entry_keys, entry_with, said, with_elements}
 use Rattle.oci_layout.specs.Index.{index_file}
 use Rattle.oci_layout.specs.Law.{IsWhole, Remembers}

@@ -1,17 +1,20 @@
 -- The entries that a save writes, one more at a time.
-use Rattle.std.proofs.Common.{◌≡◌, ℕ, zero, suc, ◌+◌, ◌<◌, ◌≤◌, Bool, true, false, cond, not, ◌&&◌, ◌||◌, List, [], ◌∷◌, ◌++◌, map, length, take, get_or, slice_get, option_map, unwrap_or, Option, Some, None, String, Global, string_bytes, refl, sym, ap, ◌∙◌, arith, append_assoc}
+use Rattle.std.proofs.Common.{◌≡◌, ℕ, zero, suc, ◌+◌, ◌<◌, ◌≤◌, Bool, true, false, cond, not, ◌&&◌, ◌||◌, List, [], ◌∷◌, ◌++◌, map, filter, length, take, get_or, slice_get, option_map, unwrap_or, Option, Some, None, String, Global, string_bytes, refl, sym, ap, ◌∙◌, arith, append_assoc}
 use Rattle.std.specs.BTreeSet.{BTreeSet, contains}
 use Rattle.std.specs.Ordering.{is_eq}
 use Rattle.std.proofs.lemmas.List.{length-map, map-append, take_more}
 use Rattle.std.proofs.lemmas.Option.{slice_get-get_or, slice_get-map, slice_get_past}
 use Rattle.oci_manifest.specs.Descriptor.{Descriptor, is_among, key_cmp, same_key}
 use Rattle.oci_store.specs.Graph.{Node}
-use Rattle.oci_store.specs.Keyed.{has_key}
+use Rattle.oci_store.specs.Keyed.{has_key, HasAll}
 use Rattle.oci_store.specs.Tags.{Tags, by_bytes, tag_at}
 use Rattle.oci_store.proofs.KeyOrder.{cond-or, is_eq-key_cmp}
-use Rattle.oci_layout.specs.Entries.{IndexEntry, entry_of, new_entry}
-use Rattle.oci_layout.specs.Saved.{comes_before, first_entries, first_from, is_first, is_place, last_entry, last_place, loose_entry, saved_entries, tag_entry}
+use Rattle.oci_layout.specs.Entries.{IndexEntry, entry_keys, entry_of, new_entry}
+use Rattle.oci_layout.specs.Saved.{comes_before, first_entries, first_from, is_first, is_place, last_entry, last_place, loose_entry, named_held, no_name, saved_entries, tag_entry}
 use Rattle.oci_layout.specs.declared.index.IndexEntry.{IndexEntry as CodeEntry}
+use Rattle.std.proofs.lemmas.Bool.{and_parts}
+use Rattle.std.proofs.lemmas.List.Elements.{All-map, All-weaker, filter-append, filter_passes}
+use Rattle.oci_layout.proofs.Opened.{next_entry}
 use Rattle.oci_layout.proofs.LastNames.{entries-more, length-entries}
 
 -- ---- a set of keys
@@ -128,6 +131,34 @@ loose_entry-new es k place i h past =
     loose_entry-at (map entry_of es) k place i h
     ∙ ap (λ (o : Option IndexEntry). unwrap_or o (new_entry k None)) (slice_get_past (map entry_of es) i (omega (arith, length-map es entry_of)))
     )
+
+-- ---- the shadowed entries
+
+named_held-append : (graph : List Node) (xs ys : List IndexEntry) → named_held graph (xs ++ ys) ≡ named_held graph xs ++ named_held graph ys
+named_held-append graph xs ys = ap entry_keys (filter-append is_one xs ys) ∙ map-append (λ (e : IndexEntry). e.key) (filter is_one xs) (filter is_one ys)
+  where
+    is_one : IndexEntry → Bool
+    is_one e = not (no_name e.name) && has_key graph e.key
+
+pub named_held-more : (graph : List Node) (es : List CodeEntry) (i : ℕ) (e : CodeEntry) (old new : List Descriptor) → i < length es → e ≡ get_or es i e → old ≡ named_held graph (map entry_of (take i es))
+    → new ≡ old ++ named_held graph (entry_of e ∷ []) → new ≡ named_held graph (map entry_of (take (i + 1) es))
+named_held-more graph es i e old new lt is before more =
+    more
+    ∙ ap (λ (ks : List Descriptor). ks ++ named_held graph (entry_of e ∷ [])) before
+    ∙ sym (named_held-append graph (map entry_of (take i es)) (entry_of e ∷ []))
+    ∙ ap (named_held graph) (sym (next_entry es i e lt is))
+
+pub named_held-held : (graph : List Node) (entries : List IndexEntry) → HasAll graph (named_held graph entries)
+named_held-held graph entries =
+    All-map (λ (k : Descriptor). has_key graph k ≡ true) (λ (e : IndexEntry). e.key) (filter is_one entries)
+    (All-weaker (λ (e : IndexEntry). is_one e ≡ true) (λ (e : IndexEntry). has_key graph e.key ≡ true) (λ e one. (and_parts (not (no_name e.name)) (has_key graph e.key) one).1) (filter is_one entries) (filter_passes is_one entries))
+  where
+    is_one : IndexEntry → Bool
+    is_one e = not (no_name e.name) && has_key graph e.key
+
+pub shadowed-same : (absent : Descriptor → Bool) (keys : List Descriptor) (graph : List Node) (tags : Tags) (all : List IndexEntry) (first : List IndexEntry) (held : List Descriptor) → ((k : Descriptor) → absent k ≡ is_among keys k)
+    → first ≡ first_entries absent graph tags all → held ≡ named_held graph first → held ≡ named_held graph (first_entries (is_among keys) graph tags all)
+shadowed-same absent keys graph tags all first held same at_first at_held = at_held ∙ ap (named_held graph) (at_first ∙ first_from-same absent (is_among keys) same graph tags all 0 all)
 
 -- ---- all entries
 

@@ -92,6 +92,15 @@ first_from absent graph tags entries place (e ∷ es) =
 abbrev pub first_entries : (Descriptor → Bool) → List Node → Tags → List IndexEntry → List IndexEntry
 first_entries absent graph tags entries = first_from absent graph tags entries 0 entries
 
+-- the held keys of those of these entries that have a name
+abbrev pub named_held : List Node → List IndexEntry → List Descriptor
+named_held graph entries = entry_keys (filter (λ (e : IndexEntry). not (no_name e.name) && has_key graph e.key) entries)
+
+-- the held keys of the entries with a name that come first: the name belongs to a later entry, or
+-- is no tag
+abbrev pub shadowed_keys : OpenedIndex → List Node → Tags → List Descriptor
+shadowed_keys opened graph tags = named_held graph (first_entries (is_among opened.absent) graph tags (said opened.content).entries)
+
 -- ---- the entries of tags
 
 -- an entry, if its key is the one of the tag, and otherwise a new one

@@ -1,28 +1,33 @@
 -- What is planned, from its parts.
-use Rattle.std.proofs.Common.{◌≡◌, Bool, true, false, not, ◌⊎◌, inl, inr, List, [], filter, get_or, None, is_some, sym, ap, subst, ◌∙◌, Option}
+use Rattle.std.proofs.Common.{◌≡◌, Bool, true, false, not, ◌⊎◌, inl, inr, List, [], ◌++◌, filter, get_or, None, is_some, sym, ap, subst, ◌∙◌, Option}
 use Rattle.std.specs.Prelude.{◌↔◌, Contains}
 use Rattle.std.specs.BTreeMap.{get}
 use Rattle.std.specs.BTreeSet.{BTreeSet, contains}
 use Rattle.std.specs.Global.{Vec}
 use Rattle.std.specs.List.Sorted.{IsStrictlySortedBy}
 use Rattle.std.specs.Option.{option_map_or}
-use Rattle.std.specs.Map.{keys_of}
+use Rattle.std.specs.List.{All}
+use Rattle.std.specs.Map.{keys_of, values_of}
 use Rattle.std.proofs.lemmas.Bool.{not-true}
-use Rattle.std.proofs.lemmas.List.Elements.{Contains-get_or}
+use Rattle.std.proofs.lemmas.List.Elements.{All-append, All-contains, All-contains_itself, All-weaker, Contains-append_left, Contains-get_or}
 use Rattle.std.proofs.lemmas.List.Kept.{IsStrictlySortedBy-filter}
 use Rattle.std.proofs.lemmas.Map.Views.{btree_set_contains_iff}
 use Rattle.oci_manifest.specs.Descriptor.{Descriptor, key_cmp, is_among}
 use Rattle.oci_store.specs.Graph.{Node, Reaches, root as start, along}
 use Rattle.oci_store.specs.Keyed.{has_key, HasAll}
 use Rattle.oci_store.specs.State.{State}
-use Rattle.oci_store.specs.Tags.{Tags}
+use Rattle.oci_store.specs.Tags.{AreNames}
 use Rattle.oci_layout.specs.Device.{Device}
 use Rattle.oci_store.proofs.KeyOrder.{key_cmp_total, key_cmp_exact}
 use Rattle.oci_store.proofs.Membership.{Contains-from_among, among_from_Contains, among-filter, among_filter_from}
 use Rattle.oci_store.proofs.Lookups.{has_key-from_Contains, Contains-from_has_key, has_key-same_keys}
+use Rattle.oci_layout.specs.Entries.{said}
+use Rattle.oci_layout.specs.Layout.{LayoutState}
+use Rattle.oci_layout.specs.Saved.{first_entries, shadowed_keys}
 use Rattle.oci_layout.proofs.Loose.{HasKeys}
+use Rattle.oci_layout.proofs.SavedEntries.{named_held-held}
 use Rattle.oci_prune.specs.Kept.{Needs, IsKept, root, needed, IsNeeded, IsUnknown, AreKept, AllKnown}
-use Rattle.oci_prune.specs.Plan.{AreHeld, AreRemoved, RefersIf, IsSafe}
+use Rattle.oci_prune.specs.Plan.{AreHeld, AreRemoved, RefersIf, IsSafe, roots_of}
 use Rattle.oci_prune.specs.Refusal.{IsKeyFault, IsPlanFault, IsUnknownFault}
 use Rattle.oci_prune.specs.Subjects.{Referrers, AreReferrers, RefersBy, IsSubjectFault}
 use Rattle.oci_prune.specs.declared.fault.PruneFault.{PruneFault}
@@ -124,9 +129,21 @@ safe_from_kept graph roots R set are all = record {
 
 -- ---- the plan
 
-pub tags_fault : (dir : Device) (graph : List Node) (tags : Tags) (absent : List Descriptor) (keeps : Bool) (e : PruneFault) → (e ≡ fault.Memory) ⊎ ((e ≡ fault.NoTags) × (tags ≡ [])) → IsPlanFault dir graph tags absent keeps e
-tags_fault dir graph tags absent keeps e (inl memory) = rw memory tt
-tags_fault dir graph tags absent keeps e (inr none) = rw none.0 none.1
+pub tags_fault : {D : Type 0} (dir : Device) (l : LayoutState D) (keeps : Bool) (e : PruneFault) → (e ≡ fault.Memory) ⊎ ((e ≡ fault.NoTags) × (l.tags ≡ [])) → IsPlanFault dir l keeps e
+tags_fault dir l keeps e (inl memory) = rw memory tt
+tags_fault dir l keeps e (inr none) = rw none.0 none.1
+
+-- ---- the roots
+
+pub roots_held : {D : Type 0} (l : LayoutState D) → AreNames l.graph l.tags → HasAll l.graph (roots_of l)
+roots_held l names = All-append (λ (k : Descriptor). has_key l.graph k ≡ true) (values_of l.tags) (shadowed_keys l.opened l.graph l.tags) names.held (named_held-held l.graph (first_entries (is_among l.opened.absent) l.graph l.tags (said l.opened.content).entries))
+
+pub tags_kept : {D : Type 0} (l : LayoutState D) (kept : BTreeSet Descriptor) → IsSafe l.graph (roots_of l) kept → All (λ (k : Descriptor). contains key_cmp kept k ≡ true) (values_of l.tags)
+tags_kept l kept safe =
+    let hidden = shadowed_keys l.opened l.graph l.tags in
+    All-weaker (λ (k : Descriptor). Contains (values_of l.tags) k) (λ (k : Descriptor). contains key_cmp kept k ≡ true)
+    (λ k tagged. All-contains (λ (k : Descriptor). contains key_cmp kept k ≡ true) (values_of l.tags ++ hidden) k safe.rooted (Contains-append_left (values_of l.tags) hidden k tagged))
+    (values_of l.tags) (All-contains_itself (values_of l.tags))
 
 pub are_removed : (graph : List Node) (kept : BTreeSet Descriptor) (held removed : List Descriptor) → AreHeld graph held → removed ≡ filter (λ (k : Descriptor). not (contains key_cmp kept k)) held → AreRemoved graph kept removed
 are_removed graph kept held removed are e = record {

@@ -1,5 +1,5 @@
 -- What a prune keeps and removes.
-use Rattle.std.specs.Prelude.{◌≡◌, ◌≢◌, ◌↔◌, ℕ, Bool, true, false, List, [], map, None, Contains, IsTrue}
+use Rattle.std.specs.Prelude.{◌≡◌, ◌↔◌, ℕ, Bool, true, false, List, ◌++◌, map, None, Contains, IsTrue}
 use Rattle.std.specs.BTreeSet.{BTreeSet, contains}
 use Rattle.std.specs.Cmp.Lexicographic.{slice_cmp}
 use Rattle.std.specs.List.{All}
@@ -11,10 +11,11 @@ use Rattle.oci_manifest.specs.Descriptor.{Descriptor, key_cmp}
 use Rattle.oci_store.specs.Graph.{Node, IsEdge, Reaches}
 use Rattle.oci_store.specs.Keyed.{has_key, HasAll}
 use Rattle.oci_store.specs.State.{State}
-use Rattle.oci_store.specs.Tags.{Tags, AreNames}
 use Rattle.oci_layout.specs.Blobs.{blob_path}
 use Rattle.oci_layout.specs.Device.{Device, File}
+use Rattle.oci_layout.specs.Layout.{LayoutState}
 use Rattle.oci_layout.specs.Prunable.{HasLength, by_name}
+use Rattle.oci_layout.specs.Saved.{shadowed_keys}
 use Rattle.oci_prune.specs.Subjects.{States}
 use Rattle.oci_prune.specs.declared.plan.PrunedFile.{PrunedFile}
 use Rattle.oci_prune.specs.declared.plan.PrunePlan.{PrunePlan}
@@ -24,15 +25,14 @@ pub record AreHeld (graph : List Node) (keys : List Descriptor) : Type 0 where
   pub each : (k : Descriptor) → Contains keys k ↔ (has_key graph k ≡ true)
   pub order : IsStrictlySortedBy key_cmp keys
 
+-- the keys that a prune starts from: those of the tags, and those of the entries that a tag hides
+abbrev pub roots_of : {D : Type 0} → LayoutState D → List Descriptor
+roots_of layout = values_of layout.tags ++ shadowed_keys layout.opened layout.graph layout.tags
+
 -- a graph has roots, and these are its keys
 pub record AreRoots (graph : List Node) (roots held : List Descriptor) : Type 0 where
   pub rooted : HasAll graph roots
   pub are_held : AreHeld graph held
-
--- there are tags, and each names a held key
-pub record HasNames (graph : List Node) (tags : Tags) : Type 0 where
-  pub names : AreNames graph tags
-  pub some : tags ≢ []
 
 -- the first key is held and states the second as its subject; never, if referrers are left out
 abbrev pub RefersIf : Bool → State → Descriptor → Descriptor → Type 0
@@ -68,10 +68,10 @@ pub record AreUnneeded (file : File) (graph : List Node) (kept : BTreeSet Descri
   pub each : (f : PrunedFile) → Contains files f ↔ IsUnneeded file graph kept f
   pub order : IsStrictlySortedBy (slice_cmp nat_cmp) (map (λ (f : PrunedFile). f.digest) files)
 
--- a plan for a layout in a directory: it keeps what is reached from the tags, and removes the other
+-- a plan for a layout in a directory: it keeps what is reached from the roots, and removes the other
 -- keys and the files that nothing kept needs
-pub record IsPrunePlan (dir : Device) (graph : List Node) (tags : Tags) (plan : PrunePlan) : Type 0 where
-  pub safe : IsSafe graph (values_of tags) plan.kept
+pub record IsPrunePlan (dir : Device) (graph : List Node) (roots : List Descriptor) (plan : PrunePlan) : Type 0 where
+  pub safe : IsSafe graph roots plan.kept
   pub removed : AreRemoved graph plan.kept plan.removed.items
   pub files : dir.is_honest → AreUnneeded dir.file graph plan.kept plan.files.items
   -- no file of the layout is a draft

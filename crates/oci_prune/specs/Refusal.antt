@@ -1,20 +1,18 @@
 -- Why there is no plan of a prune, or why it is not carried out.
 use Rattle.std.specs.Prelude.{◌≡◌, ◌≢◌, ◌⊎◌, ℕ, Bool, true, List, [], Option, Some, Result, Ok, IfSome, IfErr, OnOk, IsErr, String, string_bytes, slice_get}
 use Rattle.std.specs.declared.alloc.Global.{Global}
-use Rattle.std.specs.Map.{values_of}
 use Rattle.oci_digest.specs.declared.fault.NoMemory.{NoMemory}
 use Rattle.oci_manifest.specs.Descriptor.{Descriptor}
-use Rattle.oci_store.specs.Graph.{Node}
 use Rattle.oci_store.specs.Keyed.{has_key}
 use Rattle.oci_store.specs.Push.{IsRaised}
 use Rattle.oci_store.specs.State.{State}
-use Rattle.oci_store.specs.Tags.{Tags}
 use Rattle.oci_layout.specs.Blobs.{meaning}
 use Rattle.oci_layout.specs.Device.{Device}
+use Rattle.oci_layout.specs.Layout.{LayoutState}
 use Rattle.oci_layout.specs.declared.fault.LayoutFault.{LayoutFault}
 use Rattle.oci_layout.specs.declared.fault.LayoutFault.TheVariants as layout
 use Rattle.oci_prune.specs.Kept.{IsUnknown}
-use Rattle.oci_prune.specs.Plan.{RefersIf}
+use Rattle.oci_prune.specs.Plan.{RefersIf, roots_of}
 use Rattle.oci_prune.specs.Subjects.{IsSubjectFault}
 use Rattle.oci_prune.specs.declared.fault.PruneFault.{PruneFault}
 use Rattle.oci_prune.specs.declared.fault.PruneFault.TheVariants as fault
@@ -50,13 +48,13 @@ IsCheckFault dir absent (fault.LinkedBlobs path) = Unit {0}
 IsCheckFault dir absent e = IsDeviceFault (dir.fails_reads ≡ true) e
 
 -- why there is no plan for a layout in a directory
-abbrev pub IsPlanFault : Device → List Node → Tags → List Descriptor → Bool → PruneFault → Type 0
-IsPlanFault dir graph tags absent keeps fault.NoTags = tags ≡ []
-IsPlanFault dir graph tags absent keeps (fault.Unknown k) =
-    (slice_get absent 0 ≡ Some k) ⊎ (dir.is_honest → IsUnknown graph (values_of tags) (RefersIf keeps (meaning dir graph tags)) k)
-IsPlanFault dir graph tags absent keeps (fault.LinkedBlobs path) = Unit {0}
-IsPlanFault dir graph tags absent keeps (fault.Layout layout.Device) = dir.fails_reads ≡ true
-IsPlanFault dir graph tags absent keeps e = IsSubjectFault (meaning dir graph tags) (λ k. (keeps ≡ true) × (has_key graph k ≡ true)) e
+abbrev pub IsPlanFault : {D : Type 0} → Device → LayoutState D → Bool → PruneFault → Type 0
+IsPlanFault dir l keeps fault.NoTags = l.tags ≡ []
+IsPlanFault dir l keeps (fault.Unknown k) =
+    (slice_get l.opened.absent 0 ≡ Some k) ⊎ (dir.is_honest → IsUnknown l.graph (roots_of l) (RefersIf keeps (meaning dir l.graph l.tags)) k)
+IsPlanFault dir l keeps (fault.LinkedBlobs path) = Unit {0}
+IsPlanFault dir l keeps (fault.Layout layout.Device) = dir.fails_reads ≡ true
+IsPlanFault dir l keeps e = IsSubjectFault (meaning dir l.graph l.tags) (λ k. (keeps ≡ true) × (has_key l.graph k ≡ true)) e
 
 -- a save may fail: reads may fail, or a put failed
 abbrev pub MayNotSave : Device → Device → Type 0

@@ -1,9 +1,10 @@
-ghost use Rattle.std.specs.Prelude.{◌≡◌, ◌⊎◌, [], not, filter, IfOk, IfErr, OnOk};
+ghost use Rattle.std.specs.Prelude.{◌≡◌, ◌≢◌, ◌⊎◌, [], ◌++◌, not, filter, IfOk, IfErr, OnOk};
 ghost use Rattle.std.specs.BTreeSet.{contains};
 ghost use Rattle.std.specs.Map.{values_of};
 ghost use Rattle.oci_manifest.specs.Descriptor.{key_cmp};
 ghost use Rattle.oci_store.specs.Tags.{by_bytes};
-ghost use Rattle.oci_prune.specs.Plan.{AreHeld, HasNames};
+ghost use Rattle.oci_store.specs.Keyed.{HasAll};
+ghost use Rattle.oci_prune.specs.Plan.{AreHeld, roots_of};
 
 use crate::fault::PruneFault;
 use oci_digest::NoMemory;
@@ -28,15 +29,17 @@ pub(crate) fn held_keys<D: Dir>(alloc: Global, layout: &Layout<D>) -> Result<Vec
     Ok(keys)
 }
 
-/// Returns the keys that the tags of a layout name.
+/// Returns the keys that a prune of a layout starts from: those of the tags, and those of the
+/// entries that a tag hides.
 ///
 /// # Errors
 ///
 /// - 97 `NoTags` if there is no tag.
 /// - 89 `Memory` if memory runs out.
-pub(crate) fn tagged_keys<D: Dir>(alloc: Global, layout: &Layout<D>) -> Result<Vec<Key>, PruneFault>
-    ensures tagged { IfOk result (λ keys. keys.items ≡ values_of layout.now.tags) }
-    ensures names { OnOk result (HasNames layout.now.graph layout.now.tags) }
+pub(crate) fn root_keys<D: Dir>(alloc: Global, layout: &Layout<D>) -> Result<Vec<Key>, PruneFault>
+    ensures roots { IfOk result (λ keys. keys.items ≡ roots_of layout.now) }
+    ensures held { OnOk result (HasAll layout.now.graph (roots_of layout.now)) }
+    ensures tagged { OnOk result (layout.now.tags ≢ []) }
     ensures cause { IfErr result (λ e. (e ≡ PruneFault.Memory)
         ⊎ ((e ≡ PruneFault.NoTags) × (layout.now.tags ≡ []))) }
 {
@@ -44,7 +47,7 @@ pub(crate) fn tagged_keys<D: Dir>(alloc: Global, layout: &Layout<D>) -> Result<V
     if tags.is_empty() {
         return Err(PruneFault::NoTags);
     }
-    let keys = named_keys(alloc, &tags)?;
+    let keys = joined(named_keys(alloc, &tags)?, layout.shadowed_keys()?)?;
     Ok(keys)
 }
 
@@ -57,6 +60,16 @@ fn named_keys(alloc: Global, tags: &[(String, Key)]) -> Result<Vec<Key>, NoMemor
         keys.push(tag.1.try_clone()?)?;
     }
     Ok(keys)
+}
+
+/// Returns the keys of both lists.
+fn joined(keys: Vec<Key>, more: Vec<Key>) -> Result<Vec<Key>, NoMemory>
+    ensures { IfOk result (λ all. all.items ≡ keys.items ++ more.items) }
+{
+    let mut all = keys;
+    let mut more = more;
+    all.append(&mut more)?;
+    Ok(all)
 }
 
 /// Returns the keys that are not in a set.

@@ -1,11 +1,11 @@
 //! Removes what no tag of an image layout needs.
 //!
 //! [`plan_prune`] plans a prune and changes nothing. The *kept* keys of the [`PrunePlan`] are the
-//! tagged keys, with each kept key the held keys that it lists, and the held manifests that have it
-//! as their `subject`, such as signatures, on and on. All other held keys are removed, and all files
-//! under `blobs` that are named by a digest that no kept key has. So are drafts that killed
-//! processes left. A layout without a tag is refused, and so is one in which a needed manifest is
-//! absent, since nobody knows what it lists.
+//! tagged keys and those of the entries that a tag hides, with each kept key the held keys that it
+//! lists, and the held manifests that have it as their `subject`, such as signatures, on and on. All
+//! other held keys are removed, and all files under `blobs` that are named by a digest that no kept
+//! key has. So are drafts that killed processes left. A layout without a tag is refused, and so is
+//! one in which a needed manifest is absent, since nobody knows what it lists.
 //!
 //! [`prune`] does what is planned. It saves the index first and then removes files, so whenever it
 //! is stopped, every tag and all that it reaches is there, and the next prune goes on.

@@ -1,13 +1,12 @@
 ghost use Rattle.std.specs.Prelude.{◌≡◌, ◌≢◌, ◌⊎◌, [], Some, IfOk, IfErr, OnOk, slice_get, string_bytes};
-ghost use Rattle.std.specs.Map.{values_of};
 ghost use Rattle.oci_layout.specs.Blobs.{meaning, blob_path};
 ghost use Rattle.oci_prune.specs.Kept.{AreKept, AllKnown};
-ghost use Rattle.oci_prune.specs.Plan.{IsPrunePlan, RefersIf};
+ghost use Rattle.oci_prune.specs.Plan.{IsPrunePlan, RefersIf, roots_of};
 ghost use Rattle.oci_prune.specs.Refusal.{ChecksWhole, IsCheckFault, IsPlanFault, IsUnknownFault};
 
 use crate::fault::PruneFault;
 use crate::files::plan_files;
-use crate::held::{held_keys, keys_without, tagged_keys};
+use crate::held::{held_keys, keys_without, root_keys};
 use crate::kept::plan_keys;
 use oci_digest::{Digest, NoMemory};
 use oci_layout::{Layout, PrunableDir};
@@ -56,8 +55,9 @@ impl PrunedFile {
 
 /// Plans a prune of a layout: what no tag needs is to be removed. Changes nothing.
 ///
-/// The kept keys are the tagged ones, with each kept key the held keys that it lists, and, if
-/// `keeps_referrers`, the held manifests that have it as their subject. All other held keys are
+/// The kept keys are the tagged ones and those of the entries that a tag hides, with each kept key
+/// the held keys that it lists, and, if `keeps_referrers`, the held manifests that have it as their
+/// subject. All other held keys are
 /// removed, and the files under `blobs` that are named by a digest that no kept key has.
 ///
 /// If `keeps_referrers`, each held manifest of a kind that may have a subject is read once; Docker
@@ -80,12 +80,12 @@ pub fn plan_prune<D: PrunableDir>(
     keeps_referrers: bool,
 ) -> Result<PrunePlan, PruneFault>
     ensures kept { IfOk result (λ plan. (D.device layout.now.dir).is_honest
-        → AreKept layout.now.graph (values_of layout.now.tags) (RefersIf keeps_referrers
+        → AreKept layout.now.graph (roots_of layout.now) (RefersIf keeps_referrers
         (meaning (D.device layout.now.dir) layout.now.graph layout.now.tags)) plan.kept) }
     ensures planned { IfOk result (λ plan. IsPrunePlan (D.device layout.now.dir) layout.now.graph
-        layout.now.tags plan) }
+        (roots_of layout.now) plan) }
     ensures known { OnOk result ((D.device layout.now.dir).is_honest
-        → AllKnown layout.now.graph (values_of layout.now.tags) (RefersIf keeps_referrers
+        → AllKnown layout.now.graph (roots_of layout.now) (RefersIf keeps_referrers
         (meaning (D.device layout.now.dir) layout.now.graph layout.now.tags))) }
     ensures tagged { OnOk result (layout.now.tags ≢ []) }
     ensures whole { OnOk result (layout.now.opened.absent ≡ []) }
@@ -93,10 +93,9 @@ pub fn plan_prune<D: PrunableDir>(
         ⊎ (e ≡ PruneFault.Memory)) }
     ensures second { layout.now.tags ≢ [] → layout.now.opened.absent ≢ []
         → IfErr result (IsUnknownFault (λ k. slice_get layout.now.opened.absent 0 ≡ Some k)) }
-    ensures cause { IfErr result (IsPlanFault (D.device layout.now.dir) layout.now.graph
-        layout.now.tags layout.now.opened.absent keeps_referrers) }
+    ensures cause { IfErr result (IsPlanFault (D.device layout.now.dir) layout.now keeps_referrers) }
 {
-    let roots = tagged_keys(alloc, layout)?;
+    let roots = root_keys(alloc, layout)?;
     check_whole(layout)?;
     let held = held_keys(alloc, layout)?;
     let kept = plan_keys(alloc, layout, &roots, &held, keeps_referrers)?;

@@ -1,11 +1,10 @@
 ghost use Rattle.std.specs.Prelude.{◌≡◌, ◌≢◌, ◌⊎◌, ◌↔◌, [], None, ℕ, List, filter, map, length, IfSome, IfOk, IfErr, OnOk, OnErr};
 ghost use Rattle.std.specs.BTreeSet.{contains};
-ghost use Rattle.std.specs.Map.{values_of};
 ghost use Rattle.oci_manifest.specs.Descriptor.{key_cmp};
 ghost use Rattle.oci_store.specs.Closed.{IsClosed};
 ghost use Rattle.oci_layout.specs.Blobs.{IsSound, stored};
 ghost use Rattle.oci_layout.specs.Index.{index_file, HasIndex};
-ghost use Rattle.oci_prune.specs.Plan.{AreRemoved, IsPrunePlan, IsSafe};
+ghost use Rattle.oci_prune.specs.Plan.{AreRemoved, IsPrunePlan, IsSafe, roots_of};
 ghost use Rattle.oci_prune.specs.Pruned.{is_gone, kept_of, HasOnlyNeeded, IsPlanned, IsSaved, IsTouchedBy, KeepsReached, OnlyIndex, Spares, StaysOrDrops};
 ghost use Rattle.oci_prune.specs.Refusal.{IsDeviceFault, IsRemovalFault, MayNotSave};
 
@@ -49,15 +48,16 @@ pub fn prune<D: PrunableDir>(
     layout: &mut Layout<D>,
     plan: &PrunePlan,
 ) -> Result<Pruned, PruneFault>
-    requires { IsPrunePlan (D.device layout.old.dir) layout.old.graph layout.old.tags plan.now }
+    requires { IsPrunePlan (D.device layout.old.dir) layout.old.graph (roots_of layout.old)
+        plan.now }
 
-    // What the tags need stays, whatever the result.
+    // What the tags and the entries that they hide need stays, whatever the result.
     ensures tags { layout.new.tags ≡ layout.old.tags }
     ensures opened { layout.new.opened ≡ layout.old.opened }
     // The layout holds the same keys as before, or the kept ones.
     ensures either { (layout.new.graph ≡ layout.old.graph)
         ⊎ (layout.new.graph ≡ kept_of plan.now.kept layout.old.graph) }
-    ensures reached { KeepsReached layout.old.graph layout.new.graph (values_of layout.old.tags) }
+    ensures reached { KeepsReached layout.old.graph layout.new.graph (roots_of layout.old) }
     ensures closed { IsClosed layout.old.graph → IsClosed layout.new.graph }
     ensures sound { IsSound (D.device layout.old.dir).is_honest (D.device layout.old.dir).file
         layout.old.graph
@@ -121,7 +121,7 @@ fn flags(alloc: Global, count: usize) -> Result<Vec<bool>, NoMemory>
 /// Drops the keys that are not kept from a layout, and saves its index. Does not write it if all
 /// held keys are kept. The index is on the disk before a blob is removed.
 fn save_kept<D: PrunableDir>(layout: &mut Layout<D>, plan: &PrunePlan) -> Result<(), PruneFault>
-    requires safe { IsSafe layout.old.graph (values_of layout.old.tags) plan.now.kept }
+    requires safe { IsSafe layout.old.graph (roots_of layout.old) plan.now.kept }
     requires removed { AreRemoved layout.old.graph plan.now.kept plan.now.removed.items }
     ensures stays { StaysOrDrops plan.now.kept layout.old layout.new }
     ensures only { OnlyIndex D.device layout.old layout.new }

@@ -21,8 +21,8 @@ use std::rt::Files;
 
 /// `untag FOLDER TAG`: removes a tag from the layout in a directory, and saves it. The directory is
 /// the words' folder, which is locked from before the layout is opened until after it is saved.
-/// Prints in this form the keys of the entries that had the tag, the key that it named last. `F` is [`ProgramFault`] or another type that is
-/// made from one.
+/// Prints in this form the keys of the entries that had the tag; the last one is the key that it
+/// named. `F` is [`ProgramFault`] or another type that is made from one.
 ///
 /// # Errors
 ///

@@ -1,10 +1,10 @@
 //! The entries that a save writes.
-ghost use Rattle.std.specs.Prelude.{◌≡◌, ◌++◌, ◌∷◌, [], if◌then◌else◌, ℕ, List, map, option_map, IfOk, OnOk};
+ghost use Rattle.std.specs.Prelude.{◌≡◌, ◌++◌, ◌∷◌, [], not, if◌then◌else◌, ℕ, List, map, option_map, IfOk, OnOk};
 ghost use Rattle.std.specs.BTreeSet.{contains};
 ghost use Rattle.std.specs.Option.{option_copied};
 ghost use Rattle.oci_manifest.specs.Descriptor.{Descriptor, is_among, key_cmp};
 ghost use Rattle.oci_store.specs.Tags.{by_bytes};
-ghost use Rattle.oci_layout.specs.Entries.{entry_of};
+ghost use Rattle.oci_layout.specs.Entries.{entry_of, text_of};
 ghost use Rattle.oci_layout.specs.Saved.{
   comes_before,
   first_entries,
@@ -13,6 +13,8 @@ ghost use Rattle.oci_layout.specs.Saved.{
   is_missing,
   is_place,
   loose_entry,
+  named_held,
+  no_name,
   saved_entries,
   tag_entry,
   AreLoose,
@@ -83,6 +85,56 @@ fn first_entries(
         push_if(is_first, entry, &mut first)?;
     }
     Ok(first)
+}
+
+/// Returns the held keys of the entries with a name that come first.
+pub(crate) fn shadowed_keys(
+    alloc: Global,
+    absent: &[Key],
+    entries: &[IndexEntry],
+    graph: &Graph,
+    tags: &Tags,
+) -> Result<Vec<Key>, NoMemory>
+    ensures { IfOk result (λ keys. keys.items ≡ named_held graph.now
+        (first_entries (is_among absent.now) graph.now tags.now (map entry_of entries.now))) }
+{
+    let names = Names::of(alloc, entries)?;
+    let absent = set_of(alloc, absent)?;
+    let first = first_entries(alloc, &names, entries, &absent, graph, tags)?;
+    named_held(alloc, graph, &first)
+}
+
+/// Returns the held keys of those of these entries that have a name.
+fn named_held(alloc: Global, graph: &Graph, entries: &[IndexEntry]) -> Result<Vec<Key>, NoMemory>
+    ensures { IfOk result (λ keys. keys.items
+        ≡ named_held graph.now (map entry_of entries.now)) }
+{
+    let mut keys = Vec::new(alloc);
+    for entry in entries {
+        add_if_named(graph, entry, &mut keys)?;
+    }
+    Ok(keys)
+}
+
+/// Adds the key of an entry, if it is held and the entry has a name.
+fn add_if_named(graph: &Graph, entry: &IndexEntry, keys: &mut Vec<Key>) -> Result<(), NoMemory>
+    ensures { OnOk result (keys.new.items
+        ≡ keys.old.items ++ named_held graph.now (entry_of entry.now ∷ [])) }
+{
+    if has_name(entry) && graph.holds(&entry.key) {
+        keys.push(entry.key.try_clone()?)?;
+    }
+    Ok(())
+}
+
+/// Returns whether an entry has a name. An empty text is none.
+fn has_name(entry: &IndexEntry) -> bool
+    ensures { result ≡ not (no_name (text_of entry.now.name)) }
+{
+    match &entry.name {
+        Some(name) => !name.is_empty(),
+        None => false,
+    }
 }
 
 /// Appends a copy of an entry, if the condition is met.

@@ -10,14 +10,14 @@ pub returns-in_err-roots-clause-cause : goal.returns-in_err-roots-clause-cause
 returns-in_err-roots-clause-cause g c =
     let p = err_from_is_err_and c.from_residual.result c.from_residual.ensures.1 in
     rw (p.1, p.2)
-    (tags_fault (g.D.Dir.device c.args.layout.now.dir) c.args.layout.now.graph c.args.layout.now.tags c.args.layout.now.opened.absent c.args.keeps_referrers c.in_err-roots.field-0.0 c.in_err-roots.ensures.cause)
+    (tags_fault (g.D.Dir.device c.args.layout.now.dir) c.args.layout.now c.args.keeps_referrers c.in_err-roots.field-0.0 c.in_err-roots.ensures.cause)
 
 pub plan_keys-requires : goal.plan_keys-requires
 plan_keys-requires g c =
     let graph = c.args.layout.now.graph in
-    let roots = c.deref.ensures.value ∙ c.in_ok-roots.ensures.tagged in
+    let roots = c.deref.ensures.value ∙ c.in_ok-roots.ensures.roots in
     record {
-      rooted = subst (λ (ks : List Descriptor). HasAll graph ks) (sym roots) c.in_ok-roots.ensures.names.names.held;
+      rooted = subst (λ (ks : List Descriptor). HasAll graph ks) (sym roots) c.in_ok-roots.ensures.held;
       are_held = subst (λ (ks : List Descriptor). AreHeld graph ks) (sym c.deref-2.ensures.value) c.in_ok-held.ensures;
     }
 
@@ -25,7 +25,7 @@ pub returns-clause-planned : goal.returns-clause-planned
 returns-clause-planned g c =
     let dir = g.D.Dir.device c.args.layout.now.dir in
     let graph = c.args.layout.now.graph in
-    let roots = c.deref.ensures.value ∙ c.in_ok-roots.ensures.tagged in
+    let roots = c.deref.ensures.value ∙ c.in_ok-roots.ensures.roots in
     record {
       safe = subst (λ (ks : List Descriptor). IsSafe graph ks c.in_ok-kept.kept) roots c.in_ok-kept.ensures.safe;
       removed = are_removed graph c.in_ok-kept.kept c.in_ok-held.held.items c.in_ok-removed.removed.items c.in_ok-held.ensures (rw c.deref-3.ensures.value at c.in_ok-removed.ensures);

@@ -1,11 +1,12 @@
 use Rattle.std.proofs.Common.{◌≡◌, List, None, map, inr, sym, ap, subst, ◌∙◌}
 use Rattle.std.specs.List.{All}
-use Rattle.std.specs.Map.{keys_of, values_of}
+use Rattle.std.specs.Map.{keys_of}
 use Rattle.oci_manifest.specs.Descriptor.{Descriptor}
 use Rattle.oci_layout.specs.Blobs.{blob_path}
 use Rattle.oci_layout.specs.Index.{index_file}
 use Rattle.oci_layout.specs.Layout.{LayoutState}
 use Rattle.oci_layout.specs.Prunable.{by_name}
+use Rattle.oci_prune.specs.Plan.{roots_of}
 use Rattle.oci_prune.specs.Pruned.{is_gone, AreThere, AreApart, IsPathOf, IsDraftIn, Spares}
 use Rattle.oci_prune.specs.Refusal.{Notes}
 use Rattle.oci_prune.specs.declared.plan.PrunedFile.{PrunedFile}
@@ -17,11 +18,11 @@ use Rattle.oci_prune.proofs.run.prune.Goals as goal
 
 pub returns-in_err-save_kept-clause-reached : goal.returns-in_err-save_kept-clause-reached
 returns-in_err-save_kept-clause-reached g c =
-    reached_either c.args.layout.now.graph c.save_kept.new.layout.graph (values_of c.args.layout.now.tags) c.args.plan.now.kept c.requires.safe c.in_err-save_kept.ensures.stays.either
+    reached_either c.args.layout.now.graph c.save_kept.new.layout.graph (roots_of c.args.layout.now) c.args.plan.now.kept c.requires.safe c.in_err-save_kept.ensures.stays.either
 
 pub returns-in_err-save_kept-clause-closed : goal.returns-in_err-save_kept-clause-closed
 returns-in_err-save_kept-clause-closed g c =
-    closed_either c.args.layout.now.graph c.save_kept.new.layout.graph (values_of c.args.layout.now.tags) c.args.plan.now.kept c.count.ensures.distinct c.requires.safe c.in_err-save_kept.ensures.stays.either
+    closed_either c.args.layout.now.graph c.save_kept.new.layout.graph (roots_of c.args.layout.now) c.args.plan.now.kept c.count.ensures.distinct c.requires.safe c.in_err-save_kept.ensures.stays.either
 
 pub remove_files-requires-clause-unneeded : goal.remove_files-requires-clause-unneeded
 remove_files-requires-clause-unneeded g c = λ honest.
@@ -32,12 +33,12 @@ remove_files-requires-clause-unneeded g c = λ honest.
 
 pub returns-clause-reached : goal.returns-clause-reached
 returns-clause-reached g c =
-    reached_either c.args.layout.now.graph c.remove_drafts.new.layout.graph (values_of c.args.layout.now.tags) c.args.plan.now.kept c.requires.safe
+    reached_either c.args.layout.now.graph c.remove_drafts.new.layout.graph (roots_of c.args.layout.now) c.args.plan.now.kept c.requires.safe
     (inr (c.remove_drafts.ensures.removal.memory.graph ∙ c.remove_files.ensures.removal.memory.graph ∙ c.in_ok-save_kept.ensures.saved.kept))
 
 pub returns-clause-closed : goal.returns-clause-closed
 returns-clause-closed g c =
-    closed_either c.args.layout.now.graph c.remove_drafts.new.layout.graph (values_of c.args.layout.now.tags) c.args.plan.now.kept c.count.ensures.distinct c.requires.safe
+    closed_either c.args.layout.now.graph c.remove_drafts.new.layout.graph (roots_of c.args.layout.now) c.args.plan.now.kept c.count.ensures.distinct c.requires.safe
     (inr (c.remove_drafts.ensures.removal.memory.graph ∙ c.remove_files.ensures.removal.memory.graph ∙ c.in_ok-save_kept.ensures.saved.kept))
 
 pub returns-clause-contents : goal.returns-clause-contents
@@ -61,7 +62,7 @@ returns-clause-files g c = λ none honest.
     let files = c.args.plan.now.files.items in
     let second = subst (λ (fs : List PrunedFile). Spares mid last c.save_kept.new.layout.graph (IsPathOf fs)) c.deref.ensures.value c.remove_files.ensures.removal.spared in
     let gone = c.remove_files.ensures.removed (c.remove_drafts.ensures.removal.fault none) (c.in_ok-save_kept.ensures.only.spared.honest.0 honest) in
-    only_needed old mid last new c.args.layout.now.graph c.save_kept.new.layout.graph c.save_kept.new.layout.graph c.remove_drafts.new.layout.graph (values_of c.args.layout.now.tags) c.args.plan.now.kept files honest c.requires.safe (c.requires.files honest)
+    only_needed old mid last new c.args.layout.now.graph c.save_kept.new.layout.graph c.save_kept.new.layout.graph c.remove_drafts.new.layout.graph (roots_of c.args.layout.now) c.args.plan.now.kept files honest c.requires.safe (c.requires.files honest)
     (c.remove_drafts.ensures.removal.memory.graph ∙ c.remove_files.ensures.removal.memory.graph ∙ c.in_ok-save_kept.ensures.saved.kept) c.in_ok-save_kept.ensures.only.spared second
     (subst (λ (fs : List PrunedFile). All (λ (f : PrunedFile). last.file (blob_path f.digest) ≡ None) fs) c.deref.ensures.value gone) c.remove_drafts.ensures.files
 

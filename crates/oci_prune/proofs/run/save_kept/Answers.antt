@@ -7,6 +7,7 @@ use Rattle.oci_layout.specs.Index.{index_file}
 use Rattle.oci_layout.proofs.Loose.{empty_list}
 use Rattle.oci_prune.specs.Pruned.{Spares}
 use Rattle.oci_prune.proofs.Leaving.{whole_left}
+use Rattle.oci_prune.proofs.Plans.{tags_kept}
 use Rattle.oci_prune.proofs.Sparing.{spares_index}
 use Rattle.oci_prune.proofs.run.save_kept.Goals as goal
 
@@ -22,7 +23,7 @@ returns-then-is_empty-clause-saved g c =
     }
 
 pub retain-requires : goal.retain-requires
-retain-requires g c = record { tagged = c.requires.safe.rooted }
+retain-requires g c = record { tagged = tags_kept c.args.layout.now c.args.plan.now.kept c.requires.safe }
 
 pub returns-clause-only : goal.returns-clause-only
 returns-clause-only g c =
