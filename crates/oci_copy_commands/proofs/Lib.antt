@@ -1,2 +1,3 @@
+mod BroughtEntries
 mod Saved
 mod Selections

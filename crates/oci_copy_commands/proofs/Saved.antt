@@ -18,7 +18,7 @@ use Rattle.oci_copy.specs.declared.report.Report.{Report}
 use Rattle.oci_layout.specs.declared.fault.LayoutFault.{LayoutFault}
 use Rattle.oci_program.specs.declared.fault.ProgramFault.{ProgramFault}
 use Rattle.oci_program.specs.declared.fault.ProgramFault.TheVariants as program
-use Rattle.oci_copy_commands.specs.Between.{IsTrusted, IsSaved, BringsOnlyMet, BringsOnlyChecked, IsCopiedBetween, HoldsWhatCame}
+use Rattle.oci_copy_commands.specs.Between.{IsTrusted, IsSaved, BringsOnlyMet, BringsOnlyChecked, IsCopiedBetween, HasReached, HoldsWhatCame}
 use Rattle.oci_copy_commands.specs.Refusal.{IsRefusedBetween}
 
 -- a consequence for the report of a successful copy holds if the copy and its save both succeeded
@@ -75,6 +75,9 @@ module _ {source old copied new : State} {roots : List Descriptor} (alike : Same
   pub copied_after : {options : Options} {report : Report} → IsCopy ⊤ options source old roots copied report → IsCopiedBetween source old roots new
   copied_after copy trusted =
       rw (saved.entries (sound_before trusted)) (copy.content (known_before trusted) (λ k x y at_source at_old. sym (trusted.same k k x y at_source at_old refl)))
+
+  pub reached_after : {options : Options} {report : Report} → IsCopy ⊤ options source old roots copied report → HasReached source old roots new
+  reached_after copy = rw saved.nodes copy.reached
 
   pub files_after : {X E : Type 0} (answer : Result X E) (files : List Entry → Type 0) → OnOk answer (copied.is_sound → files copied.entries) → OnOk answer (IsTrusted source old new → files new.entries)
   files_after answer files there =

@@ -4,9 +4,9 @@ use Rattle.std.specs.Prelude.{◌↔◌, ◌⊎◌, Contains, option_map, String
 use Rattle.std.specs.List.{All, slice_get}
 use Rattle.std.specs.Map.{keys_of, values_of}
 use Rattle.std.specs.declared.alloc.Global.{Global}
-use Rattle.std.proofs.lemmas.List.{map-append, take_all, take_more}
+use Rattle.std.proofs.lemmas.List.{take_all, take_more}
 use Rattle.std.proofs.lemmas.Option.{slice_get-get_or, slice_get-map}
-use Rattle.std.proofs.lemmas.List.Elements.{All-contains, All-contains_itself, All-cons, All-nil, All-weaker, Contains-append_left, Contains-push, Contains-push_cases}
+use Rattle.std.proofs.lemmas.List.Elements.{All-contains, All-contains_itself, All-cons, All-nil, All-weaker, Contains-append_left, Contains-append_right, Contains-push, Contains-push_cases}
 use Rattle.oci_manifest.specs.Descriptor.{Descriptor}
 use Rattle.oci_store.specs.Graph.{Node}
 use Rattle.oci_store.specs.Keyed.{has_key, HasAll}
@@ -14,9 +14,9 @@ use Rattle.oci_store.specs.Tags.{Tags, by_bytes, AnswersTag}
 use Rattle.oci_store.specs.Visiting.{with_keys}
 use Rattle.oci_store.specs.declared.fault.RefFault.{RefFault}
 use Rattle.oci_store.specs.declared.fault.RefFault.TheVariants as fault
-use Rattle.oci_store.proofs.Membership.{Keys, Contains-from_among, among_from_Contains, among-with_keys, stays-with_keys, there-with_keys}
+use Rattle.oci_store.proofs.Membership.{Keys, Contains-from_among, among_from_Contains, among-append_cases, among-with_keys, stays-with_keys, there-with_keys}
 use Rattle.oci_copy.proofs.Places.{Contains-from_slice_get}
-use Rattle.oci_copy_commands.specs.Selected.{AreRoots, AreRootsOfTags, IsRootOfKey, IsRootOfKeys}
+use Rattle.oci_copy_commands.specs.Selected.{AreRoots, AreRootsOfKeys, IsRootOfKey, IsRootOfKeys}
 
 -- keys that are among held keys are held
 pub among_held : (graph : List Node) (roots keys : List Descriptor) → HasAll graph roots → All (λ (k : Descriptor). Contains roots k) keys → HasAll graph keys
@@ -79,10 +79,41 @@ roots_more graph referrers keys k old new grown before root = (λ h. joined ((gr
           | inr last ↦ inr (subst (λ (key : Descriptor). IsRootOfKey graph referrers key root) (sym last) of.2)
         ]
 
--- the key of each tag is among the roots of a copy of the tags
-pub tagged_there : (graph : List Node) (referrers : Option ℕ) (tags : Tags) (roots : Keys) → AreRootsOfTags graph referrers tags roots → All (λ (k : Descriptor). Contains roots k) (values_of tags)
-tagged_there graph referrers tags roots are =
-    All-weaker (λ (k : Descriptor). Contains (values_of tags) k) (λ (k : Descriptor). Contains roots k) (λ k tagged. (are.each k).1 (k, tagged, starts_there graph referrers k)) (values_of tags) (All-contains_itself (values_of tags))
+-- the key of each tag is among the roots of a copy of its keys
+pub tagged_there : (graph : List Node) (referrers : Option ℕ) (tags : Tags) (keys roots : Keys) → ((k : Descriptor) → Contains (values_of tags) k → Contains keys k) → AreRootsOfKeys graph referrers keys roots
+    → All (λ (k : Descriptor). Contains roots k) (values_of tags)
+tagged_there graph referrers tags keys roots among are =
+    All-weaker (λ (k : Descriptor). Contains (values_of tags) k) (λ (k : Descriptor). Contains roots k) (λ k tagged. (are.each k).1 (k, among k tagged, starts_there graph referrers k)) (values_of tags) (All-contains_itself (values_of tags))
+
+-- the roots of a copy of keys are those of a copy of any list with the same keys
+pub roots_by : (graph : List Node) (referrers : Option ℕ) (keys other roots : Keys) → ((k : Descriptor) → Contains keys k ↔ Contains other k) → AreRootsOfKeys graph referrers keys roots → AreRootsOfKeys graph referrers other roots
+roots_by graph referrers keys other roots same are = record {
+  each = λ root. (
+    (λ there. let of = (are.each root).0 there in (of.0, (same of.0).0 of.1, of.2)),
+    (λ of. (are.each root).1 (of.0, (same of.0).1 of.1, of.2)),
+  );
+  distinct = are.distinct;
+}
+
+-- keys that are placed after others are the same keys as both lists
+pub placed_both : (first second keys : Keys) → keys ≡ with_keys (with_keys [] first) second → (k : Descriptor) → Contains keys k ↔ Contains (first ++ second) k
+placed_both first second keys is k = subst (λ (ks : Keys). Contains ks k ↔ Contains (first ++ second) k) (sym is) (came, there)
+  where
+    came : Contains (with_keys (with_keys [] first) second) k → Contains (first ++ second) k
+    came h =
+        elim (among-with_keys (with_keys [] first) second k (among_from_Contains (with_keys (with_keys [] first) second) k h)) [
+          | inl before ↦ elim (among-with_keys [] first k before) [ inl none ↦ cc none | inr one ↦ Contains-append_left first second k (Contains-from_among first k one) ]
+          | inr two ↦ Contains-append_right first second k (Contains-from_among second k two)
+        ]
+
+    there : Contains (first ++ second) k → Contains (with_keys (with_keys [] first) second) k
+    there h =
+        Contains-from_among (with_keys (with_keys [] first) second) k (
+        elim (among-append_cases first second k (among_from_Contains (first ++ second) k h)) [
+          | inl one ↦ stays-with_keys (with_keys [] first) second k (there-with_keys [] first k one)
+          | inr two ↦ there-with_keys (with_keys [] first) second k two
+        ]
+        )
 
 -- setting a tag with a name on a held key is refused only if memory ran out
 pub only_memory : {X : Type 0} (r : Result X RefFault) (name : List ℕ) (graph : List Node) (k : Descriptor)
@@ -113,37 +144,30 @@ module _ (tags : List (String Global × Descriptor)) (i : ℕ) (t : String Globa
       All-contains P (values_of (by_bytes tags)) t.1 all
       (Contains-from_slice_get (values_of (by_bytes tags)) i t.1 (slice_get-map (λ (e : List ℕ × Descriptor). e.1) (by_bytes tags) i ∙ ap (option_map (λ (e : List ℕ × Descriptor). e.1)) here))
 
-  keys_more : values_of (by_bytes (take (i + 1) tags)) ≡ values_of (by_bytes (take i tags)) ++ t.1 ∷ []
-  keys_more =
-      let taken : take (i + 1) tags ≡ take i tags ++ t ∷ [] = take_more tags i t within ∙ ap (λ (x : String Global × Descriptor). take i tags ++ x ∷ []) (sym is) in
-      let bytes : by_bytes (take i tags ++ t ∷ []) ≡ by_bytes (take i tags) ++ (string_bytes t.0, t.1) ∷ [] =
-      map-append (λ (e : String Global × Descriptor). (string_bytes e.0, e.1)) (take i tags) (t ∷ []) in
-      ap (λ (ts : List (String Global × Descriptor)). values_of (by_bytes ts)) taken ∙ ap values_of bytes
-      ∙ map-append (λ (e : List ℕ × Descriptor). e.1) (by_bytes (take i tags)) ((string_bytes t.0, t.1) ∷ [])
+-- once the roots of one more key are added, the roots are those of the keys so far
+pub placed_more : (graph : List Node) (referrers : Option ℕ) (keys : Keys) (i : ℕ) (k : Descriptor) (old new : Keys) → i < length keys → k ≡ get_or keys i k
+    → ((root : Descriptor) → Contains new root ↔ (Contains old root ⊎ IsRootOfKey graph referrers k root))
+    → ((root : Descriptor) → Contains old root ↔ IsRootOfKeys graph referrers (take i keys) root)
+    → (root : Descriptor) → Contains new root ↔ IsRootOfKeys graph referrers (take (i + 1) keys) root
+placed_more graph referrers keys i k old new within is grown before root =
+    let taken : take (i + 1) keys ≡ take i keys ++ k ∷ [] = take_more keys i k within ∙ ap (λ (x : Descriptor). take i keys ++ x ∷ []) (sym is) in
+    subst (λ (ks : Keys). Contains new root ↔ IsRootOfKeys graph referrers ks root) (sym taken) (roots_more graph referrers (take i keys) k old new grown before root)
 
-  -- once the roots of one more tag are added, the roots are those of the tags so far
-  pub placed_more : (graph : List Node) (referrers : Option ℕ) (old new : Keys)
-      → ((root : Descriptor) → Contains new root ↔ (Contains old root ⊎ IsRootOfKey graph referrers t.1 root))
-      → ((root : Descriptor) → Contains old root ↔ IsRootOfKeys graph referrers (values_of (by_bytes (take i tags))) root)
-      → (root : Descriptor) → Contains new root ↔ IsRootOfKeys graph referrers (values_of (by_bytes (take (i + 1) tags))) root
-  placed_more graph referrers old new grown before root =
-      subst (λ (keys : Keys). Contains new root ↔ IsRootOfKeys graph referrers keys root) (sym keys_more) (roots_more graph referrers (values_of (by_bytes (take i tags))) t.1 old new grown before root)
-
--- before the first tag there are none, and once the roots of all tags are added, they are those of
--- the tags
+-- before the first key there are none, and once the roots of all keys are added, they are those of
+-- the keys
 pub placed_none : (graph : List Node) (referrers : Option ℕ) (roots : Keys) → roots ≡ [] → (root : Descriptor) → Contains roots root ↔ IsRootOfKeys graph referrers [] root
 placed_none graph referrers roots none root = subst (λ (keys : Keys). Contains keys root ↔ IsRootOfKeys graph referrers [] root) (sym none) (λ there. absurd (empty root there), λ of. absurd (empty of.0 of.1))
   where
     empty : (k : Descriptor) → Contains [] k → ⊥
     empty k there = let h : there.0 < 0 = there.1 in omega arith
 
-pub placed_all : (graph : List Node) (referrers : Option ℕ) (roots : Keys) (tags : List (String Global × Descriptor)) (i : ℕ) → length tags ≤ i
-    → ((root : Descriptor) → Contains roots root ↔ IsRootOfKeys graph referrers (values_of (by_bytes (take i tags))) root)
-    → (root : Descriptor) → Contains roots root ↔ IsRootOfKeys graph referrers (values_of (by_bytes tags)) root
-placed_all graph referrers roots tags i past so_far root =
-    subst (λ (ts : List (String Global × Descriptor)). Contains roots root ↔ IsRootOfKeys graph referrers (values_of (by_bytes ts)) root) (take_all i tags past) (so_far root)
+pub placed_all : (graph : List Node) (referrers : Option ℕ) (roots keys : Keys) (i : ℕ) → length keys ≤ i
+    → ((root : Descriptor) → Contains roots root ↔ IsRootOfKeys graph referrers (take i keys) root)
+    → (root : Descriptor) → Contains roots root ↔ IsRootOfKeys graph referrers keys root
+placed_all graph referrers roots keys i past so_far root =
+    subst (λ (ks : Keys). Contains roots root ↔ IsRootOfKeys graph referrers ks root) (take_all i keys past) (so_far root)
 
--- combines two facts about a result that succeeded
-pub both_ok : {X E : Type 0} {P Q R : X → Type 0} (r : Result X E) → ((x : X) → P x → Q x → R x) → IfOk r P → IfOk r Q → IfOk r R
-both_ok (Ok x) gives p q = gives x p q
-both_ok (Err e) gives p q = p
+-- combines three facts about a result that succeeded
+pub all_ok : {X E : Type 0} {P Q S R : X → Type 0} (r : Result X E) → ((x : X) → P x → Q x → S x → R x) → IfOk r P → IfOk r Q → IfOk r S → IfOk r R
+all_ok (Ok x) gives p q s = gives x p q s
+all_ok (Err e) gives p q s = p

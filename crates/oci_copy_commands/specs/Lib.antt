@@ -1,3 +1,4 @@
 pub mod Between
+pub mod Brought
 pub mod Refusal
 pub mod Selected

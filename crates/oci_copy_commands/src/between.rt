@@ -1,4 +1,4 @@
-ghost use Rattle.std.specs.Prelude.{◌≡◌, ◌≢◌, ◌≤◌, ◌⊎◌, ℕ, List, [], Ok, Err, Contains, IsOk, IfOk, OnOk, OnErr, IfErr};
+ghost use Rattle.std.specs.Prelude.{◌≡◌, ◌≢◌, ◌≤◌, ◌⊎◌, ℕ, List, [], Ok, Err, map, Contains, IsOk, IfOk, OnOk, OnErr, IfErr};
 ghost use Rattle.std.specs.List.{All};
 ghost use Rattle.std.specs.Map.{keys_of, values_of};
 ghost use Rattle.oci_store.specs.Closed.{IsClosed};
@@ -8,7 +8,10 @@ ghost use Rattle.oci_copy.specs.Cause.{CanFail, IsStepCause, RefusedAt, RefusedB
 ghost use Rattle.oci_copy.specs.Grown.{BeginsWith};
 ghost use Rattle.oci_copy.specs.Planned.{IsPlanOf};
 ghost use Rattle.oci_copy.specs.Report.{IsReport};
+ghost use Rattle.oci_layout.specs.Brought.{Brings};
+ghost use Rattle.oci_layout.specs.Entries.{entry_of};
 ghost use Rattle.oci_layout.specs.Files.{HasFiles};
+ghost use Rattle.oci_layout.specs.Layout.{OnlyIndex};
 ghost use Rattle.oci_layout.specs.Refusal.{IsPutFault};
 ghost use Rattle.oci_copy_commands.specs.Between.{BringsOnlyChecked, BringsOnlyMet, HasReached, HoldsWhatCame, IsCopiedBetween, IsSaved, IsTrusted};
 ghost use Rattle.oci_copy_commands.specs.Refusal.{AfterRefusedCopy, IsRefusedBetween};
@@ -16,7 +19,7 @@ ghost use Rattle.oci_copy_commands.specs.Selected.{set_tags};
 
 use crate::selected::Selected;
 use oci_copy::{CopyFault, Options, Report, copy_plan};
-use oci_layout::{Dir, Layout};
+use oci_layout::{Dir, Layout, OpenedIndex};
 use oci_manifest::Key;
 use oci_plan::Plan;
 use oci_pool::Hooks;
@@ -25,8 +28,8 @@ use oci_store::{RefFault, Store, Tagger};
 use std::sync::Wait;
 use std::thread::Threads;
 
-/// Copies the planned blobs from one layout into another, sets the selected tags there, and saves
-/// it.
+/// Copies the planned blobs from one layout into another, sets the selected tags there, brings the
+/// selected entries, and saves it.
 ///
 /// The plan is one that `plan_copy` made of these two layouts, the selected roots and these
 /// options. The destination is always returned. A refused copy is not saved: `index.json` is
@@ -68,7 +71,11 @@ where
         (⟦<Layout<S> as Store>⟧.state source.now) (⟦<Layout<D> as Store>⟧.state destination)
         selected.now.0 (⟦<Layout<D> as Store>⟧.state result.0)) }
     ensures tagged { OnOk result.1 (result.0.tags ≡ set_tags destination.tags selected.now.1) }
+    ensures brought { OnOk result.1 (Brings (map entry_of selected.now.2) result.0.tags
+        destination.opened result.0.opened) }
     ensures untagged { IfErr result.1 (AfterRefusedCopy (result.0.tags ≡ destination.tags)) }
+    ensures remembered { IfErr result.1 (AfterRefusedCopy
+        (result.0.opened ≡ destination.opened)) }
     ensures refused { IfErr result.1 (IsRefusedBetween (RefusedByWorkers options.now.workers
         (RefusedAt (Contains plan.now.keys) (IsStepCause
         (CanFail ⟦<Layout<D> as Store>⟧.state (⟦<Layout<D> as Store>⟧.state destination))
@@ -89,6 +96,9 @@ where
         → HasFiles (D.device result.0.dir).file (⟦<Layout<D> as Store>⟧.state result.0).entries
         result.0.graph result.0.tags result.0.opened) }
 {
+    // A copy may change what the destination remembers of its index, as far as its contract says.
+    let mut destination = destination;
+    let index = destination.take_index();
     let roots = selected.roots();
     let (destination, copied) = copy_plan(
         rt,
@@ -100,19 +110,24 @@ where
         options,
         hooks,
     );
-    finish(destination, copied, selected)
+    finish(destination, index, copied, selected)
 }
 
-/// Sets the selected tags in the destination of a copy, and saves it, unless the copy was refused.
+/// Gives the destination of a copy back what it remembered of its index. Sets the selected tags,
+/// brings the selected entries and saves it, unless the copy was refused.
 fn finish<D: Dir>(
     destination: Layout<D>,
+    index: OpenedIndex,
     copied: Result<Report, CopyFault>,
     selected: &Selected,
 ) -> (Layout<D>, Result<Report, ProgramFault>)
     requires held { OnOk copied (HasAll destination.graph selected.now.0) }
     ensures report { IfOk result.1 (λ it. copied ≡ Ok it) }
     ensures tagged { OnOk result.1 (result.0.tags ≡ set_tags destination.tags selected.now.1) }
-    ensures unsaved { OnErr copied (result.0 ≡ destination) }
+    ensures brought { OnOk result.1 (Brings (map entry_of selected.now.2) result.0.tags index
+        result.0.opened) }
+    ensures unsaved { OnErr copied (OnlyIndex destination result.0) }
+    ensures remembered { OnErr copied (result.0.opened ≡ index) }
     ensures saved { IsSaved (⟦<Layout<D> as Store>⟧.state destination)
         (⟦<Layout<D> as Store>⟧.state result.0) }
     ensures files { OnOk result.1 ((⟦<Layout<D> as Store>⟧.state destination).is_sound
@@ -123,6 +138,7 @@ fn finish<D: Dir>(
         (IsPutFault (D.device destination.dir).failures (D.device result.0.dir).failures)) }
 {
     let mut destination = destination;
+    destination.put_index(index);
     match copied {
         Ok(report) => match tag_and_save(&mut destination, selected) {
             Ok(()) => (destination, Ok(report)),
@@ -132,7 +148,8 @@ fn finish<D: Dir>(
     }
 }
 
-/// Sets the selected tags in a layout that holds their keys, and saves it.
+/// Sets the selected tags in a layout that holds their keys, brings the selected entries, and saves
+/// it.
 fn tag_and_save<D: Dir>(
     destination: &mut Layout<D>,
     selected: &Selected,
@@ -140,6 +157,8 @@ fn tag_and_save<D: Dir>(
     requires held { HasAll destination.old.graph selected.now.0 }
     ensures tagged { OnOk result (destination.new.tags
         ≡ set_tags destination.old.tags selected.now.1) }
+    ensures brought { OnOk result (Brings (map entry_of selected.now.2) destination.new.tags
+        destination.old.opened destination.new.opened) }
     ensures saved { IsSaved (⟦<Layout<D> as Store>⟧.state destination.old)
         (⟦<Layout<D> as Store>⟧.state destination.new) }
     ensures files { OnOk result ((⟦<Layout<D> as Store>⟧.state destination.old).is_sound
@@ -152,6 +171,10 @@ fn tag_and_save<D: Dir>(
 {
     if let Err(fault) = tag_all(destination, selected.tags()) {
         return Err(ProgramFault::Copy(CopyFault::from(fault)));
+    }
+    match destination.bring(selected.entries()) {
+        Ok(()) => {}
+        Err(_) => return Err(ProgramFault::Copy(CopyFault::Memory)),
     }
     match destination.save() {
         Ok(()) => Ok(()),
@@ -171,6 +194,7 @@ pub(crate) fn tag_all<D: Dir>(
         (by_bytes tags.now)) }
     ensures graph { destination.new.graph ≡ destination.old.graph }
     ensures dir { destination.new.dir ≡ destination.old.dir }
+    ensures opened { destination.new.opened ≡ destination.old.opened }
     ensures memory { IfErr result (λ fault. fault ≡ RefFault.Memory) }
 {
     for (name, key) in tags {

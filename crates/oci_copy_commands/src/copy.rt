@@ -15,11 +15,12 @@ use oci_prune::PruneFault;
 use std::io::Write;
 
 /// `copy SRC SRCREF DST [DSTREF]` and `copy --all SRC DST`: copies the selected blobs, tags them in
-/// the destination, and saves it. Prints in this form the key of each tag and the report. With
-/// `--progress` each blob is printed on `err` when it arrives. Without it, on a terminal, one line
-/// shows how much has arrived. With `--dry-run` only the plan is printed. With `--all --prune` the
-/// tags that the source does not have are removed too, and what no tag then needs; the tags and
-/// what was removed are printed. `F` is [`ProgramFault`] or another type that is made from one.
+/// the destination, brings the entries of SRC's index, and saves it. Prints in this form the key of
+/// each tag and the report. With `--progress` each blob is printed on `err` when it arrives.
+/// Without it, on a terminal, one line shows how much has arrived. With `--dry-run` only the plan
+/// is printed. With `--all --prune` the tags that the source does not have are removed too, and
+/// what no tag then needs; the tags and what was removed are printed. `F` is [`ProgramFault`] or
+/// another type that is made from one.
 ///
 /// Otherwise a destination without `oci-layout` becomes a layout, once the source is open and its
 /// reference is resolved. The destination's folder is locked from before the destination is opened
@@ -36,8 +37,9 @@ use std::io::Write;
 /// - 99 `Locked` if another process has the lock of DST, and the words say not to wait.
 /// - 97 `NoTags` with `--all`, if SRC has no tag, and 96 `Unknown` if it lacks the blob of an entry
 ///   of its index that has a tag.
-/// - 96 `Unknown` and 98 `LinkedBlobs` with `--prune`, if SRC or DST lacks the blob of an entry of
-///   its index, or DST has a link to a folder of blobs.
+/// - 96 `Unknown` and 98 `LinkedBlobs` with `--prune`, if SRC lacks the blob of an entry of its
+///   index, or DST that of an entry without a tag or a blob that a kept manifest lists, or DST has
+///   a link to a folder of blobs.
 /// - 80 `DestinationOpen` and 81 `Plan` if there is no plan.
 /// - 82 `Push` and 88 `Fetch` if a blob cannot be copied, and 74 `Device` if the index cannot be
 ///   written. Blobs that arrived stay.
@@ -127,7 +129,7 @@ where
 fn copy_under_lock<R: Host, S: Dir + Sync, D: PrunableDir + Drop + Send, X: Write + Send>(
     rt: &R,
     source: &Layout<S>,
-    destination: Layout<D>,
+    mut destination: Layout<D>,
     selected: &Selected,
     words: &CopyWords<'_>,
     lock: &FolderLock<R>,
@@ -139,6 +141,7 @@ where
 {
     let options = options_of(words);
     if words.prunes {
+        destination.forget_names()?;
         check_destination(rt.alloc(), &destination)?;
     }
     let plan = plan_copy(rt.alloc(), source, &destination, selected.roots(), &options)?;

@@ -7,6 +7,7 @@
 
 mod answer;
 mod between;
+mod brought;
 mod copy;
 mod destination;
 mod dry_run;

@@ -1,6 +1,8 @@
-ghost use Rattle.std.specs.Prelude.{◌≡◌, ◌≢◌, [], OnOk};
+ghost use Rattle.std.specs.Prelude.{◌≡◌, ◌≢◌, [], map, OnOk};
 ghost use Rattle.oci_copy.specs.Planned.{IsPlanOf};
 ghost use Rattle.oci_store.specs.Keyed.{HasAll};
+ghost use Rattle.oci_layout.specs.Brought.{Brings};
+ghost use Rattle.oci_layout.specs.Entries.{entry_of};
 ghost use Rattle.oci_copy_commands.specs.Selected.{other_tags, set_tags, without_tags};
 
 use crate::Host;
@@ -89,8 +91,8 @@ fn check_plan<D: PrunableDir>(alloc: Global, layout: &Layout<D>) -> Result<(), P
 }
 
 /// Copies the planned blobs into a layout, sets the selected tags there and removes all others,
-/// saves it, and removes what no tag needs. The layout is saved once, before a file is removed that
-/// the old index needs.
+/// brings the selected entries, saves it, and removes what no tag needs. The layout is saved once,
+/// before a file is removed that the old index needs.
 ///
 /// The plan is one that `plan_copy` made of these two layouts, the selected roots and these
 /// options. If the copy is refused, no tag and no file is removed, and the index is not written.
@@ -99,8 +101,8 @@ fn check_plan<D: PrunableDir>(alloc: Global, layout: &Layout<D>) -> Result<(), P
 ///
 /// - 82 `Push` if the destination refuses a blob, and 88 `Fetch` if the source does.
 /// - 85 `BadWorkers` if there are more than 64 workers. Nothing is copied.
-/// - 96 `Unknown`, 88 `Fetch` and 77 `BadManifest` if the destination cannot be pruned after all. The
-///   copied blobs stay, and the index is not written.
+/// - 96 `Unknown`, 88 `Fetch` and 77 `BadManifest` if the destination cannot be pruned after all.
+///   The copied blobs stay, and the index is not written.
 /// - 74 `Device` if `index.json` could not be written.
 /// - Out of memory, at any point.
 pub(crate) fn mirror<R: Host, S: Dir + Sync, D: PrunableDir + Drop + Send, H: Hooks + Sync>(
@@ -118,6 +120,8 @@ where
     requires { IsPlanOf (⟦<Layout<S> as Store>⟧.state source.now) options.now
         (⟦<Layout<D> as Store>⟧.state destination) selected.now.0 plan.now }
 {
+    let mut destination = destination;
+    let index = destination.take_index();
     let roots = selected.roots();
     let (mut destination, copied) = copy_plan(
         rt,
@@ -129,6 +133,7 @@ where
         options,
         hooks,
     );
+    destination.put_index(index);
     match copied {
         Ok(report) => match clean_up(rt.alloc(), &mut destination, selected) {
             Ok(removed) => Ok(Copied {
@@ -141,8 +146,8 @@ where
     }
 }
 
-/// Sets the selected tags in a layout that holds their keys, removes all others, saves it, and
-/// removes what no tag needs.
+/// Sets the selected tags in a layout that holds their keys, removes all others, brings the
+/// selected entries, saves it, and removes what no tag needs.
 ///
 /// # Errors
 ///
@@ -156,8 +161,11 @@ fn clean_up<D: PrunableDir>(
     ensures tags { OnOk result (destination.new.tags
         ≡ without_tags (set_tags destination.old.tags selected.now.1)
         (other_tags destination.old.tags selected.now.1)) }
+    ensures brought { OnOk result (Brings (map entry_of selected.now.2) destination.new.tags
+        destination.old.opened destination.new.opened) }
 {
     let untagged = retag(alloc, destination, selected)?;
+    destination.bring(selected.entries())?;
     let plan = match plan_prune(alloc, destination, true) {
         Ok(plan) => plan,
         Err(fault) => return Err(fault_of(fault)),

@@ -31,6 +31,7 @@ pub(crate) fn retag<D: Dir>(
     ensures removed { IfOk result (λ others. by_bytes others.items
         ≡ other_tags layout.old.tags selected.now.1) }
     ensures graph { layout.new.graph ≡ layout.old.graph }
+    ensures opened { layout.new.opened ≡ layout.old.opened }
 {
     let tags = selected.tags();
     let others = other_tags(alloc, &layout.tags()?, tags)?;
@@ -48,13 +49,14 @@ pub(crate) fn retag<D: Dir>(
 /// # Errors
 ///
 /// The first refusal of a tag. The tags before it are removed.
-fn untag_all<T: Untagger>(store: &mut T, tags: &[(String, Key)]) -> Result<(), RefFault>
-    ensures untagged { OnOk result ((T.state store.new).tags ≡ without_tags
-        (T.state store.old).tags (by_bytes tags.now)) }
-    ensures nodes { (T.state store.new).nodes ≡ (T.state store.old).nodes }
+fn untag_all<D: Dir>(layout: &mut Layout<D>, tags: &[(String, Key)]) -> Result<(), RefFault>
+    ensures untagged { OnOk result (layout.new.tags
+        ≡ without_tags layout.old.tags (by_bytes tags.now)) }
+    ensures graph { layout.new.graph ≡ layout.old.graph }
+    ensures opened { layout.new.opened ≡ layout.old.opened }
 {
     for (name, _) in tags {
-        store.untag(name)?;
+        layout.untag(name)?;
     }
     Ok(())
 }

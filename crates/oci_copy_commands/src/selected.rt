@@ -1,11 +1,19 @@
-ghost use Rattle.std.specs.Prelude.{◌≡◌, ◌≢◌, ◌↔◌, ◌⊎◌, [], ◌∷◌, true, string_bytes, Contains, IfOk, OnOk};
+ghost use Rattle.std.specs.Prelude.{◌≡◌, ◌≢◌, ◌↔◌, ◌⊎◌, [], ◌∷◌, true, map, string_bytes, Contains, IfOk, OnOk};
+ghost use Rattle.std.specs.List.{All};
+ghost use Rattle.std.specs.Map.{values_of};
 ghost use Rattle.oci_manifest.specs.Descriptor.{Descriptor};
 ghost use Rattle.oci_copy.specs.Tagged.{name_of, ResolvesIn};
 ghost use Rattle.oci_store.specs.Tags.{by_bytes};
 ghost use Rattle.oci_store.specs.Keyed.{has_key};
-ghost use Rattle.oci_copy_commands.specs.Selected.{has_name, AreNamedHeld, AreOfRoots, AreRoots, AreRootsOfTags, IsNamedHeld, IsRootOfKey};
+ghost use Rattle.oci_store.specs.Visiting.{with_keys};
+ghost use Rattle.oci_layout.specs.Brought.{IsShallowEntry};
+ghost use Rattle.oci_layout.specs.Entries.{entry_keys, entry_of, said};
+ghost use Rattle.oci_copy_commands.specs.Brought.{named_entries, reference_entry, with_roots};
+ghost use Rattle.oci_copy_commands.specs.Selected.{named_keys, AreNamedHeld, AreOfRoots, AreRoots, AreRootsOfKeys, IsNamedHeld, IsRootOfKey};
 
+use crate::brought::{entries_of_reference, entries_of_tags, named_entries};
 use oci_command_line::{CopyWords, Selection};
+use oci_digest::NoMemory;
 use oci_layout::{Dir, IndexEntry, Layout};
 use oci_manifest::Key;
 use oci_plan::climb;
@@ -15,24 +23,32 @@ use oci_store::{Dest, GraphSource, KeyList, Store, Tagger};
 use std::alloc::Global;
 use std::marker::Model;
 
-/// The roots of a copy, and the tags that it sets, each of a root.
+/// The roots of a copy, the tags that it sets, each of a root, and the entries that it brings.
 #[derive(Drop)]
 pub struct Selected {
     roots: Vec<Key>,
     tags: Vec<(String, Key)>,
+    entries: Vec<IndexEntry>,
 }
 
 impl Model for Selected {
-    ghost use Rattle.std.specs.Prelude.{List};
+    ghost use Rattle.std.specs.Prelude.{List, map};
+    ghost use Rattle.std.specs.Coded.{codes};
     ghost use Rattle.oci_manifest.specs.Descriptor.{Descriptor};
     ghost use Rattle.oci_store.specs.Tags.{Tags, by_bytes};
-    ghost use Rattle.oci_copy_commands.specs.Selected.{AreOfRoots};
+    ghost use Rattle.oci_layout.specs.Entries.{entry_of};
+    ghost use Rattle.oci_layout.specs.contracts.index.IndexEntry as entry;
+    ghost use Rattle.oci_layout.specs.declared.index.IndexEntry.{IndexEntry};
+    ghost use Rattle.oci_copy_commands.specs.Selected.{IsSelected};
 
-    ghost Value = { List Descriptor × Tags };
+    ghost Value = { List Descriptor × Tags × List IndexEntry };
 
-    ghost view = { λ s. (s.roots.items, by_bytes s.tags.items) };
+    ghost coded = { Prim.hlevel (codes, entry.the_row.coded) };
 
-    ghost invariant = { λ s. AreOfRoots s.roots.items (by_bytes s.tags.items) };
+    ghost view = { λ s. (s.roots.items, by_bytes s.tags.items, s.entries.items) };
+
+    ghost invariant = { λ s. IsSelected s.roots.items (by_bytes s.tags.items)
+        (map entry_of s.entries.items) };
 }
 
 impl Selected {
@@ -62,6 +78,10 @@ impl Selected {
     /// are selected too, at most that number of levels up; 0 means no limit. The blob is tagged
     /// `to`, or `from` if `to` is empty.
     ///
+    /// The copy brings the entry of the reference under that name: the last one of the name `from`,
+    /// or else the last one of the blob without a name, or else its last one. It brings the entries
+    /// of the referrers without their names.
+    ///
     /// # Errors
     ///
     /// - 35 `EmptyReference` if `from` is empty, and 36 `UnknownReference` if it is unknown.
@@ -76,33 +96,45 @@ impl Selected {
         ensures { IfOk result (λ selected. (k : Descriptor)
             × ResolvesIn (⟦<Layout<D> as Store>⟧.state source.now) from.now k
             × AreRoots source.now.graph referrers k selected.0
-            × (selected.1 ≡ (name_of from.now to.now, k) ∷ [])) }
+            × (selected.1 ≡ (name_of from.now to.now, k) ∷ [])
+            × (map entry_of selected.2 ≡ with_roots (said source.now.opened.content).entries
+            (reference_entry (said source.now.opened.content).entries from.now
+            (name_of from.now to.now) k) selected.0)) }
     {
         let key = source.resolve(from)?;
         let roots = roots_of(alloc, source, &key, referrers)?;
         let name = tag_name(alloc, from, to)?;
-        Selected::tagged(alloc, roots, name, key)
+        let entries = entries_of_reference(alloc, source.entries(), from, &name, &key, &roots)?;
+        Selected::tagged(alloc, roots, name, key, entries)
     }
 
-    /// Selects roots, one of which is tagged.
+    /// Selects roots, one of which is tagged, and entries.
     fn tagged(
         alloc: Global,
         roots: Vec<Key>,
         name: String,
         key: Key,
+        entries: Vec<IndexEntry>,
     ) -> Result<Selected, ProgramFault>
         requires named { string_bytes name ≢ [] }
         requires rooted { Contains roots.items key }
+        requires shallow { All IsShallowEntry (map entry_of entries.items) }
         ensures roots { IfOk result (λ selected. selected.0 ≡ roots.items) }
         ensures tags { IfOk result (λ selected. selected.1 ≡ (string_bytes name, key) ∷ []) }
+        ensures entries { IfOk result (λ selected. selected.2 ≡ entries.items) }
     {
         let mut tags = Vec::new(alloc);
         tags.push((name, key))?;
-        Ok(Selected { roots, tags })
+        Ok(Selected {
+            roots,
+            tags,
+            entries,
+        })
     }
 
-    /// Selects the blob of each tag of the source, and with `referrers` its referrers. The copy
-    /// sets the same tags.
+    /// Selects the blob of each tag of the source, and that of each entry with a name, also if a
+    /// later entry has the name too. With `referrers` their referrers are selected too. The copy
+    /// sets the same tags, brings all entries with a name, and those of the referrers.
     ///
     /// # Errors
     ///
@@ -119,16 +151,25 @@ impl Selected {
             source.now.opened.content.entries) }
         ensures tagged { OnOk result (source.now.tags ≢ []) }
         ensures tags { IfOk result (λ selected. selected.1 ≡ source.now.tags) }
-        ensures roots { IfOk result (λ selected. AreRootsOfTags source.now.graph referrers
-            source.now.tags selected.0) }
+        ensures roots { IfOk result (λ selected. AreRootsOfKeys source.now.graph referrers
+            (named_keys source.now.tags (said source.now.opened.content).entries) selected.0) }
+        ensures entries { IfOk result (λ selected. map entry_of selected.2
+            ≡ with_roots (said source.now.opened.content).entries
+            (named_entries (said source.now.opened.content).entries) selected.0) }
     {
         check_entries(source, source.entries())?;
         let tags = source.tags()?;
         if tags.is_empty() {
             return Err(ProgramFault::Prune(PruneFault::NoTags));
         }
-        let roots = roots_of_tags(alloc, source, &tags, referrers)?;
-        Ok(Selected { roots, tags })
+        let keys = named_keys(alloc, &tags, source.entries())?;
+        let roots = roots_of_keys(alloc, source, &keys, referrers)?;
+        let entries = entries_of_tags(alloc, source.entries(), &roots)?;
+        Ok(Selected {
+            roots,
+            tags,
+            entries,
+        })
     }
 
     /// Returns the keys that the copy starts from, each once.
@@ -144,6 +185,14 @@ impl Selected {
         ensures of_roots { AreOfRoots self.now.0 self.now.1 }
     {
         &self.tags
+    }
+
+    /// Returns the entries that the copy brings.
+    pub fn entries(&self) -> &[IndexEntry]
+        ensures entries { result.now ≡ self.now.2 }
+        ensures shallow { All IsShallowEntry (map entry_of self.now.2) }
+    {
+        &self.entries
     }
 
     /// Returns the tags that the copy sets, and the root that each names.
@@ -169,7 +218,7 @@ fn check_entries<D: Dir>(layout: &Layout<D>, entries: &[IndexEntry]) -> Result<(
 fn check_entry<D: Dir>(layout: &Layout<D>, entry: &IndexEntry) -> Result<(), ProgramFault>
     ensures { OnOk result (IsNamedHeld layout.now.graph entry.now) }
 {
-    if !has_name(entry) {
+    if !entry.has_name() {
         return Ok(());
     }
     check_held(layout, &entry.key)
@@ -185,16 +234,6 @@ fn check_held<D: Dir>(layout: &Layout<D>, key: &Key) -> Result<(), ProgramFault>
     Err(ProgramFault::Prune(PruneFault::Unknown(key.try_clone()?)))
 }
 
-/// Returns whether an entry has a name. An empty text is none.
-fn has_name(entry: &IndexEntry) -> bool
-    ensures { result ≡ has_name entry.now }
-{
-    match &entry.name {
-        Some(name) => !name.is_empty(),
-        None => false,
-    }
-}
-
 /// The tag to set: the destination's reference, or the source's if that is empty.
 fn tag_name(alloc: Global, from: &str, to: &str) -> Result<String, ProgramFault>
     ensures name { IfOk result (λ name. string_bytes name ≡ name_of from.now to.now) }
@@ -207,18 +246,54 @@ fn tag_name(alloc: Global, from: &str, to: &str) -> Result<String, ProgramFault>
     }
 }
 
-/// The roots of a copy of these tags, each once.
-fn roots_of_tags<A: GraphSource>(
+/// Returns the tagged keys, and those of the entries with a name, each once.
+fn named_keys(
+    alloc: Global,
+    tags: &[(String, Key)],
+    entries: &[IndexEntry],
+) -> Result<Vec<Key>, NoMemory>
+    ensures { IfOk result (λ keys. (k : Descriptor) → Contains keys.items k
+        ↔ Contains (named_keys (by_bytes tags.now) (map entry_of entries.now)) k) }
+{
+    let mut keys = KeyList::new(alloc);
+    place_tags(tags, &mut keys)?;
+    place_entries(&named_entries(alloc, entries)?, &mut keys)?;
+    Ok(keys.into_keys())
+}
+
+/// Adds the keys of tags, each if it is new.
+fn place_tags(tags: &[(String, Key)], keys: &mut KeyList) -> Result<(), NoMemory>
+    ensures { OnOk result (keys.new ≡ with_keys keys.old (values_of (by_bytes tags.now))) }
+{
+    for (_, key) in tags {
+        keys.place(key)?;
+    }
+    Ok(())
+}
+
+/// Adds the keys of entries, each if it is new.
+fn place_entries(entries: &[IndexEntry], keys: &mut KeyList) -> Result<(), NoMemory>
+    ensures { OnOk result (keys.new
+        ≡ with_keys keys.old (entry_keys (map entry_of entries.now))) }
+{
+    for entry in entries {
+        keys.place(&entry.key)?;
+    }
+    Ok(())
+}
+
+/// The roots of a copy of these keys, each once.
+fn roots_of_keys<A: GraphSource>(
     alloc: Global,
     source: &A,
-    tags: &[(String, Key)],
+    keys: &[Key],
     referrers: Option<u32>,
 ) -> Result<Vec<Key>, ProgramFault>
-    ensures { IfOk result (λ roots. AreRootsOfTags (A.state source.now).nodes referrers
-        (by_bytes tags.now) roots.items) }
+    ensures { IfOk result (λ roots. AreRootsOfKeys (A.state source.now).nodes referrers keys.now
+        roots.items) }
 {
     let mut roots = KeyList::new(alloc);
-    for (_, key) in tags {
+    for key in keys {
         place_roots(alloc, source, key, referrers, &mut roots)?;
     }
     Ok(roots.into_keys())

@@ -12,11 +12,11 @@ use Rattle.oci_layout.specs.Entries.{IndexEntry, entry_of, text_of}
 use Rattle.oci_layout.specs.Saved.{HasLastPlaces, is_name, last_entry, last_place, later_place}
 use Rattle.oci_layout.specs.declared.index.IndexEntry.{IndexEntry as CodeEntry}
 
-later_place-cond : (b here : Bool) (n : ℕ) (o : Option ℕ) → later_place (cond b (Some n) o) here ≡ cond b (Some (suc n)) (later_place o here)
+pub later_place-cond : (b here : Bool) (n : ℕ) (o : Option ℕ) → later_place (cond b (Some n) o) here ≡ cond b (Some (suc n)) (later_place o here)
 later_place-cond true here n o = refl
 later_place-cond false here n o = refl
 
-later_place-none : (b : Bool) → later_place None b ≡ cond b (Some 0) None
+pub later_place-none : (b : Bool) → later_place None b ≡ cond b (Some 0) None
 later_place-none true = refl
 later_place-none false = refl
 

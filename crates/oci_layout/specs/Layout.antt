@@ -59,3 +59,9 @@ pub record OnlyTags {D : Type 0} (old new : LayoutState D) : Type 0 where
   pub dir : new.dir ≡ old.dir
   pub graph : new.graph ≡ old.graph
   pub opened : new.opened ≡ old.opened
+
+-- only what the layout remembers of its index changed
+pub record OnlyIndex {D : Type 0} (old new : LayoutState D) : Type 0 where
+  pub dir : new.dir ≡ old.dir
+  pub graph : new.graph ≡ old.graph
+  pub tags : new.tags ≡ old.tags

@@ -1,5 +1,6 @@
 mod algorithms;
 mod arrivals;
+mod brought;
 mod changing;
 mod copies;
 mod drafting;

@@ -23,6 +23,8 @@ pub(crate) const COPY: CommandText = CommandText {
          images of an index, the subject of a referrer. Blobs that DST has are not copied again. DST is \
          created if it is not a layout. On a terminal, a line shows how many blobs and bytes have \
          arrived.\n\n\
+         The entry that SRC has of the image in `index.json` comes along, with all that it says, such as \
+         `platform` and annotations. It replaces DST's entries of the tag.\n\n\
          Prints `copied` for each tag, with the digest, the size and the media type of its blob. The last \
          line counts the blobs: `planned`, `pushed`, and `skipped` for requested blobs that DST already \
          had.\n\n\

@@ -44,10 +44,11 @@ pub(crate) const PRUNE: CommandText = CommandText {
     about: "Removes the blobs of a layout that no tag needs, to free their space",
     details: Some(
         "Removes the blobs of a layout that no tag needs, to free their space.\n\n\
-         Every tagged blob is kept, with everything that it reaches: the config and the layers of an \
-         image, the images of an index, the subject of a referrer. With each kept blob its referrers are \
-         kept too, such as signatures and SBOMs, with everything that these reach: they are the manifests \
-         of the layout whose `subject` is that blob. An index is not kept because it lists a kept blob. \
+         Every tagged blob is kept, and that of each earlier entry of a tag in `index.json`, with \
+         everything that it reaches: the config and the layers of an image, the images of an index, the \
+         subject of a referrer. With each kept blob its referrers are kept too, such as signatures and \
+         SBOMs, with everything that these reach: they are the manifests of the layout whose `subject` is \
+         that blob. An index is not kept because it lists a kept blob. \
          Layers that are not to be distributed are not kept, as `copy` does not copy them. A manifest of \
          a type that `copy` does not read, such as Docker's schema 1, counts as a blob that lists nothing.\n\n\
          All other blobs are removed, with their entries in `index.json`. Of the files in `blobs/sha256` \

@@ -1,10 +1,10 @@
 //! The entries that a save writes.
-ghost use Rattle.std.specs.Prelude.{◌≡◌, ◌++◌, ◌∷◌, [], not, if◌then◌else◌, ℕ, List, map, option_map, IfOk, OnOk};
+ghost use Rattle.std.specs.Prelude.{◌≡◌, ◌++◌, ◌∷◌, [], if◌then◌else◌, ℕ, List, map, option_map, IfOk, OnOk};
 ghost use Rattle.std.specs.BTreeSet.{contains};
 ghost use Rattle.std.specs.Option.{option_copied};
 ghost use Rattle.oci_manifest.specs.Descriptor.{Descriptor, is_among, key_cmp};
 ghost use Rattle.oci_store.specs.Tags.{by_bytes};
-ghost use Rattle.oci_layout.specs.Entries.{entry_of, text_of};
+ghost use Rattle.oci_layout.specs.Entries.{entry_of};
 ghost use Rattle.oci_layout.specs.Saved.{
   comes_before,
   first_entries,
@@ -14,7 +14,6 @@ ghost use Rattle.oci_layout.specs.Saved.{
   is_place,
   loose_entry,
   named_held,
-  no_name,
   saved_entries,
   tag_entry,
   AreLoose,
@@ -54,7 +53,7 @@ pub(crate) fn saved_entries(
 }
 
 /// Returns the set of these keys.
-fn set_of(alloc: Global, keys: &[Key]) -> Result<BTreeSet<Key>, NoMemory>
+pub(crate) fn set_of(alloc: Global, keys: &[Key]) -> Result<BTreeSet<Key>, NoMemory>
     ensures { IfOk result (λ set. (k : Descriptor) → contains key_cmp set k
         ≡ is_among keys.now k) }
 {
@@ -121,20 +120,10 @@ fn add_if_named(graph: &Graph, entry: &IndexEntry, keys: &mut Vec<Key>) -> Resul
     ensures { OnOk result (keys.new.items
         ≡ keys.old.items ++ named_held graph.now (entry_of entry.now ∷ [])) }
 {
-    if has_name(entry) && graph.holds(&entry.key) {
+    if entry.has_name() && graph.holds(&entry.key) {
         keys.push(entry.key.try_clone()?)?;
     }
     Ok(())
-}
-
-/// Returns whether an entry has a name. An empty text is none.
-fn has_name(entry: &IndexEntry) -> bool
-    ensures { result ≡ not (no_name (text_of entry.now.name)) }
-{
-    match &entry.name {
-        Some(name) => !name.is_empty(),
-        None => false,
-    }
 }
 
 /// Appends a copy of an entry, if the condition is met.

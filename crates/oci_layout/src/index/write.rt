@@ -40,7 +40,7 @@ fn index_of(alloc: Global, members: &Value, entries: &[IndexEntry]) -> Result<Va
 }
 
 /// Returns the members of an object, or none of another value.
-fn owned_members(alloc: Global, object: &Value) -> Result<Map<String, Value>, NoMemory>
+pub(crate) fn owned_members(alloc: Global, object: &Value) -> Result<Map<String, Value>, NoMemory>
     ensures { IfOk result (λ members. members_view members.entries
         ≡ object_members (view object.now)) }
 {
@@ -51,7 +51,7 @@ fn owned_members(alloc: Global, object: &Value) -> Result<Map<String, Value>, No
 }
 
 /// Sets a member.
-fn put(
+pub(crate) fn put(
     alloc: Global,
     members: &mut Map<String, Value>,
     name: &str,

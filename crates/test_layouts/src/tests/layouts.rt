@@ -34,6 +34,15 @@ pub(crate) enum LayoutStep<'a> {
     Holders(Sample),
     /// Result: the keys that a sample's key lists, each followed by `;`, or `not held`.
     Lists(Sample),
+    /// Result: the remembered entry at a place, under a name or without one, or `no entry`.
+    Renamed(usize, Option<&'a str>),
+    /// Brings the entries of a layout with this index, which may have marks. Result: `brought`.
+    Bring(&'a str),
+    /// Forgets the entries with a name. Result: `forgotten`.
+    ForgetNames,
+    /// Takes out what the layout remembers of its index, and puts it back. Result: the number of
+    /// entries that it remembered in between.
+    TakeIndexAndPut,
 }
 
 /// Takes a step with a layout. Returns its result.
@@ -54,6 +63,10 @@ pub(crate) fn with_layout<D: Dir>(
         LayoutStep::Resolve(reference) => resolve(alloc, layout, reference),
         LayoutStep::Holders(sample) => holders(alloc, layout, sample),
         LayoutStep::Lists(sample) => lists(alloc, layout, sample),
+        LayoutStep::Renamed(place, name) => renamed(alloc, layout, place, name),
+        LayoutStep::Bring(index) => bring(alloc, layout, index),
+        LayoutStep::ForgetNames => forget_names(alloc, layout),
+        LayoutStep::TakeIndexAndPut => take_index_and_put(alloc, layout),
     }
 }
 
@@ -215,4 +228,41 @@ fn lists<A: GraphSource>(alloc: Global, layout: &A, sample: Sample) -> Result<St
         Some(keys) => listed(alloc, &keys),
         None => Ok(String::from_str(alloc, "not held")?),
     }
+}
+
+fn renamed<D: Dir>(
+    alloc: Global,
+    layout: &Layout<D>,
+    place: usize,
+    name: Option<&str>,
+) -> Result<String, Fail> {
+    let Some(entry) = layout.entries().get(place) else {
+        return Ok(String::from_str(alloc, "no entry")?);
+    };
+    let entry = match name {
+        Some(name) => entry.with_name(alloc, name)?,
+        None => entry.without_name(alloc)?,
+    };
+    utf8(alloc, &entry.value.to_vec(alloc)?)
+}
+
+fn bring<D: Dir>(alloc: Global, layout: &mut Layout<D>, index: &str) -> Result<String, Fail> {
+    let mut dir = MemDir::new(alloc);
+    dir.put("oci-layout", b"{\"imageLayoutVersion\":\"1.0.0\"}")?;
+    dir.put("index.json", expanded(alloc, index)?.as_bytes())?;
+    let other = made(Layout::open_as_is(alloc, dir))?;
+    layout.bring(other.entries())?;
+    Ok(String::from_str(alloc, "brought")?)
+}
+
+fn forget_names<D: Dir>(alloc: Global, layout: &mut Layout<D>) -> Result<String, Fail> {
+    layout.forget_names()?;
+    Ok(String::from_str(alloc, "forgotten")?)
+}
+
+fn take_index_and_put<D: Dir>(alloc: Global, layout: &mut Layout<D>) -> Result<String, Fail> {
+    let index = layout.take_index();
+    let told = format!(in alloc; "{}", layout.entries().len())?;
+    layout.put_index(index);
+    Ok(told)
 }

@@ -9,4 +9,5 @@ invariant-loop-name g l = record {
   tagged : set_tags l.destination.tags (by_bytes (drop l.name-index l.tags)) ≡ set_tags l.fn.destination.tags (by_bytes l.tags);
   graph : l.destination.graph ≡ l.fn.destination.graph;
   dir : l.destination.dir ≡ l.fn.destination.dir;
+  opened : l.destination.opened ≡ l.fn.destination.opened;
 }

@@ -1,15 +1,53 @@
+use Rattle.std.proofs.Common.{◌≡◌, ◌∙◌, List, map, not, ap, sym, subst}
+use Rattle.std.specs.Prelude.{◌↔◌, Contains}
+use Rattle.std.specs.List.{All}
+use Rattle.std.specs.Map.{values_of}
+use Rattle.std.proofs.lemmas.List.Elements.{All-filter, Contains-append_left}
+use Rattle.oci_manifest.specs.Descriptor.{Descriptor}
 use Rattle.oci_store.specs.Tags.{by_bytes}
-use Rattle.oci_copy_commands.specs.Selected.{AreRootsOfTags}
-use Rattle.oci_copy_commands.proofs.Selections.{tagged_there}
+use Rattle.oci_layout.specs.Brought.{IsShallowEntry}
+use Rattle.oci_layout.specs.Entries.{IndexEntry, entry_keys, entry_of}
+use Rattle.oci_layout.specs.Saved.{no_name}
+use Rattle.oci_copy_commands.specs.Brought.{named_entries, with_roots}
+use Rattle.oci_copy_commands.specs.Selected.{named_keys, AreRootsOfKeys}
+use Rattle.oci_copy_commands.proofs.BroughtEntries.{with_roots_shallow}
+use Rattle.oci_copy_commands.proofs.Selections.{roots_by, tagged_there}
 use Rattle.oci_copy_commands.proofs.selected.Selected.all_tags.Goals as goal
 
 pub invariant_of-result : goal.invariant_of-result
-invariant_of-result g c = record {
-  named = rw c.in_ok-tags.ensures.exact c.tags.ensures.names.named;
-  rooted = rw c.deref.ensures.value at (tagged_there _ _ _ _ c.in_ok-roots.ensures);
-}
+invariant_of-result g c =
+    let tags = by_bytes c.in_ok-tags.tags.items in
+    let keys = c.in_ok-keys.keys.items in
+    let entries = map entry_of c.entries-3.result.now in
+    let same : (k : Descriptor) → Contains keys k ↔ Contains (named_keys tags (map entry_of c.entries-2.result.now)) k = rw c.deref.ensures.value at c.in_ok-keys.ensures in
+    let of : AreRootsOfKeys c.args.source.now.graph c.args.referrers keys c.in_ok-roots.roots.items = rw c.deref-2.ensures.value at c.in_ok-roots.ensures in
+    let shallow : All IsShallowEntry entries = subst (All IsShallowEntry) (sym (ap (map entry_of) c.entries-3.ensures.entries)) c.entries-3.ensures.shallow in
+    record {
+      of_roots = record {
+        named = rw c.in_ok-tags.ensures.exact c.tags.ensures.names.named;
+        rooted =
+            tagged_there c.args.source.now.graph c.args.referrers tags keys c.in_ok-roots.roots.items
+            (λ k tagged. (same k).1 (Contains-append_left (values_of tags) (entry_keys (named_entries (map entry_of c.entries-2.result.now))) k tagged)) of;
+      };
+      shallow =
+          subst (All IsShallowEntry) (sym c.in_ok-entries.ensures)
+          (with_roots_shallow entries (named_entries entries) c.deref-3.result.now shallow (All-filter (λ (e : IndexEntry). not (no_name e.name)) IsShallowEntry entries shallow));
+    }
 
 pub returns-clause-roots : goal.returns-clause-roots
 returns-clause-roots g c =
-    let of_tags : AreRootsOfTags c.args.source.now.graph c.args.referrers (by_bytes c.in_ok-tags.tags.items) c.in_ok-roots.roots.items = rw c.deref.ensures.value at c.in_ok-roots.ensures in
-    rw c.in_ok-tags.ensures.exact at of_tags
+    let tags = c.args.source.now.tags in
+    let entries = map entry_of c.args.source.now.opened.content.entries in
+    let keys = c.in_ok-keys.keys.items in
+    let is_tags : by_bytes c.deref.result.now ≡ tags = ap by_bytes c.deref.ensures.value ∙ c.in_ok-tags.ensures.exact in
+    let is_entries : map entry_of c.entries-2.result.now ≡ entries = ap (map entry_of) c.entries-2.ensures.entries in
+    let same : (k : Descriptor) → Contains keys k ↔ Contains (named_keys tags entries) k = rw (is_tags, is_entries) at c.in_ok-keys.ensures in
+    let of : AreRootsOfKeys c.args.source.now.graph c.args.referrers keys c.in_ok-roots.roots.items = rw c.deref-2.ensures.value at c.in_ok-roots.ensures in
+    roots_by c.args.source.now.graph c.args.referrers keys (named_keys tags entries) c.in_ok-roots.roots.items same of
+
+pub returns-clause-entries : goal.returns-clause-entries
+returns-clause-entries g c =
+    let entries = map entry_of c.args.source.now.opened.content.entries in
+    let is_entries : map entry_of c.entries-3.result.now ≡ entries = ap (map entry_of) c.entries-3.ensures.entries in
+    c.in_ok-entries.ensures ∙ ap (λ (es : List IndexEntry). with_roots es (named_entries es) c.deref-3.result.now) is_entries
+    ∙ ap (λ (ks : List Descriptor). with_roots entries (named_entries entries) ks) c.deref-3.ensures.value

@@ -1,0 +1,301 @@
+//! The entries of a source's index that a copy brings.
+ghost use Rattle.std.specs.Prelude.{◌≡◌, ◌++◌, ◌||◌, false, not, map, option_map, if◌then◌else◌, Some, IfOk, OnOk};
+ghost use Rattle.std.specs.BTreeMap.{get};
+ghost use Rattle.std.specs.List.{flat_map};
+ghost use Rattle.oci_manifest.specs.Descriptor.{Descriptor, key_cmp};
+ghost use Rattle.oci_layout.specs.Entries.{entry_of};
+ghost use Rattle.oci_layout.specs.Saved.{no_name};
+ghost use Rattle.oci_copy_commands.specs.Brought.{
+  entry_at,
+  is_of,
+  is_tagged,
+  last_such,
+  named_entries,
+  place_of_key,
+  place_of_reference,
+  reference_entry,
+  root_entry,
+  with_roots,
+  HasLastPlaces,
+};
+
+use oci_digest::NoMemory;
+use oci_layout::IndexEntry;
+use oci_manifest::Key;
+use std::alloc::Global;
+use std::collections::BTreeMap;
+use std::marker::Model;
+
+/// The entries of an index, with the place of the last one of each key.
+struct LastEntries<'l> {
+    entries: &'l [IndexEntry],
+    unnamed: BTreeMap<Key, usize>,
+    all: BTreeMap<Key, usize>,
+}
+
+/// Written out, so that a proof has one call where it is dropped.
+impl<'l> Drop for LastEntries<'l> {
+    fn drop(self) {
+        let LastEntries {
+            entries: _,
+            unnamed: _unnamed,
+            all: _all,
+        } = self;
+    }
+}
+
+impl<'l> Model for LastEntries<'l> {
+    ghost use Rattle.std.specs.Prelude.{true, false, List, map};
+    ghost use Rattle.std.specs.Coded.{coded_list};
+    ghost use Rattle.oci_layout.specs.declared.index.IndexEntry.{IndexEntry};
+    ghost use Rattle.oci_layout.specs.contracts.index.IndexEntry as entry;
+    ghost use Rattle.oci_layout.specs.Entries.{entry_of};
+    ghost use Rattle.oci_copy_commands.specs.Brought.{HasLastPlaces};
+
+    ghost Value = { List IndexEntry };
+
+    ghost coded = { coded_list entry.the_row.coded };
+
+    ghost view = { λ l. l.entries.now };
+
+    ghost invariant = { λ l. HasLastPlaces true l.unnamed (map entry_of l.entries.now)
+        × HasLastPlaces false l.all (map entry_of l.entries.now) };
+}
+
+impl<'l> LastEntries<'l> {
+    /// Finds the last entry of each key.
+    fn of(alloc: Global, entries: &'l [IndexEntry]) -> Result<LastEntries<'l>, NoMemory>
+        ensures { IfOk result (λ last. last ≡ entries.now) }
+    {
+        let unnamed = last_places(alloc, entries, true)?;
+        let all = last_places(alloc, entries, false)?;
+        Ok(LastEntries {
+            entries,
+            unnamed,
+            all,
+        })
+    }
+
+    /// Returns the place of the entry of a key: the last one without a name, or else the last one.
+    fn place_of_key(&self, key: &Key) -> Option<usize>
+        ensures { result ≡ place_of_key (map entry_of self.now) key.now }
+    {
+        match self.unnamed.get(key) {
+            Some(place) => Some(*place),
+            None => match self.all.get(key) {
+                Some(place) => Some(*place),
+                None => None,
+            },
+        }
+    }
+
+    /// Returns the place of the entry of a reference that resolves to a key: the last one of that
+    /// name and key, or else the entry of the key.
+    fn place_of_reference(&self, name: &str, key: &Key) -> Option<usize>
+        ensures { result ≡ place_of_reference (map entry_of self.now) name.now key.now }
+    {
+        match last_tagged(self.entries, name, key) {
+            Some(place) => Some(place),
+            None => self.place_of_key(key),
+        }
+    }
+
+    /// Returns the entry at a place, if there is one.
+    fn entry_at(&self, place: Option<usize>) -> Option<&'l IndexEntry>
+        ensures { option_map (λ e. entry_of e.now) result
+            ≡ entry_at (map entry_of self.now) place }
+    {
+        self.entries.get(place?)
+    }
+}
+
+/// Returns the place of the last entry of each key; with `unnamed` of those without a name.
+fn last_places(
+    alloc: Global,
+    entries: &[IndexEntry],
+    unnamed: bool,
+) -> Result<BTreeMap<Key, usize>, NoMemory>
+    ensures { IfOk result (λ places. HasLastPlaces unnamed places (map entry_of entries.now)) }
+{
+    let mut places = BTreeMap::new(alloc);
+    for (place, entry) in entries.iter().enumerate() {
+        set_place(&mut places, unnamed, entry, place)?;
+    }
+    Ok(places)
+}
+
+/// Sets the place of an entry's key; with `unnamed` only if it has no name.
+fn set_place(
+    places: &mut BTreeMap<Key, usize>,
+    unnamed: bool,
+    entry: &IndexEntry,
+    place: usize,
+) -> Result<(), NoMemory>
+    ensures { OnOk result ((k : Descriptor) → get key_cmp places.new k
+        ≡ (if is_of unnamed k (entry_of entry.now) then Some place
+        else get key_cmp places.old k)) }
+{
+    if !counts(entry, unnamed) {
+        return Ok(());
+    }
+    places.insert(entry.key.try_clone()?, place)?;
+    Ok(())
+}
+
+/// Returns whether an entry counts; with `unnamed` only if it has no name.
+fn counts(entry: &IndexEntry, unnamed: bool) -> bool
+    ensures { result ≡ (not unnamed || no_name (entry_of entry.now).name) }
+{
+    !unnamed || !entry.has_name()
+}
+
+/// Returns the place of the last entry of a name and a key.
+fn last_tagged(entries: &[IndexEntry], name: &str, key: &Key) -> Option<usize>
+    ensures { result ≡ last_such (is_tagged name.now key.now) (map entry_of entries.now) }
+{
+    let mut last = None;
+    for (place, entry) in entries.iter().enumerate() {
+        if is_tagged(entry, name, key) {
+            last = Some(place);
+        }
+    }
+    last
+}
+
+/// Returns whether an entry is of a name and a key.
+fn is_tagged(entry: &IndexEntry, name: &str, key: &Key) -> bool
+    ensures { result ≡ is_tagged name.now key.now (entry_of entry.now) }
+{
+    match &entry.name {
+        Some(other) => name == other.as_str() && entry.key == *key,
+        None => false,
+    }
+}
+
+/// Returns the entries that a copy of a reference brings: the entry of the reference under a name,
+/// and those of the other roots without theirs.
+pub(crate) fn entries_of_reference(
+    alloc: Global,
+    entries: &[IndexEntry],
+    from: &str,
+    to: &str,
+    key: &Key,
+    roots: &[Key],
+) -> Result<Vec<IndexEntry>, NoMemory>
+    ensures { IfOk result (λ brought. map entry_of brought.items
+        ≡ with_roots (map entry_of entries.now)
+        (reference_entry (map entry_of entries.now) from.now to.now key.now) roots.now) }
+{
+    let last = LastEntries::of(alloc, entries)?;
+    let named = reference_entry(alloc, &last, from, to, key)?;
+    with_roots(alloc, &last, named, roots)
+}
+
+/// Returns the entries that a copy of all tags brings: the ones with a name, and those of the other
+/// roots.
+pub(crate) fn entries_of_tags(
+    alloc: Global,
+    entries: &[IndexEntry],
+    roots: &[Key],
+) -> Result<Vec<IndexEntry>, NoMemory>
+    ensures { IfOk result (λ brought. map entry_of brought.items
+        ≡ with_roots (map entry_of entries.now) (named_entries (map entry_of entries.now))
+        roots.now) }
+{
+    let last = LastEntries::of(alloc, entries)?;
+    let named = named_entries(alloc, entries)?;
+    with_roots(alloc, &last, named, roots)
+}
+
+/// Returns copies of the entries with a name.
+pub(crate) fn named_entries(
+    alloc: Global,
+    entries: &[IndexEntry],
+) -> Result<Vec<IndexEntry>, NoMemory>
+    ensures { IfOk result (λ named. map entry_of named.items
+        ≡ named_entries (map entry_of entries.now)) }
+{
+    let mut named = Vec::new(alloc);
+    for entry in entries {
+        if entry.has_name() {
+            named.push(entry.try_clone()?)?;
+        }
+    }
+    Ok(named)
+}
+
+/// Returns the entry of a reference under a name, if there is one.
+fn reference_entry(
+    alloc: Global,
+    last: &LastEntries<'_>,
+    from: &str,
+    to: &str,
+    key: &Key,
+) -> Result<Vec<IndexEntry>, NoMemory>
+    ensures { IfOk result (λ found. map entry_of found.items
+        ≡ reference_entry (map entry_of last.now) from.now to.now key.now) }
+{
+    let mut found = Vec::new(alloc);
+    let Some(entry) = last.entry_at(last.place_of_reference(from, key)) else {
+        return Ok(found);
+    };
+    found.push(entry.with_name(alloc, to)?)?;
+    Ok(found)
+}
+
+/// Returns the named entries, and those that the other roots bring.
+fn with_roots(
+    alloc: Global,
+    last: &LastEntries<'_>,
+    named: Vec<IndexEntry>,
+    roots: &[Key],
+) -> Result<Vec<IndexEntry>, NoMemory>
+    ensures { IfOk result (λ brought. map entry_of brought.items
+        ≡ with_roots (map entry_of last.now) (map entry_of named.items) roots.now) }
+{
+    let mut more = root_entries(alloc, last, &named, roots)?;
+    let mut brought = named;
+    brought.append(&mut more)?;
+    Ok(brought)
+}
+
+/// Returns the entries that the roots bring which have no named entry.
+fn root_entries(
+    alloc: Global,
+    last: &LastEntries<'_>,
+    named: &[IndexEntry],
+    roots: &[Key],
+) -> Result<Vec<IndexEntry>, NoMemory>
+    ensures { IfOk result (λ found. map entry_of found.items
+        ≡ flat_map (root_entry (map entry_of last.now) (map entry_of named.now)) roots.now) }
+{
+    let places = last_places(alloc, named, false)?;
+    let mut found = Vec::new(alloc);
+    for root in roots {
+        add_root(alloc, last, named, &places, root, &mut found)?;
+    }
+    Ok(found)
+}
+
+/// Adds the entry that a root brings, if it has no named entry.
+fn add_root(
+    alloc: Global,
+    last: &LastEntries<'_>,
+    named: &[IndexEntry],
+    places: &BTreeMap<Key, usize>,
+    root: &Key,
+    found: &mut Vec<IndexEntry>,
+) -> Result<(), NoMemory>
+    requires { HasLastPlaces false places.now (map entry_of named.now) }
+    ensures { OnOk result (map entry_of found.new.items ≡ map entry_of found.old.items
+        ++ root_entry (map entry_of last.now) (map entry_of named.now) root.now) }
+{
+    if places.contains_key(root) {
+        return Ok(());
+    }
+    let Some(entry) = last.entry_at(last.place_of_key(root)) else {
+        return Ok(());
+    };
+    found.push(entry.without_name(alloc)?)?;
+    Ok(())
+}
