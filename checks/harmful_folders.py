@@ -36,20 +36,21 @@ HARMS = {
 }
 
 # The answers of a copy into such a layout. A link in the place of a new layer is replaced, and not followed. A copy does not read an old
-# layer, and holds it if there is a file with its name; otherwise the destination is not closed.
+# layer, and holds it if there is a file with its name and its size; otherwise the destination is not closed. An old manifest that is damaged
+# stays.
 INTO = {
     "oci-layout": FROM["oci-layout"],
     "index.json": FROM["index.json"],
-    "an old manifest": {**FROM["the manifest"], "a link to nothing": [""]},
-    "an old layer": {"": [""], "a link to itself": ["74 Device"], "a link to nothing": ["80 DestinationOpen HOLDER KEY"]},
+    "an old manifest": {"": ["74 Device"], "a sparse file of 1 TB": [""], "a link to another file": [""], "a link to nothing": [""]},
+    "an old layer": {"": ["80 DestinationOpen HOLDER KEY"], "a link to itself": ["74 Device"]},
     "a new layer": {"": [""], "a folder": ["82 Push KEY 43 Device"]},
 }
 
 OLD, TAGS = [E, BAR, OLD_IMAGE], {"layer": BAR, "old": OLD_IMAGE}
 NEW = [FOO, M2]
-# What `verify` finds if an old layer is no regular file or has other bytes, and if an old manifest has no file: its entry stays.
-CORRUPT = {harm: "corrupt %s\nheld 5\n" % key(BAR) for harm in ("a sparse file of 1 TB", "a link to another file")}
-ABSENT = "absent %s\nheld 4\n" % key(OLD_IMAGE)
+# What `tags` and `verify` end with if an old manifest has other bytes, or no file: its entry stays.
+DAMAGED = "ocicp: 75 Corrupt %s\n" % key(OLD_IMAGE), "corrupt %s\nheld 5\n" % key(OLD_IMAGE)
+ABSENT = "", "absent %s\nheld 4\n" % key(OLD_IMAGE)
 
 
 def harmed(folder, file, harm):
@@ -91,23 +92,21 @@ def wrong_into(folder, file, harm):
     after = files(folder + "/copied")
     if wanted != [""]:
         wrong = None if after == before else "the destination is not as it was"
-    elif file == "an old layer":
-        verified = (1, CORRUPT[harm], "") if harm in CORRUPT else (1, "", "ocicp: 22 Device\n")
-        wrong = wrong_findings(folder, {**TAGS, "new": M2}, verified)
     elif file == "an old manifest":
-        wrong = wrong_findings(folder, {"layer": BAR, "new": M2}, (1, ABSENT, ""))
+        wrong = wrong_findings(folder, {"layer": BAR, "new": M2}, *(ABSENT if harm == "a link to nothing" else DAMAGED))
     else:
         wrong = wrong_layout(folder, "copied", [*OLD, *NEW], {**TAGS, "new": M2})
     return first([complaint, wrong, leftovers(folder + "/copied", [*OLD, *NEW]), wrong_secret(folder)])
 
 
-def wrong_findings(folder, tags, verified):
-    """Return the problem with the tags of the destination, or with what `verify` ends with there, or None."""
+def wrong_findings(folder, tags, damage, findings):
+    """Return the problem with the tags of the destination, after which a damaged manifest is refused, or with what `verify` finds there, or
+    None."""
     lines = ["%s %s\n" % (name, key(it)) for name, it in sorted(tags.items())]
     listed, found = run(["tags", "copied"], folder), run(["verify", "copied"], folder)
-    if listed[:3] != (0, "".join(lines), ""):
+    if listed[:3] != (1 if damage else 0, "".join(lines), damage):
         return "tags: " + told(listed)
-    if found[:3] != verified:
+    if found[:3] != (1, findings, ""):
         return "verify: " + told(found)
 
 

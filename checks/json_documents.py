@@ -7,6 +7,7 @@ import os
 import random
 import shutil
 import tarfile
+import tempfile
 from itertools import accumulate
 
 from support import prune_cases
@@ -34,9 +35,10 @@ TEXTS = [
 OF_TEXTS = [
     "resolve L TEXT", "tree --referrers L TEXT", "predecessors L TEXT", "copy L TEXT M", "copy --dry-run L TEXT N", "untag M TEXT",
 ]
-# The greatest size, and sums of sizes: the greatest that 64 bits hold, and others.
+# The greatest size, and sums of sizes: the greatest that 64 bits hold, and others. Not every file system has files of such sizes.
 MOST = (1 << 63) - 1
 TOTALS = [(1 << 64) - 1, 1 << 64, 3 * MOST - 1]
+LARGE = "/dev/shm"
 # The number of images in a chain, and how deep a document may be nested.
 DEPTH, NESTED = 3000, 5
 EXAMPLE = TOP + "/examples/hello"
@@ -141,20 +143,32 @@ def image_of(sizes):
     return Content(IMAGE, json.dumps(value).encode()), [it["digest"][len("sha256:"):] for it in layers]
 
 
-def write_sum(total, folder):
-    """Write a layout of an image that has this number of bytes, with its blobs, by the sizes that it states."""
+def write_sum(total, files, folder):
+    """Write a layout of an image that has this number of bytes, with its blobs, by the sizes that it states. The layers are links to files
+    without bytes of their own."""
     largest = [MOST] * ((total - 1000) // (MOST + 1))
     # (the last size has as many digits as the others, so the image has the same length)
     rest = total - sum(largest) - len(E.bytes) - len(image_of([*largest, MOST])[0].bytes)
     made, names = image_of([*largest, rest])
     write_layout(folder + "/layout", [E, made], {"new": made})
-    for name in names:
-        open("%s/layout/blobs/sha256/%s" % (folder, name), "w").close()
+    for name, size in zip(names, [*largest, rest]):
+        file = "%s/%d" % (files, size)
+        open(file, "w").close()
+        os.truncate(file, size)
+        os.symlink(file, "%s/layout/blobs/sha256/%s" % (folder, name))
 
 
 def sums(room):
+    try:
+        with tempfile.TemporaryDirectory(prefix="ocicp-checks-", dir=LARGE) as files:
+            yield from sums_of(room, files)
+    except OSError:
+        yield "sums over 64 bits are not looked at, since no file is that large here", None
+
+
+def sums_of(room, files):
     for total in TOTALS:
-        rooms = Rooms(room, functools.partial(write_sum, total))
+        rooms = Rooms(room, functools.partial(write_sum, total, files))
         complaint = rooms.wrong("copy --dry-run layout new other".split())
         wanted = '"bytes":%d,' if total < 1 << 64 else '"bytes":"%d",'
         yield "a sum of %d" % total, complaint or (None if wanted % total in rooms.ended.out else told(rooms.ended))

@@ -10,7 +10,7 @@ import subprocess
 from support import refused_malloc, shim
 from support.json_lines import CARRIED, MEMORY
 from support.json_rooms import CHANGES, Rooms, run_long, with_json
-from support.layouts import BAR, E, FOO, I1, IMAGE, M2, M3, S, Content, blob, descriptor, image, write_layout
+from support.layouts import BAR, E, FOO, I1, IMAGE, LAYER, M2, M3, S, Content, blob, descriptor, image, write_layout
 from support.odd_archives import damaged
 from support.program import PROGRAM, SECONDS, Ended, run, told
 from support.refused_malloc import refused_in_turn
@@ -27,11 +27,12 @@ BAD = ["[", "[]", "{}", '{"config":1}', '{"config":%s,"layers":1}' % descriptor(
 HARMED = [
     *((name, it) for name in ("oci-layout", "index.json") for it in (None, "a folder", b"[", b"[]", b"{}")),
     ("oci-layout", b'{"imageLayoutVersion":"2"}'), ("index.json", b'{"manifests":[1]}'),
-    *((blob(content), it) for content in (M2, FOO) for it in (None, "a folder", b"{}")),
+    *((blob(content), it) for content in (M2, FOO) for it in (None, "a folder", b"{}")), (blob(FOO), BAR.bytes),
 ]
 # Commands that read that layout, or write into it.
 OF_BAD = [
     "tags bad", "verify bad", "resolve bad one", "predecessors bad one", "tree --referrers bad one", "copy --dry-run bad one other",
+    "resolve bad sig", "predecessors bad new", "tree --referrers bad new", "tree bad sig", "copy --dry-run bad sig other",
     "copy --workers 1 --progress bad one other", "copy --dry-run good one bad", "copy --workers 1 --all good bad", "prune --dry-run bad",
     "copy --all --prune --workers 1 good bad", "copy --all --prune --workers 1 bad other", "untag bad one", "prune bad",
 ]
@@ -86,10 +87,30 @@ def damages(refused):
     for path, written in HARMED:
         wrong = refused.wrong(functools.partial(write_bad, path, written), [it.split() for it in OF_BAD])
         yield "%s in the place of %s" % ("nothing" if written is None else written, path), wrong
+    yield "a FIFO in the place of a layer", refused.wrong(write_fifo, [it.split() for it in OF_BAD])
+    yield "three damaged manifests", refused.wrong(write_damaged, [it.split() for it in OF_BAD])
     for text in BAD:
         bad = Content(IMAGE, text.encode())
         commands = [["mem", "%s=bad/%s" % (IMAGE, blob(bad))], *(it.split() for it in OF_BAD)]
         yield "the manifest %s" % text, refused.wrong(lambda folder: write_manifest(bad, folder), commands)
+
+
+def write_fifo(folder):
+    """Write the same, with a FIFO in the place of a layer that has no bytes either."""
+    write_good(folder)
+    empty = Content(LAYER, b"")
+    write_layout(folder + "/bad", [E, empty, image([empty])], {"one": image([empty])})
+    path = "%s/bad/%s" % (folder, blob(empty))
+    os.remove(path)
+    os.mkfifo(path)
+
+
+def write_damaged(folder):
+    """Write the same, with damaged manifests below an index, without a tag, and with one."""
+    write_good(folder)
+    unread = Content(IMAGE, b"{}")
+    write_layout(folder + "/bad", [E, FOO, BAR, M2, I1, unread], {"new": I1, "sig": unread, "one": BAR}, [S])
+    write_files({"bad/" + blob(it): b"{ }" for it in (M2, S)}, folder)
 
 
 def write_manifest(content, folder):

@@ -24,6 +24,8 @@ CARRIED = {
     101: {"form": str},
     **dict.fromkeys([102, 103, 104], {"offset": int}),
 }
+# The commands whose documents may have damaged manifests. A document is then followed by the refusal of the first one.
+WHOLE = ["tags", "predecessors", "tree"]
 MEMORY = '{"error":[{"name":"Memory"}]}\n'
 
 
@@ -71,6 +73,17 @@ def sum_of(value):
 def tagged(value):
     tag, descriptor = taken(value, {"tag": str, "descriptor": dict})
     return tag, key(descriptor)
+
+
+def take_damaged(value, words):
+    """Take the keys of the damaged manifests out of the document of a command that speaks of the whole layout."""
+    if "damaged" not in value:
+        return []
+    speaks = words[0] in WHOLE and (words[0] != "tree" or "--referrers" in words)
+    damaged = value.pop("damaged")
+    if not speaks or type(damaged) is not list or not damaged:
+        raise ValueError("damaged is %.200r" % damaged)
+    return [key(it) for it in damaged]
 
 
 def of_tags(value, words):

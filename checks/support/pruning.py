@@ -50,16 +50,18 @@ class Held:
         self.folder = folder
         entries = json.loads(read(folder + "/index.json"))["manifests"]
         self.entries = [key_of(it) for it in entries]
-        self.absent = [it for it in self.entries if not self.has_file(it)]
+        self.absent = [it for it in self.entries if not self.has(it)]
         self.keys = set(self.entries) - set(self.absent)
-        while more := {it for key in self.keys for it in self.listed(key) if self.has_file(it)} - self.keys:
+        while more := {it for key in self.keys for it in self.listed(key) if self.has(it)} - self.keys:
             self.keys |= more
         # (of two entries with one name the last counts)
         names = [it.get("annotations", {}).get(NAME) for it in entries]
         self.tags = {name: key for name, key in zip(names, self.entries) if name and key in self.keys}
 
-    def has_file(self, key):
-        return os.path.isfile("%s/%s" % (self.folder, path(key)))
+    def has(self, key):
+        """Return whether there is a file of a key, which for a layer or a config has the right size."""
+        file = "%s/%s" % (self.folder, path(key))
+        return os.path.isfile(file) and (key.media_type in MEMBERS or os.path.getsize(file) == key.size)
 
     def member(self, key, name):
         """Return the keys of a member of a manifest."""
@@ -94,7 +96,9 @@ class Prune:
         held = Held(folder)
         self.held, self.kept = held, held.kept(keeps_referrers)
         self.removed = sorted(held.keys - self.kept)
-        needed, had = set(map(path, self.kept)), set(map(path, held.keys))
+        # (a kept image needs what is left of a layer of another size)
+        needed = {path(it) for key in self.kept for it in [key, *held.listed(key)]}
+        had = set(map(path, held.keys))
         lengths = {it: os.lstat("%s/%s" % (folder, it)).st_size for it in files_of(folder)}
         blobs = [it for it in lengths if BLOB.fullmatch(it) and it not in needed]
         # (a link is no draft)

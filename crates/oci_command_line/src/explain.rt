@@ -53,7 +53,7 @@ Name a blob that the store has, or copy the blob there first.
 
 21 Corrupt
 The file of the blob is gone, or its content does not match the blob's size and digest.
-Run `ocicp verify` on that layout. For the digest that it prints as corrupt, delete the file `blobs/sha256/DIGITS` or `blobs/sha512/DIGITS`. Then restore the blob with `ocicp copy --descend` from a layout that has it.
+Run `ocicp verify` on that layout. For the digest that it prints as corrupt, delete the file `blobs/sha256/DIGITS` or `blobs/sha512/DIGITS`, unless its size is wrong. Then restore the blob with `ocicp copy --descend` from a layout that has it.
 
 22 Device
 The file of the blob could not be read, or is not a regular file.
@@ -89,7 +89,7 @@ Give a tag or a full digest.
 
 36 UnknownReference
 The layout has no tag with this name, and no blob with this digest.
-List the tags with `ocicp tags FOLDER`; a tag whose manifest is missing is left out. Write a digest in full, with its algorithm.
+List the tags with `ocicp tags FOLDER`; a tag whose manifest is missing or damaged is left out. Write a digest in full, with its algorithm.
 
 37 NotHeld
 The store does not have the blob to tag.
@@ -148,7 +148,7 @@ Memory ran out while a graph was ordered.
 Give the process more memory.
 
 53 NotFound
-The copy needs the named blob, and the source does not have it. Nothing was copied.
+The copy needs the named blob, and the source does not have it, or has a damaged file there. Nothing was copied.
 Copy the blob into the source first, for example with `ocicp copy --descend` from a layout that has it.
 
 54 TooLarge
@@ -212,16 +212,16 @@ A file or the folder of the layout could not be read or written, or is not of th
 Check the permissions and the free space of the disk. The files of a layout have to be regular files.
 
 75 Corrupt
-The file of the named manifest does not match its size and digest, so the layout cannot be opened.
-Note its tags in `index.json`, and delete the file of its digest, `blobs/sha256/DIGITS` or `blobs/sha512/DIGITS`. Then run `ocicp copy --descend` for each tag from a layout that has it.
+The file of the named manifest does not match its size and digest, or that of the named layer or config has another size. It is not known what such a manifest lists. The other images of the layout can be used.
+Copy its image again with `ocicp copy --descend` from a layout that has it; its tags are in `index.json`. If it is no longer needed, delete its entry there.
 
 76 Memory
 Memory ran out while a layout was opened, created or saved.
 Give the process more memory. `ocicp` itself prints `ocicp: memory` and ends with status 3.
 
 77 BadManifest
-The file of the named manifest has the right digest, but is not a manifest of its media type. The next error says why.
-Look up the next number. The image has to be built again, since a copy has the same bytes.
+The file of the named manifest has the right digest, but is not a manifest of its media type. The next error says why. The other images of the layout can be used.
+Look up the next number. The image has to be built again, since a copy has the same bytes. If it is no longer needed, delete its entry from `index.json`.
 
 78 AlreadyLayout
 The folder already is a layout, and cannot be made one again. Nothing was changed.
@@ -232,8 +232,8 @@ The named file could not be removed. `index.json` is saved, the other files are 
 Check the permissions of the folder that has the file, and run the same `ocicp prune` again.
 
 80 DestinationOpen
-The destination is damaged: the manifest of the first KEY lists the blob of the second, which is missing there. Nothing was copied.
-Copy the image that needs the missing blob with `ocicp copy --descend`, from a layout that has that blob.
+The destination is damaged: the manifest of the first KEY lists the blob of the second, which is missing there, or has a damaged file. Nothing was copied.
+Copy the image that needs that blob with `ocicp copy --descend`, from a layout that has it.
 
 81 Plan
 The copy could not be planned. The next error says why. Nothing was copied.
@@ -296,7 +296,7 @@ The named path is a file, or is new and has the name of an archive, and `ocicp` 
 Copy into a folder, without `oci:` before its path. To change an archive, unpack it into a folder, and change the layout there. `tar -cf FILE -C FOLDER .` makes an archive of a folder.
 
 96 Unknown
-The layout does not have the named blob, so it is not known what that blob needs. It is an entry of `index.json`, or a manifest that a kept manifest lists. Nothing was removed, and no tag was set.
+The layout does not have the named blob, or has a damaged manifest there, so it is not known what that blob needs. It is an entry of `index.json`, a damaged manifest, or a manifest that a kept manifest lists. Nothing was removed, and no tag was set. Nothing was copied either, unless it turned out only after the copy of a mirror that its destination cannot be pruned; then the copied blobs are there.
 Restore the blob with `ocicp copy --descend` from a layout that has it. If it is an entry of `index.json` that is no longer needed, delete that entry.
 
 97 NoTags

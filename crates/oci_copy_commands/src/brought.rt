@@ -208,10 +208,7 @@ pub(crate) fn entries_of_tags(
 }
 
 /// Returns copies of the entries with a name.
-pub(crate) fn named_entries(
-    alloc: Global,
-    entries: &[IndexEntry],
-) -> Result<Vec<IndexEntry>, NoMemory>
+fn named_entries(alloc: Global, entries: &[IndexEntry]) -> Result<Vec<IndexEntry>, NoMemory>
     ensures { IfOk result (λ named. map entry_of named.items
         ≡ named_entries (map entry_of entries.now)) }
 {

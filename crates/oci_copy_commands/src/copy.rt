@@ -30,16 +30,19 @@ use std::io::Write;
 ///
 /// With 80, 81, 99 and the faults before them, no blob, tag or entry of DST is changed.
 ///
-/// - 70 to 75 and 77 if SRC or DST is not a layout or cannot be read; 70 for DST only if it has
-///   another `index.json` than that of an empty layout; 74 also if DST cannot be created or locked,
-///   or its folder `blobs/sha256` cannot be made.
-/// - 35 `EmptyReference` and 36 `UnknownReference` for the reference.
+/// - 70 to 74 if SRC or DST is not a layout or cannot be read; 70 for DST only if it has another
+///   `index.json` than that of an empty layout; 74 also if DST cannot be created or locked, or its
+///   folder `blobs/sha256` cannot be made.
+/// - 35 `EmptyReference` and 36 `UnknownReference` for the reference; 75 `Corrupt` and 77
+///   `BadManifest` if it is that of a damaged blob.
 /// - 99 `Locked` if another process has the lock of DST, and the words say not to wait.
-/// - 97 `NoTags` with `--all`, if SRC has no tag, and 96 `Unknown` if it lacks the blob of an entry
-///   of its index that has a tag.
-/// - 96 `Unknown` and 98 `LinkedBlobs` with `--prune`, if SRC lacks the blob of an entry of its
-///   index, or DST that of an entry without a tag or a blob that a kept manifest lists, or DST has
-///   a link to a folder of blobs.
+/// - 97 `NoTags` with `--all`, if SRC has no tag, and 96 `Unknown` if the blob of an entry of its
+///   index that has a tag is missing or damaged.
+/// - 96 `Unknown` with `--prune`, if the blob of any entry of SRC's index is missing or damaged, or
+///   any manifest of SRC is damaged; or if in DST the blob of an entry without a tag is missing or
+///   damaged, or a manifest that a kept one lists is missing, or one that has no tag is damaged.
+/// - 98 `LinkedBlobs` with `--prune`, if DST has a link to a folder of blobs. 88 `Fetch` and 77
+///   `BadManifest` if one of its held manifests cannot be read.
 /// - 80 `DestinationOpen` and 81 `Plan` if there is no plan.
 /// - 82 `Push` and 88 `Fetch` if a blob cannot be copied, and 74 `Device` if the index cannot be
 ///   written. Blobs that arrived stay.

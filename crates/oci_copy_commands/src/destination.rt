@@ -47,7 +47,7 @@ pub(crate) fn make_blobs_folder<R: Files + AllocGlobal>(
 ///
 /// - 70 `NoLayoutFile` if there is no `oci-layout`, and another `index.json` than that of an empty
 ///   layout.
-/// - 71 to 75 and 77 if the directory has a layout that cannot be opened.
+/// - 71 to 74 if the directory has a layout that cannot be opened.
 /// - 74 `Device` if a layout cannot be created.
 /// - Out of memory, at any point.
 pub(crate) fn open_or_create<D: Dir + Drop>(

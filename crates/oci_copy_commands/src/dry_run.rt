@@ -24,11 +24,12 @@ use std::io::Write;
 ///
 /// # Errors
 ///
-/// - 70 to 75 and 77 if one of the two is not a layout or cannot be read; 70 for the destination
-///   only if it has another `index.json` than that of an empty layout.
-/// - 35 `EmptyReference` and 36 `UnknownReference` for the reference.
-/// - 97 `NoTags` with `--all`, if SRC has no tag, and 96 `Unknown` if it lacks the blob of an entry
-///   of its index that has a tag.
+/// - 70 to 74 if one of the two is not a layout or cannot be read; 70 for the destination only if it
+///   has another `index.json` than that of an empty layout.
+/// - 35 `EmptyReference` and 36 `UnknownReference` for the reference; 75 `Corrupt` and 77
+///   `BadManifest` if it is that of a damaged blob.
+/// - 97 `NoTags` with `--all`, if SRC has no tag, and 96 `Unknown` if the blob of an entry of its
+///   index that has a tag is missing or damaged.
 /// - 80 `DestinationOpen` and 81 `Plan` if there is no plan.
 /// - 94 `Output` if `out` cannot be written.
 /// - Out of memory, at any point.

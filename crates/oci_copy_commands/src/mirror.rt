@@ -3,6 +3,7 @@ ghost use Rattle.oci_copy.specs.Planned.{IsPlanOf};
 ghost use Rattle.oci_store.specs.Keyed.{HasAll};
 ghost use Rattle.oci_layout.specs.Brought.{Brings};
 ghost use Rattle.oci_layout.specs.Entries.{entry_of};
+ghost use Rattle.oci_layout.specs.Layout.{manifests_of};
 ghost use Rattle.oci_copy_commands.specs.Selected.{other_tags, set_tags, without_tags};
 
 use crate::Host;
@@ -36,23 +37,26 @@ pub(crate) struct CleanUp {
 /// # Errors
 ///
 /// - 97 `NoTags` if it has no tag.
-/// - 96 `Unknown` if an entry of its index has no file. The first one is reported.
+/// - 96 `Unknown` if the blob of an entry of its index is missing or damaged: the first one. Or else
+///   if any other manifest is damaged: the first one.
 /// - Out of memory.
 pub(crate) fn check_source<S: Dir>(source: &Layout<S>) -> Result<(), ProgramFault>
     ensures tags { OnOk result (source.now.tags ≢ []) }
     ensures absent { OnOk result (source.now.opened.absent ≡ []) }
+    ensures damaged { OnOk result (manifests_of source.now.opened.damaged ≡ []) }
 {
     if source.tags()?.is_empty() {
         return Err(ProgramFault::Prune(PruneFault::NoTags));
     }
-    check_entries(source)
+    check_none(source.absent())?;
+    check_none(&source.damaged_manifests()?)
 }
 
-/// Refuses a layout with an entry of its index that has no file.
-fn check_entries<D: Dir>(layout: &Layout<D>) -> Result<(), ProgramFault>
-    ensures absent { OnOk result (layout.now.opened.absent ≡ []) }
+/// Refuses the first of these keys, of which it is not known what they list.
+fn check_none(unknown: &[Key]) -> Result<(), ProgramFault>
+    ensures { OnOk result (unknown.now ≡ []) }
 {
-    match layout.absent().first() {
+    match unknown.first() {
         Some(key) => Err(ProgramFault::Prune(PruneFault::Unknown(key.try_clone()?))),
         None => Ok(()),
     }
@@ -62,7 +66,8 @@ fn check_entries<D: Dir>(layout: &Layout<D>) -> Result<(), ProgramFault>
 ///
 /// # Errors
 ///
-/// - 96 `Unknown` if an entry of its index has no file, or a kept manifest lists a missing one.
+/// - 96 `Unknown` if the blob of a remembered entry of its index is missing or damaged; or if it has
+///   tags, and any other manifest is damaged, or a kept manifest lists a missing one.
 /// - 98 `LinkedBlobs` if a folder of blobs is a link.
 /// - 88 `Fetch` and 77 `BadManifest` if a held manifest cannot be read.
 /// - 74 `Device` if the directory cannot be read.
@@ -72,8 +77,10 @@ pub(crate) fn check_destination<D: PrunableDir>(
     destination: &Layout<D>,
 ) -> Result<(), ProgramFault>
     ensures absent { OnOk result (destination.now.opened.absent ≡ []) }
+    ensures damaged { OnOk result (destination.now.tags ≢ []
+        → HasAll destination.now.graph (manifests_of destination.now.opened.damaged)) }
 {
-    check_entries(destination)?;
+    check_none(destination.absent())?;
     match destination.linked() {
         Ok(Some(folder)) => Err(ProgramFault::Prune(PruneFault::LinkedBlobs(folder))),
         Ok(None) => check_plan(alloc, destination),
@@ -82,7 +89,10 @@ pub(crate) fn check_destination<D: PrunableDir>(
 }
 
 /// Refuses a layout whose prune is refused, unless that is because it has no tags.
-fn check_plan<D: PrunableDir>(alloc: Global, layout: &Layout<D>) -> Result<(), ProgramFault> {
+fn check_plan<D: PrunableDir>(alloc: Global, layout: &Layout<D>) -> Result<(), ProgramFault>
+    ensures damaged { OnOk result (layout.now.tags ≢ []
+        → HasAll layout.now.graph (manifests_of layout.now.opened.damaged)) }
+{
     match plan_prune(alloc, layout, true) {
         Ok(_) => Ok(()),
         Err(PruneFault::NoTags) => Ok(()),

@@ -11,15 +11,15 @@ ghost use Rattle.oci_layout.specs.Entries.{entry_keys, entry_of, said};
 ghost use Rattle.oci_copy_commands.specs.Brought.{named_entries, reference_entry, with_roots};
 ghost use Rattle.oci_copy_commands.specs.Selected.{named_keys, AreNamedHeld, AreOfRoots, AreRoots, AreRootsOfKeys, IsNamedHeld, IsRootOfKey};
 
-use crate::brought::{entries_of_reference, entries_of_tags, named_entries};
+use crate::brought::{entries_of_reference, entries_of_tags};
 use oci_command_line::{CopyWords, Selection};
 use oci_digest::NoMemory;
 use oci_layout::{Dir, IndexEntry, Layout};
 use oci_manifest::Key;
 use oci_plan::climb;
-use oci_program::ProgramFault;
+use oci_program::{ProgramFault, resolve};
 use oci_prune::PruneFault;
-use oci_store::{Dest, GraphSource, KeyList, Store, Tagger};
+use oci_store::{Dest, GraphSource, KeyList, Store};
 use std::alloc::Global;
 use std::marker::Model;
 
@@ -58,6 +58,8 @@ impl Selected {
     /// # Errors
     ///
     /// - 35 `EmptyReference` if the reference is empty, and 36 `UnknownReference` if it is unknown.
+    /// - 75 `Corrupt` and 77 `BadManifest` if it is that of a damaged blob, and 74 `Device` if the
+    ///   file of that one cannot be read.
     /// - 96 `Unknown` and 97 `NoTags` for every tag, as from [`Selected::all_tags`].
     /// - Out of memory, at any point.
     pub(crate) fn of<D: Dir>(
@@ -85,6 +87,8 @@ impl Selected {
     /// # Errors
     ///
     /// - 35 `EmptyReference` if `from` is empty, and 36 `UnknownReference` if it is unknown.
+    /// - 75 `Corrupt` and 77 `BadManifest` if it is that of a damaged blob, and 74 `Device` if the
+    ///   file of that one cannot be read.
     /// - Out of memory, at any point.
     pub fn reference<D: Dir>(
         alloc: Global,
@@ -101,7 +105,7 @@ impl Selected {
             (reference_entry (said source.now.opened.content).entries from.now
             (name_of from.now to.now) k) selected.0)) }
     {
-        let key = source.resolve(from)?;
+        let key = resolve(source, from)?;
         let roots = roots_of(alloc, source, &key, referrers)?;
         let name = tag_name(alloc, from, to)?;
         let entries = entries_of_reference(alloc, source.entries(), from, &name, &key, &roots)?;
@@ -138,8 +142,8 @@ impl Selected {
     ///
     /// # Errors
     ///
-    /// - 96 `Unknown` if an entry of the index has a tag and no file: the first one. A copy would
-    ///   leave it out.
+    /// - 96 `Unknown` if the blob of an entry of the index that has a tag is missing or damaged: the
+    ///   first one. A copy would leave it out.
     /// - 97 `NoTags` if there is no tag.
     /// - Out of memory, at any point.
     pub fn all_tags<D: Dir>(
@@ -257,7 +261,7 @@ fn named_keys(
 {
     let mut keys = KeyList::new(alloc);
     place_tags(tags, &mut keys)?;
-    place_entries(&named_entries(alloc, entries)?, &mut keys)?;
+    place_named(entries, &mut keys)?;
     Ok(keys.into_keys())
 }
 
@@ -271,13 +275,15 @@ fn place_tags(tags: &[(String, Key)], keys: &mut KeyList) -> Result<(), NoMemory
     Ok(())
 }
 
-/// Adds the keys of entries, each if it is new.
-fn place_entries(entries: &[IndexEntry], keys: &mut KeyList) -> Result<(), NoMemory>
+/// Adds the keys of the entries with a name, each if it is new.
+fn place_named(entries: &[IndexEntry], keys: &mut KeyList) -> Result<(), NoMemory>
     ensures { OnOk result (keys.new
-        ≡ with_keys keys.old (entry_keys (map entry_of entries.now))) }
+        ≡ with_keys keys.old (entry_keys (named_entries (map entry_of entries.now)))) }
 {
     for entry in entries {
-        keys.place(&entry.key)?;
+        if entry.has_name() {
+            keys.place(&entry.key)?;
+        }
     }
     Ok(())
 }

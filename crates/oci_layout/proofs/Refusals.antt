@@ -1,5 +1,5 @@
 -- Why an index is refused, and why the manifest of the next key is.
-use Rattle.std.proofs.Common.{◌≡◌, ◌≢◌, ℕ, refl, inl, inr, List, Some, sym, subst, arith}
+use Rattle.std.proofs.Common.{◌≡◌, ◌≢◌, ℕ, Bool, true, false, refl, inl, inr, List, Some, sym, subst, arith}
 use Rattle.oci_manifest.specs.Descriptor.{Descriptor}
 use Rattle.oci_manifest.specs.Fault.{Fails, not_json, not_object, no_config, bad_list, bad_descriptor}
 use Rattle.oci_manifest.specs.MediaTypes.{kind_of}
@@ -9,15 +9,16 @@ use Rattle.oci_manifest.specs.declared.kind.Kind.TheVariants.{Leaf}
 use Rattle.oci_store.specs.Content.{Matches}
 use Rattle.oci_layout.specs.Blobs.{blob_path}
 use Rattle.oci_layout.specs.Device.{Device, IsSizedRead}
+use Rattle.oci_layout.specs.Entries.{IndexContent, IsIndexFile, entry_keys}
 use Rattle.oci_layout.specs.Faults.{of_index}
 use Rattle.oci_layout.specs.Index.{index_file, HasLayoutFile}
-use Rattle.oci_layout.specs.Refusal.{IsCorrupt, IsUnread, IsBytesFault, IsManifestFault, IsOpenFault, index_in}
+use Rattle.oci_layout.specs.Refusal.{IsCorrupt, IsUnread, IsBytesFault, IsDamage, IsManifestFault, IsNextVisited, IsOpenAsIsFault, IsOpenFault, IsOpenFaultBy, IsWalkFault, index_in}
 use Rattle.oci_layout.specs.declared.fault.LayoutFault.{LayoutFault}
 use Rattle.oci_layout.specs.declared.fault.LayoutFault.TheVariants as fault
 
--- what is wrong with the bytes of the index is why the directory is not opened
+-- what is wrong with the bytes of the index is why the directory is not opened, as it is or not
 pub index_fault : (dir : Device) (bytes : List ℕ) (e : ManifestFault) → (dir.is_honest → HasLayoutFile dir.file) → (dir.is_honest → dir.file index_file ≡ Some bytes)
-    → Fails e (index_in bytes) → IsOpenFault dir (of_index e)
+    → Fails e (index_in bytes) → IsOpenAsIsFault dir (of_index e)
 index_fault dir bytes manifest.NotJson stated read h = λ is. (stated is, (bytes, not_json, read is, h, refl))
 index_fault dir bytes manifest.NotObject stated read h = λ is. (stated is, (bytes, not_object, read is, h, refl))
 index_fault dir bytes manifest.NoConfig stated read h = λ is. (stated is, (bytes, no_config, read is, h, refl))
@@ -50,3 +51,57 @@ read_fault dir k bytes (fault.BadManifest named e) other read h = λ is. (
     ] in
     (h.0, subst (λ (j : Descriptor). IsUnread dir.file j e) (sym h.0) unread))
 read_fault dir k bytes rest other read h = absurd h
+
+-- why a directory is not opened as it is is why it is not opened
+opened_fault : (dir : Device) (e : LayoutFault) → IsOpenAsIsFault dir e → IsOpenFault dir e
+opened_fault dir fault.NoLayoutFile h = h
+opened_fault dir fault.BadLayoutFile h = h
+opened_fault dir fault.BadVersion h = h
+opened_fault dir (fault.BadIndex e) h = h
+opened_fault dir fault.Device h = h
+opened_fault dir (fault.Corrupt k) h = absurd h
+opened_fault dir fault.Memory h = h
+opened_fault dir (fault.BadManifest k e) h = absurd h
+opened_fault dir fault.AlreadyLayout h = h
+
+pub fault_by : (as_is : Bool) (dir : Device) (e : LayoutFault) → IsOpenAsIsFault dir e → IsOpenFaultBy as_is dir e
+fault_by true dir e h = h
+fault_by false dir e h = opened_fault dir e h
+
+-- a fault that says nothing of a manifest
+calm_fault : (dir : Device) (is_next other : Descriptor → Type 0) (e : LayoutFault) → (IsDamage e → ⊥) → IsManifestFault dir is_next e → IsManifestFault dir other e
+calm_fault dir is_next other fault.Device calm h = h
+calm_fault dir is_next other (fault.Corrupt k) calm h = absurd (calm tt)
+calm_fault dir is_next other fault.Memory calm h = tt
+calm_fault dir is_next other (fault.BadManifest k e) calm h = absurd (calm tt)
+calm_fault dir is_next other rest calm h = absurd h
+
+-- why a step of a walk fails is why the walk does
+pub walk_fault : (as_is : Bool) (dir : Device) (starts : List Descriptor) (k : Descriptor) (e : LayoutFault) → (as_is ≡ false → dir.is_honest → IsNextVisited dir.file starts k)
+    → IsWalkFault as_is dir (λ named. named ≡ k) e → IsWalkFault as_is dir (IsNextVisited dir.file starts) e
+walk_fault true dir starts k e next h = record {
+  cause = calm_fault dir (λ named. named ≡ k) (IsNextVisited dir.file starts) e (λ damage. cc (h.strict damage)) h.cause;
+  strict = h.strict;
+}
+walk_fault false dir starts k e next h = record { cause = IsManifestFault-at dir (IsNextVisited dir.file starts) k e (next refl) h.cause; strict = h.strict }
+
+-- why a walk from the keys of the index fails is why the directory is not opened
+strict_fault : (dir : Device) (content : IndexContent) (e : LayoutFault) → (dir.is_honest → HasLayoutFile dir.file) → (dir.is_honest → IsIndexFile (dir.file index_file) content)
+    → IsManifestFault dir (IsNextVisited dir.file (entry_keys content.entries)) e → IsOpenFault dir e
+strict_fault dir content fault.Device stated index h = h
+strict_fault dir content (fault.Corrupt k) stated index h = λ is. (stated is, record { content = content; index = index is; next = (h is).0 }, (h is).1)
+strict_fault dir content fault.Memory stated index h = tt
+strict_fault dir content (fault.BadManifest k e) stated index h = λ is. (stated is, record { content = content; index = index is; next = (h is).0 }, (h is).1)
+strict_fault dir content rest stated index h = absurd h
+
+calm_opening : (dir : Device) (is_next : Descriptor → Type 0) (e : LayoutFault) → (IsDamage e → ⊥) → IsManifestFault dir is_next e → IsOpenAsIsFault dir e
+calm_opening dir is_next fault.Device calm h = h
+calm_opening dir is_next (fault.Corrupt k) calm h = absurd (calm tt)
+calm_opening dir is_next fault.Memory calm h = tt
+calm_opening dir is_next (fault.BadManifest k e) calm h = absurd (calm tt)
+calm_opening dir is_next rest calm h = absurd h
+
+pub opening_fault : (as_is : Bool) (dir : Device) (content : IndexContent) (e : LayoutFault) → (dir.is_honest → HasLayoutFile dir.file) → (dir.is_honest → IsIndexFile (dir.file index_file) content)
+    → IsWalkFault as_is dir (IsNextVisited dir.file (entry_keys content.entries)) e → IsOpenFaultBy as_is dir e
+opening_fault true dir content e stated index h = calm_opening dir (IsNextVisited dir.file (entry_keys content.entries)) e (λ damage. cc (h.strict damage)) h.cause
+opening_fault false dir content e stated index h = strict_fault dir content e stated index h.cause

@@ -1,5 +1,5 @@
 -- What a layout remembers that was opened as it is: whole entries, and absent keys that are
--- not held and have no file.
+-- not held and have no whole file.
 use Rattle.std.proofs.Common.{◌≡◌, ℕ, ◌+◌, true, false, not, inl, inr, List, [], ◌∷◌, codes, Option, Some, None, Result, Ok, Err, refl, sym, subst}
 use Rattle.std.specs.Prelude.{Contains, option_and_then}
 use Rattle.std.specs.List.{All, flat_map}
@@ -17,7 +17,7 @@ use Rattle.oci_store.specs.Keyed.{has_key}
 use Rattle.oci_layout.specs.Entries.{IndexContent, IsIndexFile, elements_of, entry_keys, entry_with, said, with_elements}
 use Rattle.oci_layout.specs.Index.{index_file}
 use Rattle.oci_layout.specs.Law.{IsWhole, Remembers}
-use Rattle.oci_layout.specs.Opened.{is_there, listed_in}
+use Rattle.oci_layout.specs.Opened.{is_whole, lists}
 use Rattle.oci_layout.proofs.Law.{has_held, reached}
 use Rattle.oci_layout.proofs.Opened.{absent-unheld}
 
@@ -73,13 +73,13 @@ remembered file graph tags opened h =
     let keys : List Descriptor = entry_keys (said opened.content).entries in
     let visited = h.read.walked.visited in
     let G : Descriptor → Type 0 = λ (k : Descriptor). has_key graph k ≡ false in
-    let P : Descriptor → Type 0 = λ (k : Descriptor). is_there file k ≡ false in
-    let Q : Descriptor → Type 0 = λ (k : Descriptor). has_key graph k ≡ false → is_there file k ≡ false in
+    let P : Descriptor → Type 0 = λ (k : Descriptor). is_whole file k ≡ false in
+    let Q : Descriptor → Type 0 = λ (k : Descriptor). has_key graph k ≡ false → is_whole file k ≡ false in
     let unheld : All G opened.absent = subst (λ (ks : List Descriptor). All G ks) (sym h.read.absent_is) (absent-unheld graph keys) in
-    let each : (k : Descriptor) → Contains keys k → Q k = λ k c gone. elim (cases_Bool (is_there file k)) [
+    let each : (k : Descriptor) → Contains keys k → Q k = λ k c gone. elim (cases_Bool (is_whole file k)) [
       | inl there ↦
-          let seen = reached file keys visited k h.read.walked.walk (Contains-append_left keys (flat_map (listed_in file) visited) k c) in
-          let held : has_key graph k ≡ true = subst (λ (g : List Node). has_key g k ≡ true) (sym h.read.walked.held) (has_held file visited k seen there) in
+          let seen = reached true file keys visited k h.read.walked.walk (Contains-append_left keys (flat_map (lists true file) visited) k c) in
+          let held : has_key graph k ≡ true = subst (λ (g : List Node). has_key g k ≡ true) (sym h.read.walked.held) (has_held true file visited k seen there) in
           cc (gone, held)
       | inr lost ↦ lost
     ] in

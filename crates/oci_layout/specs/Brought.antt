@@ -61,7 +61,7 @@ comes tagged unnamed e = not (no_name e.name) || not (tagged e.key || unnamed e.
 abbrev pub coming : List Descriptor → List IndexEntry → List IndexEntry → List IndexEntry
 coming tagged old entries = filter (comes (is_among tagged) (is_among (unnamed_keys old))) entries
 
--- those of the absent keys that stay absent: an entry that stays has the key, or none had it
+-- those of the absent or damaged keys that stay so: an entry that stays has the key, or none had it
 abbrev pub still_absent : List IndexEntry → List IndexEntry → List Descriptor → List Descriptor
 still_absent old stay absent = filter (λ k. is_among (entry_keys stay) k || not (is_among (entry_keys old) k)) absent
 
@@ -70,6 +70,7 @@ pub record IsReplaced (stay more : List IndexEntry) (old new : OpenedIndex) : Ty
   pub entries : (said new.content).entries ≡ stay ++ more
   pub members : (said new.content).members ≡ (said old.content).members
   pub absent : new.absent ≡ still_absent (said old.content).entries stay old.absent
+  pub damaged : new.damaged ≡ still_absent (said old.content).entries stay old.damaged
 
 -- entries are brought: they replace those of their names; one without a name comes only if the
 -- layout has no tag of its key and no entry without a name of it

@@ -1,6 +1,9 @@
 -- The value of a layout, and what stays of it when a call changes it.
-use Rattle.std.specs.Prelude.{◌≡◌, ◌↔◌, ℕ, List, []}
+use Rattle.std.specs.Prelude.{◌≡◌, ◌↔◌, ℕ, Bool, true, false, List, [], filter}
 use Rattle.oci_manifest.specs.Descriptor.{Descriptor}
+use Rattle.oci_manifest.specs.MediaTypes.{kind_of}
+use Rattle.oci_manifest.specs.declared.kind.Kind.{Kind}
+use Rattle.oci_manifest.specs.declared.kind.Kind.TheVariants.{Leaf}
 use Rattle.oci_store.specs.Graph.{Node}
 use Rattle.oci_store.specs.Tags.{Tags}
 use Rattle.oci_layout.specs.Blobs.{IsSound, blob_path, stored}
@@ -9,14 +12,26 @@ use Rattle.oci_layout.specs.Entries.{ReadIndex, nothing_read}
 
 -- what a layout remembers of the index that it was opened from
 pub record OpenedIndex : Type 0 where
-  -- the keys of the entries that had no file, in the order of the index
+  -- the keys of the entries that were not held, in the order of the index
   pub absent : List Descriptor
+  -- the keys that were passed over since their files are damaged, in the order in which they were
+  -- visited
+  pub damaged : List Descriptor
   -- what the index says, if the layout was opened as it is, and otherwise nothing
   pub content : ReadIndex
 
+-- whether a kind is that of a manifest
+abbrev pub is_manifest : Kind → Bool
+is_manifest Leaf = false
+is_manifest kind = true
+
+-- those of these keys that are of a manifest kind
+abbrev pub manifests_of : List Descriptor → List Descriptor
+manifests_of keys = filter (λ k. is_manifest (kind_of k.media_type)) keys
+
 -- a layout that was created was opened from no index
 abbrev pub no_index : OpenedIndex
-no_index = record { absent = []; content = nothing_read }
+no_index = record { absent = []; damaged = []; content = nothing_read }
 
 -- the value of a layout: its directory, and what it has in memory
 pub record LayoutState (D : Type 0) : Type 0 where

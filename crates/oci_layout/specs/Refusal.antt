@@ -1,5 +1,5 @@
 -- Why a layout is not opened, created or saved.
-use Rattle.std.specs.Prelude.{◌≡◌, ◌≢◌, ◌⊎◌, ℕ, true, List, [], ◌∷◌, ◌++◌, Some, None, is_some, Result, Err}
+use Rattle.std.specs.Prelude.{◌≡◌, ◌≢◌, ◌⊎◌, ℕ, Bool, true, false, List, [], ◌∷◌, ◌++◌, length, Some, None, is_some, Result, Err}
 use Rattle.std.specs.List.{All}
 use Rattle.oci_manifest.specs.Descriptor.{Descriptor}
 use Rattle.oci_manifest.specs.Fault.{Fault, not_json, IsFault}
@@ -14,7 +14,7 @@ use Rattle.oci_layout.specs.Index.{index_file, layout_file, layout_version, vers
 use Rattle.oci_store.specs.Push.{IsRaised}
 use Rattle.oci_store.specs.Visiting.{IsVisiting}
 use Rattle.oci_layout.specs.Entries.{IndexContent, IsIndexFile, entry_keys}
-use Rattle.oci_layout.specs.Opened.{IsGood, listed_in, any}
+use Rattle.oci_layout.specs.Opened.{IsGood, lists, any}
 use Rattle.oci_layout.specs.declared.fault.LayoutFault.{LayoutFault}
 use Rattle.oci_layout.specs.declared.fault.LayoutFault.TheVariants as fault
 
@@ -46,10 +46,14 @@ IsCorrupt file k = (kind_of k.media_type ≢ Leaf) × (bytes : List ℕ) × (fil
 abbrev pub IsUnread : File → Descriptor → ManifestFault → Type 0
 IsUnread file k e = (kind_of k.media_type ≢ Leaf) × (bytes : List ℕ) × (cause : Fault) × (file (blob_path k.digest) ≡ Some bytes) × Matches k bytes × (succ_of k bytes ≡ Err cause) × IsFault e cause
 
+-- the file of a leaf is there, and has not the size of its key
+abbrev pub IsOfOtherSize : File → Descriptor → Type 0
+IsOfOtherSize file k = (kind_of k.media_type ≡ Leaf) × (bytes : List ℕ) × (file (blob_path k.digest) ≡ Some bytes) × (length bytes ≢ k.size)
+
 -- the key is the last of a visiting list, and the manifests that were visited before it are good
 pub record IsNextVisited (file : File) (starts : List Descriptor) (k : Descriptor) : Type 0 where
   pub earlier : List Descriptor
-  pub visiting : IsVisiting (listed_in file) any starts (earlier ++ k ∷ [])
+  pub visiting : IsVisiting (lists false file) any starts (earlier ++ k ∷ [])
   pub good : All (IsGood file) earlier
 
 -- the key is the next one that a walk from the keys of the index visits, and the manifests before
@@ -74,6 +78,17 @@ IsOpenFault dir (fault.Corrupt k) = dir.is_honest → HasLayoutFile dir.file × 
 IsOpenFault dir fault.Memory = Unit {0}
 IsOpenFault dir (fault.BadManifest k e) = dir.is_honest → HasLayoutFile dir.file × IsNextOfIndex dir.file k × IsUnread dir.file k e
 IsOpenFault dir fault.AlreadyLayout = ⊥
+
+-- why a directory is not opened as it is: as why it is not opened, but for no manifest
+abbrev pub IsOpenAsIsFault : Device → LayoutFault → Type 0
+IsOpenAsIsFault dir (fault.Corrupt k) = ⊥
+IsOpenAsIsFault dir (fault.BadManifest k e) = ⊥
+IsOpenAsIsFault dir other = IsOpenFault dir other
+
+-- why a directory is not opened, as it is or not
+abbrev pub IsOpenFaultBy : Bool → Device → LayoutFault → Type 0
+IsOpenFaultBy true dir e = IsOpenAsIsFault dir e
+IsOpenFaultBy false dir e = IsOpenFault dir e
 
 -- why no layout is created in a directory
 abbrev pub IsCreateFault : Device → Device → LayoutFault → Type 0
@@ -106,3 +121,27 @@ IsManifestFault dir is_next (fault.Corrupt k) = dir.is_honest → is_next k × I
 IsManifestFault dir is_next fault.Memory = Unit {0}
 IsManifestFault dir is_next (fault.BadManifest k e) = dir.is_honest → is_next k × IsUnread dir.file k e
 IsManifestFault dir is_next other = ⊥
+
+-- the file of a key is damaged, or a read failed, or memory ran out
+abbrev pub IsDamageFault : Device → Descriptor → LayoutFault → Type 0
+IsDamageFault dir k fault.Device = dir.fails_reads ≡ true
+IsDamageFault dir k (fault.Corrupt named) = dir.is_honest → (named ≡ k) × (IsCorrupt dir.file k ⊎ IsOfOtherSize dir.file k)
+IsDamageFault dir k fault.Memory = Unit {0}
+IsDamageFault dir k (fault.BadManifest named e) = dir.is_honest → (named ≡ k) × IsUnread dir.file k e
+IsDamageFault dir k other = ⊥
+
+-- a fault says that the file of a manifest is damaged
+abbrev pub IsDamage : LayoutFault → Type 0
+IsDamage (fault.Corrupt k) = Unit {0}
+IsDamage (fault.BadManifest k e) = Unit {0}
+IsDamage other = ⊥
+
+-- why the file of a key was not taken, if a layout is opened as it is or not
+abbrev pub IsStepFault : Bool → Device → Descriptor → LayoutFault → Type 0
+IsStepFault true dir k e = IsDamageFault dir k e
+IsStepFault false dir k e = IsManifestFault dir (λ named. named ≡ k) e
+
+-- why a walk failed: for a manifest that is damaged only if the layout is not opened as it is
+pub record IsWalkFault (as_is : Bool) (dir : Device) (is_next : Descriptor → Type 0) (e : LayoutFault) : Type 0 where
+  pub cause : IsManifestFault dir is_next e
+  pub strict : IsDamage e → as_is ≡ false

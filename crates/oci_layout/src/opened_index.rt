@@ -14,11 +14,12 @@ use std::alloc::Global;
 use std::collections::BTreeSet;
 use std::marker::Model;
 
-/// What a layout remembers of the index that it was opened from: the keys of the entries that had
-/// no file, and what the index says, if the layout was
-/// [opened as it is](crate::Layout::open_as_is).
+/// What a layout remembers of the index that it was opened from: the keys of the entries that were
+/// not held; and if the layout was [opened as it is](crate::Layout::open_as_is), the keys of the
+/// manifests that are damaged, and what the index says.
 pub struct OpenedIndex {
     absent: Vec<Key>,
+    damaged: Vec<Key>,
     content: IndexContent,
 }
 
@@ -27,6 +28,7 @@ impl Drop for OpenedIndex {
     fn drop(self) {
         let OpenedIndex {
             absent: _absent,
+            damaged: _damaged,
             content: _content,
         } = self;
     }
@@ -41,23 +43,50 @@ impl Model for OpenedIndex {
 
     ghost coded = { Prim.hlevel (codes, value.the_row.coded) };
 
-    ghost view = { λ o. record { absent = o.absent.items; content = o.content } };
+    ghost view = { λ o. record {
+      absent = o.absent.items;
+      damaged = o.damaged.items;
+      content = o.content;
+    } };
 }
 
 impl OpenedIndex {
     /// Creates what a layout remembers of these.
-    pub(crate) fn new(absent: Vec<Key>, content: IndexContent) -> OpenedIndex
-        ensures { result ≡ record { absent = absent.items; content = content } }
+    pub(crate) fn new(absent: Vec<Key>, damaged: Vec<Key>, content: IndexContent) -> OpenedIndex
+        ensures { result ≡ record {
+          absent = absent.items;
+          damaged = damaged.items;
+          content = content;
+        } }
     {
-        OpenedIndex { absent, content }
+        OpenedIndex {
+            absent,
+            damaged,
+            content,
+        }
     }
 
-    /// Returns the absent keys and what the index says.
-    pub(crate) fn into_parts(self) -> (Vec<Key>, IndexContent)
-        ensures { self ≡ record { absent = result.0.items; content = result.1 } }
+    /// Returns the absent keys, the damaged keys, and what the index says.
+    pub(crate) fn into_parts(self) -> (Vec<Key>, Vec<Key>, IndexContent)
+        ensures { self ≡ record {
+          absent = result.0.items;
+          damaged = result.1.items;
+          content = result.2;
+        } }
     {
-        let OpenedIndex { absent, content } = self;
-        (absent, content)
+        let OpenedIndex {
+            absent,
+            damaged,
+            content,
+        } = self;
+        (absent, damaged, content)
+    }
+
+    /// Returns the entries.
+    pub(crate) fn entries(&self) -> &[IndexEntry]
+        ensures { result.now ≡ self.now.content.entries }
+    {
+        self.content.entries()
     }
 
     /// Creates what a layout remembers that was opened from no index. Does not allocate.
@@ -66,6 +95,7 @@ impl OpenedIndex {
     {
         OpenedIndex {
             absent: Vec::new(alloc),
+            damaged: Vec::new(alloc),
             content: IndexContent::none(alloc),
         }
     }
@@ -84,20 +114,26 @@ impl OpenedIndex {
             (said self.content).entries) (map entry_of more.items) self) }
     {
         let names = Names::of(alloc, entries)?;
-        let OpenedIndex { absent, content } = self;
+        let OpenedIndex {
+            absent,
+            damaged,
+            content,
+        } = self;
         let absent = still_absent(alloc, absent, each, &names, content.entries())?;
+        let damaged = still_absent(alloc, damaged, each, &names, content.entries())?;
         let (old, members) = content.into_parts();
         let mut stay = staying(alloc, each, &names, old)?;
         let mut more = more;
         stay.append(&mut more)?;
         Ok(OpenedIndex {
             absent,
+            damaged,
             content: IndexContent::new(stay, members),
         })
     }
 }
 
-/// Returns those of the absent keys that an entry that stays has, or no entry.
+/// Returns those of these absent or damaged keys that an entry that stays has, or no entry.
 fn still_absent(
     alloc: Global,
     absent: Vec<Key>,

@@ -1,5 +1,5 @@
 //! The parts that the commands of the program share: faults and exit statuses, the printing of
-//! answers, the line that shows progress, and the locking of folders.
+//! answers, the line that shows progress, references, and the locking of folders.
 //!
 //! | Type | What it is |
 //! |---|---|
@@ -15,8 +15,9 @@
 //!
 //! A command returns an [`Outcome`] or a [`ProgramFault`]. [`print_answer`] prints its answer, or
 //! [`print_answer_with_fault`] if it pruned. [`finish_run`] ends its run, and [`end_early`] a run
-//! that did not come to a command. [`lock_folder`] and [`make_and_lock_folder`] lock the folder
-//! that a command writes into; [`check_is_layout`] looks before whether it has a layout.
+//! that did not come to a command. [`resolve`] finds the key of a reference in a layout.
+//! [`lock_folder`] and [`make_and_lock_folder`] lock the folder that a command writes into;
+//! [`check_is_layout`] looks before whether it has a layout.
 #![tactic(auto)]
 
 mod answer;
@@ -28,6 +29,7 @@ mod outcome;
 mod progress_line;
 mod prune_answer;
 mod readable;
+mod reference;
 mod refusal;
 mod refusal_document;
 mod refused;
@@ -43,6 +45,7 @@ pub use outcome::Outcome;
 pub use progress_line::{Amount, ProgressLine};
 pub use prune_answer::{PruneAnswer, print_answer_with_fault};
 pub use readable::{Readable, TimeLeft};
+pub use reference::resolve;
 pub use refusal::{Refusal, Subject};
 pub use speed::rate;
 pub use sum::Sum;

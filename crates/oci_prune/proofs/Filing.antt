@@ -1,5 +1,5 @@
 -- Digests of keys, and the files that none of them needs.
-use Rattle.std.proofs.Common.{◌≡◌, ℕ, ◌+◌, ◌<◌, Bool, true, false, cond, not, ◌⊎◌, inl, inr, List, [], ◌∷◌, ◌++◌, length, take, get_or, map, filter, refl, sym, ap, subst, ◌∙◌}
+use Rattle.std.proofs.Common.{◌≡◌, ℕ, ◌+◌, ◌<◌, Bool, true, false, cond, not, ◌⊎◌, inl, inr, List, [], ◌∷◌, ◌++◌, length, take, get_or, map, filter, Some, None, refl, sym, ap, subst, ◌∙◌}
 use Rattle.std.specs.Prelude.{◌↔◌, Contains}
 use Rattle.std.specs.BTreeSet.{BTreeSet, contains}
 use Rattle.std.specs.Cmp.Lexicographic.{slice_cmp}
@@ -9,21 +9,22 @@ use Rattle.std.specs.Ordering.{nat_cmp, is_eq}
 use Rattle.std.specs.Str.{bytes_eq}
 use Rattle.std.proofs.lemmas.Bool.{cases_Bool}
 use Rattle.std.proofs.lemmas.Cmp.{nat_list_cmp_total}
-use Rattle.std.proofs.lemmas.List.Elements.{Contains-push, Contains-push_cases, Contains-append_left}
+use Rattle.std.proofs.lemmas.List.Elements.{Contains-push, Contains-push_cases, Contains-append_cases, Contains-append_left, Contains-append_right}
 use Rattle.std.proofs.lemmas.List.Kept.{IsStrictlySortedBy-filter}
 use Rattle.std.proofs.lemmas.Map.Lookups.{exact_bytes}
 use Rattle.std.proofs.lemmas.Map.Text.{is_eq-slice_cmp}
 use Rattle.std.proofs.lemmas.Map.Views.{btree_set_contains_iff}
+use Rattle.std.proofs.lemmas.Option.{same_Some}
 use Rattle.std.proofs.lemmas.Slice.Eq.{bytes_eq-Decides}
 use Rattle.oci_manifest.specs.Descriptor.{Descriptor, key_cmp}
-use Rattle.oci_store.specs.Graph.{Node}
-use Rattle.oci_store.specs.Keyed.{has_key}
+use Rattle.oci_store.specs.Graph.{IsEdge, Node}
+use Rattle.oci_store.specs.Keyed.{has_key, value_at}
 use Rattle.oci_store.proofs.KeyOrder.{key_cmp_total, key_cmp_exact}
 use Rattle.oci_layout.specs.Device.{File}
 use Rattle.oci_layout.specs.Prunable.{AreBlobs}
 use Rattle.oci_prune.proofs.Elements.{no_element, next_element, in_map_filter, map_filter_in}
-use Rattle.oci_prune.specs.Files.{HasDigests, pruned_file, unneeded_in}
-use Rattle.oci_prune.specs.Plan.{AreHeld, AreUnneeded, IsUnneeded, HasDigestIn}
+use Rattle.oci_prune.specs.Files.{AreNeeded, HasDigests, pruned_file, unneeded_in}
+use Rattle.oci_prune.specs.Plan.{AreHeld, AreUnneeded, IsUnneeded, HasDigestIn, NeedsFile}
 use Rattle.oci_prune.specs.declared.plan.PrunedFile.{PrunedFile}
 
 abbrev Digests : Type 0
@@ -69,6 +70,80 @@ pub digests_more : (keys : List Descriptor) (i : ℕ) (key : Descriptor) (old ne
 digests_more keys i key old new lt is h grown =
     subst (λ (ks : List Descriptor). HasDigests ks new) (sym (next_element keys i key lt is)) (digests_push (take i keys) key old new h grown)
 
+-- ---- the keys that need files
+
+pub needed_none : (graph : List Node) → AreNeeded graph [] []
+needed_none graph k = (λ c. absurd (no_element k c), λ h. elim h [ inl c ↦ c | inr by ↦ absurd (no_element by.0 by.1) ])
+
+-- a key was added, with what it lists
+abbrev Grows : List Node → Descriptor → List Descriptor → List Descriptor → Type 0
+Grows graph key old new = (k : Descriptor) → Contains new k ↔ (Contains old k ⊎ ((key ≡ k) ⊎ IsEdge graph key k))
+
+pub key_added : (graph : List Node) (key : Descriptor) (old new : List Descriptor) → value_at graph key ≡ None → new ≡ old ++ key ∷ [] → Grows graph key old new
+key_added graph key old new gone is k = (
+  λ c. elim (Contains-push_cases old key k (subst (λ (ks : List Descriptor). Contains ks k) is c)) [ inl was ↦ inl was | inr same ↦ inr (inl same) ],
+  λ h. subst (λ (ks : List Descriptor). Contains ks k) (sym is) (elim h [
+    | inl was ↦ Contains-append_left old (key ∷ []) k was
+    | inr more ↦ elim more [ inl same ↦ subst (λ (x : Descriptor). Contains (old ++ key ∷ []) x) same (Contains-push old key) | inr edge ↦ cc (sym gone ∙ edge.1) ]
+  ]),
+)
+
+pub keys_added : (graph : List Node) (key : Descriptor) (old pushed new listed : List Descriptor) → value_at graph key ≡ Some listed → pushed ≡ old ++ key ∷ [] → new ≡ pushed ++ listed → Grows graph key old new
+keys_added graph key old pushed new listed lists is grown k = (to, back)
+  where
+    to : Contains new k → Contains old k ⊎ ((key ≡ k) ⊎ IsEdge graph key k)
+    to c = elim (Contains-append_cases pushed listed k (subst (λ (ks : List Descriptor). Contains ks k) grown c)) [
+      | inl first ↦ elim (Contains-push_cases old key k (subst (λ (ks : List Descriptor). Contains ks k) is first)) [ inl was ↦ inl was | inr same ↦ inr (inl same) ]
+      | inr there ↦ inr (inr (listed, lists, there))
+    ]
+
+    in_pushed : Contains (old ++ key ∷ []) k → Contains new k
+    in_pushed c = subst (λ (ks : List Descriptor). Contains ks k) (sym grown) (Contains-append_left pushed listed k (subst (λ (ks : List Descriptor). Contains ks k) (sym is) c))
+
+    back : Contains old k ⊎ ((key ≡ k) ⊎ IsEdge graph key k) → Contains new k
+    back h = elim h [
+      | inl was ↦ in_pushed (Contains-append_left old (key ∷ []) k was)
+      | inr more ↦ elim more [
+        | inl same ↦ in_pushed (subst (λ (x : Descriptor). Contains (old ++ key ∷ []) x) same (Contains-push old key))
+        | inr edge ↦
+            let one : edge.0 ≡ listed = same_Some edge.0 listed (sym edge.1 ∙ lists) in
+            subst (λ (ks : List Descriptor). Contains ks k) (sym grown) (Contains-append_right pushed listed k (subst (λ (ks : List Descriptor). Contains ks k) one edge.2))
+      ]
+    ]
+
+-- one key more, with the keys that it lists
+pub needed_more : (graph : List Node) (keys : List Descriptor) (i : ℕ) (key : Descriptor) (old new : List Descriptor) → i < length keys → key ≡ get_or keys i key → AreNeeded graph (take i keys) old → Grows graph key old new
+    → AreNeeded graph (take (i + 1) keys) new
+needed_more graph keys i key old new lt is h grown =
+    subst (λ (ks : List Descriptor). AreNeeded graph ks new) (sym (next_element keys i key lt is)) (λ k. (to k, back k))
+  where
+    before : List Descriptor
+    before = take i keys
+
+    stays : (k : Descriptor) → Contains before k → Contains (before ++ key ∷ []) k
+    stays k c = Contains-append_left before (key ∷ []) k c
+
+    To : Descriptor → Type 0
+    To k = Contains (before ++ key ∷ []) k ⊎ ((from : Descriptor) × Contains (before ++ key ∷ []) from × IsEdge graph from k)
+
+    to : (k : Descriptor) → Contains new k → To k
+    to k c = elim ((grown k).0 c) [
+      | inl was ↦ elim ((h k).0 was) [ inl here ↦ inl (stays k here) | inr by ↦ inr (by.0, stays by.0 by.1, by.2) ]
+      | inr more ↦ elim more [
+        | inl same ↦ inl (subst (λ (x : Descriptor). Contains (before ++ key ∷ []) x) same (Contains-push before key))
+        | inr edge ↦ inr (key, Contains-push before key, edge)
+      ]
+    ]
+
+    back : (k : Descriptor) → To k → Contains new k
+    back k t = elim t [
+      | inl here ↦ elim (Contains-push_cases before key k here) [ inl was ↦ (grown k).1 (inl ((h k).1 (inl was))) | inr same ↦ (grown k).1 (inr (inl same)) ]
+      | inr by ↦ elim (Contains-push_cases before key by.0 by.1) [
+        | inl was ↦ (grown k).1 (inl ((h k).1 (inr (by.0, was, by.2))))
+        | inr same ↦ (grown k).1 (inr (inr (subst (λ (x : Descriptor). IsEdge graph x k) (sym same) by.2)))
+      ]
+    ]
+
 -- ---- the files that are not needed
 
 digests_in_order : (needed held : Digests) (blobs : List (List ℕ × ℕ)) → map (λ (f : PrunedFile). f.digest) (unneeded_in needed held blobs) ≡ filter (λ (digest : List ℕ). not (contains (slice_cmp nat_cmp) needed digest)) (keys_of blobs)
@@ -86,21 +161,30 @@ both true false to back = sym (to refl)
 both false true to back = back refl
 both false false to back = refl
 
-pub are_unneeded : (file : File) (graph : List Node) (kept : BTreeSet Descriptor) (kept_keys held_keys : List Descriptor) (needed held : Digests) (blobs : List (List ℕ × ℕ)) → AreBlobs file blobs → kept_keys ≡ kept.keys → HasDigests kept_keys needed
-    → AreHeld graph held_keys → HasDigests held_keys held → AreUnneeded file graph kept (unneeded_in needed held blobs)
-are_unneeded file graph kept kept_keys held_keys needed held blobs are same has_needed are_held has_held = record {
+pub are_unneeded : (file : File) (graph : List Node) (kept : BTreeSet Descriptor) (kept_keys needed_keys held_keys : List Descriptor) (needed held : Digests) (blobs : List (List ℕ × ℕ)) → AreBlobs file blobs → kept_keys ≡ kept.keys → AreNeeded graph kept_keys needed_keys
+    → HasDigests needed_keys needed → AreHeld graph held_keys → HasDigests held_keys held → AreUnneeded file graph kept (unneeded_in needed held blobs)
+are_unneeded file graph kept kept_keys needed_keys held_keys needed held blobs are same are_needed has_needed are_held has_held = record {
   each = λ f. (to f, back f);
   order = subst (λ (ds : List (List ℕ)). IsStrictlySortedBy (slice_cmp nat_cmp) ds) (sym (digests_in_order needed held blobs)) (IsStrictlySortedBy-filter (slice_cmp nat_cmp) (λ (digest : List ℕ). not (contains (slice_cmp nat_cmp) needed digest)) (keys_of blobs) are.order);
 }
   where
-    needed_from_kept : (digest : List ℕ) → HasDigestIn (λ (k : Descriptor). contains key_cmp kept k ≡ true) digest → contains (slice_cmp nat_cmp) needed digest ≡ true
-    needed_from_kept digest p =
-        (has_needed digest).1 (p.0, subst (λ (ks : List Descriptor). Contains ks p.0) (sym same) ((btree_set_contains_iff key_cmp_total key_cmp_exact kept p.0).0 p.1), p.2)
+    Kept : Descriptor → Type 0
+    Kept k = contains key_cmp kept k ≡ true
 
-    kept_from_needed : (digest : List ℕ) → contains (slice_cmp nat_cmp) needed digest ≡ true → HasDigestIn (λ (k : Descriptor). contains key_cmp kept k ≡ true) digest
+    among : (k : Descriptor) → Kept k → Contains kept_keys k
+    among k h = subst (λ (ks : List Descriptor). Contains ks k) (sym same) ((btree_set_contains_iff key_cmp_total key_cmp_exact kept k).0 h)
+
+    from_among : (k : Descriptor) → Contains kept_keys k → Kept k
+    from_among k c = (btree_set_contains_iff key_cmp_total key_cmp_exact kept k).1 (subst (λ (ks : List Descriptor). Contains ks k) same c)
+
+    needed_from_kept : (digest : List ℕ) → NeedsFile graph Kept digest → contains (slice_cmp nat_cmp) needed digest ≡ true
+    needed_from_kept digest p =
+        (has_needed digest).1 (p.0, (are_needed p.0).1 (elim p.1 [ inl is ↦ inl (among p.0 is) | inr by ↦ inr (by.0, among by.0 by.1, by.2) ]), p.2)
+
+    kept_from_needed : (digest : List ℕ) → contains (slice_cmp nat_cmp) needed digest ≡ true → NeedsFile graph Kept digest
     kept_from_needed digest h =
         let p = (has_needed digest).0 h in
-        (p.0, (btree_set_contains_iff key_cmp_total key_cmp_exact kept p.0).1 (subst (λ (ks : List Descriptor). Contains ks p.0) same p.1), p.2)
+        (p.0, elim ((are_needed p.0).0 p.1) [ inl is ↦ inl (from_among p.0 is) | inr by ↦ inr (by.0, from_among by.0 by.1, by.2) ], p.2)
 
     held_iff : (digest : List ℕ) → (contains (slice_cmp nat_cmp) held digest ≡ true) ↔ HasDigestIn (λ (k : Descriptor). has_key graph k ≡ true) digest
     held_iff digest = (
@@ -115,7 +199,7 @@ are_unneeded file graph kept kept_keys held_keys needed held blobs are same has_
         subst (IsUnneeded file graph kept) r.3
         (record { is_digest = blob.0; there = blob.1; unneeded = λ p. cc (sym r.2 ∙ ap not (needed_from_kept r.0.0 p)); held = held_iff r.0.0 })
 
-    free : (digest : List ℕ) → (HasDigestIn (λ (k : Descriptor). contains key_cmp kept k ≡ true) digest → ⊥) → not (contains (slice_cmp nat_cmp) needed digest) ≡ true
+    free : (digest : List ℕ) → (NeedsFile graph Kept digest → ⊥) → not (contains (slice_cmp nat_cmp) needed digest) ≡ true
     free digest never = elim (cases_Bool (contains (slice_cmp nat_cmp) needed digest)) [ inl there ↦ absurd (never (kept_from_needed digest there)) | inr gone ↦ ap not gone ]
 
     back : (f : PrunedFile) → IsUnneeded file graph kept f → Contains (unneeded_in needed held blobs) f

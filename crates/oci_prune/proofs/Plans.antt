@@ -1,12 +1,12 @@
 -- What is planned, from its parts.
-use Rattle.std.proofs.Common.{◌≡◌, Bool, true, false, not, ◌⊎◌, inl, inr, List, [], ◌++◌, filter, get_or, None, is_some, sym, ap, subst, ◌∙◌, Option}
+use Rattle.std.proofs.Common.{◌≡◌, Bool, true, false, not, ◌⊎◌, inl, inr, List, [], ◌∷◌, ◌++◌, filter, get_or, None, Ok, is_some, refl, sym, ap, subst, ◌∙◌, Option}
 use Rattle.std.specs.Prelude.{◌↔◌, Contains}
 use Rattle.std.specs.BTreeMap.{get}
 use Rattle.std.specs.BTreeSet.{BTreeSet, contains}
 use Rattle.std.specs.Global.{Vec}
 use Rattle.std.specs.List.Sorted.{IsStrictlySortedBy}
 use Rattle.std.specs.Option.{option_map_or}
-use Rattle.std.specs.List.{All}
+use Rattle.std.specs.List.{All, slice_get}
 use Rattle.std.specs.Map.{keys_of, values_of}
 use Rattle.std.proofs.lemmas.Bool.{not-true}
 use Rattle.std.proofs.lemmas.List.Elements.{All-append, All-contains, All-contains_itself, All-weaker, Contains-append_left, Contains-get_or}
@@ -14,7 +14,7 @@ use Rattle.std.proofs.lemmas.List.Kept.{IsStrictlySortedBy-filter}
 use Rattle.std.proofs.lemmas.Map.Views.{btree_set_contains_iff}
 use Rattle.oci_manifest.specs.Descriptor.{Descriptor, key_cmp, is_among}
 use Rattle.oci_store.specs.Graph.{Node, Reaches, root as start, along}
-use Rattle.oci_store.specs.Keyed.{has_key, HasAll}
+use Rattle.oci_store.specs.Keyed.{has_key, HasAll, first_missing}
 use Rattle.oci_store.specs.State.{State}
 use Rattle.oci_store.specs.Tags.{AreNames}
 use Rattle.oci_layout.specs.Device.{Device}
@@ -22,13 +22,13 @@ use Rattle.oci_store.proofs.KeyOrder.{key_cmp_total, key_cmp_exact}
 use Rattle.oci_store.proofs.Membership.{Contains-from_among, among_from_Contains, among-filter, among_filter_from}
 use Rattle.oci_store.proofs.Lookups.{has_key-from_Contains, Contains-from_has_key, has_key-same_keys}
 use Rattle.oci_layout.specs.Entries.{said}
-use Rattle.oci_layout.specs.Layout.{LayoutState}
+use Rattle.oci_layout.specs.Layout.{LayoutState, OpenedIndex, manifests_of}
 use Rattle.oci_layout.specs.Saved.{first_entries, shadowed_keys}
 use Rattle.oci_layout.proofs.Loose.{HasKeys}
 use Rattle.oci_layout.proofs.SavedEntries.{named_held-held}
 use Rattle.oci_prune.specs.Kept.{Needs, IsKept, root, needed, IsNeeded, IsUnknown, AreKept, AllKnown}
 use Rattle.oci_prune.specs.Plan.{AreHeld, AreRemoved, RefersIf, IsSafe, roots_of}
-use Rattle.oci_prune.specs.Refusal.{IsKeyFault, IsPlanFault, IsUnknownFault}
+use Rattle.oci_prune.specs.Refusal.{ChecksWhole, IsKeyFault, IsPlanFault, IsUnknownFault}
 use Rattle.oci_prune.specs.Subjects.{Referrers, AreReferrers, RefersBy, IsSubjectFault}
 use Rattle.oci_prune.specs.declared.fault.PruneFault.{PruneFault}
 use Rattle.oci_prune.specs.declared.fault.PruneFault.TheVariants as fault
@@ -132,6 +132,22 @@ safe_from_kept graph roots R set are all = record {
 pub tags_fault : {D : Type 0} (dir : Device) (l : LayoutState D) (keeps : Bool) (e : PruneFault) → (e ≡ fault.Memory) ⊎ ((e ≡ fault.NoTags) × (l.tags ≡ [])) → IsPlanFault dir l keeps e
 tags_fault dir l keeps e (inl memory) = rw memory tt
 tags_fault dir l keeps e (inr none) = rw none.0 none.1
+
+-- ---- the check before the plan
+
+-- a layout passes whose opened index has no first absent entry, and of whose damaged manifests the
+-- first that is not held is none
+pub checks_whole : (graph : List Node) (opened : OpenedIndex) → slice_get opened.absent 0 ≡ None → first_missing graph (manifests_of opened.damaged) ≡ None → ChecksWhole graph opened (Ok tt)
+checks_whole graph opened no_absent none_damaged = record {
+  whole = empty opened.absent no_absent;
+  sound = none_damaged;
+  first = λ some. absurd (some (empty opened.absent no_absent));
+  second = λ no_entry some. absurd (some none_damaged);
+}
+  where
+    empty : (keys : List Descriptor) → slice_get keys 0 ≡ None → keys ≡ []
+    empty [] h = refl
+    empty (k ∷ keys) h = cc h
 
 -- ---- the roots
 

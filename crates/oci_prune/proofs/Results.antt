@@ -16,7 +16,7 @@ use Rattle.std.proofs.lemmas.Slice.Eq.{bytes_eq-Decides}
 use Rattle.oci_digest.specs.Digest.{IsDigest}
 use Rattle.oci_manifest.specs.Descriptor.{Descriptor, key_cmp}
 use Rattle.oci_store.specs.Content.{Entry}
-use Rattle.oci_store.specs.Graph.{Node}
+use Rattle.oci_store.specs.Graph.{IsEdge, Node}
 use Rattle.oci_store.specs.Keyed.{has_key}
 use Rattle.oci_store.specs.Tags.{Tags}
 use Rattle.oci_store.proofs.Lookups.{has_key-from_Contains}
@@ -26,7 +26,7 @@ use Rattle.oci_layout.specs.Index.{index_file, HasIndex}
 use Rattle.oci_layout.specs.Layout.{OpenedIndex}
 use Rattle.oci_layout.proofs.Files.{index_blob}
 use Rattle.oci_layout.proofs.Stored.{blob_path-injective}
-use Rattle.oci_prune.specs.Plan.{AreUnneeded, HasDigestIn, IsSafe}
+use Rattle.oci_prune.specs.Plan.{AreUnneeded, HasDigestIn, IsSafe, NeedsFile}
 use Rattle.oci_prune.specs.Pruned.{is_gone, AreThere, AreApart, kept_of, IsPathOf, Spares, AreSameBlobs, HasOnlyNeeded}
 use Rattle.oci_prune.specs.declared.plan.PrunedFile.{PrunedFile}
 use Rattle.oci_prune.proofs.Elements.{no_element, Contains-head, Contains-tail, Contains-cons}
@@ -43,7 +43,7 @@ unneeded_left file graph now set files are left place d lt at e within same =
     let k = get_or (keys_of now) at e in
     let held : has_key now k ≡ true = has_key-from_Contains now k (Contains-get_or (keys_of now) at e within) in
     let kept = kept_from_left set graph k (subst (λ (g : List Node). has_key g k ≡ true) left held) in
-    ((are.each f).0 (Contains-get_or files place d lt)).unneeded (k, kept, same)
+    ((are.each f).0 (Contains-get_or files place d lt)).unneeded (k, inl kept, same)
 
 pub contents_left : (old mid last new : File) (graph saved rest now : List Node) (set : Set) → now ≡ rest → rest ≡ saved → saved ≡ kept_of set graph → stored new rest ≡ stored last rest → stored last saved ≡ stored mid saved → stored mid saved ≡ stored old saved
     → stored new now ≡ filter (λ (e : Entry). contains key_cmp set e.0) (stored old graph)
@@ -70,10 +70,14 @@ only_needed old mid last new graph saved rest now roots set files honest safe ar
         let there = ((are.each p.0).0 p.1).there in
         cc (sym none ∙ subst (λ (path : List ℕ). old.file path ≡ Some there.0) p.2 there.1)
 
-    unneeded : HasDigestIn (λ (k : Descriptor). contains key_cmp set k ≡ true) digest → ⊥
-    unneeded p =
-        let held : has_key (kept_of set graph) p.0 ≡ true = ap is_some (kept_value set graph p.0 p.1) ∙ safe.held p.0 p.1 in
-        never (p.0, subst (λ (g : List Node). has_key g p.0 ≡ true) (sym left) held, p.2)
+    held_now : (k : Descriptor) → contains key_cmp set k ≡ true → has_key now k ≡ true
+    held_now k kept = subst (λ (g : List Node). has_key g k ≡ true) (sym left) (ap is_some (kept_value set graph k kept) ∙ safe.held k kept)
+
+    edge_now : (from k : Descriptor) → contains key_cmp set from ≡ true → IsEdge graph from k → IsEdge now from k
+    edge_now from k kept edge = subst (λ (g : List Node). IsEdge g from k) (sym left) (edge.0, kept_value set graph from kept ∙ edge.1, edge.2)
+
+    unneeded : NeedsFile graph (λ (k : Descriptor). contains key_cmp set k ≡ true) digest → ⊥
+    unneeded p = never (p.0, elim p.1 [ inl is ↦ inl (held_now p.0 is) | inr by ↦ inr (by.0, held_now by.0 by.1, edge_now by.0 p.0 by.1 by.2) ], p.2)
 
     at : (found : Option (List ℕ)) → found ≡ old.file (blob_path digest) → last.file (blob_path digest) ≡ None
     at None e = second.other (first.honest.0 honest) (blob_path digest) (free (sym e)) ∙ first.other honest (blob_path digest) (not_index digest) ∙ sym e

@@ -1,14 +1,19 @@
 -- The files that no kept key needs, computed from the digests of the kept and of the held keys.
-use Rattle.std.specs.Prelude.{◌≡◌, ◌↔◌, ℕ, true, not, List, map, filter, Contains}
+use Rattle.std.specs.Prelude.{◌≡◌, ◌↔◌, ◌⊎◌, ℕ, true, not, List, map, filter, Contains}
 use Rattle.std.specs.BTreeSet.{BTreeSet, contains}
 use Rattle.std.specs.Cmp.Lexicographic.{slice_cmp}
 use Rattle.std.specs.Ordering.{nat_cmp}
 use Rattle.oci_manifest.specs.Descriptor.{Descriptor}
+use Rattle.oci_store.specs.Graph.{Node, IsEdge}
 use Rattle.oci_prune.specs.declared.plan.PrunedFile.{PrunedFile}
 
 -- the set has the digests of these keys, and no other
 abbrev pub HasDigests : List Descriptor → BTreeSet (List ℕ) → Type 0
 HasDigests keys digests = (digest : List ℕ) → (contains (slice_cmp nat_cmp) digests digest ≡ true) ↔ ((k : Descriptor) × Contains keys k × (k.digest ≡ digest))
+
+-- these are the first keys, and the keys that one of them lists
+abbrev pub AreNeeded : List Node → List Descriptor → List Descriptor → Type 0
+AreNeeded graph keys needed = (k : Descriptor) → Contains needed k ↔ (Contains keys k ⊎ ((from : Descriptor) × Contains keys from × IsEdge graph from k))
 
 -- the file of a digest with this length
 abbrev pub pruned_file : BTreeSet (List ℕ) → List ℕ × ℕ → PrunedFile

@@ -1,5 +1,5 @@
 -- What a prune keeps and removes.
-use Rattle.std.specs.Prelude.{◌≡◌, ◌↔◌, ℕ, Bool, true, false, List, ◌++◌, map, None, Contains, IsTrue}
+use Rattle.std.specs.Prelude.{◌≡◌, ◌↔◌, ◌⊎◌, ℕ, Bool, true, false, List, ◌++◌, map, None, Contains, IsTrue}
 use Rattle.std.specs.BTreeSet.{BTreeSet, contains}
 use Rattle.std.specs.Cmp.Lexicographic.{slice_cmp}
 use Rattle.std.specs.List.{All}
@@ -56,14 +56,19 @@ pub record AreRemoved (graph : List Node) (kept : BTreeSet Descriptor) (removed 
 abbrev pub HasDigestIn : (Descriptor → Type 0) → List ℕ → Type 0
 HasDigestIn is_one digest = (k : Descriptor) × is_one k × (k.digest ≡ digest)
 
+-- one of these keys needs the file of a digest: it has the digest, or it lists a key that has it,
+-- held or not
+abbrev pub NeedsFile : List Node → (Descriptor → Type 0) → List ℕ → Type 0
+NeedsFile graph is_one digest = HasDigestIn (λ k. is_one k ⊎ ((from : Descriptor) × is_one from × IsEdge graph from k)) digest
+
 -- a digest's file that no kept key needs, with its length, and whether a held key has the digest
 pub record IsUnneeded (file : File) (graph : List Node) (kept : BTreeSet Descriptor) (f : PrunedFile) : Type 0 where
   pub is_digest : IsDigest f.digest
   pub there : HasLength file (blob_path f.digest) f.length
-  pub unneeded : HasDigestIn (λ k. contains key_cmp kept k ≡ true) f.digest → ⊥
+  pub unneeded : NeedsFile graph (λ k. contains key_cmp kept k ≡ true) f.digest → ⊥
   pub held : IsTrue f.is_held ↔ HasDigestIn (λ k. has_key graph k ≡ true) f.digest
 
--- the files of digests that no kept key needs, in byte order of their paths
+-- the files that no kept key needs, in byte order of their paths
 pub record AreUnneeded (file : File) (graph : List Node) (kept : BTreeSet Descriptor) (files : List PrunedFile) : Type 0 where
   pub each : (f : PrunedFile) → Contains files f ↔ IsUnneeded file graph kept f
   pub order : IsStrictlySortedBy (slice_cmp nat_cmp) (map (λ (f : PrunedFile). f.digest) files)

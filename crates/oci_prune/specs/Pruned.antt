@@ -11,7 +11,7 @@ use Rattle.oci_layout.specs.Device.{Device, File}
 use Rattle.oci_layout.specs.Index.{index_file, HasIndex}
 use Rattle.oci_layout.specs.Layout.{LayoutState, SameMemory}
 use Rattle.oci_layout.specs.Prunable.{by_name}
-use Rattle.oci_prune.specs.Plan.{HasDigestIn}
+use Rattle.oci_prune.specs.Plan.{NeedsFile}
 use Rattle.oci_prune.specs.Refusal.{Notes}
 use Rattle.oci_prune.specs.declared.fault.PruneFault.{PruneFault}
 use Rattle.oci_prune.specs.declared.plan.PrunedFile.{PrunedFile}
@@ -45,9 +45,9 @@ AreApart files = (place : ℕ) (f : PrunedFile) → slice_get files place ≡ So
 abbrev pub IsDraftIn : List (List ℕ × ℕ) → List ℕ → Type 0
 IsDraftIn drafts path = (draft : List ℕ × ℕ) × Contains drafts draft × (draft.0 ≡ path)
 
--- no digest has a file unless a key of the graph has it
+-- no digest has a file unless a key of the graph needs it
 abbrev pub HasOnlyNeeded : File → List Node → Type 0
-HasOnlyNeeded file graph = (digest : List ℕ) → IsDigest digest → (HasDigestIn (λ k. has_key graph k ≡ true) digest → ⊥) → file (blob_path digest) ≡ None
+HasOnlyNeeded file graph = (digest : List ℕ) → IsDigest digest → (NeedsFile graph (λ k. has_key graph k ≡ true) digest → ⊥) → file (blob_path digest) ≡ None
 
 -- only files at touched paths changed in a directory, and the contents of a graph stayed
 pub record Spares (old new : Device) (graph : List Node) (touched : List ℕ → Type 0) : Type 0 where

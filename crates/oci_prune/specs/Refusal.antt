@@ -1,14 +1,15 @@
 -- Why there is no plan of a prune, or why it is not carried out.
-use Rattle.std.specs.Prelude.{◌≡◌, ◌≢◌, ◌⊎◌, ℕ, Bool, true, List, [], Option, Some, Result, Ok, IfSome, IfErr, OnOk, IsErr, String, string_bytes, slice_get}
+use Rattle.std.specs.Prelude.{◌≡◌, ◌≢◌, ◌⊎◌, ℕ, Bool, true, List, [], Option, Some, None, Result, Ok, IfSome, IfErr, OnOk, IsErr, String, string_bytes, slice_get}
 use Rattle.std.specs.declared.alloc.Global.{Global}
 use Rattle.oci_digest.specs.declared.fault.NoMemory.{NoMemory}
 use Rattle.oci_manifest.specs.Descriptor.{Descriptor}
-use Rattle.oci_store.specs.Keyed.{has_key}
+use Rattle.oci_store.specs.Graph.{Node}
+use Rattle.oci_store.specs.Keyed.{has_key, first_missing}
 use Rattle.oci_store.specs.Push.{IsRaised}
 use Rattle.oci_store.specs.State.{State}
 use Rattle.oci_layout.specs.Blobs.{meaning}
 use Rattle.oci_layout.specs.Device.{Device}
-use Rattle.oci_layout.specs.Layout.{LayoutState}
+use Rattle.oci_layout.specs.Layout.{LayoutState, OpenedIndex, manifests_of}
 use Rattle.oci_layout.specs.declared.fault.LayoutFault.{LayoutFault}
 use Rattle.oci_layout.specs.declared.fault.LayoutFault.TheVariants as layout
 use Rattle.oci_prune.specs.Kept.{IsUnknown}
@@ -35,23 +36,32 @@ IsDeviceFault cause (fault.Layout layout.Device) = cause
 IsDeviceFault cause fault.Memory = Unit {0}
 IsDeviceFault cause other = ⊥
 
--- a layout without absent entries passes, and its first absent entry is refused
-pub record ChecksWhole (absent : List Descriptor) (answer : Result Unit PruneFault) : Type 0 where
-  pub whole : OnOk answer (absent ≡ [])
-  pub first : absent ≢ [] → IfErr answer (IsUnknownFault (λ k. slice_get absent 0 ≡ Some k))
+-- a layout passes if it has no absent entry and holds its damaged manifests; its first absent entry
+-- is refused, and if there is none, the first damaged manifest that it does not hold
+pub record ChecksWhole (graph : List Node) (opened : OpenedIndex) (answer : Result Unit PruneFault) : Type 0 where
+  pub whole : OnOk answer (opened.absent ≡ [])
+  pub sound : OnOk answer (first_missing graph (manifests_of opened.damaged) ≡ None)
+  pub first : opened.absent ≢ [] → IfErr answer (IsUnknownFault (λ k. slice_get opened.absent 0 ≡ Some k))
+  pub second : opened.absent ≡ [] → first_missing graph (manifests_of opened.damaged) ≢ None → IfErr answer (IsUnknownFault (λ k. first_missing graph (manifests_of opened.damaged) ≡ Some k))
 
--- why a layout is not pruned before anything is read: its first absent entry, a link, or a fault of
--- a read
-abbrev pub IsCheckFault : Device → List Descriptor → PruneFault → Type 0
-IsCheckFault dir absent (fault.Unknown k) = slice_get absent 0 ≡ Some k
-IsCheckFault dir absent (fault.LinkedBlobs path) = Unit {0}
-IsCheckFault dir absent e = IsDeviceFault (dir.fails_reads ≡ true) e
+-- the key is the first absent entry of a layout; or there is none, and the key is the first damaged
+-- manifest that is not held
+abbrev pub IsFirstUnheld : List Node → OpenedIndex → Descriptor → Type 0
+IsFirstUnheld graph opened k =
+    (slice_get opened.absent 0 ≡ Some k) ⊎ ((opened.absent ≡ []) × (first_missing graph (manifests_of opened.damaged) ≡ Some k))
+
+-- why a layout is not pruned before anything is read: its first absent entry, or else its first
+-- damaged manifest, a link, or a fault of a read
+abbrev pub IsCheckFault : Device → List Node → OpenedIndex → PruneFault → Type 0
+IsCheckFault dir graph opened (fault.Unknown k) = IsFirstUnheld graph opened k
+IsCheckFault dir graph opened (fault.LinkedBlobs path) = Unit {0}
+IsCheckFault dir graph opened e = IsDeviceFault (dir.fails_reads ≡ true) e
 
 -- why there is no plan for a layout in a directory
 abbrev pub IsPlanFault : {D : Type 0} → Device → LayoutState D → Bool → PruneFault → Type 0
 IsPlanFault dir l keeps fault.NoTags = l.tags ≡ []
 IsPlanFault dir l keeps (fault.Unknown k) =
-    (slice_get l.opened.absent 0 ≡ Some k) ⊎ (dir.is_honest → IsUnknown l.graph (roots_of l) (RefersIf keeps (meaning dir l.graph l.tags)) k)
+    IsFirstUnheld l.graph l.opened k ⊎ (dir.is_honest → IsUnknown l.graph (roots_of l) (RefersIf keeps (meaning dir l.graph l.tags)) k)
 IsPlanFault dir l keeps (fault.LinkedBlobs path) = Unit {0}
 IsPlanFault dir l keeps (fault.Layout layout.Device) = dir.fails_reads ≡ true
 IsPlanFault dir l keeps e = IsSubjectFault (meaning dir l.graph l.tags) (λ k. (keeps ≡ true) × (has_key l.graph k ≡ true)) e

@@ -25,8 +25,9 @@ pub enum PruneFault {
     /// Out of memory.
     #[error("89 Memory")]
     Memory,
-    /// This key is needed and has no file, so it is not known what it lists: the first entry of the
-    /// opened index that had no file, or else a key of a manifest kind that a kept key lists.
+    /// This key is not held, so it is not known what it lists: the first entry of the opened index
+    /// that was not held, or else the first damaged manifest that is not held, or else a key of a
+    /// manifest kind that a kept key lists.
     #[error("96 Unknown {0}")]
     Unknown(Key),
     /// The layout has no tag.

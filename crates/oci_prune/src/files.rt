@@ -1,5 +1,7 @@
-ghost use Rattle.std.specs.Prelude.{◌≡◌, true, IfOk, IfErr};
-ghost use Rattle.oci_prune.specs.Files.{HasDigests, unneeded_in};
+ghost use Rattle.std.specs.Prelude.{◌≡◌, ◌↔◌, ◌⊎◌, ◌++◌, true, Contains, IfOk, IfErr, OnOk};
+ghost use Rattle.oci_manifest.specs.Descriptor.{Descriptor};
+ghost use Rattle.oci_store.specs.Graph.{IsEdge};
+ghost use Rattle.oci_prune.specs.Files.{AreNeeded, HasDigests, unneeded_in};
 ghost use Rattle.oci_prune.specs.Plan.{AreHeld, AreUnneeded};
 ghost use Rattle.oci_prune.specs.Refusal.{IsDeviceFault};
 
@@ -8,11 +10,13 @@ use crate::plan::PrunedFile;
 use oci_digest::{Digest, NoMemory};
 use oci_layout::{Layout, PrunableDir};
 use oci_manifest::Key;
-use oci_store::keys_of_set;
+use oci_store::{GraphSource, keys_of_set};
 use std::alloc::Global;
 use std::collections::BTreeSet;
 
-/// Returns the files of a layout that no kept key needs. `held` has the held keys.
+/// Returns the files of a layout that no kept key needs. A kept key needs its file, and those of the
+/// keys that it lists, also if they are not held: the file of a layer that was cut stays. `held` has
+/// the held keys.
 ///
 /// # Errors
 ///
@@ -31,10 +35,47 @@ pub(crate) fn plan_files<D: PrunableDir>(
 {
     let blobs = layout.blobs()?;
     let kept = keys_of_set(alloc, kept)?;
-    let needed = digests_of(alloc, &kept)?;
+    let needed = digests_of(alloc, &needed_keys(alloc, layout, &kept)?)?;
     let held = digests_of(alloc, held)?;
     let files = unneeded_files(alloc, &blobs, &needed, &held)?;
     Ok(files)
+}
+
+/// Returns these keys, and the keys that they list.
+fn needed_keys<S: GraphSource>(
+    alloc: Global,
+    source: &S,
+    keys: &[Key],
+) -> Result<Vec<Key>, NoMemory>
+    ensures { IfOk result (λ needed. AreNeeded (S.state source.now).nodes keys.now needed.items) }
+{
+    let mut needed = Vec::new(alloc);
+    for key in keys {
+        add_needed(source, key, &mut needed)?;
+    }
+    Ok(needed)
+}
+
+/// Adds a key, and the keys that it lists.
+fn add_needed<S: GraphSource>(source: &S, key: &Key, needed: &mut Vec<Key>) -> Result<(), NoMemory>
+    ensures { OnOk result ((k : Descriptor) → Contains needed.new.items k
+        ↔ (Contains needed.old.items k
+        ⊎ ((key.now ≡ k) ⊎ IsEdge (S.state source.now).nodes key.now k))) }
+{
+    needed.push(key.try_clone()?)?;
+    match source.successors(key)? {
+        Some(listed) => add_all(listed, needed),
+        None => Ok(()),
+    }
+}
+
+/// Adds keys.
+fn add_all(keys: Vec<Key>, needed: &mut Vec<Key>) -> Result<(), NoMemory>
+    ensures { OnOk result (needed.new.items ≡ needed.old.items ++ keys.items) }
+{
+    let mut keys = keys;
+    needed.append(&mut keys)?;
+    Ok(())
 }
 
 /// Returns the digests of these keys.

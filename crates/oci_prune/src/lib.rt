@@ -2,17 +2,18 @@
 //!
 //! [`plan_prune`] plans a prune and changes nothing. The *kept* keys of the [`PrunePlan`] are the
 //! tagged keys and those of the entries that a tag hides, with each kept key the held keys that it
-//! lists, and the held manifests that have it as their `subject`, such as signatures, on and on. All
-//! other held keys are removed, and all files under `blobs` that are named by a digest that no kept
-//! key has. So are drafts that killed processes left. A layout without a tag is refused, and so is
-//! one in which a needed manifest is absent, since nobody knows what it lists.
+//! lists, and the held manifests that have it as their `subject`, such as signatures, on and on.
+//! All other held keys are removed, and all files under `blobs` that are named by a digest of neither
+//! a kept key nor one that a kept key lists. So are drafts that killed processes left. A layout
+//! without a tag is refused, and so is one in which a needed manifest is absent or any manifest is
+//! damaged, since nobody knows what it lists.
 //!
 //! [`prune`] does what is planned. It saves the index first and then removes files, so whenever it
 //! is stopped, every tag and all that it reaches is there, and the next prune goes on.
 //!
 //! What the tags reach is kept whatever the files of the layout have become. That exactly the kept
-//! keys stay, each with its bytes, and that no other blob is left, assumes that the directory returns
-//! what was written, and that no other program writes into it.
+//! keys stay, each with its bytes, and that no blob is left that they do not need, assumes that the
+//! directory returns what was written, and that no other program writes into it.
 //!
 //! Each fault has a number: [`PruneFault`] 79, 89 and 96 to 98, 88 with a `FetchFault` inside, and
 //! those of a layout, 74 and 77. Each error leaves every tag and all that it reaches in place.

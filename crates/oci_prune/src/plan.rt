@@ -1,5 +1,8 @@
-ghost use Rattle.std.specs.Prelude.{◌≡◌, ◌≢◌, ◌⊎◌, [], Some, IfOk, IfErr, OnOk, slice_get, string_bytes};
+ghost use Rattle.std.specs.Prelude.{◌≡◌, ◌≢◌, ◌⊎◌, [], Some, None, IfOk, IfErr, OnOk, slice_get, string_bytes};
+ghost use Rattle.std.specs.Option.{option_copied};
+ghost use Rattle.oci_store.specs.Keyed.{HasAll, first_missing};
 ghost use Rattle.oci_layout.specs.Blobs.{meaning, blob_path};
+ghost use Rattle.oci_layout.specs.Layout.{manifests_of};
 ghost use Rattle.oci_prune.specs.Kept.{AreKept, AllKnown};
 ghost use Rattle.oci_prune.specs.Plan.{IsPrunePlan, RefersIf, roots_of};
 ghost use Rattle.oci_prune.specs.Refusal.{ChecksWhole, IsCheckFault, IsPlanFault, IsUnknownFault};
@@ -9,8 +12,9 @@ use crate::files::plan_files;
 use crate::held::{held_keys, keys_without, root_keys};
 use crate::kept::plan_keys;
 use oci_digest::{Digest, NoMemory};
-use oci_layout::{Layout, PrunableDir};
+use oci_layout::{Dir, Layout, PrunableDir};
 use oci_manifest::Key;
+use oci_store::Dest;
 use std::alloc::Global;
 use std::collections::BTreeSet;
 
@@ -57,8 +61,9 @@ impl PrunedFile {
 ///
 /// The kept keys are the tagged ones and those of the entries that a tag hides, with each kept key
 /// the held keys that it lists, and, if `keeps_referrers`, the held manifests that have it as their
-/// subject. All other held keys are
-/// removed, and the files under `blobs` that are named by a digest that no kept key has.
+/// subject. All other held keys are removed, and the files under `blobs` that are named by a digest
+/// of neither a kept key nor one that a kept key lists. So the file of a layer that was cut stays if
+/// its image does.
 ///
 /// If `keeps_referrers`, each held manifest of a kind that may have a subject is read once; Docker
 /// manifests are not. The time grows with the held keys, the keys that they list and the files,
@@ -67,8 +72,10 @@ impl PrunedFile {
 /// # Errors
 ///
 /// - 97 `NoTags` if the layout has no tag. Checked first.
-/// - 96 `Unknown` if an entry of the opened index has no file: the first one. Checked second.
-/// - 98 `LinkedBlobs` if `blobs`, `blobs/sha256` or `blobs/sha512` is a link. Checked third.
+/// - 96 `Unknown` if an entry of the opened index was not held: the first one. Checked second.
+/// - 96 `Unknown` if a manifest was damaged when the layout was opened, and is not held now: the
+///   first one. It may list what is needed, or refer to a kept key. Checked third.
+/// - 98 `LinkedBlobs` if `blobs`, `blobs/sha256` or `blobs/sha512` is a link. Checked fourth.
 /// - 77 `BadManifest` if such a manifest cannot be read, and 88 `Fetch` if its bytes cannot be
 ///   fetched; only if `keeps_referrers`.
 /// - 96 `Unknown` if a kept key lists a key of a manifest kind that is not held.
@@ -89,10 +96,16 @@ pub fn plan_prune<D: PrunableDir>(
         (meaning (D.device layout.now.dir) layout.now.graph layout.now.tags))) }
     ensures tagged { OnOk result (layout.now.tags ≢ []) }
     ensures whole { OnOk result (layout.now.opened.absent ≡ []) }
+    ensures sound { OnOk result (HasAll layout.now.graph
+        (manifests_of layout.now.opened.damaged)) }
     ensures first { layout.now.tags ≡ [] → IfErr result (λ e. (e ≡ PruneFault.NoTags)
         ⊎ (e ≡ PruneFault.Memory)) }
     ensures second { layout.now.tags ≢ [] → layout.now.opened.absent ≢ []
         → IfErr result (IsUnknownFault (λ k. slice_get layout.now.opened.absent 0 ≡ Some k)) }
+    ensures third { layout.now.tags ≢ [] → layout.now.opened.absent ≡ []
+        → first_missing layout.now.graph (manifests_of layout.now.opened.damaged) ≢ None
+        → IfErr result (IsUnknownFault (λ k.
+        first_missing layout.now.graph (manifests_of layout.now.opened.damaged) ≡ Some k)) }
     ensures cause { IfErr result (IsPlanFault (D.device layout.now.dir) layout.now keeps_referrers) }
 {
     let roots = root_keys(alloc, layout)?;
@@ -110,16 +123,40 @@ pub fn plan_prune<D: PrunableDir>(
     })
 }
 
-/// Refuses a layout with an absent entry, and one whose folders of blobs are links.
+/// Refuses a layout with an absent entry or a damaged manifest, and one whose folders of blobs are
+/// links.
 fn check_whole<D: PrunableDir>(layout: &Layout<D>) -> Result<(), PruneFault>
-    ensures whole { ChecksWhole layout.now.opened.absent result }
-    ensures cause { IfErr result (IsCheckFault (D.device layout.now.dir) layout.now.opened.absent) }
+    ensures whole { ChecksWhole layout.now.graph layout.now.opened result }
+    ensures cause { IfErr result (IsCheckFault (D.device layout.now.dir) layout.now.graph
+        layout.now.opened) }
 {
     if let Some(key) = layout.absent().first() {
         return Err(PruneFault::Unknown(key.try_clone()?));
+    }
+    if let Some(key) = first_damaged(layout)? {
+        return Err(PruneFault::Unknown(key));
     }
     match layout.linked()? {
         Some(path) => Err(PruneFault::LinkedBlobs(path)),
         None => Ok(()),
     }
+}
+
+/// Returns the first of the manifests that were damaged when a layout was opened which is not held.
+fn first_damaged<D: Dir>(layout: &Layout<D>) -> Result<Option<Key>, NoMemory>
+    ensures { IfOk result (λ found. found
+        ≡ first_missing layout.now.graph (manifests_of layout.now.opened.damaged)) }
+{
+    let damaged = layout.damaged_manifests()?;
+    match first_unheld(layout, &damaged) {
+        Some(key) => Ok(Some(key.try_clone()?)),
+        None => Ok(None),
+    }
+}
+
+/// Returns the first of these keys that a layout does not hold.
+fn first_unheld<'k, D: Dir>(layout: &Layout<D>, keys: &'k [Key]) -> Option<&'k Key>
+    ensures { option_copied result ≡ first_missing layout.now.graph keys.now }
+{
+    keys.iter().find(|key| !layout.has(*key))
 }

@@ -18,13 +18,13 @@ use std::rt::Files;
 ///
 /// With all but 74, 79 and 94 nothing is changed.
 ///
-/// - 70 to 75 and 77 if the directory has no layout, or it cannot be read; 74 also if the folder
-///   cannot be locked or `index.json` cannot be written.
+/// - 70 to 74 if the directory has no layout, or it cannot be read; 74 also if the folder cannot be
+///   locked or `index.json` cannot be written.
 /// - 99 `Locked` if another process has the lock, and the words say not to wait.
 /// - 97 `NoTags` if the layout has no tag.
-/// - 96 `Unknown` if it is not known what a blob needs, since it is missing.
+/// - 96 `Unknown` if it is not known what a manifest needs, since it is missing or damaged.
 /// - 98 `LinkedBlobs` if a folder of blobs is a link.
-/// - 88 `Fetch` if a held manifest cannot be read.
+/// - 88 `Fetch` and 77 `BadManifest` if a held manifest cannot be read.
 /// - 79 `NotRemoved` if a file cannot be removed. The others are removed and printed.
 /// - 94 `Output` if `out` cannot be written. The prune is done.
 /// - Out of memory, at any point.

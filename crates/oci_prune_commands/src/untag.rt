@@ -28,8 +28,8 @@ use std::rt::Files;
 ///
 /// With all but 74 and 94 nothing is changed.
 ///
-/// - 70 to 75 and 77 if the directory has no layout, or it cannot be read; 74 also if the folder
-///   cannot be locked or `index.json` cannot be written.
+/// - 70 to 74 if the directory has no layout, or it cannot be read; 74 also if the folder cannot be
+///   locked or `index.json` cannot be written.
 /// - 99 `Locked` if another process has the lock, and the words say not to wait.
 /// - 35 `EmptyReference` if the tag is empty, and 36 `UnknownReference` if the layout lacks it.
 /// - 94 `Output` if `out` cannot be written. The tag is removed.

@@ -1,20 +1,21 @@
 -- What `verify` reads: keys whose files match them.
-use Rattle.std.proofs.Common.{◌≡◌, ℕ, ◌+◌, ◌<◌, true, List, [], ◌∷◌, take, get_or, length, slice_get, option_map, Option, Some, None, IsSome, is_some, inl, inr, refl, sym, ap, subst, ◌∙◌}
-use Rattle.std.specs.List.{All}
+use Rattle.std.proofs.Common.{◌≡◌, ℕ, ◌+◌, ◌<◌, true, not, Bor, List, [], ◌∷◌, ◌++◌, map, take, get_or, length, slice_get, option_map, Option, Some, None, IsSome, is_some, refl, sym, ap, subst, ◌∙◌}
+use Rattle.std.specs.BTreeSet.{BTreeSet, contains}
+use Rattle.std.specs.List.{All, filter}
 use Rattle.std.specs.Option.{unwrap_or}
-use Rattle.std.proofs.lemmas.Bool.{cases_Bool}
 use Rattle.std.proofs.lemmas.List.Elements.{All-nil, All-cons, All-head, All-tail, All-more}
 use Rattle.std.proofs.lemmas.Option.{slice_get-get_or}
 use Rattle.oci_layout.specs.Blobs.{blob_path, blob_at, meaning, HasMatchingFiles}
 use Rattle.oci_layout.specs.Device.{Device, File}
 use Rattle.oci_layout.specs.Layout.{OpenedIndex}
-use Rattle.oci_layout.specs.Opened.{IsOpenedAsIs, held_in, is_there, listed_in}
+use Rattle.oci_layout.specs.Opened.{IsOpenedAsIs}
 use Rattle.oci_layout.proofs.Stored.{has_key-stored, value_at-stored}
-use Rattle.oci_manifest.specs.Descriptor.{Descriptor, Matches}
+use Rattle.oci_layout.proofs.Walk.{held_there}
+use Rattle.oci_manifest.specs.Descriptor.{Descriptor, Matches, key_cmp}
 use Rattle.oci_store.specs.Graph.{Node}
 use Rattle.oci_store.specs.Keyed.{has_key}
 use Rattle.oci_store.specs.Tags.{Tags}
-use Rattle.oci_query_commands.specs.Verified.{IsIntact, AreIntact, IsWhole, IsVerified}
+use Rattle.oci_query_commands.specs.Verified.{HasNone, IsIntact, AreIntact, IsWhole, IsVerified}
 
 -- the file of an intact key matches it
 blob_matches : (dir : Device) (graph : List Node) (tags : Tags) (k : Descriptor) → IsIntact (meaning dir graph tags) k → dir.is_honest → Matches k (blob_at dir.file k.digest)
@@ -39,15 +40,6 @@ HasFile file n = IsSome (file (blob_path n.0.digest))
 abbrev FileMatches : File → Node → Type 0
 FileMatches file n = (bytes : List ℕ) × (file (blob_path n.0.digest) ≡ Some bytes) × Matches n.0 bytes
 
--- a walk holds only keys with a file
-held_there : (file : File) (visited : List Descriptor) → All (HasFile file) (held_in file visited)
-held_there file [] = All-nil (HasFile file)
-held_there file (k ∷ visited) =
-    elim (cases_Bool (is_there file k)) [
-      | inl there ↦ rw there (All-cons (HasFile file) (k, listed_in file k) (held_in file visited) there (held_there file visited))
-      | inr gone ↦ rw gone (held_there file visited)
-    ]
-
 -- the bytes of a file that is there and matches its key
 found : (k : Descriptor) (o : Option (List ℕ)) → IsSome o → Matches k (unwrap_or o []) → (bytes : List ℕ) × (o ≡ Some bytes) × Matches k bytes
 found k (Some bytes) there matching = (bytes, refl, matching)
@@ -63,15 +55,33 @@ all_match file (n ∷ graph) there matching =
     (all_match file graph (All-tail (HasFile file) n graph there) (All-tail P n graph matching))
 
 -- a layout that was opened and is whole is verified
-pub IsVerified-whole : (dir : Device) (graph : List Node) (tags : Tags) (index : OpenedIndex) → dir.is_honest → IsOpenedAsIs dir.file graph tags index → IsWhole dir graph index.absent → IsVerified dir
+pub IsVerified-whole : (dir : Device) (graph : List Node) (tags : Tags) (index : OpenedIndex) → dir.is_honest → IsOpenedAsIs dir.file graph tags index → IsWhole dir graph index → IsVerified dir
 IsVerified-whole dir graph tags index honest opened whole = record {
   graph = graph;
   tags = tags;
   index = index;
   opened = opened;
   entries = whole.entries;
+  undamaged = whole.undamaged;
   matching = all_match dir.file graph
-      (subst (λ (g : List Node). All (HasFile dir.file) g) (sym opened.read.walked.held) (held_there dir.file opened.read.walked.visited))
+      (subst (λ (g : List Node). All (HasFile dir.file) g) (sym opened.read.walked.held) (held_there true dir.file opened.read.walked.visited))
       (whole.intact honest);
   closed = whole.closed;
 }
+
+-- ---- what is not damaged
+-- without damage all absent keys are found
+all_others : (set : BTreeSet Descriptor) → HasNone set → (keys : List Descriptor) → filter (λ (k : Descriptor). not (contains key_cmp set k)) keys ≡ keys
+all_others set none [] = refl
+all_others set none (k ∷ keys) = rw (none k) (ap (λ (ks : List Descriptor). k ∷ ks) (all_others set none keys))
+
+nothing : (keys : List (Bor Descriptor)) → keys ≡ [] → map (λ (k : Bor Descriptor). k.now) keys ≡ []
+nothing keys h = ap (map (λ (k : Bor Descriptor). k.now)) h
+
+pub none_absent : (set : BTreeSet Descriptor) (absent : List Descriptor) (others : List (Bor Descriptor)) → HasNone set → map (λ (k : Bor Descriptor). k.now) others ≡ filter (λ (k : Descriptor). not (contains key_cmp set k)) absent → others ≡ [] → absent ≡ []
+none_absent set absent others none are empty = sym (all_others set none absent) ∙ sym are ∙ nothing others empty
+
+-- nothing was added to what is empty, and it was empty before
+pub none_before : (old new : List (Bor Descriptor)) (more : List Descriptor) → map (λ (k : Bor Descriptor). k.now) new ≡ map (λ (k : Bor Descriptor). k.now) old ++ more → new ≡ [] → (old ≡ []) × (more ≡ [])
+none_before [] new more added empty = (refl, sym added ∙ nothing new empty)
+none_before (k ∷ old) new more added empty = cc (sym (nothing new empty) ∙ added)

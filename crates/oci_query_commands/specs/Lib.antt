@@ -1,1 +1,2 @@
 pub mod Verified
+pub mod Answered

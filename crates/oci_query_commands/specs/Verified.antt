@@ -1,5 +1,6 @@
 -- Layouts in which `verify` finds nothing wrong (OCI image specification 1.1, image-layout.md).
 use Rattle.std.specs.Prelude.{◌≡◌, ℕ, Bool, true, false, List, [], Some, None}
+use Rattle.std.specs.BTreeSet.{BTreeSet, contains}
 use Rattle.std.specs.List.{All}
 use Rattle.oci_command_line.specs.declared.request.Query.{Query}
 use Rattle.oci_command_line.specs.declared.request.Query.TheVariants as query
@@ -7,7 +8,7 @@ use Rattle.oci_layout.specs.Blobs.{blob_at, HasMatchingFiles}
 use Rattle.oci_layout.specs.Device.{Device}
 use Rattle.oci_layout.specs.Layout.{OpenedIndex}
 use Rattle.oci_layout.specs.Opened.{IsOpenedAsIs}
-use Rattle.oci_manifest.specs.Descriptor.{Descriptor}
+use Rattle.oci_manifest.specs.Descriptor.{Descriptor, key_cmp}
 use Rattle.oci_store.specs.Closed.{IsClosed}
 use Rattle.oci_store.specs.Content.{Matches}
 use Rattle.oci_store.specs.Graph.{Node}
@@ -22,13 +23,15 @@ is_verify (query.Verify shows_progress) = true
 is_verify other = false
 
 -- a layout can be opened in a directory, and nothing is wrong with it: each entry of its index has
--- its file, the file of each held key is there and matches it, and each listed key is held
+-- its file, no manifest is damaged, the file of each held key is there and matches it, and each
+-- listed key is held
 pub record IsVerified (dir : Device) : Type 0 where
   pub graph : List Node
   pub tags : Tags
   pub index : OpenedIndex
   pub opened : IsOpenedAsIs dir.file graph tags index
   pub entries : index.absent ≡ []
+  pub undamaged : index.damaged ≡ []
   pub matching : HasMatchingFiles dir.file graph
   pub closed : IsClosed graph
 
@@ -42,13 +45,18 @@ IsIntact store k = store.is_honest → (bytes : List ℕ) × (value_at store.ent
 abbrev pub AreIntact : Device → List Node → Type 0
 AreIntact dir graph = dir.is_honest → All (λ (n : Node). Matches n.0 (blob_at dir.file n.0.digest)) graph
 
--- nothing is wrong with a layout: no entry of its index is absent, each held key is intact, and each
--- listed key is held
-pub record IsWhole (dir : Device) (graph : List Node) (absent : List Descriptor) : Type 0 where
-  pub entries : absent ≡ []
+-- nothing is wrong with a layout: no entry of its index is absent, no manifest is damaged, each held
+-- key is intact, and each listed key is held
+pub record IsWhole (dir : Device) (graph : List Node) (index : OpenedIndex) : Type 0 where
+  pub entries : index.absent ≡ []
+  pub undamaged : index.damaged ≡ []
   pub intact : AreIntact dir graph
   pub closed : IsClosed graph
 
--- no key is absent or corrupt, and none lists a missing key
+-- no key is absent or corrupt, and none lists a key without a file
 abbrev pub FindsNothing : Findings → Type 0
-FindsNothing findings = (findings.absent.now ≡ []) × (findings.corrupt.items ≡ []) × (findings.open ≡ None)
+FindsNothing findings = (findings.absent.items ≡ []) × (findings.corrupt.items ≡ []) × (findings.open ≡ None)
+
+-- a set has no key
+abbrev pub HasNone : BTreeSet Descriptor → Type 0
+HasNone set = (k : Descriptor) → contains key_cmp set k ≡ false

@@ -1,8 +1,13 @@
 //! The commands of `ocicp` that read one image layout and change nothing: `tags`, `resolve`,
 //! `predecessors`, `tree` and `verify`. [`run_query`] opens the layout and runs one of them. Each
 //! returns its answer as a value, which is printed as lines or as a JSON document.
+//!
+//! A damaged file stops no command that does not need it. `tags`, `predecessors`, and `tree` with
+//! referrers, which speak of a whole layout, print what they know of the blobs that it holds, and
+//! then refuse each damaged manifest. `verify` reports each damaged file.
 #![tactic(auto)]
 
+mod damage;
 mod listing;
 mod query;
 mod tree;

@@ -1,7 +1,8 @@
 use oci_digest::NoMemory;
 use oci_layout::{Dir, IndexEntry, Layout};
 use oci_manifest::Key;
-use oci_store::{GraphSource, RefFault, Source, Tagger, keys_of_set};
+use oci_program::{ProgramFault, resolve};
+use oci_store::{GraphSource, Source, keys_of_set};
 use serde::Serialize;
 use std::alloc::Global;
 use std::collections::BTreeSet;
@@ -98,9 +99,12 @@ pub(crate) struct Resolved {
 
 impl Resolved {
     /// Resolves a reference.
-    pub(crate) fn of<T: Tagger>(store: &T, reference: &str) -> Result<Resolved, RefFault> {
+    pub(crate) fn of<D: Dir>(
+        layout: &Layout<D>,
+        reference: &str,
+    ) -> Result<Resolved, ProgramFault> {
         Ok(Resolved {
-            descriptor: store.resolve(reference)?,
+            descriptor: resolve(layout, reference)?,
         })
     }
 }
@@ -119,13 +123,13 @@ pub(crate) struct Predecessors {
 
 impl Predecessors {
     /// Returns the held keys that list the key of a reference.
-    pub(crate) fn of<A: GraphSource + Tagger>(
-        store: &A,
+    pub(crate) fn of<D: Dir>(
+        layout: &Layout<D>,
         reference: &str,
-    ) -> Result<Predecessors, RefFault> {
-        let key = store.resolve(reference)?;
+    ) -> Result<Predecessors, ProgramFault> {
+        let key = resolve(layout, reference)?;
         Ok(Predecessors {
-            predecessors: store.predecessors(&key)?,
+            predecessors: layout.predecessors(&key)?,
         })
     }
 }

@@ -1,6 +1,9 @@
-ghost use Rattle.std.specs.Prelude.{◌≡◌, true, IfOk};
+ghost use Rattle.std.specs.Prelude.{◌≡◌, true, IfOk, OnOk};
+ghost use Rattle.oci_layout.specs.Layout.{manifests_of};
+ghost use Rattle.oci_query_commands.specs.Answered.{is_of_all, AreUndamaged, HasWholeManifests};
 ghost use Rattle.oci_query_commands.specs.Verified.{is_verify, IsVerified, IsWhole};
 
+use crate::damage::print_answer_of_all;
 use crate::listing::{Predecessors, Resolved, Tags};
 use crate::tree::{Labels, Tree};
 use crate::verify::verify;
@@ -19,11 +22,16 @@ use std::time::Clock;
 ///
 /// # Errors
 ///
-/// If the query is refused, nothing was printed on `out`, unless the fault is that of a write: text
-/// that was printed before it stays.
+/// If the query is refused, nothing was printed on `out`, with two exceptions. Text that was printed
+/// before the fault of a write stays. And `tags`, `predecessors`, and `tree` with referrers print
+/// their answer, and are then refused for each damaged manifest of the layout: as lines, `err` has
+/// the refusals of all but the last, which is returned; as JSON, the first is returned, and no other
+/// is told.
 ///
-/// - 70 to 75 and 77, as from [`oci_layout::Layout::open_as_is`].
+/// - 70 to 74, as from [`oci_layout::Layout::open_as_is`].
 /// - 35 `EmptyReference` if the reference is empty, and 36 `UnknownReference` if it is unknown.
+/// - 75 `Corrupt` or 77 `BadManifest` if the reference names a damaged blob, or for a damaged
+///   manifest of the layout after the answer.
 /// - 21 `Corrupt` if `tree` reads a referrer whose file does not match its key.
 /// - 22 `Device` if a blob cannot be read by `tree` or `verify`.
 /// - 94 `Output` if `out` cannot be written.
@@ -39,6 +47,10 @@ pub fn run_query<
     // nothing is wrong with the layout.
     ensures verified { IfOk result (λ outcome. outcome ≡ Outcome.Good → is_verify query.entry ≡ true
         → (D.device dir).is_honest → IsVerified (D.device dir)) }
+
+    // And `tags`, `predecessors`, and `tree` with referrers are done only if no manifest is damaged.
+    ensures answered { OnOk result (is_of_all query.entry ≡ true
+        → (D.device dir).is_honest → HasWholeManifests (D.device dir)) }
 {
     let layout = match Layout::open_as_is(rt.alloc(), dir) {
         Ok(layout) => layout,
@@ -56,42 +68,54 @@ fn answer_from<R: AllocGlobal + Clock + Wait, D: Dir, W: Write, X: Write>(
     out: &mut W,
     err: &mut X,
 ) -> Result<Outcome, ProgramFault>
-    ensures { IfOk result (λ outcome. outcome ≡ Outcome.Good → is_verify query.entry ≡ true
-        → IsWhole (D.device layout.now.dir) layout.now.graph layout.now.opened.absent) }
+    ensures verified { IfOk result (λ outcome. outcome ≡ Outcome.Good → is_verify query.entry ≡ true
+        → IsWhole (D.device layout.now.dir) layout.now.graph layout.now.opened) }
+    ensures answered { OnOk result (is_of_all query.entry ≡ true
+        → AreUndamaged (D.device layout.now.dir) (manifests_of layout.now.opened.damaged)) }
 {
     let alloc = rt.alloc();
     match query {
         Query::Tags { lists_all } => {
-            print_answer(alloc, &Tags::of(alloc, layout, lists_all)?, form, out)
+            let tags = Tags::of(alloc, layout, lists_all)?;
+            print_answer_of_all(alloc, layout, tags, form, out, err)
         }
         Query::Resolve(reference) => {
             print_answer(alloc, &Resolved::of(layout, reference)?, form, out)
         }
         Query::Predecessors(reference) => {
-            print_answer(alloc, &Predecessors::of(layout, reference)?, form, out)
+            let predecessors = Predecessors::of(layout, reference)?;
+            print_answer_of_all(alloc, layout, predecessors, form, out, err)
         }
         Query::Tree {
             reference,
             shows_referrers,
-        } => print_tree(alloc, layout, reference, shows_referrers, form, out),
+        } => print_tree(alloc, layout, reference, shows_referrers, form, out, err),
         Query::Verify { shows_progress } => {
             print_findings(rt, layout, shows_progress, form, out, err)
         }
     }
 }
 
-/// Prints the tree of a reference.
-fn print_tree<D: Dir, W: Write>(
+/// Prints the tree of a reference. Its referrers may be any manifests of the layout.
+fn print_tree<D: Dir, W: Write, X: Write>(
     alloc: Global,
     layout: &Layout<D>,
     reference: &str,
     shows_referrers: bool,
     form: Form,
     out: &mut W,
-) -> Result<Outcome, ProgramFault> {
+    err: &mut X,
+) -> Result<Outcome, ProgramFault>
+    ensures { OnOk result (shows_referrers ≡ true
+        → AreUndamaged (D.device layout.now.dir) (manifests_of layout.now.opened.damaged)) }
+{
     let labels = Labels::of(alloc, layout)?;
     let tree = Tree::of(alloc, layout, &labels, reference, shows_referrers)?;
-    print_answer(alloc, &tree, form, out)
+    if shows_referrers {
+        print_answer_of_all(alloc, layout, tree, form, out, err)
+    } else {
+        print_answer(alloc, &tree, form, out)
+    }
 }
 
 /// Prints what is wrong with a layout. Returns `Good` only if nothing is.
@@ -104,7 +128,7 @@ fn print_findings<R: AllocGlobal + Clock + Wait, D: Dir, W: Write, X: Write>(
     err: &mut X,
 ) -> Result<Outcome, ProgramFault>
     ensures { IfOk result (λ outcome. outcome ≡ Outcome.Good
-        → IsWhole (D.device layout.now.dir) layout.now.graph layout.now.opened.absent) }
+        → IsWhole (D.device layout.now.dir) layout.now.graph layout.now.opened) }
 {
     let findings = verify(rt, layout, shows_progress, err)?;
     print_answer(rt.alloc(), &findings, form, out)?;

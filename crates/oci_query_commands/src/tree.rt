@@ -1,8 +1,8 @@
 use oci_digest::NoMemory;
 use oci_layout::{Dir, Layout};
 use oci_manifest::{Key, Kind, artifact_type};
-use oci_program::{ProgramFault, Readable};
-use oci_store::{GraphSource, Tagger};
+use oci_program::{ProgramFault, Readable, resolve};
+use oci_store::GraphSource;
 use serde::Serialize;
 use std::alloc::Global;
 use std::collections::BTreeSet;
@@ -36,7 +36,7 @@ impl<'l> Tree<'l> {
         reference: &str,
         shows_referrers: bool,
     ) -> Result<Tree<'l>, ProgramFault> {
-        let root = layout.resolve(reference)?;
+        let root = resolve(layout, reference)?;
         let mut walk = Walk {
             alloc,
             source: layout,

@@ -1,16 +1,18 @@
-ghost use Rattle.std.specs.Prelude.{◌≡◌, [], false, None, IfOk, OnOk};
+ghost use Rattle.std.specs.Prelude.{◌≡◌, ◌++◌, ◌∷◌, [], false, not, filter, map, None, IfOk, OnOk};
+ghost use Rattle.std.specs.BTreeSet.{contains};
+ghost use Rattle.oci_manifest.specs.Descriptor.{Descriptor, is_among, key_cmp};
 ghost use Rattle.oci_store.specs.Closed.{IsClosed};
-ghost use Rattle.oci_query_commands.specs.Verified.{AreIntact, FindsNothing, IsIntact, IsWhole};
+ghost use Rattle.oci_query_commands.specs.Verified.{AreIntact, FindsNothing, HasNone, IsIntact, IsWhole};
 
 use crate::listing::name_of;
 use oci_digest::NoMemory;
 use oci_layout::{Dir, IndexEntry, Layout};
 use oci_manifest::{Key, Kind};
 use oci_program::{Amount, Outcome, ProgramFault, ProgressLine, Tagged};
-use oci_store::{Dest, Drafting, FetchFault, PartWatcher, Source, fetch_into};
+use oci_store::{Dest, Drafting, FetchFault, GraphSource, PartWatcher, Source, fetch_into};
 use serde::Serialize;
 use std::alloc::Global;
-use std::collections::BTreeMap;
+use std::collections::{BTreeMap, BTreeSet};
 use std::fmt;
 use std::fmt::Display;
 use std::io::Write;
@@ -21,18 +23,18 @@ use std::time::Clock;
 #[derive(Drop, Serialize)]
 pub(crate) struct Findings<'l> {
     /// The key of each entry of `index.json` without a file, in the order of the entries.
-    absent: &'l [Key],
-    /// The held keys whose files do not match them, in key order.
+    absent: Vec<&'l Key>,
+    /// The keys whose files are damaged or do not match them, in key order.
     corrupt: Vec<&'l Key>,
-    /// The first key that lists a missing key, with that key.
+    /// The first key that lists a key without a file, with that key.
     open: Option<Open>,
     /// The tag and the key of each entry whose tag a later entry has, in the order of the entries.
     shadowed: Vec<Tagged>,
-    /// The number of held keys.
+    /// The number of keys that are reached and have a file.
     held: usize,
 }
 
-/// A held key that lists a missing key.
+/// A held key that lists a key without a file.
 #[derive(Drop, Serialize)]
 struct Open {
     holder: Key,
@@ -40,8 +42,8 @@ struct Open {
 }
 
 impl Findings<'_> {
-    /// Returns `Good` if nothing is wrong: no key is absent or corrupt, and none lists a missing
-    /// key.
+    /// Returns `Good` if nothing is wrong: no key is absent or corrupt, and none lists a key without
+    /// a file.
     pub(crate) fn outcome(&self) -> Outcome
         ensures { result ≡ Outcome.Good → FindsNothing self.now }
     {
@@ -55,7 +57,7 @@ impl Findings<'_> {
 
 impl Display for Findings<'_> {
     fn fmt<W: fmt::Write>(&self, f: &mut fmt::Formatter<W>) -> fmt::Result {
-        print_each("absent", self.absent, f)?;
+        print_each("absent", &self.absent, f)?;
         print_each("corrupt", &self.corrupt, f)?;
         if let Some(Open { holder, missing }) = &self.open {
             writeln!(f, "open {holder} {missing}")?;
@@ -88,28 +90,76 @@ pub(crate) fn verify<'l, R: AllocGlobal + Clock + Wait, D: Dir, X: Write>(
     err: &mut X,
 ) -> Result<Findings<'l>, ProgramFault>
     ensures { IfOk result (λ findings. FindsNothing findings
-        → IsWhole (D.device layout.now.dir) layout.now.graph layout.now.opened.absent) }
+        → IsWhole (D.device layout.now.dir) layout.now.graph layout.now.opened) }
 {
+    let alloc = rt.alloc();
     let progress = Progress::new(rt, err, layout, shows_progress);
-    let corrupt = corrupt_keys(rt.alloc(), layout, &progress);
+    let corrupt = corrupt_keys(alloc, layout, &progress);
     progress.end();
+    let damaged = set_of(alloc, layout.damaged())?;
     Ok(Findings {
-        absent: layout.absent(),
+        absent: keys_without(alloc, layout.absent(), &damaged)?,
         corrupt: corrupt?,
-        open: open_key(layout)?,
-        shadowed: shadowed_entries(rt.alloc(), layout.entries())?,
-        held: layout.count(),
+        open: open_key(layout, &damaged)?,
+        shadowed: shadowed_entries(alloc, layout.entries())?,
+        held: layout.count().saturating_add(layout.damaged().len()),
     })
 }
 
-/// Returns the held keys whose files do not match them, in key order.
+/// Returns the set of these keys.
+fn set_of(alloc: Global, keys: &[Key]) -> Result<BTreeSet<Key>, NoMemory>
+    ensures { IfOk result (λ set. (k : Descriptor) → contains key_cmp set k
+        ≡ is_among keys.now k) }
+{
+    let mut set = BTreeSet::new(alloc);
+    for key in keys {
+        set.insert(key.try_clone()?)?;
+    }
+    Ok(set)
+}
+
+/// Returns those of these keys that are not damaged, in their order.
+fn keys_without<'l>(
+    alloc: Global,
+    keys: &'l [Key],
+    damaged: &BTreeSet<Key>,
+) -> Result<Vec<&'l Key>, NoMemory>
+    ensures { IfOk result (λ others. map (λ key. key.now) others.items
+        ≡ filter (λ k. not (contains key_cmp damaged.now k)) keys.now) }
+{
+    let mut others = Vec::new(alloc);
+    for key in keys {
+        add_unless(damaged, key, &mut others)?;
+    }
+    Ok(others)
+}
+
+/// Adds a key to these if it is not damaged.
+fn add_unless<'l>(
+    damaged: &BTreeSet<Key>,
+    key: &'l Key,
+    keys: &mut Vec<&'l Key>,
+) -> Result<(), NoMemory>
+    ensures { OnOk result (map (λ key. key.now) keys.new.items
+        ≡ map (λ key. key.now) keys.old.items
+        ++ filter (λ k. not (contains key_cmp damaged.now k)) (key.now ∷ [])) }
+{
+    if !damaged.contains(key) {
+        keys.push(key)?;
+    }
+    Ok(())
+}
+
+/// Returns the damaged keys, and the held keys whose files do not match them, in key order.
 fn corrupt_keys<'l, D: Dir, R: Clock + Wait, X: Write>(
     alloc: Global,
     layout: &'l Layout<D>,
     progress: &Progress<'_, R, X>,
 ) -> Result<Vec<&'l Key>, ProgramFault>
-    ensures { IfOk result (λ corrupt. corrupt.items ≡ []
+    ensures intact { IfOk result (λ corrupt. corrupt.items ≡ []
         → AreIntact (D.device layout.now.dir) layout.now.graph) }
+    ensures undamaged { IfOk result (λ corrupt. corrupt.items ≡ []
+        → layout.now.opened.damaged ≡ []) }
 {
     let mut corrupt = Vec::new(alloc);
     for place in 0..layout.count() {
@@ -118,8 +168,20 @@ fn corrupt_keys<'l, D: Dir, R: Clock + Wait, X: Write>(
         };
         add_if_corrupt(layout, key, &mut corrupt, progress)?;
     }
+    add_all(layout.damaged(), &mut corrupt)?;
     corrupt.sort()?;
     Ok(corrupt)
+}
+
+/// Adds some keys to these.
+fn add_all<'l>(more: &'l [Key], keys: &mut Vec<&'l Key>) -> Result<(), NoMemory>
+    ensures { OnOk result (map (λ key. key.now) keys.new.items
+        ≡ map (λ key. key.now) keys.old.items ++ more.now) }
+{
+    for key in more {
+        keys.push(key)?;
+    }
+    Ok(())
 }
 
 /// Adds a held key to these if its file does not match it.
@@ -190,14 +252,55 @@ impl Drafting for Discard {
     }
 }
 
-/// Returns the first key that lists a missing key, with that key.
-fn open_key<D: Dest>(store: &D) -> Result<Option<Open>, NoMemory>
-    ensures { IfOk result (λ found. found ≡ None → IsClosed (D.state store.now).nodes) }
+/// Returns the first key that lists a key which is neither held nor damaged, with the first such
+/// key.
+fn open_key<D: Dir>(layout: &Layout<D>, damaged: &BTreeSet<Key>) -> Result<Option<Open>, NoMemory>
+    ensures { IfOk result (λ found. found ≡ None → HasNone damaged.now
+        → IsClosed layout.now.graph) }
 {
-    match store.missing()? {
-        Some((holder, missing)) => Ok(Some(Open { holder, missing })),
-        None => Ok(None),
+    let Some((holder, missing)) = layout.missing()? else {
+        return Ok(None);
+    };
+    if damaged.contains(&missing) {
+        return next_open_key(layout, damaged);
     }
+    Ok(Some(Open { holder, missing }))
+}
+
+/// Returns the same, where the first missing key is damaged.
+fn next_open_key<D: Dir>(
+    layout: &Layout<D>,
+    damaged: &BTreeSet<Key>,
+) -> Result<Option<Open>, NoMemory> {
+    for place in 0..layout.count() {
+        let Some(holder) = layout.key(place) else {
+            unreachable!();
+        };
+        if let Some(missing) = missing_key(layout, holder, damaged)? {
+            return Ok(Some(Open {
+                holder: holder.try_clone()?,
+                missing,
+            }));
+        }
+    }
+    Ok(None)
+}
+
+/// Returns the first key that a held key lists and that is neither held nor damaged.
+fn missing_key<D: Dir>(
+    layout: &Layout<D>,
+    holder: &Key,
+    damaged: &BTreeSet<Key>,
+) -> Result<Option<Key>, NoMemory> {
+    let Some(listed) = layout.successors(holder)? else {
+        return Ok(None);
+    };
+    for key in listed {
+        if !layout.has(&key) && !damaged.contains(&key) {
+            return Ok(Some(key));
+        }
+    }
+    Ok(None)
 }
 
 /// Returns the name and the key of each entry whose name a later entry has, in the order of the

@@ -15,8 +15,9 @@ use std::io::Write;
 ///
 /// - 0: the command was done, and its result is on `out`.
 /// - 1: the command was refused. `err` has one line, `ocicp:` and the faults from the outermost to
-///   the innermost, and with `--hint` a second line, which says what the innermost number means. Or
-///   `verify` found a problem, which is on `out`.
+///   the innermost, and with `--hint` a second line, which says what the innermost number means. If
+///   several manifests are damaged, each has a line, after the result on `out`. Or `verify` found a
+///   problem, which is on `out`.
 /// - 2: the command line is invalid, and the usage is on `err`.
 /// - 3: memory ran out. `err` has the line `ocicp: memory`.
 ///

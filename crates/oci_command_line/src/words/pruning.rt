@@ -57,11 +57,11 @@ pub(crate) const PRUNE: CommandText = CommandText {
          Prints `removed` with the digest, the size and the media type of each blob that is removed, and \
          `removed-file` with the path and the length of each other file. The last line counts the blobs \
          `kept` and `removed`, and all `files` that are removed, with their `bytes`.\n\n\
-         Refused, before anything is changed: a layout without tags (97); a missing blob (96) that is an \
-         entry of `index.json`, or a manifest that a kept manifest lists, since it is not known what it \
-         needs; a folder `blobs`, `blobs/sha256` or `blobs/sha512` that is a symbolic link (98), since \
-         another layout may need the blobs there; a manifest that cannot be read. FOLDER is not created, \
-         and cannot be an archive (95).\n\n\
+         Refused, before anything is changed: a layout without tags (97); a damaged manifest, or a \
+         missing blob that is an entry of `index.json` or a manifest that a kept manifest lists (96), \
+         since it is not known what it needs; a folder `blobs`, `blobs/sha256` or `blobs/sha512` that is \
+         a symbolic link (98), since another layout may need the blobs there; a manifest that cannot be \
+         read. FOLDER is not created, and cannot be an archive (95).\n\n\
          `index.json` is saved first. If the prune is then killed, or a file cannot be removed (79), no \
          tag has lost anything, and the next prune removes the rest. If a blob is removed, `index.json` is \
          written anew, without the entries of removed blobs. The other entries keep all that other tools \

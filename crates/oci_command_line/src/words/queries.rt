@@ -7,9 +7,11 @@ pub(crate) const TAGS: CommandText = CommandText {
     about: "Lists the tags of a layout, each with the digest, size and media type it resolves to",
     details: Some(
         "Lists the tags of a layout in byte order, each with the digest, the size and the media type of \
-         the blob that it resolves to. A tag whose blob is missing is left out.\n\n\
+         the blob that it resolves to. A tag whose blob is missing, or is a damaged manifest, is left \
+         out.\n\n\
          With `--all` the blobs of the entries of `index.json` that have no tag follow, each with `-` in \
-         the place of the tag.",
+         the place of the tag.\n\n\
+         Then reports each damaged manifest of the layout, as an error (75 or 77).",
     ),
     usage: "ocicp tags [OPTIONS] <FOLDER>",
     examples: "Examples:\n  ocicp tags mirror\n  ocicp tags --all mirror",
@@ -31,7 +33,9 @@ pub(crate) const PREDECESSORS: CommandText = CommandText {
     details: Some(
         "Lists the manifests that list the blob of a reference: indexes, and referrers such as \
          signatures. Each line is a digest, a size and a media type. Only direct predecessors are listed; \
-         `tree --referrers` shows theirs too.",
+         `tree --referrers` shows theirs too.\n\n\
+         Then reports each damaged manifest of the layout, as an error (75 or 77), since it may list the \
+         blob too.",
     ),
     usage: "ocicp predecessors [OPTIONS] <FOLDER> <REF>",
     examples: "Example:\n  ocicp predecessors mirror v1",
@@ -45,12 +49,13 @@ pub(crate) const TREE: CommandText = CommandText {
         "Shows the blobs that a reference reaches as a tree, for people to read. Each line is the \
          beginning of a digest, a size, a media type, and the tags of that blob in brackets. The blobs \
          that a manifest lists are below it, indented by two spaces. A blob that was shown before is \
-         marked `(shown above)`, and its list is not shown again. A blob that the layout does not have is \
-         marked `(absent)`.\n\n\
+         marked `(shown above)`, and its list is not shown again. A blob that the layout does not have, \
+         or whose file is damaged, is marked `(absent)`.\n\n\
          With `--referrers` the title `referrers:` follows, and below it the manifests that list the \
          blob, each with the manifests that list it in turn. If such a manifest states an artifact type, \
          its line has the type in parentheses: its `artifactType`, or else the media type of its \
-         config.\n\n\
+         config. Then each damaged manifest of the layout is reported, as an error (75 or 77), since it \
+         may list the blob too.\n\n\
          Scripts should use `resolve` and `predecessors`, which print whole digests.",
     ),
     usage: "ocicp tree [OPTIONS] <FOLDER> <REF>",
@@ -63,14 +68,14 @@ pub(crate) const VERIFY: CommandText = CommandText {
     about: "Checks each blob of a layout against its digest, and that no listed blob is missing",
     details: Some(
         "Checks each blob of a layout against its digest, and that no listed blob is missing. It reads \
-         the blobs that an entry of `index.json` reaches. A damaged manifest is an error (75), since its \
-         list is not known.\n\n\
+         the blobs that an entry of `index.json` reaches, but not those that only a damaged manifest \
+         lists, since its list is not known.\n\n\
          Prints `absent` with the digest, the size and the media type of each entry of `index.json` whose \
-         own blob is missing. Then prints `corrupt` with those of each blob whose file does not match. If \
-         a listed blob is missing, prints `open` with the first manifest that lists one, and with the \
-         missing blob. Then prints `shadowed` with the tag and the blob of each entry whose tag a later \
-         entry has too, which is no problem by itself. Then prints `held` and the number of blobs. The \
-         status is 1 if it finds a problem.",
+         own blob has no file. Then prints `corrupt` with those of each blob whose file does not match, or \
+         is a manifest that cannot be read. If a listed blob has no file, prints `open` with the first \
+         manifest that lists one, and with that blob. Then prints `shadowed` with the tag and the blob of \
+         each entry whose tag a later entry has too, which is no problem by itself. Then prints `held` and \
+         the number of blobs that have a file. The status is 1 if it finds a problem.",
     ),
     usage: "ocicp verify [OPTIONS] <FOLDER>",
     examples: "Example:\n  ocicp verify mirror",

@@ -16,7 +16,7 @@ ghost use Rattle.oci_layout.specs.Entries.{
 };
 ghost use Rattle.oci_layout.specs.Faults.{of_index};
 ghost use Rattle.oci_layout.specs.Index.{index_file, HasLayoutFile};
-ghost use Rattle.oci_layout.specs.Refusal.{IsOpenFault, index_in};
+ghost use Rattle.oci_layout.specs.Refusal.{IsOpenAsIsFault, index_in};
 ghost use Rattle.serde_json.specs.View.{view, items_view};
 
 use crate::dir::Dir;
@@ -34,7 +34,7 @@ pub(crate) fn read_index<D: Dir>(alloc: Global, dir: &D) -> Result<IndexContent,
         → IsIndexFile ((D.device dir.now).file index_file) (said content)) }
     ensures cause { IfErr result (λ fault.
         ((D.device dir.now).is_honest → HasLayoutFile (D.device dir.now).file)
-        → IsOpenFault (D.device dir.now) fault) }
+        → IsOpenAsIsFault (D.device dir.now) fault) }
 {
     let Some(bytes) = dir.read("index.json")? else {
         return Ok(IndexContent::none(alloc));

@@ -1,7 +1,7 @@
 //! An entry with another name.
-ghost use Rattle.std.specs.Prelude.{◌≡◌, None, Some, IfOk, map};
+ghost use Rattle.std.specs.Prelude.{◌≡◌, None, Some, IfOk};
 ghost use Rattle.serde_json.specs.View.{view, members_view};
-ghost use Rattle.oci_layout.specs.Brought.{annotations_of, renamed, same_name, with_annotations, with_name, IsShallowEntry};
+ghost use Rattle.oci_layout.specs.Brought.{annotations_of, renamed, with_annotations, with_name, IsShallowEntry};
 ghost use Rattle.oci_layout.specs.Entries.{entry_of, text_of};
 ghost use Rattle.oci_layout.specs.Law.{IsWhole};
 ghost use Rattle.oci_layout.specs.Saved.{is_name};

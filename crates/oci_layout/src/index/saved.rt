@@ -28,8 +28,8 @@ use oci_store::{Graph, Tags};
 use std::alloc::Global;
 use std::collections::BTreeSet;
 
-/// Returns the entries that a save writes. `absent` are the keys of those of these entries that had
-/// no file when the layout was opened.
+/// Returns the entries that a save writes. `absent` are the keys of those of these entries that
+/// were not held when the layout was opened.
 pub(crate) fn saved_entries(
     alloc: Global,
     absent: &[Key],

@@ -15,11 +15,11 @@ use std::alloc::Global;
 pub(crate) fn index_text(
     alloc: Global,
     members: &Value,
-    entries: &[IndexEntry],
+    entries: Vec<IndexEntry>,
 ) -> Result<Vec<u8>, NoMemory>
-    requires { IsShallow (content_of entries.now members.now) }
+    requires { IsShallow (content_of entries.items members.now) }
     ensures { IfOk result (λ bytes. IsCompact bytes.items
-        (index_value (content_of entries.now members.now))) }
+        (index_value (content_of entries.items members.now))) }
 {
     let value = index_of(alloc, members, entries)?;
     Ok(value.to_vec(alloc)?)
@@ -27,8 +27,8 @@ pub(crate) fn index_text(
 
 /// Returns the index with these members and entries.
 #[tactic(auto, unfolding(crate::specs::Index::index_value))]
-fn index_of(alloc: Global, members: &Value, entries: &[IndexEntry]) -> Result<Value, NoMemory>
-    ensures { IfOk result (λ v. view v ≡ index_value (content_of entries.now members.now)) }
+fn index_of(alloc: Global, members: &Value, entries: Vec<IndexEntry>) -> Result<Value, NoMemory>
+    ensures { IfOk result (λ v. view v ≡ index_value (content_of entries.items members.now)) }
 {
     let manifests = values_of(alloc, entries)?;
     let media_type = String::from_str(alloc, "application/vnd.oci.image.index.v1+json")?;
@@ -65,13 +65,13 @@ pub(crate) fn put(
 }
 
 /// Returns the descriptors of these entries.
-fn values_of(alloc: Global, entries: &[IndexEntry]) -> Result<Vec<Value>, NoMemory>
+fn values_of(alloc: Global, entries: Vec<IndexEntry>) -> Result<Vec<Value>, NoMemory>
     ensures { IfOk result (λ vs. map view vs.items
-        ≡ map (λ e. e.value) (map entry_of entries.now)) }
+        ≡ map (λ e. e.value) (map entry_of entries.items)) }
 {
     let mut values = Vec::new(alloc);
     for entry in entries {
-        values.push(entry.value.clone()?)?;
+        values.push(entry.into_value())?;
     }
     Ok(values)
 }

@@ -1,4 +1,4 @@
-ghost use Rattle.std.specs.Prelude.{◌≡◌, [], map, IfOk, OnOk};
+ghost use Rattle.std.specs.Prelude.{◌≡◌, [], map, IfOk, OnOk, OnErr};
 ghost use Rattle.std.specs.BTreeSet.{contains};
 ghost use Rattle.std.specs.List.{All};
 ghost use Rattle.std.specs.Map.{values_of};
@@ -37,10 +37,10 @@ impl<D: Dir> Layout<D> {
         let _ = self.replace_index(index);
     }
 
-    /// Remembers these entries, as if the layout had been opened from an index with them. They
-    /// replace the remembered entries of their names. One without a name is remembered only if the
-    /// key has no tag, and no entry without a name is remembered of it. An absent key is no longer
-    /// absent if each entry that had it was replaced.
+    /// Remembers these entries, so that [`save`](Layout::save) writes them for the tags and the held
+    /// keys that they name. They replace the remembered entries of their names. One without a name is
+    /// remembered only if the key has no tag, and no entry without a name is remembered of it. An
+    /// absent key is no longer absent if each entry that had it was replaced.
     ///
     /// # Errors
     ///
@@ -70,6 +70,7 @@ impl<D: Dir> Layout<D> {
     /// `NoMemory` if memory runs out. The layout then remembers nothing of its index.
     pub fn forget_names(&mut self) -> Result<(), NoMemory>
         ensures forgotten { OnOk result (ForgetsNames self.old.opened self.new.opened) }
+        ensures lost { OnErr result (self.new.opened ≡ no_index) }
         ensures only { OnlyIndex self.old self.new }
     {
         let index = self.take_index();
@@ -84,10 +85,11 @@ impl<D: Dir> Layout<D> {
         ensures new { self.new.opened ≡ index }
         ensures only { OnlyIndex self.old self.new }
     {
-        let (absent, content) = index.into_parts();
+        let (absent, damaged, content) = index.into_parts();
         let absent = mem::replace(&mut self.absent, absent);
+        let damaged = mem::replace(&mut self.damaged, damaged);
         let content = mem::replace(&mut self.content, content);
-        OpenedIndex::new(absent, content)
+        OpenedIndex::new(absent, damaged, content)
     }
 }
 

@@ -2,7 +2,7 @@ ghost use Rattle.std.specs.Prelude.{◌≡◌, IfOk};
 ghost use Rattle.oci_layout.specs.Device.{Finds};
 ghost use Rattle.oci_layout.specs.Index.{HasLayoutFile, version_in};
 ghost use Rattle.oci_layout.specs.Entries.{text_of};
-ghost use Rattle.oci_layout.specs.Refusal.{IsOpenFault};
+ghost use Rattle.oci_layout.specs.Refusal.{IsOpenAsIsFault};
 
 use crate::dir::Dir;
 use crate::fault::LayoutFault;
@@ -15,7 +15,7 @@ use std::alloc::Global;
 #[tactic(auto, unfolding(crate::specs::Index::layout_file, crate::specs::Index::layout_version))]
 pub(crate) fn check_version<D: Dir>(alloc: Global, dir: &D) -> Result<(), LayoutFault>
     ensures { Finds (D.device dir.now) (λ _. HasLayoutFile (D.device dir.now).file)
-        (IsOpenFault (D.device dir.now)) result }
+        (IsOpenAsIsFault (D.device dir.now)) result }
 {
     let Some(bytes) = dir.read("oci-layout")? else {
         return Err(LayoutFault::NoLayoutFile);

@@ -156,6 +156,13 @@ impl Dir for FaultyDir {
         self.dir.exists(path)
     }
 
+    fn size(&self, path: &str) -> Result<Option<u64>, DirFault> {
+        if self.fails_look() {
+            return Err(DirFault::Failed);
+        }
+        self.dir.size(path)
+    }
+
     /// If it fails, it leaves the first half of the bytes.
     fn put(&mut self, path: &str, bytes: &[u8]) -> Result<(), DirFault> {
         let fails = self.fails_put();

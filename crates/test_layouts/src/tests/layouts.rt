@@ -34,6 +34,14 @@ pub(crate) enum LayoutStep<'a> {
     Holders(Sample),
     /// Result: the keys that a sample's key lists, each followed by `;`, or `not held`.
     Lists(Sample),
+    /// Result: the absent keys, each followed by `;`.
+    Absent,
+    /// Result: the damaged keys, each followed by `;`.
+    Damaged,
+    /// Result: the damaged keys of manifests, each followed by `;`.
+    DamagedManifests,
+    /// Checks the file of a sample's bytes under a media type. Result: `good`, or the fault.
+    Check(Sample, &'a str),
     /// Result: the remembered entry at a place, under a name or without one, or `no entry`.
     Renamed(usize, Option<&'a str>),
     /// Brings the entries of a layout with this index, which may have marks. Result: `brought`.
@@ -63,6 +71,10 @@ pub(crate) fn with_layout<D: Dir>(
         LayoutStep::Resolve(reference) => resolve(alloc, layout, reference),
         LayoutStep::Holders(sample) => holders(alloc, layout, sample),
         LayoutStep::Lists(sample) => lists(alloc, layout, sample),
+        LayoutStep::Absent => listed(alloc, layout.absent()),
+        LayoutStep::Damaged => listed(alloc, layout.damaged()),
+        LayoutStep::DamagedManifests => listed(alloc, &layout.damaged_manifests()?),
+        LayoutStep::Check(sample, media_type) => check(alloc, layout, sample, media_type),
         LayoutStep::Renamed(place, name) => renamed(alloc, layout, place, name),
         LayoutStep::Bring(index) => bring(alloc, layout, index),
         LayoutStep::ForgetNames => forget_names(alloc, layout),
@@ -227,6 +239,19 @@ fn lists<A: GraphSource>(alloc: Global, layout: &A, sample: Sample) -> Result<St
     match layout.successors(&sample.key(alloc)?)? {
         Some(keys) => listed(alloc, &keys),
         None => Ok(String::from_str(alloc, "not held")?),
+    }
+}
+
+fn check<D: Dir>(
+    alloc: Global,
+    layout: &Layout<D>,
+    sample: Sample,
+    media_type: &str,
+) -> Result<String, Fail> {
+    let key = sample.content(alloc)?.key_as(alloc, media_type)?;
+    match layout.check_file(&key) {
+        Ok(()) => Ok(String::from_str(alloc, "good")?),
+        Err(fault) => Ok(format!(in alloc; "{fault}")?),
     }
 }
 

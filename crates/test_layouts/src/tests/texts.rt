@@ -28,20 +28,23 @@ enum Form {
 }
 
 /// The marks, and the texts that they are replaced by.
-static MARKS: [(&str, Form, Sample); 23] = [
+static MARKS: [(&str, Form, Sample); 27] = [
     ("<key Empty>", Form::Whole, Empty),
     ("<key Foo>", Form::Whole, Foo),
     ("<key FooBySha512>", Form::Whole, FooBySha512),
     ("<key Bar>", Form::Whole, Bar),
     ("<key Image0>", Form::Whole, Image0),
+    ("<key Image3>", Form::Whole, Image3),
     ("<key Index1>", Form::Whole, Index1),
     ("<digest Empty>", Form::Digest, Empty),
     ("<digest Image0>", Form::Digest, Image0),
     ("<blob Empty>", Form::Blob, Empty),
     ("<blob Foo>", Form::Blob, Foo),
     ("<blob Image0>", Form::Blob, Image0),
+    ("<blob Image3>", Form::Blob, Image3),
     ("<text Empty>", Form::Text, Empty),
     ("<text Image0>", Form::Text, Image0),
+    ("<members Foo>", Form::Members, Foo),
     ("<members Bar>", Form::Members, Bar),
     ("<members Image0>", Form::Members, Image0),
     ("<members Image2>", Form::Members, Image2),
@@ -50,6 +53,7 @@ static MARKS: [(&str, Form, Sample); 23] = [
     ("<saved Image0>", Form::Saved, Image0),
     ("<saved Image2>", Form::Saved, Image2),
     ("<saved Image3>", Form::Saved, Image3),
+    ("<saved Index1>", Form::Saved, Index1),
     ("<saved Index3>", Form::Saved, Index3),
     ("<saved Referrer>", Form::Saved, Referrer),
 ];

@@ -1,7 +1,7 @@
 //! Files that cannot be read.
 
 use crate::tests::layouts::LayoutStep::{Fetch, Push, Save, Tag};
-use crate::tests::steps::Step::{Create, Open, With};
+use crate::tests::steps::Step::{Create, Open, OpenAsIs, With};
 use crate::tests::steps::{Ground, Row, assert_run};
 use oci_layout::{DirFault, LayoutFault};
 use std::fmt::Display;
@@ -47,10 +47,13 @@ const IMAGE: &[Row] = &[
     Row(With(Save), "saved"),
 ];
 
-/// No layout is opened if the manifest that the index lists cannot be read.
+const REFUSED_AS_IS: &[Row] = &[Row(OpenAsIs, "74 Device")];
+
+/// No layout is opened if the manifest that the index lists cannot be read, also not as it is.
 #[test]
 fn unreadable_manifest(rt: HostRuntime) -> Result<(), Fail> {
-    assert_run(&rt, Ground::Unreadable(IMAGE, 2), REFUSED)
+    assert_run(&rt, Ground::Unreadable(IMAGE, 2), REFUSED)?;
+    assert_run(&rt, Ground::Unreadable(IMAGE, 2), REFUSED_AS_IS)
 }
 
 /// Returns the text that a fault prints.

@@ -2,6 +2,8 @@ use Rattle.std.proofs.Common.{List, sym, subst, ◌∙◌}
 use Rattle.std.proofs.lemmas.Result.{err_from_is_err_and}
 use Rattle.oci_manifest.specs.Descriptor.{Descriptor}
 use Rattle.oci_store.specs.Keyed.{HasAll}
+use Rattle.oci_store.proofs.Lookups.{HasAll-from_first_missing}
+use Rattle.oci_layout.specs.Layout.{manifests_of}
 use Rattle.oci_prune.specs.Plan.{AreHeld, IsSafe}
 use Rattle.oci_prune.proofs.Plans.{tags_fault, are_removed}
 use Rattle.oci_prune.proofs.plan.plan_prune.Goals as goal
@@ -20,6 +22,10 @@ plan_keys-requires g c =
       rooted = subst (λ (ks : List Descriptor). HasAll graph ks) (sym roots) c.in_ok-roots.ensures.held;
       are_held = subst (λ (ks : List Descriptor). AreHeld graph ks) (sym c.deref-2.ensures.value) c.in_ok-held.ensures;
     }
+
+pub returns-clause-sound : goal.returns-clause-sound
+returns-clause-sound g c =
+    HasAll-from_first_missing c.args.layout.now.graph (manifests_of c.args.layout.now.opened.damaged) c.in_ok-check_whole.ensures.whole.sound
 
 pub returns-clause-planned : goal.returns-clause-planned
 returns-clause-planned g c =

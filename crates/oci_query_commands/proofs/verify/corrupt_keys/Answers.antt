@@ -1,11 +1,12 @@
-use Rattle.std.proofs.Common.{◌≡◌, [], List, length, slice_get, option_map, Some, sym, ap, subst, ◌∙◌, arith}
+use Rattle.std.proofs.Common.{◌≡◌, [], List, Bor, length, slice_get, option_map, Some, sym, ap, subst, ◌∙◌, arith}
 use Rattle.std.specs.Option.{option_copied}
 use Rattle.std.proofs.lemmas.List.{take_all}
 use Rattle.std.proofs.lemmas.List.Sorted.{length_permutation}
+use Rattle.oci_manifest.specs.Descriptor.{Descriptor}
 use Rattle.oci_layout.proofs.Loose.{empty_list}
 use Rattle.oci_store.specs.Graph.{Node}
 use Rattle.oci_query_commands.specs.Verified.{AreIntact}
-use Rattle.oci_query_commands.proofs.Verified.{AreIntact-more}
+use Rattle.oci_query_commands.proofs.Verified.{AreIntact-more, none_before}
 use Rattle.oci_query_commands.proofs.verify.corrupt_keys.Goals as goal
 
 pub loop-place-preserved : goal.loop-place-preserved
@@ -18,10 +19,16 @@ loop-place-preserved g c = λ none.
     (c.loop-place.invariant step.0) step.1
 
 pub returns : goal.returns
-returns g c = λ none.
+returns g c =
     let layout = c.args.layout.now in
-    let same : length c.sort.new.self.items ≡ length c.loop-place.corrupt.items = length_permutation c.loop-place.corrupt.items c.sort.new.self.items c.sort.ensures.permutation in
-    let empty : c.loop-place.corrupt.items ≡ [] = empty_list c.loop-place.corrupt.items (omega (arith, same, ap length none)) in
-    subst (λ (graph : List Node). AreIntact (g.D.Dir.device layout.dir) graph)
-    (take_all c.loop-place.place layout.graph (omega (arith, c.loop-place-test.false, c.count-place-end.ensures.count)))
-    (c.loop-place.invariant empty)
+    let found : List (Bor Descriptor) = c.loop-place.corrupt.items in
+    let all : List (Bor Descriptor) = c.add_all.new.keys.items in
+    let sorted : List (Bor Descriptor) = c.sort.new.self.items in
+    let same : length sorted ≡ length all = length_permutation all sorted c.sort.ensures.permutation in
+    let parts = λ (none : sorted ≡ []). none_before found all c.damaged.result.now c.in_ok-add_all.ensures (empty_list all (omega (arith, same, ap length none))) in
+    record {
+      intact = λ none. subst (λ (graph : List Node). AreIntact (g.D.Dir.device layout.dir) graph)
+          (take_all c.loop-place.place layout.graph (omega (arith, c.loop-place-test.false, c.count-place-end.ensures.count)))
+          (c.loop-place.invariant (parts none).0);
+      undamaged = λ none. sym c.damaged.ensures ∙ (parts none).1;
+    }

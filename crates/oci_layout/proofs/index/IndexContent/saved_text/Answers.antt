@@ -12,4 +12,4 @@ index_text-requires c =
     let opened : All IsShallowEntry (map entry_of c.deref.result.now) = rw c.deref.ensures.value shallow.entries in
     let written = subst (λ (es : List IndexEntry). All IsShallowEntry es) (sym saved.2)
     (all_saved IsShallowEntry (λ k. Unit {0}) (λ k name any. shallow-new k name) c.args.absent.now (map entry_of c.deref.result.now) c.args.graph.now c.args.tags.now saved.0 opened (anything _) (anything _)) in
-    record { entries = rw c.deref-2.ensures.value written; members = shallow.members }
+    record { entries = written; members = shallow.members }

@@ -1,8 +1,14 @@
+use Rattle.std.proofs.Common.{true}
 use Rattle.oci_layout.specs.Entries.{entry_keys, said}
 use Rattle.oci_layout.proofs.Walk.{IsSound-opened}
 use Rattle.oci_layout.proofs.layout.Layout.open_as_is.Goals as goal
 
+pub returns-in-Ok-clause-opened : goal.returns-in-Ok-clause-opened
+returns-in-Ok-clause-opened g c = rw c.of.ensures c.in-Ok.ensures.opened
+
 pub returns-in-Ok-clause-sound : goal.returns-in-Ok-clause-sound
-returns-in-Ok-clause-sound g c = λ honest matching.
-    let o = c.in-Ok.ensures.opened honest in
-    IsSound-opened (g.D.Dir.device c.args.dir).is_honest (g.D.Dir.device c.args.dir).file (entry_keys (said c.in-Ok.content).entries) c.in-Ok.graph honest c.in-Ok.ensures.distinct o.read.walked matching
+returns-in-Ok-clause-sound g c =
+    let dir = g.D.Dir.device c.args.dir in
+    rw c.of.ensures (λ honest matching.
+    (let o = c.in-Ok.ensures.opened honest in
+    IsSound-opened dir.is_honest true dir.file (entry_keys (said c.in-Ok.opened.content).entries) c.in-Ok.graph honest c.in-Ok.ensures.distinct o.read.walked matching))

@@ -1,4 +1,5 @@
 use Rattle.std.proofs.Common.{◌≡◌, ◌+◌, true, sym, ◌∙◌}
+use Rattle.std.proofs.lemmas.Bool.{not-false}
 use Rattle.oci_store.specs.Keyed.{has_key}
 use Rattle.oci_layout.specs.Entries.{entry_of}
 use Rattle.oci_layout.specs.Saved.{no_name}
@@ -9,4 +10,4 @@ pub returns : goal.returns
 returns c =
     let key = c.args.entry.now.key in
     opened_added c.args.loose.now c.insert.new.self key c.in_ok-try_clone.field-0 (c.args.place + 1) (no_name (entry_of c.args.entry.now).name ≡ true) (has_key c.args.graph.now key ≡ true)
-    c.in_ok-try_clone.ensures c.in_ok-insert.ensures.updates.0 (sym c.has_no_name.ensures ∙ c.if-not-has_no_name.false) (sym c.holds.ensures ∙ c.if-not-holds.false)
+    c.in_ok-try_clone.ensures c.in_ok-insert.ensures.updates.0 (not-false (no_name (entry_of c.args.entry.now).name) (sym c.has_name.ensures ∙ c.if-has_name.false)) (sym c.holds.ensures ∙ c.if-not-holds.false)

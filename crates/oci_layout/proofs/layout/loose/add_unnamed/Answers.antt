@@ -1,4 +1,5 @@
 use Rattle.std.proofs.Common.{◌≡◌, true, sym, ◌∙◌}
+use Rattle.std.proofs.lemmas.Bool.{not-false}
 use Rattle.oci_layout.specs.Entries.{entry_of}
 use Rattle.oci_layout.specs.Saved.{no_name}
 use Rattle.oci_layout.proofs.Loose.{key_added}
@@ -7,4 +8,4 @@ use Rattle.oci_layout.proofs.layout.loose.add_unnamed.Goals as goal
 pub returns : goal.returns
 returns c =
     key_added c.args.unnamed.now c.insert.new.self c.args.entry.now.key c.in_ok-try_clone.field-0 (no_name (entry_of c.args.entry.now).name ≡ true) c.in_ok-try_clone.ensures
-    c.in_ok-insert.ensures.updates.0 (sym c.has_no_name.ensures ∙ c.if-not-has_no_name.false)
+    c.in_ok-insert.ensures.updates.0 (not-false (no_name (entry_of c.args.entry.now).name) (sym c.has_name.ensures ∙ c.if-has_name.false))

@@ -1,0 +1,9 @@
+use Rattle.std.proofs.Common.{◌≡◌, map, not, take, Bor}
+use Rattle.std.specs.Prelude.{filter}
+use Rattle.std.specs.BTreeSet.{contains}
+use Rattle.oci_manifest.specs.Descriptor.{Descriptor, key_cmp}
+use Rattle.oci_query_commands.proofs.verify.keys_without.Given as goal
+
+-- as far as the loop has come
+abbrev pub invariant-loop-key : goal.invariant-loop-key
+invariant-loop-key l = map (λ (k : Bor Descriptor). k.now) l.others.items ≡ filter (λ (k : Descriptor). not (contains key_cmp l.damaged k)) (take l.key-index l.keys)

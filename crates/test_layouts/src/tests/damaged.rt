@@ -1,0 +1,189 @@
+//! Layouts with damaged files.
+
+use crate::tests::files::FileStep::{Blobs, Put, Text};
+use crate::tests::layouts::LayoutStep::{
+    Absent, Bring, Check, Damaged, DamagedManifests, ForgetNames, Held, IsClosed, Lists, Push,
+    Resolve, Save,
+};
+use crate::tests::steps::Step::{In, Open, OpenAsIs, With};
+use crate::tests::steps::{Ground, Row, assert_run};
+use std::test::Fail;
+use test_support::Sample::{Bar, Empty, Foo, Image0, Image2, Index1};
+use test_support::{EMPTY, IMAGE, LAYER};
+
+const LAYOUT_FILE: Row<'static> = Row(
+    In("oci-layout", Put("{\"imageLayoutVersion\":\"1.0.0\"}")),
+    "put",
+);
+
+/// The blobs, but for two manifests.
+const BLOBS: Row<'static> = Row(
+    In("blobs", Blobs(&[Empty, Foo, Bar, Image2, Index1])),
+    "put",
+);
+
+/// Puts other bytes in the place of a manifest that has an entry.
+const IN_AN_ENTRY: Row<'static> = Row(In("<blob Image0>", Put("{}")), "put");
+
+/// Puts other bytes in the place of a manifest that an index lists.
+const BELOW_AN_INDEX: Row<'static> = Row(In("<blob Image3>", Put("{}")), "put");
+
+/// The entries of a damaged image, of an index, and of an image whose bytes are the empty JSON
+/// object.
+const INDEX: Row<'static> = Row(
+    In(
+        "index.json",
+        Put(
+            "{\"manifests\":[{\"annotations\":{\"org.opencontainers.image.ref.name\":\"bad\"},<saved Image0>,\"urls\":[]},{\"annotations\":{\"org.opencontainers.image.ref.name\":\"all\"},<saved Index1>},{\"digest\":\"<digest Empty>\",\"mediaType\":\"application/vnd.oci.image.manifest.v1+json\",\"size\":2}]}",
+        ),
+    ),
+    "put",
+);
+
+/// The damaged keys: those of entries, and then the one that the index lists.
+const ALL_DAMAGED: &str =
+    "<key Image0>;<digest Empty> 2 application/vnd.oci.image.manifest.v1+json;<key Image3>;";
+
+const OPENED: &[Row] = &[
+    LAYOUT_FILE,
+    BLOBS,
+    IN_AN_ENTRY,
+    BELOW_AN_INDEX,
+    INDEX,
+    Row(Open, "75 Corrupt <key Image0>"),
+    Row(OpenAsIs, "held 4 all"),
+    Row(With(Damaged), ALL_DAMAGED),
+    Row(With(DamagedManifests), ALL_DAMAGED),
+    Row(
+        With(Absent),
+        "<key Image0>;<digest Empty> 2 application/vnd.oci.image.manifest.v1+json;",
+    ),
+    Row(With(Resolve("bad")), "36 UnknownReference"),
+    Row(With(Lists(Image0)), "not held"),
+    Row(With(Check(Image0, IMAGE)), "75 Corrupt <key Image0>"),
+    Row(
+        With(Check(Empty, IMAGE)),
+        "77 BadManifest <digest Empty> 2 application/vnd.oci.image.manifest.v1+json 12 NoConfig",
+    ),
+    Row(With(Check(Image2, IMAGE)), "good"),
+    Row(With(Check(Empty, EMPTY)), "good"),
+];
+
+/// A layout with damaged manifests is refused by `open`. If it is opened as it is, they are not
+/// held, and each is damaged. Those with entries are absent too.
+#[test]
+fn damaged_manifests(rt: HostRuntime) -> Result<(), Fail> {
+    assert_run(&rt, Ground::Memory, OPENED)
+}
+
+const SAVED: &[Row] = &[
+    LAYOUT_FILE,
+    BLOBS,
+    IN_AN_ENTRY,
+    BELOW_AN_INDEX,
+    INDEX,
+    Row(OpenAsIs, "held 4 all"),
+    Row(With(Save), "saved"),
+    Row(
+        In("index.json", Text),
+        "{\"manifests\":[{\"annotations\":{\"org.opencontainers.image.ref.name\":\"bad\"},<saved Image0>,\"urls\":[]},{\"digest\":\"<digest Empty>\",\"mediaType\":\"application/vnd.oci.image.manifest.v1+json\",\"size\":2},{\"annotations\":{\"org.opencontainers.image.ref.name\":\"all\"},<saved Index1>},{<saved Image2>}],\"mediaType\":\"application/vnd.oci.image.index.v1+json\",\"schemaVersion\":2}",
+    ),
+    Row(OpenAsIs, "held 4 all"),
+    Row(With(Damaged), ALL_DAMAGED),
+    Row(With(Push(Image0)), "place 4"),
+    Row(With(Damaged), ALL_DAMAGED),
+    Row(With(Held), "held 5 all"),
+    Row(With(Check(Image0, IMAGE)), "good"),
+    Row(With(Save), "saved"),
+    Row(OpenAsIs, "held 5 all bad"),
+    Row(
+        With(Damaged),
+        "<digest Empty> 2 application/vnd.oci.image.manifest.v1+json;<key Image3>;",
+    ),
+    Row(
+        Open,
+        "77 BadManifest <digest Empty> 2 application/vnd.oci.image.manifest.v1+json 12 NoConfig",
+    ),
+];
+
+/// A save keeps the entries of damaged manifests, which are still damaged then. One that is pushed
+/// again has its tag at the next opening.
+#[test]
+fn saved_beside_damaged_manifests(rt: HostRuntime) -> Result<(), Fail> {
+    assert_run(&rt, Ground::Memory, SAVED)
+}
+
+const REPLACED: &[Row] = &[
+    LAYOUT_FILE,
+    BLOBS,
+    IN_AN_ENTRY,
+    BELOW_AN_INDEX,
+    INDEX,
+    Row(OpenAsIs, "held 4 all"),
+    Row(
+        With(Bring(
+            "{\"manifests\":[{\"annotations\":{\"org.opencontainers.image.ref.name\":\"bad\"},<saved Image2>}]}",
+        )),
+        "brought",
+    ),
+    Row(
+        With(Damaged),
+        "<digest Empty> 2 application/vnd.oci.image.manifest.v1+json;<key Image3>;",
+    ),
+    Row(
+        With(Absent),
+        "<digest Empty> 2 application/vnd.oci.image.manifest.v1+json;",
+    ),
+    Row(OpenAsIs, "held 4 all"),
+    Row(With(ForgetNames), "forgotten"),
+    Row(
+        With(Damaged),
+        "<digest Empty> 2 application/vnd.oci.image.manifest.v1+json;<key Image3>;",
+    ),
+];
+
+/// A key is no longer damaged if its entries are replaced or forgotten. One without an entry stays
+/// damaged.
+#[test]
+fn entries_of_damaged_manifests(rt: HostRuntime) -> Result<(), Fail> {
+    assert_run(&rt, Ground::Memory, REPLACED)
+}
+
+/// An image and its layer have entries. In the place of the layer are first too few bytes, then
+/// too many, and then as many others.
+const CUT: &[Row] = &[
+    LAYOUT_FILE,
+    BLOBS,
+    Row(
+        In(
+            "index.json",
+            Put(
+                "{\"manifests\":[{\"annotations\":{\"org.opencontainers.image.ref.name\":\"v2\"},<saved Image2>},{<members Foo>}]}",
+            ),
+        ),
+        "put",
+    ),
+    Row(In("<blob Foo>", Put("fo")), "put"),
+    Row(Open, "held 3 v2"),
+    Row(OpenAsIs, "held 2 v2"),
+    Row(With(Damaged), "<key Foo>;"),
+    Row(With(DamagedManifests), ""),
+    Row(With(Absent), "<key Foo>;"),
+    Row(With(IsClosed), "false"),
+    Row(With(Check(Foo, LAYER)), "75 Corrupt <key Foo>"),
+    Row(With(Push(Foo)), "place 2"),
+    Row(With(Check(Foo, LAYER)), "good"),
+    Row(In("<blob Foo>", Put("food")), "put"),
+    Row(OpenAsIs, "held 2 v2"),
+    Row(In("<blob Foo>", Put("bar")), "put"),
+    Row(OpenAsIs, "held 3 v2"),
+    Row(With(Damaged), ""),
+    Row(With(Check(Foo, LAYER)), "good"),
+];
+
+/// A layer whose file has another size is passed over, if the layout is opened as it is. Its bytes
+/// are not read.
+#[test]
+fn layers_of_another_size(rt: HostRuntime) -> Result<(), Fail> {
+    assert_run(&rt, Ground::Memory, CUT)
+}
