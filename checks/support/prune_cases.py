@@ -19,6 +19,8 @@ OLD_IMAGE = image([A, OLD])
 LONG_IMAGE, OLD_LONG = image([LONG]), image([B], subject=M3)._replace(algorithm="sha512")
 SIGNED = image([B], subject=S)
 BILL = index([SIGNED], subject=S)
+OCTETS = M2._replace(media_type="application/octet-stream")
+OF_OCTETS = image([B], subject=OCTETS)
 OF_OLD, OF_BOTH = image([B], subject=OLD_IMAGE), image([], subject=I1)
 ALL = [E, FOO, B, M2]
 # (each refers to the one before)
@@ -44,6 +46,7 @@ CASES = {
                                     shared=[M2]),
     "one digest by two media types, without a tag": Case([E, FOO, M2, A], {"new": M2}, [A, A_ZIPPED], goes=[A, A_ZIPPED]),
     "referrers of referrers": Case([*ALL, S, SIGNED, BILL], {"new": M2}, [S, BILL], referrers=[S, B, SIGNED, BILL]),
+    "a subject with another media type": Case([*ALL, OF_OCTETS], {"new": M2}, [OF_OCTETS], referrers=[B, OF_OCTETS, OCTETS], shared=[M2]),
     "a chain of referrers": Case([E, FOO, *CHAIN], {"new": M2}, [CHAIN[-1]], referrers=CHAIN[1:]),
     "the other end of a chain of referrers": Case([E, FOO, *CHAIN], {"last": CHAIN[-1]}),
     "a chain of referrers without a tag": Case([E, FOO, *CHAIN, A], {"layer": A}, [CHAIN[-1]], goes=[E, FOO, *CHAIN]),

@@ -77,14 +77,16 @@ class Held:
         return self.member(key, "subject") if "subject" in MEMBERS.get(key.media_type, []) else []
 
     def kept(self, keeps_referrers):
-        """Return the least set of held keys with the tagged keys, all keys that its keys list, and all keys that refer to its keys."""
+        """Return the least set of held keys with the tagged keys, all keys that its keys list, and all keys whose subject has the digest of
+        one of its keys."""
         kept = set()
         more = set(self.tags.values())
         while more:
             kept |= more
             more = {it for key in kept for it in self.listed(key)}
             if keeps_referrers:
-                more |= {it for it in self.keys if kept.intersection(self.subject(it))}
+                digests = {it.digest for it in kept}
+                more |= {it for it in self.keys if any(subject.digest in digests for subject in self.subject(it))}
             more = (more & self.keys) - kept
         return kept
 

@@ -1,11 +1,8 @@
 -- How far the walk to the kept keys is.
-use Rattle.std.proofs.Common.{◌≡◌, ℕ, ◌+◌, ◌<◌, ◌≤◌, true, false, ◌⊎◌, inl, inr, List, [], length, get_or, Some, None, is_some, refl, sym, ap, subst, ◌∙◌, arith}
+use Rattle.std.proofs.Common.{◌≡◌, ℕ, ◌+◌, ◌<◌, ◌≤◌, true, false, ◌⊎◌, inl, inr, List, [], length, get_or, Some, is_some, sym, ap, subst, ◌∙◌, arith}
 use Rattle.std.specs.Prelude.{◌≢◌, Contains}
-use Rattle.std.specs.BTreeMap.{get}
-use Rattle.std.specs.Global.{Vec}
 use Rattle.std.specs.BTreeSet.{BTreeSet, contains}
 use Rattle.std.specs.List.{slice_get}
-use Rattle.std.specs.Option.{option_map_or}
 use Rattle.std.proofs.lemmas.Bool.{cases_order}
 use Rattle.std.proofs.lemmas.Map.Views.{btree_set_contains_iff}
 use Rattle.std.proofs.lemmas.Option.{slice_get_within, slice_get-get_or}
@@ -14,7 +11,6 @@ use Rattle.oci_manifest.specs.MediaTypes.{kind_of}
 use Rattle.oci_manifest.specs.declared.kind.Kind.TheVariants.{Leaf}
 use Rattle.oci_store.specs.Graph.{Node}
 use Rattle.oci_store.specs.Keyed.{value_at, has_key}
-use Rattle.oci_store.specs.Predecessors.{is_predecessor}
 use Rattle.oci_store.specs.Visiting.{with_keys}
 use Rattle.oci_store.proofs.KeyOrder.{key_cmp_total, key_cmp_exact}
 use Rattle.oci_store.proofs.Membership.{Keys, Contains-from_among, among_from_Contains, among-with_keys, among_from_place, place_from_among, slice_get-with_keys, stays-with_keys, there-with_keys}
@@ -35,13 +31,6 @@ none_kept set none k h = no_element k (subst (λ (ks : Keys). Contains ks k) non
 
 -- ---- a visit
 
--- the keys that refer to a key by the map
-refers_from : (referrers : Referrers) (k other : Descriptor) → is_among (referrers_in referrers k) other ≡ is_predecessor referrers other k
-refers_from referrers k other = elim (get key_cmp referrers k) as (λ found. is_among (option_map_or (λ (keys : Vec Descriptor). keys.items) found []) other ≡ option_map_or (λ (keys : Vec Descriptor). is_among keys.items other) found false) [
-  | Some keys ↦ refl
-  | None ↦ refl
-]
-
 -- a visit of a held key
 pub visit_held : (graph : List Node) (referrers : Referrers) (k : Descriptor) (old new successors : Keys) → value_at graph k ≡ Some successors → new ≡ with_keys (with_keys old successors) (referrers_in referrers k) → IsVisit graph (RefersBy referrers) k old new
 visit_held graph referrers k old new successors listed e = record {
@@ -58,7 +47,7 @@ visit_held graph referrers k old new successors listed e = record {
                 | inl was ↦ inl (Contains-from_among old j was)
                 | inr lists ↦ inr (held, inl (successors, listed, Contains-from_among successors j lists))
               ]
-          | inr refers ↦ inr (held, inr (sym (refers_from referrers k j) ∙ refers))
+          | inr refers ↦ inr (held, inr (Contains-from_among (referrers_in referrers k) j refers))
         ]
 
     back : (j : Descriptor) → Contains old j ⊎ ((has_key graph k ≡ true) × Needs graph (RefersBy referrers) k j) → is_among (with_keys (with_keys old successors) (referrers_in referrers k)) j ≡ true
@@ -70,7 +59,7 @@ visit_held graph referrers k old new successors listed e = record {
                 | inl edge ↦
                     let same : edge.0 ≡ successors = cc (sym edge.1 ∙ listed) in
                     stays-with_keys (with_keys old successors) (referrers_in referrers k) j (there-with_keys old successors j (among_from_Contains successors j (subst (λ (t : Keys). Contains t j) same edge.2)))
-                | inr refers ↦ there-with_keys (with_keys old successors) (referrers_in referrers k) j (refers_from referrers k j ∙ refers)
+                | inr refers ↦ there-with_keys (with_keys old successors) (referrers_in referrers k) j (among_from_Contains (referrers_in referrers k) j refers)
               ]
         ]
 

@@ -1,8 +1,9 @@
 -- What is planned, from its parts.
-use Rattle.std.proofs.Common.{◌≡◌, Bool, true, false, not, ◌⊎◌, inl, inr, List, [], ◌∷◌, ◌++◌, filter, get_or, None, Ok, is_some, refl, sym, ap, subst, ◌∙◌, Option}
+use Rattle.std.proofs.Common.{◌≡◌, ℕ, nat_cmp, Bool, true, false, not, ◌⊎◌, inl, inr, List, [], ◌∷◌, ◌++◌, filter, get_or, None, Ok, is_some, refl, sym, ap, subst, Option}
 use Rattle.std.specs.Prelude.{◌↔◌, Contains}
 use Rattle.std.specs.BTreeMap.{get}
 use Rattle.std.specs.BTreeSet.{BTreeSet, contains}
+use Rattle.std.specs.Cmp.Lexicographic.{slice_cmp}
 use Rattle.std.specs.Global.{Vec}
 use Rattle.std.specs.List.Sorted.{IsStrictlySortedBy}
 use Rattle.std.specs.Option.{option_map_or}
@@ -32,6 +33,7 @@ use Rattle.oci_prune.specs.Refusal.{ChecksWhole, IsKeyFault, IsPlanFault, IsUnkn
 use Rattle.oci_prune.specs.Subjects.{Referrers, AreReferrers, RefersBy, IsSubjectFault}
 use Rattle.oci_prune.specs.declared.fault.PruneFault.{PruneFault}
 use Rattle.oci_prune.specs.declared.fault.PruneFault.TheVariants as fault
+use Rattle.oci_prune.proofs.Elements.{no_element}
 use Rattle.oci_prune.proofs.Keeping.{held_from_kept}
 
 -- ---- the held keys
@@ -99,12 +101,12 @@ subject_key_fault store roots keeps (fault.LinkedBlobs path) h = absurd h
 pub refers_by_held : (store : State) (keys : List Descriptor) (referrers : Referrers) → keys_of store.nodes ≡ keys_of store.entries → AreHeld store.nodes keys → AreReferrers store.entries keys referrers → Same (RefersBy referrers) (RefersIf true store)
 refers_by_held store keys referrers same held are referrer subject = (
   λ refers. ((are referrer subject).0 refers).1,
-  λ states. (are referrer subject).1 ((held.each referrer).1 (has_key-same_keys store.entries store.nodes referrer (sym same) (ap is_some states.1)), states),
+  λ refers. (are referrer subject).1 ((held.each referrer).1 (has_key-same_keys store.entries store.nodes referrer (sym same) (ap is_some refers.1.1)), refers),
 )
 
-pub refers_by_none : (store : State) (referrers : Referrers) → ((k : Descriptor) → get key_cmp referrers k ≡ None) → Same (RefersBy referrers) (RefersIf false store)
+pub refers_by_none : (store : State) (referrers : Referrers) → ((digest : List ℕ) → get (slice_cmp nat_cmp) referrers digest ≡ None) → Same (RefersBy referrers) (RefersIf false store)
 refers_by_none store referrers none referrer subject = (
-  λ refers. cc (sym (ap (λ (o : Option (Vec Descriptor)). option_map_or (λ (keys : Vec Descriptor). is_among keys.items referrer) o false) (none subject)) ∙ refers),
+  λ refers. absurd (no_element referrer (subst (λ (o : Option (Vec Descriptor)). Contains (option_map_or (λ (keys : Vec Descriptor). keys.items) o []) referrer) (none subject.digest) refers)),
   λ never. absurd never,
 )
 

@@ -1,22 +1,28 @@
 -- The subjects that keys state.
-use Rattle.std.proofs.Common.{◌≡◌, ℕ, ◌+◌, ◌<◌, Bool, true, false, inl, inr, List, [], ◌∷◌, ◌++◌, length, get_or, take, Option, Some, None, Ok, refl, sym, ap, subst, ◌∙◌, ◌&&◌, ◌||◌, ◌⊎◌}
+use Rattle.std.proofs.Common.{◌≡◌, ℕ, ◌+◌, ◌<◌, Bool, cond, inl, inr, List, [], ◌∷◌, ◌++◌, length, get_or, take, Option, Some, None, Ok, nat_cmp, refl, sym, ap, subst, ◌∙◌}
 use Rattle.std.specs.Prelude.{◌↔◌, Contains}
-use Rattle.std.proofs.lemmas.Bool.{or_left, or_right}
+use Rattle.std.specs.BTreeMap.{get, Updates}
+use Rattle.std.specs.Cmp.Lexicographic.{slice_cmp}
+use Rattle.std.specs.Global.{Vec}
+use Rattle.std.specs.Option.{option_map_or}
+use Rattle.std.specs.Str.{bytes_eq}
+use Rattle.std.proofs.lemmas.Bool.{cases_Bool}
 use Rattle.std.proofs.lemmas.List.Elements.{Contains-push, Contains-push_cases, Contains-append_left}
-use Rattle.oci_manifest.specs.Descriptor.{Descriptor, same_key, Matches}
+use Rattle.std.proofs.lemmas.Map.Text.{is_eq-slice_cmp}
+use Rattle.std.proofs.lemmas.Option.{none-some, same_Some}
+use Rattle.std.proofs.lemmas.Slice.Eq.{bytes_eq-Decides}
+use Rattle.oci_manifest.specs.Descriptor.{Descriptor, Matches}
 use Rattle.oci_manifest.specs.Fault.{Fails, not_json, not_object, no_config, bad_list, bad_descriptor}
 use Rattle.oci_manifest.specs.MediaTypes.{kind_of}
 use Rattle.oci_manifest.specs.Subject.{subject_of}
 use Rattle.oci_manifest.specs.declared.fault.ManifestFault.{ManifestFault}
 use Rattle.oci_manifest.specs.declared.fault.ManifestFault.TheVariants as manifest
-use Rattle.oci_manifest.proofs.Keys.{Decides-same_key}
 use Rattle.oci_manifest.proofs.Subjects.{subject_of-sound, subject_of-complete}
 use Rattle.oci_store.specs.Content.{Entry}
 use Rattle.oci_store.specs.Keyed.{value_at}
-use Rattle.oci_store.specs.Predecessors.{is_predecessor}
 use Rattle.oci_store.specs.State.{State}
 use Rattle.oci_prune.specs.Faults.{of_manifest}
-use Rattle.oci_prune.specs.Subjects.{States, Referrers, AreReferrers, IsNoted, IsSubjectFault}
+use Rattle.oci_prune.specs.Subjects.{States, Referrers, RefersBy, AreReferrers, IsAdded, IsNoted, IsSubjectFault}
 use Rattle.oci_layout.specs.declared.fault.LayoutFault.TheVariants as layout
 use Rattle.oci_prune.specs.declared.fault.PruneFault.{PruneFault}
 use Rattle.oci_prune.specs.declared.fault.PruneFault.TheVariants as fault
@@ -50,44 +56,65 @@ unread_fault store k bytes manifest.Memory m own h = tt
 
 -- ---- the map
 
-added : (a b c : Bool) → (a || (b && c)) ≡ true → (a ≡ true) ⊎ ((b ≡ true) × (c ≡ true))
-added true b c h = inl refl
-added false true true h = inr (refl, refl)
-added false true false h = cc h
-added false false c h = cc h
+-- the keys of an entry of the map
+abbrev pub keys_at : Option (Vec Descriptor) → Keys
+keys_at found = option_map_or (λ (keys : Vec Descriptor). keys.items) found []
+
+-- what a map has after a list with one key more was put at a digest
+pub noted : (old new : Referrers) (k : Descriptor) (digest : List ℕ) (ks : Keys) (more : Vec Descriptor) → Updates (slice_cmp nat_cmp) old new digest (Some more) → keys_at (get (slice_cmp nat_cmp) old digest) ≡ ks → more.items ≡ ks ++ k ∷ []
+    → IsAdded k digest old new
+noted old new k digest ks more updates was grown other subject =
+    let here = ap keys_at (updates.0 subject.digest ∙ ap (λ (b : Bool). cond b (Some more) (get (slice_cmp nat_cmp) old subject.digest)) (is_eq-slice_cmp digest subject.digest)) in
+    elim (cases_Bool (bytes_eq digest subject.digest)) [
+      | inl same ↦
+          let is : digest ≡ subject.digest = (bytes_eq-Decides digest subject.digest).0 same in
+          let before : keys_at (get (slice_cmp nat_cmp) old subject.digest) ≡ ks = ap (λ (d : List ℕ). keys_at (get (slice_cmp nat_cmp) old d)) (sym is) ∙ was in
+          let after : keys_at (get (slice_cmp nat_cmp) new subject.digest) ≡ ks ++ k ∷ [] = here ∙ ap (λ (b : Bool). keys_at (cond b (Some more) (get (slice_cmp nat_cmp) old subject.digest))) same ∙ grown in (
+            λ h. elim (Contains-push_cases ks k other (subst (λ (t : Keys). Contains t other) after h)) [
+              | inl there ↦ inl (subst (λ (t : Keys). Contains t other) (sym before) there)
+              | inr this ↦ inr (this, is)
+            ],
+            λ p. subst (λ (t : Keys). Contains t other) (sym after) (elim p [
+              | inl there ↦ Contains-append_left ks (k ∷ []) other (subst (λ (t : Keys). Contains t other) before there)
+              | inr both ↦ subst (Contains (ks ++ k ∷ [])) both.0 (Contains-push ks k)
+            ]),
+          )
+      | inr apart ↦
+          let after : keys_at (get (slice_cmp nat_cmp) new subject.digest) ≡ keys_at (get (slice_cmp nat_cmp) old subject.digest) = here ∙ ap (λ (b : Bool). keys_at (cond b (Some more) (get (slice_cmp nat_cmp) old subject.digest))) apart in (
+            λ h. inl (subst (λ (t : Keys). Contains t other) after h),
+            λ p. elim p [
+              | inl there ↦ subst (λ (t : Keys). Contains t other) (sym after) there
+              | inr both ↦ cc (apart, (bytes_eq-Decides digest subject.digest).1 both.1)
+            ],
+          )
+    ]
 
 referrers_push : (entries : List Entry) (keys : Keys) (key : Descriptor) (found : Option Descriptor) (old new : Referrers) → AreReferrers entries keys old → ((subject : Descriptor) → (found ≡ Some subject) ↔ States entries key subject)
     → IsNoted key found old new → AreReferrers entries (keys ++ key ∷ []) new
-referrers_push entries keys key None old new are exact noted k subject =
-    let same = ap (λ (m : Referrers). is_predecessor m k subject) noted in (
-      λ h.
-          let p = (are k subject).0 (sym same ∙ h) in
-          (Contains-append_left keys (key ∷ []) k p.0, p.1),
-      λ p. same ∙ elim (Contains-push_cases keys key k p.0) [
-        | inl was ↦ (are k subject).1 (was, p.1)
-        | inr is ↦ cc ((exact subject).1 (subst (λ (x : Descriptor). States entries x subject) (sym is) p.1))
-      ],
-    )
+referrers_push entries keys key None old new are exact noted k subject = (
+  λ h.
+      let p = (are k subject).0 (subst (λ (m : Referrers). RefersBy m k subject) noted h) in
+      (Contains-append_left keys (key ∷ []) k p.0, p.1),
+  λ p. subst (λ (m : Referrers). RefersBy m k subject) (sym noted) (elim (Contains-push_cases keys key k p.0) [
+    | inl was ↦ (are k subject).1 (was, p.1)
+    | inr is ↦
+        let never : None ≡ Some p.1.0 = (exact p.1.0).1 (subst (λ (x : Descriptor). States entries x p.1.0) (sym is) p.1.1) in
+        absurd (none-some p.1.0 never)
+  ]),
+)
 referrers_push entries keys key (Some found) old new are exact noted k subject = (
-  λ h. elim (added (is_predecessor old k subject) (same_key key k) (same_key subject found) (sym (noted k subject) ∙ h)) [
+  λ h. elim ((noted k subject).0 h) [
     | inl was ↦
         let p = (are k subject).0 was in
         (Contains-append_left keys (key ∷ []) k p.0, p.1)
-    | inr both ↦
-        let is : key ≡ k = (Decides-same_key key k).0 both.0 in
-        let states : found ≡ subject = sym ((Decides-same_key subject found).0 both.1) in
-        (subst (Contains (keys ++ key ∷ [])) is (Contains-push keys key), subst (λ (x : Descriptor). States entries x subject) is ((exact subject).0 (ap (λ (s : Descriptor). Some s) states)))
+    | inr both ↦ (subst (Contains (keys ++ key ∷ [])) both.0 (Contains-push keys key), (found, subst (λ (x : Descriptor). States entries x found) both.0 ((exact found).0 refl), both.1))
   ],
-  λ p. noted k subject ∙ elim (Contains-push_cases keys key k p.0) [
-    | inl was ↦
-        let there = (are k subject).1 (was, p.1) in
-        or_left (is_predecessor old k subject) (same_key key k && same_key subject found) there
+  λ p. (noted k subject).1 (elim (Contains-push_cases keys key k p.0) [
+    | inl was ↦ inl ((are k subject).1 (was, p.1))
     | inr is ↦
-        let states : Some found ≡ Some subject = (exact subject).1 (subst (λ (x : Descriptor). States entries x subject) (sym is) p.1) in
-        let one : same_key key k ≡ true = (Decides-same_key key k).1 is in
-        let two : same_key subject found ≡ true = (Decides-same_key subject found).1 (cc states) in
-        or_right (is_predecessor old k subject) (same_key key k && same_key subject found) (rw one two)
-  ],
+        let stated : Some found ≡ Some p.1.0 = (exact p.1.0).1 (subst (λ (x : Descriptor). States entries x p.1.0) (sym is) p.1.1) in
+        inr (is, ap (λ (d : Descriptor). d.digest) (same_Some found p.1.0 stated) ∙ p.1.2)
+  ]),
 )
 
 pub referrers_more : (entries : List Entry) (keys : Keys) (i : ℕ) (k : Descriptor) (found : Option Descriptor) (old new : Referrers) → i < length keys → k ≡ get_or keys i k → AreReferrers entries (take i keys) old

@@ -16,7 +16,7 @@ use Rattle.oci_layout.specs.Device.{Device, File}
 use Rattle.oci_layout.specs.Layout.{LayoutState}
 use Rattle.oci_layout.specs.Prunable.{HasLength, by_name}
 use Rattle.oci_layout.specs.Saved.{shadowed_keys}
-use Rattle.oci_prune.specs.Subjects.{States}
+use Rattle.oci_prune.specs.Subjects.{Refers}
 use Rattle.oci_prune.specs.declared.plan.PrunedFile.{PrunedFile}
 use Rattle.oci_prune.specs.declared.plan.PrunePlan.{PrunePlan}
 
@@ -34,9 +34,9 @@ pub record AreRoots (graph : List Node) (roots held : List Descriptor) : Type 0 
   pub rooted : HasAll graph roots
   pub are_held : AreHeld graph held
 
--- the first key is held and states the second as its subject; never, if referrers are left out
+-- the first key is held and refers to the second; never, if referrers are left out
 abbrev pub RefersIf : Bool → State → Descriptor → Descriptor → Type 0
-RefersIf true store referrer subject = States store.entries referrer subject
+RefersIf true store referrer subject = Refers store.entries referrer subject
 RefersIf false store referrer subject = ⊥
 
 -- the kept keys are held; each root is kept, and each held key that a root reaches or that a kept

@@ -1,16 +1,17 @@
 -- The subjects of manifests.
-use Rattle.std.specs.Prelude.{◌≡◌, ◌↔◌, ℕ, ◌||◌, ◌&&◌, true, false, List, [], Option, Some, None, Err, Contains}
+use Rattle.std.specs.Prelude.{◌≡◌, ◌↔◌, ◌⊎◌, ℕ, true, false, List, [], Option, Some, None, Err, Contains}
 use Rattle.std.specs.Global.{Vec}
 use Rattle.std.specs.BTreeMap.{BTreeMap, get}
+use Rattle.std.specs.Cmp.Lexicographic.{slice_cmp}
 use Rattle.std.specs.Option.{option_map_or}
-use Rattle.oci_manifest.specs.Descriptor.{Descriptor, key_cmp, same_key}
+use Rattle.std.specs.Ordering.{nat_cmp}
+use Rattle.oci_manifest.specs.Descriptor.{Descriptor}
 use Rattle.oci_manifest.specs.Fault.{Fault, IsFault}
 use Rattle.oci_manifest.specs.MediaTypes.{kind_of}
 use Rattle.oci_manifest.specs.Subject.{HasSubject, may_refer, subject_of}
 use Rattle.oci_manifest.specs.declared.fault.ManifestFault.{ManifestFault}
 use Rattle.oci_store.specs.Content.{Entry, Matches}
 use Rattle.oci_store.specs.Keyed.{value_at, has_key}
-use Rattle.oci_store.specs.Predecessors.{is_predecessor}
 use Rattle.oci_store.specs.State.{State}
 use Rattle.oci_store.specs.declared.fault.FetchFault.{FetchFault}
 use Rattle.oci_store.specs.declared.fault.FetchFault.TheVariants as fetch
@@ -22,26 +23,35 @@ use Rattle.oci_prune.specs.declared.fault.PruneFault.TheVariants as fault
 abbrev pub States : List Entry → Descriptor → Descriptor → Type 0
 States entries k subject = (bytes : List ℕ) × (value_at entries k ≡ Some bytes) × HasSubject (kind_of k.media_type) bytes subject
 
--- the keys that refer to each key
+-- The first key, which is held, refers to the second: it states a subject of its digest. A subject of
+-- the same digest with another media type or size can mean nothing else.
+abbrev pub Refers : List Entry → Descriptor → Descriptor → Type 0
+Refers entries k subject = (stated : Descriptor) × States entries k stated × (stated.digest ≡ subject.digest)
+
+-- the keys that refer to the keys of each digest
 abbrev pub Referrers : Type 0
-Referrers = BTreeMap Descriptor (Vec Descriptor)
+Referrers = BTreeMap (List ℕ) (Vec Descriptor)
 
 -- the keys that refer to a key by the map
 abbrev pub referrers_in : Referrers → Descriptor → List Descriptor
-referrers_in referrers k = option_map_or (λ keys. keys.items) (get key_cmp referrers k) []
+referrers_in referrers k = option_map_or (λ keys. keys.items) (get (slice_cmp nat_cmp) referrers k.digest) []
 
 -- the first key refers to the second by the map
 abbrev pub RefersBy : Referrers → Descriptor → Descriptor → Type 0
-RefersBy referrers referrer subject = is_predecessor referrers referrer subject ≡ true
+RefersBy referrers referrer subject = Contains (referrers_in referrers subject) referrer
 
--- the map has those of these keys that state a subject, under their subjects
+-- the map has those of these keys that state a subject, under the digests of their subjects
 abbrev pub AreReferrers : List Entry → List Descriptor → Referrers → Type 0
-AreReferrers entries keys referrers = (k subject : Descriptor) → RefersBy referrers k subject ↔ (Contains keys k × States entries k subject)
+AreReferrers entries keys referrers = (k subject : Descriptor) → RefersBy referrers k subject ↔ (Contains keys k × Refers entries k subject)
 
--- a key was added to the map under its subject, if it has one
+-- a key was added to the map under a digest
+abbrev pub IsAdded : Descriptor → List ℕ → Referrers → Referrers → Type 0
+IsAdded k digest old new = (other subject : Descriptor) → RefersBy new other subject ↔ (RefersBy old other subject ⊎ ((k ≡ other) × (digest ≡ subject.digest)))
+
+-- a key was added to the map under the digest of its subject, if it has one
 abbrev pub IsNoted : Descriptor → Option Descriptor → Referrers → Referrers → Type 0
 IsNoted k None old new = new ≡ old
-IsNoted k (Some subject) old new = (other key : Descriptor) → is_predecessor new other key ≡ (is_predecessor old other key || (same_key k other && same_key key subject))
+IsNoted k (Some subject) old new = IsAdded k subject.digest old new
 
 -- a fetch of the key is refused: it is not held, or its bytes could not be read
 abbrev pub IsRefusedFetch : State → Descriptor → FetchFault → Type 0

@@ -12,7 +12,7 @@ ghost use Rattle.oci_prune.specs.Plan.{AreHeld, AreRoots, IsSafe, RefersIf};
 
 use crate::fault::PruneFault;
 use crate::referrers::referrers_of;
-use oci_digest::NoMemory;
+use oci_digest::{Digest, NoMemory};
 use oci_manifest::{Key, Kind};
 use oci_store::{GraphSource, KeyList, Source};
 use std::alloc::Global;
@@ -48,13 +48,14 @@ pub(crate) fn plan_keys<S: GraphSource>(
     kept_keys(alloc, source, roots, &referrers)
 }
 
-/// Returns the held keys that state a subject, under their subjects; none, if referrers are left out.
+/// Returns the held keys that state a subject, under the digests of their subjects; none, if
+/// referrers are left out.
 fn referrers_if<S: Source>(
     alloc: Global,
     source: &S,
     held: &[Key],
     keeps_referrers: bool,
-) -> Result<BTreeMap<Key, Vec<Key>>, PruneFault>
+) -> Result<BTreeMap<Digest, Vec<Key>>, PruneFault>
     requires { AreHeld (S.state source.now).nodes held.now }
     ensures exact { IfOk result (λ referrers. (S.state source.now).is_honest
         → (referrer subject : Descriptor)
@@ -71,7 +72,7 @@ fn referrers_if<S: Source>(
 }
 
 /// Returns the held keys that are needed: the held roots, with each key all that it lists and all
-/// that refers to it. `referrers` has the keys that refer to each key.
+/// that refers to it. `referrers` has the keys that refer to the keys of each digest.
 ///
 /// The walk does not recurse. Keys that were found wait in a list, and each is visited once.
 ///
@@ -83,7 +84,7 @@ pub(crate) fn kept_keys<S: GraphSource>(
     alloc: Global,
     source: &S,
     roots: &[Key],
-    referrers: &BTreeMap<Key, Vec<Key>>,
+    referrers: &BTreeMap<Digest, Vec<Key>>,
 ) -> Result<BTreeSet<Key>, PruneFault>
     ensures kept { IfOk result (AreKept (S.state source.now).nodes roots.now
         (RefersBy referrers.now)) }
@@ -112,7 +113,7 @@ pub(crate) fn kept_keys<S: GraphSource>(
 /// Visits a key. If it is held, keeps it and adds the keys that it needs.
 fn visit<S: GraphSource>(
     source: &S,
-    referrers: &BTreeMap<Key, Vec<Key>>,
+    referrers: &BTreeMap<Digest, Vec<Key>>,
     key: &Key,
     found: &mut KeyList,
     kept: &mut BTreeSet<Key>,
@@ -156,14 +157,14 @@ fn check_absent(key: &Key) -> Result<(), PruneFault>
 
 /// Adds the keys that refer to a key.
 fn place_referrers(
-    referrers: &BTreeMap<Key, Vec<Key>>,
+    referrers: &BTreeMap<Digest, Vec<Key>>,
     subject: &Key,
     found: &mut KeyList,
 ) -> Result<(), NoMemory>
     ensures { OnOk result (found.new
         ≡ with_keys found.old (referrers_in referrers.now subject.now)) }
 {
-    match referrers.get(subject) {
+    match referrers.get(subject.digest()) {
         Some(keys) => found.place_all(keys),
         None => Ok(()),
     }

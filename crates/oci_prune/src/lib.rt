@@ -2,7 +2,7 @@
 //!
 //! [`plan_prune`] plans a prune and changes nothing. The *kept* keys of the [`PrunePlan`] are the
 //! tagged keys and those of the entries that a tag hides, with each kept key the held keys that it
-//! lists, and the held manifests that have it as their `subject`, such as signatures, on and on.
+//! lists, and the held manifests whose `subject` has its digest, such as signatures, on and on.
 //! All other held keys are removed, and all files under `blobs` that are named by a digest of neither
 //! a kept key nor one that a kept key lists. So are drafts that killed processes left. A layout
 //! without a tag is refused, and so is one in which a needed manifest is absent or any manifest is

@@ -60,8 +60,8 @@ impl PrunedFile {
 /// Plans a prune of a layout: what no tag needs is to be removed. Changes nothing.
 ///
 /// The kept keys are the tagged ones and those of the entries that a tag hides, with each kept key
-/// the held keys that it lists, and, if `keeps_referrers`, the held manifests that have it as their
-/// subject. All other held keys are removed, and the files under `blobs` that are named by a digest
+/// the held keys that it lists, and, if `keeps_referrers`, the held manifests whose `subject` has its
+/// digest. All other held keys are removed, and the files under `blobs` that are named by a digest
 /// of neither a kept key nor one that a kept key lists. So the file of a layer that was cut stays if
 /// its image does.
 ///

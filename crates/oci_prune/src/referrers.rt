@@ -1,17 +1,17 @@
 ghost use Rattle.std.specs.Prelude.{◌≡◌, ◌↔◌, ◌++◌, ◌∷◌, [], Some, Contains, IfOk, IfErr, OnOk};
 ghost use Rattle.oci_manifest.specs.Descriptor.{Descriptor};
 ghost use Rattle.oci_manifest.specs.Subject.{may_refer};
-ghost use Rattle.oci_prune.specs.Subjects.{States, AreReferrers, IsNoted, IsSubjectFault};
+ghost use Rattle.oci_prune.specs.Subjects.{States, AreReferrers, IsAdded, IsNoted, IsSubjectFault};
 
 use crate::fault::{PruneFault, of_fetch, of_manifest};
-use oci_digest::NoMemory;
+use oci_digest::{Digest, NoMemory};
 use oci_manifest::{Key, Kind, subject};
 use oci_store::Source;
 use std::alloc::Global;
 use std::collections::BTreeMap;
 
-/// Returns those of these keys that state a subject, under their subjects. Reads each manifest that
-/// may state one once.
+/// Returns those of these keys that state a subject, under the digests of their subjects. Reads each
+/// manifest that may state one once.
 ///
 /// # Errors
 ///
@@ -22,7 +22,7 @@ pub(crate) fn referrers_of<S: Source>(
     alloc: Global,
     source: &S,
     keys: &[Key],
-) -> Result<BTreeMap<Key, Vec<Key>>, PruneFault>
+) -> Result<BTreeMap<Digest, Vec<Key>>, PruneFault>
     ensures exact { IfOk result (λ referrers. (S.state source.now).is_honest
         → AreReferrers (S.state source.now).entries keys.now referrers) }
     ensures cause { IfErr result (IsSubjectFault (S.state source.now) (Contains keys.now)) }
@@ -35,38 +35,38 @@ pub(crate) fn referrers_of<S: Source>(
     Ok(referrers)
 }
 
-/// Adds a key under its subject, if it has one.
+/// Adds a key under the digest of its subject, if it has one.
 fn add_referrer(
     alloc: Global,
-    referrers: &mut BTreeMap<Key, Vec<Key>>,
+    referrers: &mut BTreeMap<Digest, Vec<Key>>,
     key: &Key,
     subject: Option<Key>,
 ) -> Result<(), NoMemory>
     ensures { OnOk result (IsNoted key.now subject referrers.old referrers.new) }
 {
     match subject {
-        Some(subject) => add(alloc, referrers, key, subject),
+        Some(subject) => add(alloc, referrers, key, *subject.digest()),
         None => Ok(()),
     }
 }
 
-/// Adds a key under its subject.
+/// Adds a key under a digest.
 fn add(
     alloc: Global,
-    referrers: &mut BTreeMap<Key, Vec<Key>>,
+    referrers: &mut BTreeMap<Digest, Vec<Key>>,
     key: &Key,
-    subject: Key,
+    digest: Digest,
 ) -> Result<(), NoMemory>
-    ensures { OnOk result (IsNoted key.now (Some subject) referrers.old referrers.new) }
+    ensures { OnOk result (IsAdded key.now digest referrers.old referrers.new) }
 {
     let key = key.try_clone()?;
-    if let Some(keys) = referrers.get_mut(&subject) {
+    if let Some(keys) = referrers.get_mut(&digest) {
         put(keys, key)?;
         return Ok(());
     }
     let mut keys = Vec::new(alloc);
     put(&mut keys, key)?;
-    referrers.insert(subject, keys)?;
+    referrers.insert(digest, keys)?;
     Ok(())
 }
 

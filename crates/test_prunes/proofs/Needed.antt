@@ -4,7 +4,9 @@ use Rattle.std.specs.Prelude.{Contains, find}
 use Rattle.std.specs.BTreeSet.{BTreeSet, contains}
 use Rattle.std.specs.List.{list_any}
 use Rattle.std.specs.Option.{option_map_or}
+use Rattle.std.specs.Str.{bytes_eq}
 use Rattle.std.proofs.lemmas.Bool.{cases_Bool, and_parts, and_from, and_cases, not-true, not-false, not_from_true, not_from_false, or_cases, or_left, or_right, both_ways}
+use Rattle.std.proofs.lemmas.Slice.Eq.{bytes_eq-Decides}
 use Rattle.oci_manifest.specs.Descriptor.{Descriptor, key_cmp, same_key, is_among}
 use Rattle.oci_manifest.proofs.Keys.{Decides-same_key}
 use Rattle.oci_store.specs.Keyed.{value_at, has_key}
@@ -16,7 +18,7 @@ use Rattle.oci_prune.proofs.Keeping.{held_from_kept}
 use Rattle.oci_prune.specs.Kept.{IsKept, root, needed, AreKept}
 use Rattle.oci_prune.specs.Walk.{HasOneMore}
 use Rattle.test_prunes.specs.declared.plain.Held.{Held}
-use Rattle.test_prunes.specs.Plain.{graph_of, RefersIn, is_listed, states_kept, is_needed, is_next, next_in}
+use Rattle.test_prunes.specs.Plain.{graph_of, RefersIn, has_kept_digest, is_listed, states_kept, is_needed, is_next, next_in}
 
 -- ---- lists of entries
 
@@ -140,13 +142,17 @@ abbrev pub AllKept : List Held → List Descriptor → BTreeSet Descriptor → T
 AllKept held roots set = (k : Descriptor) → contains key_cmp set k ≡ true → IsKept (graph_of held) roots (RefersIn held) k
 
 stated : (held : List Held) (roots : List Descriptor) (set : BTreeSet Descriptor) (h : Held) (subject : Option Descriptor) → h.subject ≡ subject → AllKept held roots set → Contains held h
-    → option_map_or (λ k. contains key_cmp set k) subject false ≡ true → IsKept (graph_of held) roots (RefersIn held) h.key
+    → option_map_or (has_kept_digest held set) subject false ≡ true → IsKept (graph_of held) roots (RefersIn held) h.key
 stated held roots set h None is kept there states = cc states
-stated held roots set h (Some subject) is kept there states = needed (kept subject states) (inr (h, there, refl, is)) (held_from_entry held h there)
+stated held roots set h (Some subject) is kept there states =
+    let r = any_one (λ (other : Held). contains key_cmp set other.key && bytes_eq other.key.digest subject.digest) held states in
+    let both = and_parts (contains key_cmp set r.0.key) (bytes_eq r.0.key.digest subject.digest) r.2 in
+    let digest : subject.digest ≡ r.0.key.digest = sym ((bytes_eq-Decides r.0.key.digest subject.digest).0 both.1) in
+    needed (kept r.0.key both.0) (inr (h, subject, there, refl, is, digest)) (held_from_entry held h there)
 
 needed_kept : (held : List Held) (roots : List Descriptor) (set : BTreeSet Descriptor) (h : Held) → AllKept held roots set → Contains held h → is_needed held roots set h ≡ true → IsKept (graph_of held) roots (RefersIn held) h.key
 needed_kept held roots set h kept there needs =
-    elim (or_cases (is_among roots h.key || is_listed held set h.key) (states_kept set h) needs) [
+    elim (or_cases (is_among roots h.key || is_listed held set h.key) (states_kept held set h) needs) [
       | inr states ↦ stated held roots set h h.subject refl kept there states
       | inl above ↦
           elim (or_cases (is_among roots h.key) (is_listed held set h.key) above) [
@@ -199,7 +205,7 @@ all_there held roots set none k (root named holds) =
     let e = entry_from_held held k holds in
     let named_e = among_from_Contains roots e.0.key (subst (λ (x : Descriptor). Contains roots x) (sym e.2) named) in
     subst (λ (x : Descriptor). contains key_cmp set x ≡ true) e.2 (there_if_needed held roots set e.0 none e.1
-    (or_left (is_among roots e.0.key || is_listed held set e.0.key) (states_kept set e.0) (or_left (is_among roots e.0.key) (is_listed held set e.0.key) named_e)))
+    (or_left (is_among roots e.0.key || is_listed held set e.0.key) (states_kept held set e.0) (or_left (is_among roots e.0.key) (is_listed held set e.0.key) named_e)))
 all_there held roots set none k (needed {from} kept (inl edge) holds) =
     let before = all_there held roots set none from kept in
     let f = entry_from_held held from (held_from_kept (graph_of held) roots (RefersIn held) from kept) in
@@ -209,12 +215,17 @@ all_there held roots set none k (needed {from} kept (inl edge) holds) =
     let inside = subst (λ (x : Descriptor). contains key_cmp set x ≡ true) (sym f.2) before in
     let listed = any_there (λ (other : Held). contains key_cmp set other.key && lists_key (graph_of held) other.key e.0.key) held f.0 f.1 (and_from (contains key_cmp set f.0.key) (lists_key (graph_of held) f.0.key e.0.key) inside lists) in
     subst (λ (x : Descriptor). contains key_cmp set x ≡ true) e.2 (there_if_needed held roots set e.0 none e.1
-    (or_left (is_among roots e.0.key || is_listed held set e.0.key) (states_kept set e.0) (or_right (is_among roots e.0.key) (is_listed held set e.0.key) listed)))
+    (or_left (is_among roots e.0.key || is_listed held set e.0.key) (states_kept held set e.0) (or_right (is_among roots e.0.key) (is_listed held set e.0.key) listed)))
 all_there held roots set none k (needed {from} kept (inr refers) holds) =
     let before = all_there held roots set none from kept in
-    let states : states_kept set refers.0 ≡ true = ap (λ (o : Option Descriptor). option_map_or (λ k. contains key_cmp set k) o false) refers.3 ∙ before in
-    subst (λ (x : Descriptor). contains key_cmp set x ≡ true) refers.2 (there_if_needed held roots set refers.0 none refers.1
-    (or_right (is_among roots refers.0.key || is_listed held set refers.0.key) (states_kept set refers.0) states))
+    let f = entry_from_held held from (held_from_kept (graph_of held) roots (RefersIn held) from kept) in
+    let subject = refers.1 in
+    let inside = subst (λ (x : Descriptor). contains key_cmp set x ≡ true) (sym f.2) before in
+    let digest : bytes_eq f.0.key.digest subject.digest ≡ true = (bytes_eq-Decides f.0.key.digest subject.digest).1 (ap (λ (x : Descriptor). x.digest) f.2 ∙ sym refers.5) in
+    let one = any_there (λ (other : Held). contains key_cmp set other.key && bytes_eq other.key.digest subject.digest) held f.0 f.1 (and_from (contains key_cmp set f.0.key) (bytes_eq f.0.key.digest subject.digest) inside digest) in
+    let states : states_kept held set refers.0 ≡ true = ap (λ (o : Option Descriptor). option_map_or (has_kept_digest held set) o false) refers.4 ∙ one in
+    subst (λ (x : Descriptor). contains key_cmp set x ≡ true) refers.3 (there_if_needed held roots set refers.0 none refers.2
+    (or_right (is_among roots refers.0.key || is_listed held set refers.0.key) (states_kept held set refers.0) states))
 
 pub kept_at_end : (held : List Held) (roots : List Descriptor) (set : BTreeSet Descriptor) → AllKept held roots set → next_in held roots set ≡ None → AreKept (graph_of held) roots (RefersIn held) set
 kept_at_end held roots set kept none k = (kept k, all_there held roots set none k)

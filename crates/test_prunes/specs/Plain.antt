@@ -3,6 +3,7 @@ use Rattle.std.specs.Prelude.{◌≡◌, Bool, false, not, ◌&&◌, ◌||◌, L
 use Rattle.std.specs.BTreeSet.{BTreeSet, contains}
 use Rattle.std.specs.List.{list_any}
 use Rattle.std.specs.Option.{option_map_or}
+use Rattle.std.specs.Str.{bytes_eq}
 use Rattle.oci_manifest.specs.Descriptor.{Descriptor, key_cmp, is_among}
 use Rattle.oci_store.specs.Graph.{Node}
 use Rattle.oci_store.specs.Predecessors.{lists_key}
@@ -12,21 +13,25 @@ use Rattle.test_prunes.specs.declared.plain.Held.{Held}
 abbrev pub graph_of : List Held → List Node
 graph_of held = map (λ (h : Held). (h.key, h.lists.items)) held
 
--- an entry of the first key states the second as its subject
+-- an entry of the first key states a subject that has the digest of the second
 abbrev pub RefersIn : List Held → Descriptor → Descriptor → Type 0
-RefersIn held referrer subject = (h : Held) × Contains held h × (h.key ≡ referrer) × (h.subject ≡ Some subject)
+RefersIn held referrer subject = (h : Held) × (stated : Descriptor) × Contains held h × (h.key ≡ referrer) × (h.subject ≡ Some stated) × (stated.digest ≡ subject.digest)
 
 -- whether a key of the set lists the key
 abbrev pub is_listed : List Held → BTreeSet Descriptor → Descriptor → Bool
 is_listed held kept k = list_any (λ (h : Held). contains key_cmp kept h.key && lists_key (graph_of held) h.key k) held
 
--- whether the entry states a key of the set as its subject
-abbrev pub states_kept : BTreeSet Descriptor → Held → Bool
-states_kept kept h = option_map_or (λ k. contains key_cmp kept k) h.subject false
+-- whether a key of the set has the digest of the key
+abbrev pub has_kept_digest : List Held → BTreeSet Descriptor → Descriptor → Bool
+has_kept_digest held kept k = list_any (λ (h : Held). contains key_cmp kept h.key && bytes_eq h.key.digest k.digest) held
+
+-- whether the entry states a subject that has the digest of a key of the set
+abbrev pub states_kept : List Held → BTreeSet Descriptor → Held → Bool
+states_kept held kept h = option_map_or (has_kept_digest held kept) h.subject false
 
 -- whether the key of the entry is a root, or a key of the set needs it
 abbrev pub is_needed : List Held → List Descriptor → BTreeSet Descriptor → Held → Bool
-is_needed held roots kept h = is_among roots h.key || is_listed held kept h.key || states_kept kept h
+is_needed held roots kept h = is_among roots h.key || is_listed held kept h.key || states_kept held kept h
 
 -- whether the key of the entry is to be added to the set
 abbrev pub is_next : List Held → List Descriptor → BTreeSet Descriptor → Held → Bool

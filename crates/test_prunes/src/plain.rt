@@ -4,7 +4,7 @@ ghost use Rattle.oci_manifest.specs.Descriptor.{same_key};
 ghost use Rattle.oci_store.specs.Predecessors.{lists_key};
 ghost use Rattle.oci_prune.specs.Kept.{AreKept};
 ghost use Rattle.oci_prune.specs.Walk.{HasOneMore};
-ghost use Rattle.test_prunes.specs.Plain.{graph_of, RefersIn, is_listed, states_kept, is_needed, next_in};
+ghost use Rattle.test_prunes.specs.Plain.{graph_of, RefersIn, has_kept_digest, is_listed, states_kept, is_needed, next_in};
 
 use oci_digest::NoMemory;
 use oci_manifest::Key;
@@ -20,7 +20,7 @@ pub struct Held {
 }
 
 /// Returns the keys that a prune keeps: the held roots, with each kept key the held keys that it
-/// lists, and the held keys that state it as their subject.
+/// lists, and the held keys that state a subject of its digest.
 ///
 /// Looks again and again through all held keys for one that is needed and not yet kept, until there
 /// is none. The time grows with the fourth power of their number.
@@ -53,11 +53,14 @@ fn next<'h>(held: &'h [Held], roots: &[Key], kept: &BTreeSet<Key>) -> Option<&'h
     held.iter().find(|entry| !kept.contains(&entry.key) && is_needed(held, roots, kept, *entry))
 }
 
-/// Returns whether a key is a root, or a kept key lists it, or its subject is kept.
+/// Returns whether a key is a root, or a kept key lists it, or a kept key has the digest of its
+/// subject.
 fn is_needed(held: &[Held], roots: &[Key], kept: &BTreeSet<Key>, entry: &Held) -> bool
     ensures { result ≡ is_needed held.now roots.now kept.now entry.now }
 {
-    roots.contains(&entry.key) || is_listed(held, kept, &entry.key) || states_kept(kept, entry)
+    roots.contains(&entry.key)
+        || is_listed(held, kept, &entry.key)
+        || states_kept(held, kept, entry)
 }
 
 /// Returns whether a kept key lists a key.
@@ -85,12 +88,19 @@ fn entry_of<'h>(held: &'h [Held], key: &Key) -> Option<&'h Held>
     held.iter().find(|entry| entry.key == *key)
 }
 
-/// Returns whether an entry states a kept key as its subject.
-fn states_kept(kept: &BTreeSet<Key>, entry: &Held) -> bool
-    ensures { result ≡ states_kept kept.now entry.now }
+/// Returns whether an entry states a subject that has the digest of a kept key.
+fn states_kept(held: &[Held], kept: &BTreeSet<Key>, entry: &Held) -> bool
+    ensures { result ≡ states_kept held.now kept.now entry.now }
 {
     match &entry.subject {
-        Some(subject) => kept.contains(subject),
+        Some(subject) => has_kept_digest(held, kept, subject),
         None => false,
     }
+}
+
+/// Returns whether a kept key has the digest of a key.
+fn has_kept_digest(held: &[Held], kept: &BTreeSet<Key>, key: &Key) -> bool
+    ensures { result ≡ has_kept_digest held.now kept.now key.now }
+{
+    held.iter().any(|other| kept.contains(&other.key) && other.key.digest() == key.digest())
 }

@@ -4,13 +4,16 @@ use crate::plain::Held;
 use bytes::Bytes;
 use oci_layout::{Layout, MemDir};
 use oci_manifest::Key;
-use oci_store::{Dest, Tagger};
+use oci_store::{Dest, Source, Tagger};
 use std::alloc::Global;
 use std::test::Fail;
 use test_support::{Content, IMAGE, INDEX, LAYER, Sample, below, descriptor};
 
 /// The media type of a layer that may share the digest of another.
 const OTHER_LAYER: &str = "application/vnd.oci.image.layer.v1.tar+gzip";
+
+/// The media type that some tools write into a subject.
+pub(crate) const OCTETS: &str = "application/octet-stream";
 
 /// A layout, and what was put into it.
 #[derive(Drop)]
@@ -201,9 +204,22 @@ fn push_manifest(
     push(alloc, made, content, links)
 }
 
+/// Pushes the bytes of a random held key under another media type, unless they are there.
+fn push_again(alloc: Global, state: &mut u64, made: &mut Made) -> Result<(), Fail> {
+    let key = random_key(state, &made.held)?;
+    let bytes = made.layout.fetch(&key)?;
+    let octets = Key::new(String::from_str(alloc, OCTETS)?, *key.digest(), key.size())?;
+    if made.layout.has(&octets) {
+        return Ok(());
+    }
+    made.layout.push_closed(&octets, bytes)?;
+    note(alloc, made, octets, no_links(alloc))
+}
+
 /// Pushes a random content.
 fn push_random(alloc: Global, state: &mut u64, made: &mut Made, number: u32) -> Result<(), Fail> {
-    match below(state, 5) {
+    match below(state, 7) {
+        5 | 6 => push_again(alloc, state, made),
         0 | 1 => push_layer(alloc, made, number),
         2 => push_manifest(alloc, state, made, number, false),
         _ => push_manifest(alloc, state, made, number, true),

@@ -1,7 +1,7 @@
 //! Prunes of random layouts, compared with the plain program.
 
 use crate::plain::{Held, kept_plainly};
-use crate::tests::layouts::{Made, random_layout};
+use crate::tests::layouts::{Made, OCTETS, random_layout};
 use oci_digest::NoMemory;
 use oci_manifest::Key;
 use oci_prune::{PrunePlan, plan_prune};
@@ -51,6 +51,15 @@ fn is_chained(entry: &Held, set: &BTreeSet<Key>, other: &BTreeSet<Key>) -> bool 
     }
 }
 
+/// Returns whether an entry and its subject, which has the media type that some tools write, are in
+/// one set and not in another.
+fn is_by_digest(entry: &Held, set: &BTreeSet<Key>, other: &BTreeSet<Key>) -> bool {
+    match &entry.subject {
+        Some(subject) => subject.media_type() == OCTETS && is_chained(entry, set, other),
+        None => false,
+    }
+}
+
 /// What the layouts have shown so far.
 #[derive(Clone, Copy, Debug)]
 struct Seen {
@@ -58,6 +67,9 @@ struct Seen {
     by_referrers: u32,
     /// The number of keys that are kept only with referrers, and so is their subject.
     chains: u32,
+    /// The number of keys that are kept only with referrers, and so is their subject, which has only
+    /// the digest of another key.
+    by_digest: u32,
     /// The number of layouts that lose a key.
     removed: u32,
 }
@@ -73,26 +85,29 @@ fn assert_plans<R: AllocGlobal + Abort>(rt: &R, made: &Made, seen: Seen) -> Resu
     let fewer = assert_plan(rt, &without, &made.without_subjects, &made.tagged)?;
     let with = plan_prune(rt.alloc(), &made.layout, true)?;
     let more = assert_plan(rt, &with, &made.held, &made.tagged)?;
-    let mut chains = seen.chains;
+    let (mut chains, mut by_digest) = (seen.chains, seen.by_digest);
     for entry in &made.held {
         chains = counted(chains, is_chained(entry, &more, &fewer));
+        by_digest = counted(by_digest, is_by_digest(entry, &more, &fewer));
     }
     Ok(Seen {
         by_referrers: counted(seen.by_referrers, fewer.len() < more.len()),
         chains,
+        by_digest,
         removed: counted(seen.removed, more.len() < made.held.len()),
     })
 }
 
 /// The plans of random layouts keep what the plain program keeps, and remove the other keys. The
-/// layouts show something: keys that are kept only with referrers, referrers of such keys, and keys
-/// that are removed.
+/// layouts show something: keys that are kept only with referrers, referrers of such keys, keys whose
+/// subject has only the digest of a kept key, and keys that are removed.
 #[test]
 fn random_layouts(rt: HostRuntime) -> Result<(), Fail> {
     let mut state = 1;
     let mut seen = Seen {
         by_referrers: 0,
         chains: 0,
+        by_digest: 0,
         removed: 0,
     };
     for _ in 0..60 {
@@ -101,6 +116,7 @@ fn random_layouts(rt: HostRuntime) -> Result<(), Fail> {
     }
     assert!(rt; seen.by_referrers > 0, "{seen:?}");
     assert!(rt; seen.chains > 0, "{seen:?}");
+    assert!(rt; seen.by_digest > 0, "{seen:?}");
     assert!(rt; seen.removed > 0, "{seen:?}");
     Ok(())
 }
