@@ -8,12 +8,12 @@ NO_VERSION = "The file `oci-layout` is not a JSON object with a text `imageLayou
 
 # The words, the line of the fault, the subject and the sentence of the second line, and the number that it names.
 CASES = [
-    ("resolve source nope", "36 UnknownReference", "nope", UNKNOWN, 36),
-    ("copy source nope copied", "36 UnknownReference", "nope", UNKNOWN, 36),
-    ("tags spoiled", "71 BadLayoutFile", "spoiled", NO_VERSION, 71),
-    ("copy spoiled one copied", "71 BadLayoutFile", "spoiled", NO_VERSION, 71),
-    ("copy source one spoiled", "71 BadLayoutFile", "spoiled", NO_VERSION, 71),
-    ("mem abc.txt", "92 BadItem abc.txt", None, "The named item of `ocicp mem` has no `=`", 92),
+    ("resolve source nope", "36 UnknownReference", "`nope`: ", UNKNOWN, 36),
+    ("copy source nope copied", "36 UnknownReference", "`nope`: ", UNKNOWN, 36),
+    ("tags spoiled", "71 BadLayoutFile", "FOLDER `spoiled/oci-layout`: ", NO_VERSION, 71),
+    ("copy spoiled one copied", "71 BadLayoutFile", "SRC `spoiled/oci-layout`: ", NO_VERSION, 71),
+    ("copy source one spoiled", "71 BadLayoutFile", "DST `spoiled/oci-layout`: ", NO_VERSION, 71),
+    ("mem abc.txt", "92 BadItem abc.txt", "", "The named item of `ocicp mem` has no `=`", 92),
 ]
 
 
@@ -24,8 +24,7 @@ def checks(room):
         file.write("{}")
     for words, fault, subject, sentence, number in CASES:
         line = "ocicp: %s\n" % fault
-        about = "`%s`: " % subject if subject else ""
-        second = "%s%s. Run `ocicp explain %d` for what to do.\n" % (about, sentence, number)
+        second = "%s%s. Run `ocicp explain %d` for what to do.\n" % (subject, sentence, number)
         found = run_on_terminal(words.split(), room)
         yield words, None if found == (1, line + second) else "status %d, %r" % found
         piped = run(words.split(), room)

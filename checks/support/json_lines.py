@@ -24,6 +24,9 @@ CARRIED = {
     101: {"form": str},
     **dict.fromkeys([102, 103, 104], {"offset": int}),
 }
+# What a refusal that a file or folder causes says of it, in this order. The first is left out for a file of `mem`, and the last if the system
+# did not fail there.
+AT = {"side": str, "path": str, "os": str}
 # The commands whose documents may have damaged manifests. A document is then followed by the refusal of the first one.
 WHOLE = ["tags", "predecessors", "tree"]
 MEMORY = '{"error":[{"name":"Memory"}]}\n'
@@ -235,5 +238,8 @@ def of_error(text):
     before, document = text[: text[:-1].rfind("\n") + 1], text[text[:-1].rfind("\n") + 1 :]
     if not document.startswith("{"):
         return text
-    faults, = taken(read_document(document), {"error": list})
+    value = read_document(document)
+    faults, *_ = taken(value, {"error": list, **{name: kind for name, kind in AT.items() if name in value}})
+    if "path" not in value and len(value) > 1 or value.get("side", "SRC") not in ("SRC", "DST", "FOLDER"):
+        raise ValueError("the file of the refusal is in %s" % value)
     return "%socicp: %s\n" % (before, " ".join(map(fault, faults)))

@@ -10,13 +10,14 @@ from support import shim
 from support.program import PROGRAM, SECONDS, run
 from support.terminal import run_on_terminal
 
-# The call named CALL fails with ERROR if its path has PART. The clock stands still.
+# The call named CALL fails with ERROR if its path has PART. For "fill" that is a write to a file. The clock stands still.
 SHIM = r"""
 #define _GNU_SOURCE
 #include <dlfcn.h>
 #include <errno.h>
 #include <fcntl.h>
 #include <stdarg.h>
+#include <stdio.h>
 #include <stdlib.h>
 #include <string.h>
 #include <time.h>
@@ -33,8 +34,17 @@ int open(const char *path, int flags, ...) {
   return NEXT(int (*)(const char *, int, ...), "open")(path, flags, mode);
 }
 int unlink(const char *path) { return fails("unlink", path) ? -1 : NEXT(int (*)(const char *), "unlink")(path); }
+static int fills(int file) {
+  char link[64], path[4096];
+  snprintf(link, sizeof link, "/proc/self/fd/%d", file);
+  ssize_t length = readlink(link, path, sizeof path - 1);
+  if (length < 0) return 0;
+  path[length] = 0;
+  return fails("fill", path);
+}
 ssize_t write(int file, const void *bytes, size_t count) {
   if (file == STDOUT_FILENO && fails("write", "")) return -1;
+  if (file > STDERR_FILENO && fills(file)) return -1;
   return NEXT(ssize_t (*)(int, const void *, size_t), "write")(file, bytes, count);
 }
 int clock_gettime(clockid_t clock, struct timespec *time) {
@@ -113,6 +123,9 @@ class Commands:
 
     def do_stuck(self, line):
         return self.do_locked(line, call="unlink")
+
+    def do_full(self, line):
+        return self.do_locked(line, call="fill", error=errno.ENOSPC)
 
     def do_broken(self, line):
         for error, (forms, status) in WAYS.items():

@@ -213,7 +213,7 @@ Check the permissions and the free space of the disk. The files of a layout have
 
 75 Corrupt
 The file of the named manifest does not match its size and digest, or that of the named layer or config has another size. It is not known what such a manifest lists. The other images of the layout can be used.
-Copy its image again with `ocicp copy --descend` from a layout that has it; its tags are in `index.json`. If it is no longer needed, delete its entry there.
+Copy its image again with `ocicp copy --descend` from a layout that has it; its tags are in `index.json`. If it is no longer needed, run `ocicp untag` for each of its tags. Delete an entry that has no tag from `index.json`.
 
 76 Memory
 Memory ran out while a layout was opened, created or saved.
@@ -221,7 +221,7 @@ Give the process more memory. `ocicp` itself prints `ocicp: memory` and ends wit
 
 77 BadManifest
 The file of the named manifest has the right digest, but is not a manifest of its media type. The next error says why. The other images of the layout can be used.
-Look up the next number. The image has to be built again, since a copy has the same bytes. If it is no longer needed, delete its entry from `index.json`.
+Look up the next number. The image has to be built again, since a copy has the same bytes. If it is no longer needed, run `ocicp untag` for each of its tags, and delete an entry that has no tag from `index.json`.
 
 78 AlreadyLayout
 The folder already is a layout, and cannot be made one again. Nothing was changed.
@@ -297,7 +297,7 @@ Copy into a folder, without `oci:` before its path. To change an archive, unpack
 
 96 Unknown
 The layout does not have the named blob, or has a damaged manifest there, so it is not known what that blob needs. It is an entry of `index.json`, a damaged manifest, or a manifest that a kept manifest lists. Nothing was removed, and no tag was set. Nothing was copied either, unless it turned out only after the copy of a mirror that its destination cannot be pruned; then the copied blobs are there.
-Restore the blob with `ocicp copy --descend` from a layout that has it. If it is an entry of `index.json` that is no longer needed, delete that entry.
+Restore the blob with `ocicp copy --descend` from a layout that has it. If it is no longer needed, run `ocicp untag` for each of its tags, and delete an entry that has no tag from `index.json`. A damaged manifest that only an index lists can be deleted from `blobs` once no tag needs that index.
 
 97 NoTags
 The layout has no tag, so no blob would be kept or copied. Nothing was copied or removed.

@@ -33,6 +33,7 @@ use std::io::Write;
 /// - 70 to 74 if SRC or DST is not a layout or cannot be read; 70 for DST only if it has another
 ///   `index.json` than that of an empty layout; 74 also if DST cannot be created or locked, or its
 ///   folder `blobs/sha256` cannot be made.
+/// - 75 `Corrupt` and 77 `BadManifest` with `--referrers`, if any manifest of SRC is damaged.
 /// - 35 `EmptyReference` and 36 `UnknownReference` for the reference; 75 `Corrupt` and 77
 ///   `BadManifest` if it is that of a damaged blob.
 /// - 99 `Locked` if another process has the lock of DST, and the words say not to wait.
@@ -122,9 +123,15 @@ where
     S::Draft: Send,
     D::Draft: Send,
 {
-    let lock = make_and_lock_folder(rt, words.destination, words.waits, err)?;
+    let lock = make_and_lock_folder(
+        rt,
+        words.destination,
+        destination.first_failure(),
+        words.waits,
+        err,
+    )?;
     let destination = open_or_create(rt.alloc(), destination)?;
-    make_blobs_folder(rt, words.destination)?;
+    make_blobs_folder(rt, words.destination, destination.first_failure())?;
     copy_under_lock(rt, source, destination, selected, words, &lock, err)
 }
 

@@ -1,4 +1,4 @@
-use oci_layout::{Dir, DirFault, FolderLock, Layout, LayoutFault, Lockable};
+use oci_layout::{Dir, FirstFailure, FolderLock, Layout, LayoutFault, Lockable};
 use oci_program::ProgramFault;
 use std::alloc::Global;
 use std::rt::Files;
@@ -15,13 +15,14 @@ pub(crate) fn remove_leftovers<R: Files<File: Lockable> + AllocGlobal>(
     lock: &FolderLock<R>,
 ) -> Result<(), ProgramFault> {
     match lock.remove_leftovers(rt) {
-        Err(DirFault::Memory) => Err(ProgramFault::Memory),
+        Err(error) if error.kind() == io::ErrorKind::OutOfMemory => Err(ProgramFault::Memory),
         _ => Ok(()),
     }
 }
 
 /// Creates the folder `blobs/sha256` of a layout in a folder, if it is missing. Every layout has
-/// it, even one without blobs (OCI image specification 1.1, image-layout.md, "Blobs").
+/// it, even one without blobs (OCI image specification 1.1, image-layout.md, "Blobs"). A failure of
+/// the system is noted in `first`, if it is there.
 ///
 /// # Errors
 ///
@@ -30,13 +31,13 @@ pub(crate) fn remove_leftovers<R: Files<File: Lockable> + AllocGlobal>(
 pub(crate) fn make_blobs_folder<R: Files + AllocGlobal>(
     rt: &R,
     folder: &str,
+    first: Option<&FirstFailure>,
 ) -> Result<(), ProgramFault> {
     let above = if folder.is_empty() { "." } else { folder };
     let path = format!(in rt.alloc(); "{above}/blobs/sha256")?;
     match fs::create_dir_all(rt, &path) {
         Ok(()) => Ok(()),
-        Err(error) if error.kind() == io::ErrorKind::OutOfMemory => Err(ProgramFault::Memory),
-        Err(_) => Err(ProgramFault::Destination(LayoutFault::Device)),
+        Err(error) => Err(ProgramFault::of_folder(first, &path, error)),
     }
 }
 

@@ -5,6 +5,7 @@ ghost use Rattle.oci_store.specs.Content.{Matches};
 use bytes::Bytes;
 use oci_command_line::Algorithm;
 use oci_digest::Digest;
+use oci_layout::FirstFailure;
 use oci_manifest::Key;
 use oci_program::ProgramFault;
 use oci_store::CheckedContent;
@@ -29,7 +30,7 @@ pub(crate) struct Item {
 }
 
 impl Item {
-    /// Splits an item at its first `=`, and reads its file.
+    /// Splits an item at its first `=`, and reads its file. If that fails, it is noted in `first`.
     ///
     /// # Errors
     ///
@@ -40,10 +41,12 @@ impl Item {
         rt: &R,
         item: &str,
         algorithm: Algorithm,
+        first: &FirstFailure,
     ) -> Result<Item, ProgramFault> {
         match item.split_once('=') {
             Some((media_type, path)) => {
-                Item::of(rt.alloc(), media_type, read_file(rt, path)?, algorithm)
+                let bytes = read_file(rt, path, first)?;
+                Item::of(rt.alloc(), media_type, bytes, algorithm)
             }
             None => Err(ProgramFault::BadItem(String::from_str(rt.alloc(), item)?)),
         }
@@ -78,12 +81,17 @@ fn key_of(
 }
 
 /// Reads a file.
-fn read_file<R: Files + AllocGlobal>(rt: &R, path: &str) -> Result<Vec<u8>, ProgramFault> {
+fn read_file<R: Files + AllocGlobal>(
+    rt: &R,
+    path: &str,
+    first: &FirstFailure,
+) -> Result<Vec<u8>, ProgramFault> {
     match fs::read(rt, path) {
         Ok(bytes) => Ok(bytes),
-        Err(error) => match error.kind() {
-            io::ErrorKind::OutOfMemory => Err(ProgramFault::Memory),
-            _ => Err(ProgramFault::File(String::from_str(rt.alloc(), path)?)),
-        },
+        Err(error) if error.kind() == io::ErrorKind::OutOfMemory => Err(ProgramFault::Memory),
+        Err(error) => {
+            first.note(path, error);
+            Err(ProgramFault::File(String::from_str(rt.alloc(), path)?))
+        }
     }
 }

@@ -1,6 +1,7 @@
 use crate::item::Item;
 use oci_command_line::{Algorithm, MemWords};
 use oci_copy::{CopyFault, Options, Report, copy_memory, copy_memory_by_workers};
+use oci_layout::FirstFailure;
 use oci_manifest::Key;
 use oci_pool::NoHooks;
 use oci_program::{Form, Outcome, ProgramFault, print_answer};
@@ -16,7 +17,8 @@ use std::thread::Threads;
 
 /// `mem [--workers N] [--sha512] TYPE=PATH..`: pushes the items' files into a store in memory, and
 /// copies from the key of the last item into an empty store. Prints in this form the keys that
-/// arrived there, in key order, and the report.
+/// arrived there, in key order, and the report. The first file that cannot be read is noted in
+/// `first`.
 ///
 /// # Errors
 ///
@@ -33,11 +35,12 @@ use std::thread::Threads;
 pub fn run_mem<R: Files + AllocGlobal + Threads + Wait + Sync, W: Write>(
     rt: &R,
     words: &MemWords<'_>,
+    first: &FirstFailure,
     form: Form,
     out: &mut W,
 ) -> Result<Outcome, ProgramFault> {
     let mut source = MemoryStore::new(rt.alloc());
-    let roots = push_items(rt, &mut source, words)?;
+    let roots = push_items(rt, &mut source, words, first)?;
     let (copied, report) = copy_roots(rt, &source, &roots, words.workers);
     let answer = MemAnswer {
         report: report?,
@@ -71,10 +74,11 @@ fn push_items<R: Files + AllocGlobal>(
     rt: &R,
     store: &mut MemoryStore,
     words: &MemWords<'_>,
+    first: &FirstFailure,
 ) -> Result<Vec<Key>, ProgramFault> {
     let mut last = Vec::new(rt.alloc());
     for item in &words.items {
-        let key = push_item(rt, store, item, words.algorithm)?;
+        let key = push_item(rt, store, item, words.algorithm, first)?;
         last.clear();
         last.push(key)?;
     }
@@ -87,8 +91,9 @@ fn push_item<R: Files + AllocGlobal>(
     store: &mut MemoryStore,
     item: &str,
     algorithm: Algorithm,
+    first: &FirstFailure,
 ) -> Result<Key, ProgramFault> {
-    let Item { key, content } = Item::read(rt, item, algorithm)?;
+    let Item { key, content } = Item::read(rt, item, algorithm, first)?;
     store.push_content(content)?;
     Ok(key)
 }

@@ -46,18 +46,19 @@ pub(crate) fn check_source<S: Dir>(source: &Layout<S>) -> Result<(), ProgramFaul
     ensures damaged { OnOk result (manifests_of source.now.opened.damaged ≡ []) }
 {
     if source.tags()?.is_empty() {
-        return Err(ProgramFault::Prune(PruneFault::NoTags));
+        return Err(ProgramFault::Source(PruneFault::NoTags));
     }
-    check_none(source.absent())?;
-    check_none(&source.damaged_manifests()?)
+    check_all_known(source.absent())?;
+    check_all_known(&source.damaged_manifests()?)
 }
 
-/// Refuses the first of these keys, of which it is not known what they list.
-fn check_none(unknown: &[Key]) -> Result<(), ProgramFault>
+/// Refuses a source for the first of these keys if there is one, since it is not known what it
+/// lists.
+fn check_all_known(unknown: &[Key]) -> Result<(), ProgramFault>
     ensures { OnOk result (unknown.now ≡ []) }
 {
     match unknown.first() {
-        Some(key) => Err(ProgramFault::Prune(PruneFault::Unknown(key.try_clone()?))),
+        Some(key) => Err(ProgramFault::Source(PruneFault::Unknown(key.try_clone()?))),
         None => Ok(()),
     }
 }
@@ -80,7 +81,9 @@ pub(crate) fn check_destination<D: PrunableDir>(
     ensures damaged { OnOk result (destination.now.tags ≢ []
         → HasAll destination.now.graph (manifests_of destination.now.opened.damaged)) }
 {
-    check_none(destination.absent())?;
+    if let Some(key) = destination.absent().first() {
+        return Err(ProgramFault::Prune(PruneFault::Unknown(key.try_clone()?)));
+    }
     match destination.linked() {
         Ok(Some(folder)) => Err(ProgramFault::Prune(PruneFault::LinkedBlobs(folder))),
         Ok(None) => check_plan(alloc, destination),

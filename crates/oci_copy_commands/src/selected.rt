@@ -1,13 +1,15 @@
-ghost use Rattle.std.specs.Prelude.{◌≡◌, ◌≢◌, ◌↔◌, ◌⊎◌, [], ◌∷◌, true, map, string_bytes, Contains, IfOk, OnOk};
+ghost use Rattle.std.specs.Prelude.{◌≡◌, ◌≢◌, ◌↔◌, ◌⊎◌, [], ◌∷◌, true, is_some, map, string_bytes, Contains, IfOk, OnOk};
 ghost use Rattle.std.specs.List.{All};
-ghost use Rattle.std.specs.Map.{values_of};
+ghost use Rattle.std.specs.Map.{keys_of, values_of};
 ghost use Rattle.oci_manifest.specs.Descriptor.{Descriptor};
-ghost use Rattle.oci_copy.specs.Tagged.{name_of, ResolvesIn};
+ghost use Rattle.oci_copy.specs.Tagged.{name_of};
 ghost use Rattle.oci_store.specs.Tags.{by_bytes};
 ghost use Rattle.oci_store.specs.Keyed.{has_key};
 ghost use Rattle.oci_store.specs.Visiting.{with_keys};
 ghost use Rattle.oci_layout.specs.Brought.{IsShallowEntry};
 ghost use Rattle.oci_layout.specs.Entries.{entry_keys, entry_of, said};
+ghost use Rattle.oci_layout.specs.Layout.{manifests_of};
+ghost use Rattle.oci_program.specs.Reference.{Names};
 ghost use Rattle.oci_copy_commands.specs.Brought.{named_entries, reference_entry, with_roots};
 ghost use Rattle.oci_copy_commands.specs.Selected.{named_keys, AreNamedHeld, AreOfRoots, AreRoots, AreRootsOfKeys, IsNamedHeld, IsRootOfKey};
 
@@ -19,7 +21,7 @@ use oci_manifest::Key;
 use oci_plan::climb;
 use oci_program::{ProgramFault, resolve};
 use oci_prune::PruneFault;
-use oci_store::{Dest, GraphSource, KeyList, Store};
+use oci_store::{Dest, GraphSource, KeyList};
 use std::alloc::Global;
 use std::marker::Model;
 
@@ -57,6 +59,8 @@ impl Selected {
     ///
     /// # Errors
     ///
+    /// - 75 `Corrupt` or 77 `BadManifest` with referrers, if a manifest of the source is damaged: it
+    ///   may be one. Then also 74 `Device` if its file cannot be read. Checked first.
     /// - 35 `EmptyReference` if the reference is empty, and 36 `UnknownReference` if it is unknown.
     /// - 75 `Corrupt` and 77 `BadManifest` if it is that of a damaged blob, and 74 `Device` if the
     ///   file of that one cannot be read.
@@ -66,7 +70,13 @@ impl Selected {
         alloc: Global,
         source: &Layout<D>,
         words: &CopyWords<'_>,
-    ) -> Result<Selected, ProgramFault> {
+    ) -> Result<Selected, ProgramFault>
+        ensures sound { OnOk result (is_some words.now.referrers ≡ true
+            → manifests_of source.now.opened.damaged ≡ []) }
+    {
+        if words.referrers.is_some() {
+            check_undamaged(source)?;
+        }
         match words.selection {
             Selection::Reference {
                 source: from,
@@ -98,7 +108,7 @@ impl Selected {
         referrers: Option<u32>,
     ) -> Result<Selected, ProgramFault>
         ensures { IfOk result (λ selected. (k : Descriptor)
-            × ResolvesIn (⟦<Layout<D> as Store>⟧.state source.now) from.now k
+            × Names (keys_of source.now.graph) source.now.tags from.now k
             × AreRoots source.now.graph referrers k selected.0
             × (selected.1 ≡ (name_of from.now to.now, k) ∷ [])
             × (map entry_of selected.2 ≡ with_roots (said source.now.opened.content).entries
@@ -164,7 +174,7 @@ impl Selected {
         check_entries(source, source.entries())?;
         let tags = source.tags()?;
         if tags.is_empty() {
-            return Err(ProgramFault::Prune(PruneFault::NoTags));
+            return Err(ProgramFault::Source(PruneFault::NoTags));
         }
         let keys = named_keys(alloc, &tags, source.entries())?;
         let roots = roots_of_keys(alloc, source, &keys, referrers)?;
@@ -228,6 +238,21 @@ fn check_entry<D: Dir>(layout: &Layout<D>, entry: &IndexEntry) -> Result<(), Pro
     check_held(layout, &entry.key)
 }
 
+/// Refuses a layout that has a damaged manifest, for the first one.
+fn check_undamaged<D: Dir>(layout: &Layout<D>) -> Result<(), ProgramFault>
+    ensures { OnOk result (manifests_of layout.now.opened.damaged ≡ []) }
+{
+    let damaged = layout.damaged_manifests()?;
+    let Some(key) = damaged.first() else {
+        return Ok(());
+    };
+    match layout.check_file(key) {
+        Err(fault) => Err(ProgramFault::Layout(fault)),
+        // The file was mended since the layout was opened.
+        Ok(()) => Err(ProgramFault::Source(PruneFault::Unknown(key.try_clone()?))),
+    }
+}
+
 /// Refuses a key that a layout does not hold.
 fn check_held<D: Dir>(layout: &Layout<D>, key: &Key) -> Result<(), ProgramFault>
     ensures { OnOk result (has_key layout.now.graph key.now ≡ true) }
@@ -235,7 +260,7 @@ fn check_held<D: Dir>(layout: &Layout<D>, key: &Key) -> Result<(), ProgramFault>
     if layout.has(key) {
         return Ok(());
     }
-    Err(ProgramFault::Prune(PruneFault::Unknown(key.try_clone()?)))
+    Err(ProgramFault::Source(PruneFault::Unknown(key.try_clone()?)))
 }
 
 /// The tag to set: the destination's reference, or the source's if that is empty.

@@ -77,6 +77,10 @@ pub record IsReplaced (stay more : List IndexEntry) (old new : OpenedIndex) : Ty
 abbrev pub Brings : List IndexEntry → Tags → OpenedIndex → OpenedIndex → Type 0
 Brings entries tags old new = IsReplaced (staying false entries (said old.content).entries) (coming (values_of tags) (said old.content).entries entries) old new
 
+-- the entries with the name of one of these are forgotten
+abbrev pub Forgets : List IndexEntry → OpenedIndex → OpenedIndex → Type 0
+Forgets entries old new = IsReplaced (staying false entries (said old.content).entries) [] old new
+
 -- the entries with a name are forgotten
 abbrev pub ForgetsNames : OpenedIndex → OpenedIndex → Type 0
 ForgetsNames old new = IsReplaced (staying true [] (said old.content).entries) [] old new

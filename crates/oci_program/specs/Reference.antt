@@ -1,23 +1,33 @@
 -- Why a reference of a layout is refused.
-use Rattle.std.specs.Prelude.{◌≡◌, ◌≢◌, ◌&&◌, ℕ, Bool, true, false, List, [], filter, Option, Some, None, IfSome, MatchOption, MatchBool, if◌then◌else◌}
-use Rattle.std.specs.List.{last_or}
+use Rattle.std.specs.Prelude.{◌≡◌, ◌≢◌, ◌⊎◌, ◌&&◌, ℕ, Bool, true, false, List, [], filter, Option, Some, None, IfSome, MatchOption, MatchBool, if◌then◌else◌}
+use Rattle.std.specs.List.{All, last_or}
 use Rattle.std.specs.Map.{keys_of}
 use Rattle.std.specs.Ordering.{is_lt}
 use Rattle.std.specs.Str.{bytes_eq}
 use Rattle.oci_digest.specs.Digest.{is_digest}
 use Rattle.oci_manifest.specs.Descriptor.{Descriptor, is_among, key_cmp}
 use Rattle.oci_store.specs.Graph.{Node}
-use Rattle.oci_store.specs.Tags.{Tags, IsLeastOf, Resolves}
+use Rattle.oci_store.specs.Tags.{Tags, IsLeastOf, IsLeastWith, Resolves, tag_at}
 use Rattle.oci_store.specs.declared.fault.RefFault.{RefFault}
 use Rattle.oci_store.specs.declared.fault.RefFault.TheVariants as reference
 use Rattle.oci_layout.specs.Device.{Device}
 use Rattle.oci_layout.specs.Entries.{IndexEntry, entry_keys, said}
-use Rattle.oci_layout.specs.Layout.{LayoutState, OpenedIndex}
+use Rattle.oci_layout.specs.Layout.{LayoutState, OpenedIndex, manifests_of}
 use Rattle.oci_layout.specs.Opened.{is_damaged}
 use Rattle.oci_layout.specs.Refusal.{IsDamageFault}
 use Rattle.oci_layout.specs.Saved.{is_name}
 use Rattle.oci_program.specs.declared.fault.ProgramFault.{ProgramFault}
 use Rattle.oci_program.specs.declared.fault.ProgramFault.TheVariants as fault
+
+-- A digest names the least of these keys of a manifest kind that have it, or, if there is none, the
+-- least that has it.
+abbrev pub IsNamedBy : List Descriptor → List ℕ → Descriptor → Type 0
+IsNamedBy keys digest k = IsLeastWith (manifests_of keys) digest k ⊎ (All (λ (m : Descriptor). m.digest ≢ digest) (manifests_of keys) × IsLeastWith keys digest k)
+
+-- the key that a reference names: that of the tag with this name, or, if there is no such tag, the
+-- one that the digest names
+abbrev pub Names : List Descriptor → Tags → List ℕ → Descriptor → Type 0
+Names keys tags reference k = MatchOption (tag_at tags reference) (IsNamedBy keys reference k) (λ tagged. k ≡ tagged)
 
 -- why a reference does not resolve; a memory error is possible at any point
 abbrev pub IsUnresolved : List Node → Tags → List ℕ → RefFault → Type 0

@@ -42,6 +42,8 @@ is_memory (fault.Layout layout.Memory) = true
 is_memory (fault.Destination layout.Memory) = true
 is_memory (fault.Prune prune.Memory) = true
 is_memory (fault.Prune (prune.Layout layout.Memory)) = true
+is_memory (fault.Source prune.Memory) = true
+is_memory (fault.Source (prune.Layout layout.Memory)) = true
 is_memory (fault.Reference reference.Memory) = true
 is_memory (fault.Fetch fetch.Memory) = true
 is_memory fault.Memory = true
@@ -77,6 +79,7 @@ program_number (fault.Copy e) = Some (number_of e)
 program_number (fault.Layout e) = Some (layout_number e)
 program_number (fault.Destination e) = Some (layout_number e)
 program_number (fault.Prune e) = Some (prune_number e)
+program_number (fault.Source e) = Some (prune_number e)
 program_number (fault.Reference e) = Some (reference_number e)
 program_number (fault.Fetch e) = Some (fetch_number e)
 program_number fault.Memory = None
@@ -120,6 +123,7 @@ numbers (fault.Copy e) = copy_numbers e
 numbers (fault.Layout e) = layout_numbers e
 numbers (fault.Destination e) = layout_numbers e
 numbers (fault.Prune e) = prune_numbers e
+numbers (fault.Source e) = prune_numbers e
 numbers e = option_to_list (program_number e)
 
 -- the last number of a fault's text, which is that of its innermost fault

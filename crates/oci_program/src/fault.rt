@@ -6,7 +6,7 @@ ghost use Rattle.oci_program.specs.Status.{is_memory, program_number};
 use oci_archive::ArchiveFault;
 use oci_copy::CopyFault;
 use oci_digest::NoMemory;
-use oci_layout::LayoutFault;
+use oci_layout::{FirstFailure, LayoutFault};
 use oci_manifest::KeyFault;
 use oci_prune::PruneFault;
 use oci_store::{FetchFault, PushFault, RefFault};
@@ -53,6 +53,9 @@ pub enum ProgramFault {
     /// The prune was refused, or a file could not be removed.
     #[error("{0}")]
     Prune(#[from] PruneFault),
+    /// The layout that a copy reads has no tag, or it is not known what it has.
+    #[error("{0}")]
+    Source(PruneFault),
     /// The layout does not have the reference.
     #[error("{0}")]
     Reference(#[from] RefFault),
@@ -88,6 +91,21 @@ impl ProgramFault {
         }
     }
 
+    /// Returns the fault of a folder to change that could not be created, opened or locked: `Memory`
+    /// for `OutOfMemory`, and otherwise `Device`. Notes a failure of the system in `first`, if it is
+    /// there.
+    pub fn of_folder(first: Option<&FirstFailure>, folder: &str, error: io::Error) -> ProgramFault
+        ensures { IsTrue (is_memory result) ↔ (error_kind error ≡ OutOfMemory) }
+    {
+        if error.kind() == io::ErrorKind::OutOfMemory {
+            return ProgramFault::Memory;
+        }
+        if let Some(first) = first {
+            first.note(if folder.is_empty() { "." } else { folder }, error);
+        }
+        ProgramFault::Destination(LayoutFault::Device)
+    }
+
     /// Whether memory ran out.
     pub fn is_memory(&self) -> bool
         ensures { result ≡ is_memory self.now }
@@ -99,6 +117,7 @@ impl ProgramFault {
             ProgramFault::Layout(fault) => matches!(fault, LayoutFault::Memory),
             ProgramFault::Destination(fault) => matches!(fault, LayoutFault::Memory),
             ProgramFault::Prune(fault) => is_prune_memory(fault),
+            ProgramFault::Source(fault) => is_prune_memory(fault),
             ProgramFault::Reference(fault) => matches!(fault, RefFault::Memory),
             ProgramFault::Fetch(fault) => matches!(fault, FetchFault::Memory),
             ProgramFault::Memory => true,
@@ -123,6 +142,7 @@ impl ProgramFault {
             ProgramFault::Layout(fault) => Some(fault.number()),
             ProgramFault::Destination(fault) => Some(fault.number()),
             ProgramFault::Prune(fault) => Some(fault.number()),
+            ProgramFault::Source(fault) => Some(fault.number()),
             ProgramFault::Reference(fault) => Some(fault.number()),
             ProgramFault::Fetch(fault) => Some(fault.number()),
             ProgramFault::Memory => None,

@@ -8,6 +8,7 @@
 //! | [`Form`] | lines or JSON, the form in which a command prints |
 //! | [`Ending`] | why a run ended early: an invalid command line, or a refused command |
 //! | [`Ended`] | how a run ended: its exit status, and its [`Refusal`] |
+//! | [`Sides`], [`RefusedPath`] | the folders of a command line, and the cause of a refusal |
 //! | [`PruneAnswer`] | the answer of a prune: what it removed |
 //! | [`Tagged`], [`Sum`] | parts of answers: a tag with its key, and a sum |
 //! | [`ProgressLine`] | a line on a terminal: how much of an [`Amount`] has arrived, and how fast |
@@ -33,6 +34,7 @@ mod reference;
 mod refusal;
 mod refusal_document;
 mod refused;
+mod refused_path;
 mod speed;
 mod sum;
 
@@ -47,5 +49,6 @@ pub use prune_answer::{PruneAnswer, print_answer_with_fault};
 pub use readable::{Readable, TimeLeft};
 pub use reference::resolve;
 pub use refusal::{Refusal, Subject};
+pub use refused_path::{RefusedPath, Side, Sides};
 pub use speed::rate;
 pub use sum::Sum;

@@ -1,5 +1,5 @@
 use crate::fault::ProgramFault;
-use oci_layout::{Dir, DirFault, FolderLock, LayoutFault, Lockable};
+use oci_layout::{Dir, FirstFailure, FolderLock, LayoutFault, Lockable};
 use std::io::Write;
 use std::rt::Files;
 
@@ -20,7 +20,8 @@ pub fn check_is_layout<D: Dir>(dir: &D) -> Result<(), ProgramFault> {
 }
 
 /// Locks the folder that a command writes into. If another process has the lock, prints this on
-/// `err` and waits, or refuses the command unless it `waits`.
+/// `err` and waits, or refuses the command unless it `waits`. A failure of the system is noted in
+/// `first`, if it is there.
 ///
 /// # Errors
 ///
@@ -30,12 +31,14 @@ pub fn check_is_layout<D: Dir>(dir: &D) -> Result<(), ProgramFault> {
 pub fn lock_folder<R: Files<File: Lockable> + AllocGlobal, X: Write>(
     rt: &R,
     folder: &str,
+    first: Option<&FirstFailure>,
     waits: bool,
     err: &mut X,
 ) -> Result<FolderLock<R>, ProgramFault> {
-    match FolderLock::try_lock(rt, folder).map_err(fault_of)? {
-        Some(lock) => Ok(lock),
-        None => wait_for(rt, folder, waits, err),
+    match FolderLock::try_lock(rt, folder) {
+        Ok(Some(lock)) => Ok(lock),
+        Ok(None) => wait_for(rt, folder, first, waits, err),
+        Err(error) => Err(ProgramFault::of_folder(first, folder, error)),
     }
 }
 
@@ -49,12 +52,14 @@ pub fn lock_folder<R: Files<File: Lockable> + AllocGlobal, X: Write>(
 pub fn make_and_lock_folder<R: Files<File: Lockable> + AllocGlobal, X: Write>(
     rt: &R,
     folder: &str,
+    first: Option<&FirstFailure>,
     waits: bool,
     err: &mut X,
 ) -> Result<FolderLock<R>, ProgramFault> {
-    match FolderLock::make_and_try_lock(rt, folder).map_err(fault_of)? {
-        Some(lock) => Ok(lock),
-        None => wait_for(rt, folder, waits, err),
+    match FolderLock::make_and_try_lock(rt, folder) {
+        Ok(Some(lock)) => Ok(lock),
+        Ok(None) => wait_for(rt, folder, first, waits, err),
+        Err(error) => Err(ProgramFault::of_folder(first, folder, error)),
     }
 }
 
@@ -62,6 +67,7 @@ pub fn make_and_lock_folder<R: Files<File: Lockable> + AllocGlobal, X: Write>(
 fn wait_for<R: Files<File: Lockable> + AllocGlobal, X: Write>(
     rt: &R,
     folder: &str,
+    first: Option<&FirstFailure>,
     waits: bool,
     err: &mut X,
 ) -> Result<FolderLock<R>, ProgramFault> {
@@ -73,9 +79,8 @@ fn wait_for<R: Files<File: Lockable> + AllocGlobal, X: Write>(
         err,
         "ocicp: waiting for another process that writes into {place}"
     );
-    FolderLock::lock(rt, folder).map_err(fault_of)
-}
-
-fn fault_of(fault: DirFault) -> ProgramFault {
-    ProgramFault::Destination(LayoutFault::from(fault))
+    match FolderLock::lock(rt, folder) {
+        Ok(lock) => Ok(lock),
+        Err(error) => Err(ProgramFault::of_folder(first, folder, error)),
+    }
 }

@@ -1,21 +1,27 @@
-ghost use Rattle.std.specs.Prelude.{◌≡◌, ◌≢◌, [], true, if◌then◌else◌, Some, None, map, IfErr, IfOk, MatchBool, OnOk};
+ghost use Rattle.std.specs.Prelude.{◌≡◌, ◌≢◌, ◌++◌, ◌∷◌, [], true, if◌then◌else◌, is_some, Some, None, map, IfErr, IfOk, MatchBool, OnOk, string_bytes};
+ghost use Rattle.std.specs.List.{list_any};
 ghost use Rattle.std.specs.Map.{keys_of};
 ghost use Rattle.std.specs.Option.{option_copied};
+ghost use Rattle.std.specs.Str.{bytes_eq};
 ghost use Rattle.oci_digest.specs.Digest.{is_digest};
 ghost use Rattle.oci_manifest.specs.Descriptor.{is_among};
+ghost use Rattle.oci_manifest.specs.MediaTypes.{kind_of};
 ghost use Rattle.oci_store.specs.Keyed.{has_key};
-ghost use Rattle.oci_store.specs.Tags.{IsLeastOf, Resolves};
+ghost use Rattle.oci_store.specs.Tags.{tag_at, IsLeastOf, Resolves};
 ghost use Rattle.oci_layout.specs.Entries.{entry_of, text_of};
+ghost use Rattle.oci_layout.specs.Layout.{is_manifest, manifests_of};
 ghost use Rattle.oci_layout.specs.Saved.{is_name};
-ghost use Rattle.oci_program.specs.Reference.{comes_first, last_key, IsReferenceFault, IsUnresolved, NamesDamaged};
+ghost use Rattle.oci_program.specs.Reference.{comes_first, last_key, IsReferenceFault, IsUnresolved, Names, NamesDamaged};
 
 use crate::fault::ProgramFault;
-use oci_digest::Digest;
+use oci_digest::{Digest, NoMemory};
 use oci_layout::{Dir, IndexEntry, Layout};
-use oci_manifest::Key;
-use oci_store::{RefFault, Tagger};
+use oci_manifest::{Key, Kind};
+use oci_store::{Dest, RefFault, Tagger};
+use std::alloc::Global;
 
-/// Returns the key that a reference of a layout resolves to. Of a reference that names a
+/// Returns the key that a reference of a layout names: the one that it resolves to, but that a digest
+/// names a manifest rather than a leaf of the same bytes. Of a reference that names a
 /// [damaged](Layout::damaged) key, says what is wrong with its file.
 ///
 /// # Errors
@@ -28,16 +34,88 @@ use oci_store::{RefFault, Tagger};
 /// - Out of memory, at any point.
 pub fn resolve<D: Dir>(layout: &Layout<D>, reference: &str) -> Result<Key, ProgramFault>
     ensures found { IfOk result
-        (Resolves (keys_of layout.now.graph) layout.now.tags reference.now) }
+        (Names (keys_of layout.now.graph) layout.now.tags reference.now) }
     ensures there { IfOk result (λ key. has_key layout.now.graph key ≡ true) }
     ensures named { OnOk result (reference.now ≢ []) }
     ensures refused { IfErr result
         (IsReferenceFault (D.device layout.now.dir) layout.now reference.now) }
 {
     match layout.resolve(reference) {
-        Ok(key) => Ok(key),
+        Ok(key) => match named_key(layout, reference, key) {
+            Ok(named) => Ok(named),
+            Err(NoMemory) => Err(ProgramFault::Reference(RefFault::Memory)),
+        },
         Err(fault) => Err(refusal_of(layout, reference, fault)),
     }
+}
+
+/// Returns the key that a reference names, which resolves to this key.
+fn named_key<D: Dir>(layout: &Layout<D>, reference: &str, key: Key) -> Result<Key, NoMemory>
+    requires resolved { Resolves (keys_of layout.now.graph) layout.now.tags reference.now key }
+    requires there { has_key layout.now.graph key ≡ true }
+    ensures found { IfOk result
+        (Names (keys_of layout.now.graph) layout.now.tags reference.now) }
+    ensures there { IfOk result (λ named. has_key layout.now.graph named ≡ true) }
+{
+    if is_manifest(&key) {
+        return Ok(key);
+    }
+    if is_tag(layout, reference)? {
+        return Ok(key);
+    }
+    let manifests = held_manifests(key.allocator(), layout)?;
+    match least_with(&manifests, key.digest()) {
+        Some(manifest) => manifest.try_clone(),
+        None => Ok(key),
+    }
+}
+
+/// Returns whether a layout has a tag with this name.
+fn is_tag<D: Dir>(layout: &Layout<D>, name: &str) -> Result<bool, NoMemory>
+    ensures { IfOk result (λ found. found ≡ is_some (tag_at layout.now.tags name.now)) }
+{
+    let tags = layout.tags()?;
+    Ok(has_tag(&tags, name))
+}
+
+/// Returns whether one of these tags has this name.
+fn has_tag(tags: &[(String, Key)], name: &str) -> bool
+    ensures { result ≡ list_any (λ t. bytes_eq name.now (string_bytes t.0)) tags.now }
+{
+    tags.iter().any(|tag| name == tag.0.as_str())
+}
+
+/// Returns the held keys of a layout that are of a manifest kind.
+fn held_manifests<D: Dir>(alloc: Global, layout: &Layout<D>) -> Result<Vec<Key>, NoMemory>
+    ensures { IfOk result (λ manifests. manifests.items
+        ≡ manifests_of (keys_of layout.now.graph)) }
+{
+    let mut manifests = Vec::new(alloc);
+    for place in 0..layout.count() {
+        let Some(key) = layout.key(place) else {
+            unreachable!();
+        };
+        add_manifest(key, &mut manifests)?;
+    }
+    Ok(manifests)
+}
+
+/// Adds a key, if it is of a manifest kind.
+fn add_manifest(key: &Key, manifests: &mut Vec<Key>) -> Result<(), NoMemory>
+    ensures { OnOk result (manifests.new.items
+        ≡ manifests.old.items ++ manifests_of (key.now ∷ [])) }
+{
+    if is_manifest(key) {
+        manifests.push(key.try_clone()?)?;
+    }
+    Ok(())
+}
+
+/// Returns whether a key is of a manifest kind.
+fn is_manifest(key: &Key) -> bool
+    ensures { result ≡ is_manifest (kind_of key.now.media_type) }
+{
+    !matches!(Kind::of(key.media_type()), Kind::Leaf)
 }
 
 /// Returns why a reference is refused that does not resolve, for this reason.

@@ -1,51 +1,49 @@
 use crate::fault::ProgramFault;
+use crate::refused_path::{RefusedPath, Sides};
+use std::alloc::Global;
 
 /// A refusal as a person reads it: its most specific number, and its subject.
-#[derive(Clone, Copy)]
-pub struct Refusal {
+#[derive(Drop)]
+pub struct Refusal<'w> {
     /// The last number of the fault's text.
     pub number: u8,
-    /// The word of the command line that the refusal is about.
-    pub subject: Subject,
+    /// What the refusal is about.
+    pub subject: Subject<'w>,
 }
 
-/// The word of a command line that a refusal is about.
-#[derive(Clone, Copy)]
-pub enum Subject {
-    /// The reference.
+/// What a refusal is about.
+#[derive(Drop)]
+pub enum Subject<'w> {
+    /// The reference of the command line.
     Reference,
-    /// The folder or the archive of the layout that the command reads.
-    Layout,
-    /// The folder that the command writes into.
-    Destination,
-    /// No word that is known.
+    /// A file or folder.
+    Path(RefusedPath<'w>),
+    /// Nothing that is known.
     Unknown,
 }
 
 impl ProgramFault {
     /// Returns the fault as a refusal. A memory error is none.
-    pub(crate) fn refusal(&self) -> Option<Refusal> {
+    pub(crate) fn refusal<'w>(&self, alloc: Global, sides: &Sides<'w>) -> Option<Refusal<'w>> {
         if self.is_memory() {
             return None;
         }
         match self.last_number() {
             Some(number) => Some(Refusal {
                 number,
-                subject: self.subject(),
+                subject: self.subject(alloc, sides),
             }),
             None => None,
         }
     }
 
-    fn subject(&self) -> Subject {
-        match self {
-            ProgramFault::Archive(_) => Subject::Layout,
-            ProgramFault::Layout(_) => Subject::Layout,
-            ProgramFault::Prune(_) => Subject::Layout,
-            ProgramFault::NotWritable(_) => Subject::Destination,
-            ProgramFault::Locked(_) => Subject::Destination,
-            ProgramFault::Destination(_) => Subject::Destination,
-            ProgramFault::Reference(_) => Subject::Reference,
+    /// Returns what the fault is about. That is not known if memory runs out.
+    fn subject<'w>(&self, alloc: Global, sides: &Sides<'w>) -> Subject<'w> {
+        if matches!(self, ProgramFault::Reference(_)) {
+            return Subject::Reference;
+        }
+        match self.refused_path(alloc, sides) {
+            Ok(Some(path)) => Subject::Path(path),
             _ => Subject::Unknown,
         }
     }

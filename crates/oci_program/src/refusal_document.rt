@@ -2,6 +2,7 @@ ghost use Rattle.std.specs.Prelude.{◌≡◌, ◌++◌, ◌∷◌, [], IfOk, On
 ghost use Rattle.oci_program.specs.Status.{entry_numbers, numbers};
 
 use crate::fault::ProgramFault;
+use crate::refused_path::{RefusedPath, Sides};
 use oci_archive::Compression;
 use oci_digest::NoMemory;
 use oci_manifest::Key;
@@ -14,19 +15,38 @@ use std::fmt::Display;
 pub(crate) struct RefusalDocument<'f> {
     /// The faults of its line, the outermost first.
     error: Vec<Entry<'f>>,
+    /// The word of the folder or archive that the refusal is about: `SRC`, `DST` or `FOLDER`.
+    #[serde(skip_serializing_if = "Option::is_none")]
+    side: Option<&'f str>,
+    /// The path of the file or folder that the refusal is about.
+    #[serde(skip_serializing_if = "Option::is_none")]
+    path: Option<String>,
+    /// The system's reason for the failure there.
+    #[serde(skip_serializing_if = "Option::is_none")]
+    os: Option<String>,
 }
 
 impl<'f> RefusalDocument<'f> {
-    /// Returns the document of a fault.
+    /// Returns the document of a fault of a command with these folders.
     pub(crate) fn of(
         alloc: Global,
         fault: &'f ProgramFault,
+        sides: &Sides<'f>,
     ) -> Result<RefusalDocument<'f>, NoMemory>
         ensures { IfOk result (λ document. entry_numbers document.error.items ≡ numbers fault.now) }
     {
         let mut error = Vec::new(alloc);
         fault.add_to(alloc, &mut error)?;
-        Ok(RefusalDocument { error })
+        let (side, path, os) = match fault.refused_path(alloc, sides)? {
+            Some(RefusedPath { side, path, reason }) => (side, Some(path), reason),
+            None => (None, None, None),
+        };
+        Ok(RefusalDocument {
+            error,
+            side,
+            path,
+            os,
+        })
     }
 }
 

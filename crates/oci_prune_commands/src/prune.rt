@@ -80,7 +80,7 @@ fn prune_folder<R: Files<File: Lockable> + AllocGlobal, D: PrunableDir + Drop, X
     err: &mut X,
 ) -> Result<(PruneAnswer, Option<PruneFault>), ProgramFault> {
     check_is_layout(&dir)?;
-    let _lock = lock_folder(rt, words.folder, words.waits, err)?;
+    let _lock = lock_folder(rt, words.folder, dir.first_failure(), words.waits, err)?;
     let mut layout = Layout::open_as_is(rt.alloc(), dir)?;
     let plan = plan_prune(rt.alloc(), &layout, words.keeps_referrers)?;
     let pruned = prune(rt.alloc(), &mut layout, &plan)?;

@@ -1,9 +1,23 @@
-ghost use Rattle.std.specs.Prelude.{◌≡◌, Some, IfOk, IfErr, OnOk};
+ghost use Rattle.std.specs.Prelude.{
+  ◌≡◌,
+  ◌-◌,
+  length,
+  map,
+  option_map,
+  slice_get,
+  Some,
+  IfErr,
+  IfOk,
+  OnOk,
+};
+ghost use Rattle.oci_layout.specs.Brought.{Forgets};
 ghost use Rattle.oci_layout.specs.Device.{Touches};
+ghost use Rattle.oci_layout.specs.Entries.{entry_of, said, text_of};
 ghost use Rattle.oci_layout.specs.Index.{index_file, HasIndex};
 ghost use Rattle.oci_layout.specs.Refusal.{IsPutFault};
+ghost use Rattle.oci_layout.specs.Saved.{is_name};
 ghost use Rattle.oci_store.specs.Tags.{tag_at, without_tag};
-ghost use Rattle.oci_prune_commands.specs.Named.{has_name, keys_named};
+ghost use Rattle.oci_prune_commands.specs.Named.{entries_named};
 ghost use Rattle.oci_prune_commands.specs.Refusal.{IsRefusedUntag};
 
 use oci_command_line::UntagWords;
@@ -11,7 +25,7 @@ use oci_digest::NoMemory;
 use oci_layout::{Dir, IndexEntry, Layout, Lockable};
 use oci_manifest::Key;
 use oci_program::{Form, Outcome, ProgramFault, check_is_layout, lock_folder, print_answer};
-use oci_store::Untagger;
+use oci_store::{RefFault, Untagger};
 use serde::Serialize;
 use std::alloc::Global;
 use std::fmt;
@@ -19,10 +33,11 @@ use std::fmt::Display;
 use std::io::Write;
 use std::rt::Files;
 
-/// `untag FOLDER TAG`: removes a tag from the layout in a directory, and saves it. The directory is
-/// the words' folder, which is locked from before the layout is opened until after it is saved.
-/// Prints in this form the keys of the entries that had the tag; the last one is the key that it
-/// named. `F` is [`ProgramFault`] or another type that is made from one.
+/// `untag FOLDER TAG`: removes a tag from the layout in a directory, and saves it. A tag whose last
+/// entry in `index.json` has no file, or a damaged one, is removed too. The directory is the words'
+/// folder, which is locked from before the layout is opened until after it is saved. Prints in this
+/// form the keys of the entries that had the tag; the last one is the key that it named. `F` is
+/// [`ProgramFault`] or another type that is made from one.
 ///
 /// # Errors
 ///
@@ -31,7 +46,7 @@ use std::rt::Files;
 /// - 70 to 74 if the directory has no layout, or it cannot be read; 74 also if the folder cannot be
 ///   locked or `index.json` cannot be written.
 /// - 99 `Locked` if another process has the lock, and the words say not to wait.
-/// - 35 `EmptyReference` if the tag is empty, and 36 `UnknownReference` if the layout lacks it.
+/// - 35 `EmptyReference` if the tag is empty, and 36 `UnknownReference` if no entry has it.
 /// - 94 `Output` if `out` cannot be written. The tag is removed.
 /// - Out of memory, at any point.
 pub fn run_untag<
@@ -81,28 +96,48 @@ fn untag_folder<R: Files<File: Lockable> + AllocGlobal, D: Dir + Drop, X: Write>
 ) -> Result<Untagged, ProgramFault> {
     let tag = String::from_str(rt.alloc(), words.tag)?;
     check_is_layout(&dir)?;
-    let _lock = lock_folder(rt, words.folder, words.waits, err)?;
+    let _lock = lock_folder(rt, words.folder, dir.first_failure(), words.waits, err)?;
     let mut layout = Layout::open_as_is(rt.alloc(), dir)?;
-    let descriptors = keys_named(rt.alloc(), &layout, words.tag)?;
-    let descriptor = untag_and_save(&mut layout, words.tag)?;
+    let named = entries_named(rt.alloc(), &layout, words.tag)?;
+    let descriptor = match untag_and_save(&mut layout, words.tag) {
+        Err(ProgramFault::Reference(RefFault::UnknownReference)) => {
+            forget_and_save(&mut layout, &named)?
+        }
+        untagged => untagged?,
+    };
     Ok(Untagged {
         tag,
         descriptor,
-        descriptors,
+        descriptors: keys_of(rt.alloc(), &named)?,
     })
 }
 
-/// Returns the keys of the entries that a layout remembers with a name, in the order of the index.
-fn keys_named<D: Dir>(alloc: Global, layout: &Layout<D>, name: &str) -> Result<Vec<Key>, NoMemory>
-    ensures { IfOk result (λ keys. keys.items
-        ≡ keys_named name.now layout.now.opened.content.entries) }
+/// Returns the entries that a layout remembers with a name, in the order of the index.
+fn entries_named<D: Dir>(
+    alloc: Global,
+    layout: &Layout<D>,
+    name: &str,
+) -> Result<Vec<IndexEntry>, NoMemory>
+    ensures { IfOk result (λ named. map entry_of named.items
+        ≡ entries_named name.now (said layout.now.opened.content).entries) }
 {
     let entries = layout.entries();
-    let mut keys = Vec::new(alloc);
+    let mut named = Vec::new(alloc);
     for entry in entries {
         if !has_name(entry, name) {
             continue;
         }
+        named.push(entry.try_clone()?)?;
+    }
+    Ok(named)
+}
+
+/// Returns the keys of entries.
+fn keys_of(alloc: Global, entries: &[IndexEntry]) -> Result<Vec<Key>, NoMemory>
+    ensures { IfOk result (λ keys. keys.items ≡ map (λ e. e.key) entries.now) }
+{
+    let mut keys = Vec::new(alloc);
+    for entry in entries {
         keys.push(entry.key.try_clone()?)?;
     }
     Ok(keys)
@@ -110,7 +145,7 @@ fn keys_named<D: Dir>(alloc: Global, layout: &Layout<D>, name: &str) -> Result<V
 
 /// Returns whether an entry has a name.
 fn has_name(entry: &IndexEntry, name: &str) -> bool
-    ensures { result ≡ has_name name.now entry.now }
+    ensures { result ≡ is_name name.now (text_of entry.now.name) }
 {
     match &entry.name {
         Some(found) => found.as_str() == name,
@@ -147,4 +182,40 @@ pub fn untag_and_save<D: Dir>(layout: &mut Layout<D>, tag: &str) -> Result<Key, 
         Ok(()) => Ok(key),
         Err(fault) => Err(ProgramFault::Layout(fault)),
     }
+}
+
+/// Forgets the entries that have the name of one of these, and saves the layout. Returns the key of
+/// the last one. It is for a name that is no tag since the key of its last entry is not held. A tag
+/// stays.
+///
+/// # Errors
+///
+/// - 36 `UnknownReference` if there are no such entries. Nothing is changed and nothing is saved.
+/// - 74 `Device` if `index.json` could not be written. The layout in memory has forgotten them.
+/// - Out of memory, at any point.
+pub fn forget_and_save<D: Dir>(
+    layout: &mut Layout<D>,
+    named: &[IndexEntry],
+) -> Result<Key, ProgramFault>
+    ensures last { IfOk result (λ key. Some key ≡ option_map (λ e. e.key)
+        (slice_get named.now (length named.now - 1))) }
+    ensures forgotten { OnOk result (Forgets (map entry_of named.now) layout.old.opened
+        layout.new.opened) }
+    ensures saved { OnOk result ((D.device layout.old.dir).is_honest
+        → HasIndex (D.device layout.new.dir).file layout.old.graph layout.old.tags
+        layout.new.opened) }
+    ensures graph { layout.new.graph ≡ layout.old.graph }
+    ensures tags { layout.new.tags ≡ layout.old.tags }
+    ensures other { (D.device layout.old.dir).is_honest
+        → Touches (D.device layout.old.dir).file (D.device layout.new.dir).file index_file }
+{
+    let Some(last) = named.last() else {
+        return Err(ProgramFault::Reference(RefFault::UnknownReference));
+    };
+    let key = last.key.try_clone()?;
+    layout.forget(named)?;
+    if let Err(fault) = layout.save() {
+        return Err(ProgramFault::Layout(fault));
+    }
+    Ok(key)
 }

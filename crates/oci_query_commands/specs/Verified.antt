@@ -15,12 +15,18 @@ use Rattle.oci_store.specs.Graph.{Node}
 use Rattle.oci_store.specs.Keyed.{value_at}
 use Rattle.oci_store.specs.State.{State}
 use Rattle.oci_store.specs.Tags.{Tags}
+use Rattle.oci_program.specs.declared.outcome.Outcome.{Outcome}
+use Rattle.oci_program.specs.declared.outcome.Outcome.TheVariants as outcome
 use Rattle.oci_query_commands.specs.declared.verify.Findings.{Findings}
 
 -- whether the command is `verify`
 abbrev pub is_verify : Query → Bool
 is_verify (query.Verify shows_progress) = true
 is_verify other = false
+
+-- the outcome of a command is that of a `verify` which finds nothing
+abbrev pub IsGoodVerify : Query → Outcome → Type 0
+IsGoodVerify query found = (is_verify query ≡ true) × (found ≡ outcome.Good)
 
 -- a layout can be opened in a directory, and nothing is wrong with it: each entry of its index has
 -- its file, no manifest is damaged, the file of each held key is there and matches it, and each

@@ -1,7 +1,7 @@
 ghost use Rattle.std.specs.Prelude.{◌≡◌, true, IfOk, OnOk};
 ghost use Rattle.oci_layout.specs.Layout.{manifests_of};
 ghost use Rattle.oci_query_commands.specs.Answered.{is_of_all, AreUndamaged, HasWholeManifests};
-ghost use Rattle.oci_query_commands.specs.Verified.{is_verify, IsVerified, IsWhole};
+ghost use Rattle.oci_query_commands.specs.Verified.{IsGoodVerify, IsVerified, IsWhole};
 
 use crate::damage::print_answer_of_all;
 use crate::listing::{Predecessors, Resolved, Tags};
@@ -45,7 +45,7 @@ pub fn run_query<
 >(rt: &R, dir: D, query: Query<'_>, form: Form, out: &mut W, err: &mut X) -> Result<Outcome, F>
     // If the directory returns what was written into it, the outcome of `verify` is `Good` only if
     // nothing is wrong with the layout.
-    ensures verified { IfOk result (λ outcome. outcome ≡ Outcome.Good → is_verify query.entry ≡ true
+    ensures verified { IfOk result (λ outcome. IsGoodVerify query.entry outcome
         → (D.device dir).is_honest → IsVerified (D.device dir)) }
 
     // And `tags`, `predecessors`, and `tree` with referrers are done only if no manifest is damaged.
@@ -68,7 +68,7 @@ fn answer_from<R: AllocGlobal + Clock + Wait, D: Dir, W: Write, X: Write>(
     out: &mut W,
     err: &mut X,
 ) -> Result<Outcome, ProgramFault>
-    ensures verified { IfOk result (λ outcome. outcome ≡ Outcome.Good → is_verify query.entry ≡ true
+    ensures verified { IfOk result (λ outcome. IsGoodVerify query.entry outcome
         → IsWhole (D.device layout.now.dir) layout.now.graph layout.now.opened) }
     ensures answered { OnOk result (is_of_all query.entry ≡ true
         → AreUndamaged (D.device layout.now.dir) (manifests_of layout.now.opened.damaged)) }

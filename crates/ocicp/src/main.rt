@@ -9,6 +9,7 @@ mod meaning;
 mod place;
 mod process;
 mod run;
+mod sides;
 
 use process::run_process;
 use std::process::ExitCode;

@@ -1,6 +1,7 @@
+use crate::sides::Failures;
 use oci_archive::{ReadAt, TarDir};
 use oci_command_line::CopyWords;
-use oci_layout::FsDir;
+use oci_layout::{FirstFailure, FsDir};
 use oci_program::ProgramFault;
 use std::fs;
 use std::rt::Files;
@@ -16,24 +17,33 @@ pub(crate) enum Place<'r, R: Files + AllocGlobal> {
 
 impl<'r, R: Files<File: ReadAt> + AllocGlobal> Place<'r, R> {
     /// Opens the place at a path. A regular file, or a link to one, is opened as an archive.
-    /// Anything else is taken as a folder, and is not touched.
+    /// Anything else is taken as a folder, and is not touched. The first call of the system that
+    /// fails there is noted in `first`, but for reads of an archive.
     ///
     /// # Errors
     ///
     /// - 100 to 105 if the file is not an archive or cannot be read.
     /// - Out of memory, at any point.
-    pub(crate) fn open(rt: &'r R, path: &str) -> Result<Place<'r, R>, ProgramFault> {
+    pub(crate) fn open(
+        rt: &'r R,
+        path: &str,
+        first: &'r FirstFailure,
+    ) -> Result<Place<'r, R>, ProgramFault> {
         if !is_file(rt, path) {
-            return Ok(Place::Folder(FsDir::new(rt, path)?));
+            return Ok(Place::Folder(FsDir::noting(rt, path, first)?));
         }
         match fs::File::open(rt, path) {
             Ok(file) => Ok(Place::Archive(TarDir::open(rt.alloc(), file)?)),
-            Err(error) => Err(ProgramFault::of_archive(error)),
+            Err(error) => {
+                first.note(path, error);
+                Err(ProgramFault::of_archive(error))
+            }
         }
     }
 }
 
-/// Opens the places of a copy: where it reads, and the folder into which it writes.
+/// Opens the places of a copy: where it reads, and the folder into which it writes. Each notes its
+/// failures.
 ///
 /// # Errors
 ///
@@ -44,17 +54,19 @@ impl<'r, R: Files<File: ReadAt> + AllocGlobal> Place<'r, R> {
 pub(crate) fn open_copy<'r, R: Files<File: ReadAt> + AllocGlobal>(
     rt: &'r R,
     words: &CopyWords<'_>,
+    failures: &'r Failures,
 ) -> Result<(Place<'r, R>, FsDir<'r, R>), ProgramFault> {
     let path = words.destination;
     if names_archive(path) && !fs::exists(rt, path).unwrap_or(false) {
         let path = String::from_str(rt.alloc(), path)?;
         return Err(ProgramFault::NotWritable(path));
     }
-    let destination = open_folder(rt, path)?;
-    Ok((Place::open(rt, words.source)?, destination))
+    let destination = open_folder(rt, path, &failures.written)?;
+    Ok((Place::open(rt, words.source, &failures.read)?, destination))
 }
 
-/// Opens the folder that a command writes into. It need not exist, and is not touched.
+/// Opens the folder that a command writes into. It need not exist, and is not touched. The first
+/// call of the system that fails there is noted in `first`.
 ///
 /// # Errors
 ///
@@ -63,12 +75,13 @@ pub(crate) fn open_copy<'r, R: Files<File: ReadAt> + AllocGlobal>(
 pub(crate) fn open_folder<'r, R: Files + AllocGlobal>(
     rt: &'r R,
     path: &str,
+    first: &'r FirstFailure,
 ) -> Result<FsDir<'r, R>, ProgramFault> {
     if is_file(rt, path) {
         let path = String::from_str(rt.alloc(), path)?;
         return Err(ProgramFault::NotWritable(path));
     }
-    Ok(FsDir::new(rt, path)?)
+    Ok(FsDir::noting(rt, path, first)?)
 }
 
 /// Returns whether a path is named like an archive, or has a prefix by which other tools tell
@@ -78,7 +91,7 @@ fn names_archive(path: &str) -> bool {
 }
 
 /// Returns whether a path leads to a regular file.
-fn is_file<R: Files>(rt: &R, path: &str) -> bool {
+pub(crate) fn is_file<R: Files>(rt: &R, path: &str) -> bool {
     match fs::metadata(rt, path) {
         Ok(metadata) => metadata.is_file(),
         Err(_) => false,

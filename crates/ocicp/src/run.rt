@@ -2,6 +2,7 @@ ghost use Rattle.std.specs.Prelude.{◌≤◌};
 
 use crate::meaning::print_meaning;
 use crate::place::{Place, open_copy, open_folder};
+use crate::sides::{Failures, sides_of};
 use oci_command_line::{CommandLine, CommandLineFault, Request};
 use oci_copy_commands::{Host, run_copy, run_mem};
 use oci_pool::MAX_WORKERS;
@@ -15,7 +16,8 @@ use std::io::Write;
 ///
 /// - 0: the command was done, and its result is on `out`.
 /// - 1: the command was refused. `err` has one line, `ocicp:` and the faults from the outermost to
-///   the innermost, and with `--hint` a second line, which says what the innermost number means. If
+///   the innermost, and with `--hint` a second line, which names the file that is the cause, and says
+///   what the innermost number means and why the system failed. If
 ///   several manifests are damaged, each has a line, after the result on `out`. Or `verify` found a
 ///   problem, which is on `out`.
 /// - 2: the command line is invalid, and the usage is on `err`.
@@ -49,15 +51,32 @@ pub fn run_words_on<R: Host, W: Write, X: Write + Send>(
 ) -> u8
     ensures { result ≤ 3 }
 {
+    let failures = Failures::new(rt.alloc());
+    run_noting(rt, words, &failures, on_terminal, out, err)
+}
+
+/// Runs the program as [`run_words_on`] does. What fails in the folders of the command is noted in
+/// `failures`.
+fn run_noting<'w, R: Host, W: Write, X: Write + Send>(
+    rt: &R,
+    words: &'w [String],
+    failures: &'w Failures,
+    on_terminal: bool,
+    out: &mut W,
+    err: &mut X,
+) -> u8
+    ensures { result ≤ 3 }
+{
     let line = match CommandLine::parse(rt.alloc(), words, on_terminal, MAX_WORKERS) {
         Ok(line) => line,
         Err(fault) => return end_unparsed(rt.alloc(), words, fault, err),
     };
     let form = form_of(line.as_json);
-    let done = run_request(rt, &line.request, form, out, err);
-    let ended = finish_run(rt.alloc(), done, form, out, err);
+    let done = run_request(rt, &line.request, failures, form, out, err);
+    let sides = sides_of(rt, &line.request, failures);
+    let ended = finish_run(rt.alloc(), done, form, &sides, out, err);
     if line.hints
-        && let Some(refusal) = ended.refusal
+        && let Some(refusal) = &ended.refusal
     {
         print_meaning(&line.request, refusal, err);
     }
@@ -69,10 +88,11 @@ pub(crate) fn form_of(as_json: bool) -> Form {
     if as_json { Form::Json } else { Form::Lines }
 }
 
-/// Runs the command of a valid command line.
+/// Runs the command of a valid command line. What fails in its folders is noted in `failures`.
 fn run_request<R: Host, W: Write, X: Write + Send>(
     rt: &R,
     request: &Request<'_>,
+    failures: &Failures,
     form: Form,
     out: &mut W,
     err: &mut X,
@@ -84,23 +104,23 @@ fn run_request<R: Host, W: Write, X: Write + Send>(
             Ok(Outcome::Good)
         }
         Request::Explain(explanation) => print_answer(rt.alloc(), explanation, form, out),
-        Request::Mem(words) => run_mem(rt, words, form, out),
+        Request::Mem(words) => run_mem(rt, words, &failures.read, form, out),
         Request::Copy(words) => {
-            let (source, destination) = open_copy(rt, words)?;
+            let (source, destination) = open_copy(rt, words, failures)?;
             match source {
                 Place::Folder(source) => run_copy(rt, source, destination, words, form, out, err),
                 Place::Archive(source) => run_copy(rt, source, destination, words, form, out, err),
             }
         }
         Request::Untag(words) => {
-            let dir = open_folder(rt, words.folder)?;
+            let dir = open_folder(rt, words.folder, &failures.written)?;
             run_untag(rt, dir, words, form, out, err)
         }
         Request::Prune(words) => {
-            let dir = open_folder(rt, words.folder)?;
+            let dir = open_folder(rt, words.folder, &failures.written)?;
             run_prune(rt, dir, words, form, out, err)
         }
-        Request::Query(path, query) => match Place::open(rt, path)? {
+        Request::Query(path, query) => match Place::open(rt, path, &failures.read)? {
             Place::Folder(dir) => run_query(rt, dir, *query, form, out, err),
             Place::Archive(dir) => run_query(rt, dir, *query, form, out, err),
         },

@@ -7,6 +7,7 @@ mod damaged;
 mod drafting;
 mod drafts;
 mod failing;
+mod failures;
 mod faulty;
 mod files;
 mod fuses;

@@ -54,7 +54,7 @@ pub(crate) fn copy_arguments(most_workers: u32) -> [Argument; 15] {
         ),
         flag(
             "descend",
-            "Also looks below the blobs that DST has, and copies missing and damaged ones, but not those of the right size; without it, a DST that lists one of these is an error",
+            "Also looks below the blobs that DST has, and copies those that are missing, damaged manifests, and layers of another size; without it, a DST that lists one of these is an error",
         ),
         prune(),
         Argument::new(
@@ -120,7 +120,7 @@ fn all() -> Argument {
     let help =
         "Copies every tag of SRC into DST, in one copy; takes only SRC and DST. Tags that exist in both are \
          overwritten; other tags in DST are kept, unless --prune is given. Refused if SRC has no tag (97), or if the \
-         blob of an entry of its `index.json` that has a tag is missing, or is a damaged manifest (96)";
+         blob of an entry of its `index.json` that has a tag is missing or damaged (96)";
     Argument {
         conflicts: &["destination", "destination-reference"],
         ..flag("all", help)
@@ -132,8 +132,8 @@ fn all() -> Argument {
 fn prune() -> Argument {
     let help =
         "With --all: afterwards removes from DST the tags that SRC does not have, and what no tag then needs, as the command \
-         `prune` does. Refused, before anything is copied, if SRC lacks the blob of an entry of its `index.json`, or has \
-         a damaged manifest (96). Not with --dry-run, since what is removed is known only after the copy";
+         `prune` does. Refused, before anything is copied, if the blob of an entry of SRC's `index.json` is missing or \
+         damaged, or SRC has a damaged manifest (96). Not with --dry-run, since what is removed is known only after the copy";
     Argument {
         conflicts: &["destination", "dry-run"],
         needs: &["all"],

@@ -15,9 +15,9 @@ pub(crate) const UNTAG: CommandText = CommandText {
         "Removes a tag from a layout. The blob that it names stays, with everything that it reaches; \
          `prune` removes blobs that no tag needs.\n\n\
          Prints `untagged` with the digest, the size and the media type of the blob of each entry of \
-         `index.json` that had the tag. The last one is what the tag resolved to.\n\n\
-         An empty tag (35) and a tag that the layout does not have (36) are refused, and nothing is \
-         changed. FOLDER is not created, and cannot be an archive (95).\n\n\
+         `index.json` that had the tag. The last one is what the tag named.\n\n\
+         A tag whose blob is missing or damaged is removed too. An empty tag (35) and a tag that no entry \
+         has (36) are refused, and nothing is changed. FOLDER is not created, and cannot be an archive (95).\n\n\
          `index.json` is written anew, without the entries of the tag. The other entries keep all that \
          other tools wrote into them, such as `platform` and annotations.\n\n\
          Locks FOLDER. While another process on the same machine has the lock, it waits.",
@@ -47,13 +47,13 @@ pub(crate) const PRUNE: CommandText = CommandText {
          Every tagged blob is kept, and that of each earlier entry of a tag in `index.json`, with \
          everything that it reaches: the config and the layers of an image, the images of an index, the \
          subject of a referrer. With each kept blob its referrers are kept too, such as signatures and \
-         SBOMs, with everything that these reach: they are the manifests of the layout whose `subject` is \
-         that blob. An index is not kept because it lists a kept blob. \
+         SBOMs, with everything that these reach: they are the manifests of the layout whose `subject` has \
+         the digest of that blob. An index is not kept because it lists a kept blob. \
          Layers that are not to be distributed are not kept, as `copy` does not copy them. A manifest of \
          a type that `copy` does not read, such as Docker's schema 1, counts as a blob that lists nothing.\n\n\
          All other blobs are removed, with their entries in `index.json`. Of the files in `blobs/sha256` \
-         and `blobs/sha512` whose name is a digest, those stay that a kept blob has. Files that a \
-         killed copy left are removed, and all other files stay.\n\n\
+         and `blobs/sha512` whose name is a digest, those stay that a kept blob has, or a blob \
+         that it lists. Files that a killed copy left are removed, and all other files stay.\n\n\
          Prints `removed` with the digest, the size and the media type of each blob that is removed, and \
          `removed-file` with the path and the length of each other file. The last line counts the blobs \
          `kept` and `removed`, and all `files` that are removed, with their `bytes`.\n\n\

@@ -7,8 +7,7 @@ pub(crate) const TAGS: CommandText = CommandText {
     about: "Lists the tags of a layout, each with the digest, size and media type it resolves to",
     details: Some(
         "Lists the tags of a layout in byte order, each with the digest, the size and the media type of \
-         the blob that it resolves to. A tag whose blob is missing, or is a damaged manifest, is left \
-         out.\n\n\
+         the blob that it resolves to. A tag whose blob is missing or damaged is left out.\n\n\
          With `--all` the blobs of the entries of `index.json` that have no tag follow, each with `-` in \
          the place of the tag.\n\n\
          Then reports each damaged manifest of the layout, as an error (75 or 77).",

@@ -1,4 +1,5 @@
 use crate::fault::DirFault;
+use crate::first_failure::FirstFailure;
 use crate::fs_dir::files::{failed, part_of_file};
 use crate::fs_dir::lock::Lockable;
 use std::fs::OpenFile;
@@ -22,13 +23,19 @@ const TRIES: u32 = 16;
 /// renaming fails. It is removed if it is dropped before it is renamed.
 pub(crate) struct Beside<'r, R: Files + AllocGlobal> {
     rt: &'r R,
+    first: Option<&'r FirstFailure>,
     path: String,
     file: R::File,
 }
 
 impl<'r, R: Files + AllocGlobal> Drop for Beside<'r, R> {
     fn drop(self) {
-        let Beside { rt, path, file } = self;
+        let Beside {
+            rt,
+            first: _,
+            path,
+            file,
+        } = self;
         let _ = fs::remove_file(rt, &path);
         drop(file);
     }
@@ -37,15 +44,23 @@ impl<'r, R: Files + AllocGlobal> Drop for Beside<'r, R> {
 impl<'r, R: Files + AllocGlobal> Beside<'r, R> {
     /// Appends bytes.
     pub(crate) fn append(&mut self, bytes: &[u8]) -> Result<(), DirFault> {
-        self.file.write_all(bytes).map_err(|error| failed(&error))
+        match self.file.write_all(bytes) {
+            Ok(()) => Ok(()),
+            Err(error) => Err(failed(self.first, place_of(&self.path), error)),
+        }
     }
 
     /// Renames the file to the place.
     pub(crate) fn rename(self, place: &str) -> Result<(), DirFault> {
-        let Beside { rt, path, file } = self;
+        let Beside {
+            rt,
+            first,
+            path,
+            file,
+        } = self;
         let renamed = fs::rename(rt, &path, place).map_err(|error| {
             let _ = fs::remove_file(rt, &path);
-            failed(&error)
+            failed(first, place, error)
         });
         drop(file);
         renamed
@@ -57,31 +72,46 @@ where
     R::File: Lockable,
 {
     /// Creates a file with these bytes. Creates its folder if it is missing.
-    pub(crate) fn with(rt: &'r R, place: &str, bytes: &[u8]) -> Result<Beside<'r, R>, DirFault> {
-        let mut beside = Beside::empty(rt, place)?;
+    pub(crate) fn with(
+        rt: &'r R,
+        first: Option<&'r FirstFailure>,
+        place: &str,
+        bytes: &[u8],
+    ) -> Result<Beside<'r, R>, DirFault> {
+        let mut beside = Beside::empty(rt, first, place)?;
         beside.append(bytes)?;
         Ok(beside)
     }
 
     /// Creates a file with these bytes, and with the mode, the group and the owner of the file at
     /// the place, as far as the system lets.
-    pub(crate) fn like(rt: &'r R, place: &str, bytes: &[u8]) -> Result<Beside<'r, R>, DirFault> {
-        let mut beside = Beside::empty(rt, place)?;
+    pub(crate) fn like(
+        rt: &'r R,
+        first: Option<&'r FirstFailure>,
+        place: &str,
+        bytes: &[u8],
+    ) -> Result<Beside<'r, R>, DirFault> {
+        let mut beside = Beside::empty(rt, first, place)?;
         copy_access(rt, place, &beside.path);
         beside.append(bytes)?;
         Ok(beside)
     }
 
     /// Creates a file with the first `length` bytes of the one at the place.
-    pub(crate) fn copied(rt: &'r R, place: &str, length: u64) -> Result<Beside<'r, R>, DirFault> {
-        let mut beside = Beside::empty(rt, place)?;
+    pub(crate) fn copied(
+        rt: &'r R,
+        first: Option<&'r FirstFailure>,
+        place: &str,
+        length: u64,
+    ) -> Result<Beside<'r, R>, DirFault> {
+        let mut beside = Beside::empty(rt, first, place)?;
         for number in 0..length.div_ceil(PART) {
             let from = number.saturating_mul(PART);
             let most = PART.min(length.saturating_sub(from));
             match part_of_file(rt, place, from, most as usize) {
                 Ok(part) if part.len() as u64 == most => beside.append(&part)?,
                 Ok(_) => return Err(DirFault::Failed),
-                Err(error) => return Err(failed(&error)),
+                Err(error) => return Err(failed(first, place, error)),
             }
         }
         Ok(beside)
@@ -89,18 +119,27 @@ where
 
     /// Creates an empty file. If a name is taken, leaves that file unchanged and tries another
     /// name.
-    fn empty(rt: &'r R, place: &str) -> Result<Beside<'r, R>, DirFault> {
+    fn empty(
+        rt: &'r R,
+        first: Option<&'r FirstFailure>,
+        place: &str,
+    ) -> Result<Beside<'r, R>, DirFault> {
         for _ in 0..TRIES {
-            let path = new_path(rt, place)?;
+            let path = new_path(rt, first, place)?;
             match made(rt, &path) {
                 Ok(file) => {
-                    let beside = Beside { rt, path, file };
+                    let beside = Beside {
+                        rt,
+                        first,
+                        path,
+                        file,
+                    };
                     if beside.lock()? {
                         return Ok(beside);
                     }
                 }
                 Err(error) if error.kind() == ErrorKind::AlreadyExists => {}
-                Err(error) => return Err(failed(&error)),
+                Err(error) => return Err(failed(first, place, error)),
             }
         }
         Err(DirFault::Failed)
@@ -108,7 +147,10 @@ where
 
     /// Locks the file. Returns false if another process takes it for a leftover first.
     fn lock(&self) -> Result<bool, DirFault> {
-        lock_at(self.rt, &self.file, &self.path).map_err(|error| failed(&error))
+        match lock_at(self.rt, &self.file, &self.path) {
+            Ok(locked) => Ok(locked),
+            Err(error) => Err(failed(self.first, place_of(&self.path), error)),
+        }
     }
 }
 
@@ -139,14 +181,27 @@ where
 }
 
 /// Returns the path of a file beside a place, with a new random number.
-fn new_path<R: AllocGlobal + RandomSource>(rt: &R, place: &str) -> Result<String, DirFault> {
+fn new_path<R: AllocGlobal + RandomSource>(
+    rt: &R,
+    first: Option<&FirstFailure>,
+    place: &str,
+) -> Result<String, DirFault> {
     let mut bytes = [0; 8];
     match rt.fill_bytes(&mut bytes) {
         Ok(()) => {}
-        Err(error) => return Err(failed(&error)),
+        Err(error) => return Err(failed(first, place, error)),
     }
     let number = u64::from_be_bytes(bytes);
     Ok(format!(in rt.alloc(); "{place}.{number:016x}.new")?)
+}
+
+/// Returns the place of a file beside it.
+fn place_of(path: &str) -> &str {
+    let numbered = path.strip_suffix(".new").unwrap_or(path);
+    match numbered.rsplit_once('.') {
+        Some((place, _)) => place,
+        None => numbered,
+    }
 }
 
 /// Creates a file that does not exist yet. Creates its folder if it is missing.

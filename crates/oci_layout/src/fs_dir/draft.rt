@@ -2,8 +2,9 @@ ghost use Rattle.std.specs.Prelude.{◌≡◌, OnOk};
 ghost use Rattle.oci_layout.specs.declared.fs_dir.draft.Stage.TheVariants.{Failed};
 
 use crate::fault::DirFault;
+use crate::first_failure::FirstFailure;
 use crate::fs_dir::beside::Beside;
-use crate::fs_dir::files::{failed, length_of, part_of_file};
+use crate::fs_dir::files::{length_of, part_of_file};
 use crate::fs_dir::lock::Lockable;
 use oci_digest::NoMemory;
 use oci_store::Drafting;
@@ -32,15 +33,17 @@ enum Stage<'r, R: Files + AllocGlobal> {
 #[derive(Drop)]
 pub struct FsDraft<'r, R: Files + AllocGlobal> {
     rt: &'r R,
+    first: Option<&'r FirstFailure>,
     place: String,
     stage: Stage<'r, R>,
 }
 
 impl<'r, R: Files + AllocGlobal> FsDraft<'r, R> {
     /// Creates an empty draft of the file at a place. The folder is not touched.
-    pub(crate) fn at(rt: &'r R, place: String) -> FsDraft<'r, R> {
+    pub(crate) fn at(rt: &'r R, first: Option<&'r FirstFailure>, place: String) -> FsDraft<'r, R> {
         FsDraft {
             rt,
+            first,
             place,
             stage: Stage::Found(0),
         }
@@ -50,6 +53,7 @@ impl<'r, R: Files + AllocGlobal> FsDraft<'r, R> {
     pub(crate) fn nowhere(rt: &'r R) -> FsDraft<'r, R> {
         FsDraft {
             rt,
+            first: None,
             place: String::new(rt.alloc()),
             stage: Stage::Failed,
         }
@@ -64,7 +68,7 @@ where
     fn add(&mut self, part: &[u8]) -> Result<(), DirFault> {
         match &mut self.stage {
             Stage::Found(length) => {
-                self.stage = added(self.rt, &self.place, *length, part)?;
+                self.stage = added(self.rt, self.first, &self.place, *length, part)?;
                 Ok(())
             }
             Stage::Written(beside) => beside.append(part),
@@ -106,6 +110,7 @@ where
 /// them. Returns the draft's new state.
 fn added<'r, R: Files + AllocGlobal + RandomSource>(
     rt: &'r R,
+    first: Option<&'r FirstFailure>,
     place: &str,
     length: u64,
     part: &[u8],
@@ -117,9 +122,9 @@ where
         return Ok(Stage::Found(length.saturating_add(part.len() as u64)));
     }
     if length == 0 {
-        return Ok(Stage::Written(Beside::with(rt, place, part)?));
+        return Ok(Stage::Written(Beside::with(rt, first, place, part)?));
     }
-    let mut beside = Beside::copied(rt, place, length)?;
+    let mut beside = Beside::copied(rt, first, place, length)?;
     beside.append(part)?;
     Ok(Stage::Written(beside))
 }
@@ -152,6 +157,7 @@ where
 {
     let FsDraft {
         rt,
+        first,
         place: drafted,
         stage,
     } = draft;
@@ -160,7 +166,7 @@ where
             if drafted.as_str() == place && is_whole(rt, place, length) {
                 return Ok(());
             }
-            Beside::copied(rt, &drafted, length)?.rename(place)
+            Beside::copied(rt, first, &drafted, length)?.rename(place)
         }
         Stage::Written(beside) => beside.rename(place),
         Stage::Failed => Err(DirFault::Failed),

@@ -1,4 +1,5 @@
 use crate::fault::DirFault;
+use crate::first_failure::FirstFailure;
 use std::io::{ErrorKind, Read, Seek, SeekFrom};
 use std::rt::Files;
 use std::{fs, io};
@@ -63,10 +64,14 @@ pub(crate) fn is_absence(error: &io::Error) -> bool {
     matches!(error.kind(), ErrorKind::NotFound | ErrorKind::NotADirectory)
 }
 
-/// Returns the fault for an error of the system.
-pub(crate) fn failed(error: &io::Error) -> DirFault {
-    match error.kind() {
-        ErrorKind::OutOfMemory => DirFault::Memory,
-        _ => DirFault::Failed,
+/// Returns the fault for an error of the system at a path. Notes it as a failure, unless memory ran
+/// out.
+pub(crate) fn failed(first: Option<&FirstFailure>, path: &str, error: io::Error) -> DirFault {
+    if error.kind() == ErrorKind::OutOfMemory {
+        return DirFault::Memory;
     }
+    if let Some(first) = first {
+        first.note(path, error);
+    }
+    DirFault::Failed
 }

@@ -1,5 +1,4 @@
-use crate::fault::DirFault;
-use crate::fs_dir::files::{failed, is_absence};
+use crate::fs_dir::files::is_absence;
 use crate::fs_dir::lock::Lockable;
 use std::fs::OpenFile;
 use std::io::ErrorKind;
@@ -56,7 +55,7 @@ fn is_hexadecimal(text: &str, digits: usize) -> bool {
 
 /// Removes from the folder of a layout the files that were written beside others and never renamed.
 /// A file that cannot be removed stays.
-pub(crate) fn remove_leftovers<R: Files + AllocGlobal>(rt: &R, folder: &str) -> Result<(), DirFault>
+pub(crate) fn remove_leftovers<R: Files + AllocGlobal>(rt: &R, folder: &str) -> io::Result<()>
 where
     R::File: Lockable,
 {
@@ -64,21 +63,21 @@ where
     for room in [Room::Top, Room::Sha256, Room::Sha512] {
         match remove_from(rt, folder, room) {
             Ok(()) => {}
-            Err(DirFault::Failed) => answer = Err(DirFault::Failed),
-            Err(DirFault::Memory) => return Err(DirFault::Memory),
+            Err(error) if error.kind() == ErrorKind::OutOfMemory => return Err(error),
+            Err(error) => answer = Err(error),
         }
     }
     answer
 }
 
-fn remove_from<R: Files + AllocGlobal>(rt: &R, folder: &str, room: Room) -> Result<(), DirFault>
+fn remove_from<R: Files + AllocGlobal>(rt: &R, folder: &str, room: Room) -> io::Result<()>
 where
     R::File: Lockable,
 {
     match leftovers(rt, folder, room) {
         Ok(paths) => remove(rt, folder, &paths),
         Err(error) if is_absence(&error) => Ok(()),
-        Err(error) => Err(failed(&error)),
+        Err(error) => Err(error),
     }
 }
 
@@ -128,14 +127,14 @@ fn path_below<R: AllocGlobal>(rt: &R, folder: &str, path: &str) -> io::Result<St
 }
 
 /// Removes files of a folder. After one that cannot be removed, goes on with the others.
-fn remove<R: Files + AllocGlobal>(rt: &R, folder: &str, paths: &[String]) -> Result<(), DirFault>
+fn remove<R: Files + AllocGlobal>(rt: &R, folder: &str, paths: &[String]) -> io::Result<()>
 where
     R::File: Lockable,
 {
     let mut answer = Ok(());
     for path in paths {
         match remove_below(rt, folder, path.as_str()) {
-            Err(error) if !is_absence(&error) => answer = Err(failed(&error)),
+            Err(error) if !is_absence(&error) => answer = Err(error),
             _ => {}
         }
     }

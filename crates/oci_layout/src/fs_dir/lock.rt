@@ -1,5 +1,3 @@
-use crate::fault::DirFault;
-use crate::fs_dir::files::failed;
 use crate::fs_dir::leftovers::remove_leftovers;
 use crate::fs_dir::path_of_folder;
 use std::fs::{OpenFile, TryLockError};
@@ -48,11 +46,9 @@ impl Lockable for fs::File {
 ///
 /// # Errors
 ///
-/// Each call returns
-///
-/// - 90 `Failed` if there is no such folder, or it cannot be created, opened or locked, or the path
-///   no longer leads to the folder that was locked;
-/// - 91 `Memory` if the system is out of memory.
+/// Each call returns the error of the system if the folder cannot be created, opened or locked:
+/// `NotADirectory` if something else is there, `NotFound` if nothing is, or if the path no longer
+/// leads to the folder that was locked, and `OutOfMemory` if memory runs out.
 #[derive(Drop)]
 pub struct FolderLock<R: Files + AllocGlobal> {
     locked: R::File,
@@ -67,18 +63,27 @@ where
     ///
     /// # Errors
     ///
-    /// 90 `Failed` and 91 `Memory`, as [`FolderLock`] says.
-    pub fn lock(rt: &R, folder: &str) -> Result<FolderLock<R>, DirFault> {
-        answer(waited(rt, path_of_folder(folder)))
+    /// As [`FolderLock`] says.
+    pub fn lock(rt: &R, folder: &str) -> io::Result<FolderLock<R>> {
+        let place = path_of_folder(folder);
+        let locked = opened(rt, place)?;
+        locked.take()?;
+        held(rt, locked, place)
     }
 
     /// Locks a folder. Returns `None`, without waiting, if its lock is held elsewhere.
     ///
     /// # Errors
     ///
-    /// 90 `Failed` and 91 `Memory`, as [`FolderLock`] says.
-    pub fn try_lock(rt: &R, folder: &str) -> Result<Option<FolderLock<R>>, DirFault> {
-        answer(tried(rt, path_of_folder(folder)))
+    /// As [`FolderLock`] says.
+    pub fn try_lock(rt: &R, folder: &str) -> io::Result<Option<FolderLock<R>>> {
+        let place = path_of_folder(folder);
+        let locked = opened(rt, place)?;
+        if locked.try_take()? {
+            Ok(Some(held(rt, locked, place)?))
+        } else {
+            Ok(None)
+        }
     }
 
     /// Creates a folder, and the folders above it, if it is missing. Locks it as
@@ -86,9 +91,9 @@ where
     ///
     /// # Errors
     ///
-    /// 90 `Failed` and 91 `Memory`, as [`FolderLock`] says. A folder that was created stays.
-    pub fn make_and_lock(rt: &R, folder: &str) -> Result<FolderLock<R>, DirFault> {
-        make(rt, folder)?;
+    /// As [`FolderLock`] says. A folder that was created stays.
+    pub fn make_and_lock(rt: &R, folder: &str) -> io::Result<FolderLock<R>> {
+        fs::create_dir_all(rt, path_of_folder(folder))?;
         FolderLock::lock(rt, folder)
     }
 
@@ -97,9 +102,9 @@ where
     ///
     /// # Errors
     ///
-    /// 90 `Failed` and 91 `Memory`, as [`FolderLock`] says. A folder that was created stays.
-    pub fn make_and_try_lock(rt: &R, folder: &str) -> Result<Option<FolderLock<R>>, DirFault> {
-        make(rt, folder)?;
+    /// As [`FolderLock`] says. A folder that was created stays.
+    pub fn make_and_try_lock(rt: &R, folder: &str) -> io::Result<Option<FolderLock<R>>> {
+        fs::create_dir_all(rt, path_of_folder(folder))?;
         FolderLock::try_lock(rt, folder)
     }
 }
@@ -123,45 +128,12 @@ where
     ///
     /// # Errors
     ///
-    /// - 90 `Failed` if a folder cannot be read or a file cannot be removed. The files of the other
-    ///   folders and the other files are removed all the same.
-    /// - 91 `Memory` if the system is out of memory. Some of the files may be removed.
-    pub fn remove_leftovers(&self, rt: &R) -> Result<(), DirFault> {
+    /// - The error of the system if a folder cannot be read or a file cannot be removed. The files
+    ///   of the other folders and the other files are removed all the same. Of several errors it is
+    ///   the last.
+    /// - `OutOfMemory` if memory runs out. Some of the files may be removed.
+    pub fn remove_leftovers(&self, rt: &R) -> io::Result<()> {
         remove_leftovers(rt, &self.folder)
-    }
-}
-
-/// Turns an error of the system into a fault.
-fn answer<T>(answer: io::Result<T>) -> Result<T, DirFault> {
-    match answer {
-        Ok(value) => Ok(value),
-        Err(error) => Err(failed(&error)),
-    }
-}
-
-/// Creates a folder, and the folders above it, if it is missing.
-fn make<R: Files>(rt: &R, folder: &str) -> Result<(), DirFault> {
-    answer(fs::create_dir_all(rt, path_of_folder(folder)))
-}
-
-fn waited<R: Files + AllocGlobal>(rt: &R, place: &str) -> io::Result<FolderLock<R>>
-where
-    R::File: Lockable,
-{
-    let locked = opened(rt, place)?;
-    locked.take()?;
-    held(rt, locked, place)
-}
-
-fn tried<R: Files + AllocGlobal>(rt: &R, place: &str) -> io::Result<Option<FolderLock<R>>>
-where
-    R::File: Lockable,
-{
-    let locked = opened(rt, place)?;
-    if locked.try_take()? {
-        Ok(Some(held(rt, locked, place)?))
-    } else {
-        Ok(None)
     }
 }
 

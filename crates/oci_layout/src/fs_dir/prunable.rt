@@ -20,23 +20,25 @@ where
         match files_in(self.rt, &place) {
             Ok(files) => Ok(files),
             Err(error) if is_absence(&error) => Ok(Vec::new(self.rt.alloc())),
-            Err(error) => Err(failed(&error)),
+            Err(error) => Err(failed(self.first, &place, error)),
         }
     }
 
     /// Finds the files that [`FolderLock::remove_leftovers`](crate::FolderLock::remove_leftovers)
     /// removes.
     fn leftovers(&self) -> Result<Vec<(String, u64)>, DirFault> {
-        match free_leftovers(self.rt, path_of_folder(self.folder.as_str())) {
+        let folder = path_of_folder(self.folder.as_str());
+        match free_leftovers(self.rt, folder) {
             Ok(drafts) => Ok(drafts),
-            Err(error) => Err(failed(&error)),
+            Err(error) => Err(failed(self.first, folder, error)),
         }
     }
 
     fn linked(&self) -> Result<Option<&'static str>, DirFault> {
-        match first_link(self.rt, path_of_folder(self.folder.as_str())) {
+        let folder = path_of_folder(self.folder.as_str());
+        match first_link(self.rt, folder) {
             Ok(linked) => Ok(linked),
-            Err(error) => Err(failed(&error)),
+            Err(error) => Err(failed(self.first, folder, error)),
         }
     }
 
@@ -46,7 +48,7 @@ where
         match removed(self.rt, &place) {
             Ok(found) => Ok(found),
             Err(error) if is_absence(&error) => Ok(false),
-            Err(error) => Err(failed(&error)),
+            Err(error) => Err(failed(self.first, &place, error)),
         }
     }
 
@@ -55,7 +57,7 @@ where
         let place = self.place(path)?;
         match synced(self.rt, &place) {
             Ok(()) => Ok(()),
-            Err(error) => Err(failed(&error)),
+            Err(error) => Err(failed(self.first, &place, error)),
         }
     }
 }

@@ -4,7 +4,7 @@ ghost use Rattle.std.specs.List.{All};
 ghost use Rattle.std.specs.Map.{values_of};
 ghost use Rattle.oci_manifest.specs.Descriptor.{key_cmp};
 ghost use Rattle.oci_store.specs.Tags.{by_bytes};
-ghost use Rattle.oci_layout.specs.Brought.{Brings, ForgetsNames, IsShallowEntry, comes, coming};
+ghost use Rattle.oci_layout.specs.Brought.{Brings, Forgets, ForgetsNames, IsShallowEntry, comes, coming};
 ghost use Rattle.oci_layout.specs.Entries.{entry_of};
 ghost use Rattle.oci_layout.specs.Layout.{no_index, OnlyIndex};
 
@@ -59,6 +59,24 @@ impl<D: Dir> Layout<D> {
         )?;
         let index = self.take_index();
         let index = index.replaced(self.alloc, false, entries, more)?;
+        self.put_index(index);
+        Ok(())
+    }
+
+    /// Forgets the entries that have the name of one of these, so that [`save`](Layout::save) does not
+    /// write them. An absent key is no longer absent if only they had it.
+    ///
+    /// # Errors
+    ///
+    /// `NoMemory` if memory runs out. The layout then remembers nothing of its index.
+    pub fn forget(&mut self, entries: &[IndexEntry]) -> Result<(), NoMemory>
+        ensures forgotten { OnOk result (Forgets (map entry_of entries.now) self.old.opened
+            self.new.opened) }
+        ensures lost { OnErr result (self.new.opened ≡ no_index) }
+        ensures only { OnlyIndex self.old self.new }
+    {
+        let index = self.take_index();
+        let index = index.replaced(self.alloc, false, entries, Vec::new(self.alloc))?;
         self.put_index(index);
         Ok(())
     }

@@ -190,11 +190,8 @@ fn read_in_current<R: Host>(rt: &R, path: &str) -> Result<String, Fail> {
 }
 
 /// Locks a folder and removes its leftovers.
-fn lock_and_clear<R: Host>(rt: &R, folder: &str) -> Result<(), DirFault> {
-    let lock = FolderLock::lock(rt, folder)?;
-    lock.remove_leftovers(rt)
-}
-
 pub(crate) fn remove_leftovers<R: Host>(rt: &R, folder: &str) -> Result<String, Fail> {
-    told_of(rt.alloc(), lock_and_clear(rt, folder), "removed")
+    let lock = FolderLock::lock(rt, folder)?;
+    lock.remove_leftovers(rt)?;
+    Ok(String::from_str(rt.alloc(), "removed")?)
 }

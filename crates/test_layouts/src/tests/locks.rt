@@ -2,10 +2,11 @@
 
 use crate::tests::files::files_in;
 use crate::tests::host::Host;
-use oci_layout::{DirFault, FolderLock};
+use oci_layout::FolderLock;
+use std::io::ErrorKind;
 use std::process::Abort;
 use std::test::Fail;
-use std::{env, fs, rt};
+use std::{env, fs, io, rt};
 
 /// Returns whether a try takes the lock of a folder.
 fn is_free<R: Host>(rt: &R, folder: &str) -> Result<bool, Fail> {
@@ -97,31 +98,37 @@ fn one_lock_at_a_time(rt: HostRuntime) -> Result<(), Fail> {
     Ok(fs::remove_dir_all(&rt, "locked")?)
 }
 
-fn is_failed<T: Drop>(answer: Result<T, DirFault>) -> bool {
+/// Returns whether a lock was refused with an error of this kind.
+fn is_refused<T: Drop>(answer: io::Result<T>, kind: ErrorKind) -> bool {
     match answer {
-        Err(DirFault::Failed) => true,
-        _ => false,
+        Err(error) => error.kind() == kind,
+        Ok(_) => false,
     }
 }
 
 /// Asserts that the path cannot be locked, with or without waiting.
-fn assert_refused<R: Host + Abort>(rt: &R, folder: &str) {
-    assert!(rt; is_failed(FolderLock::try_lock(rt, folder)), "{folder}");
-    assert!(rt; is_failed(FolderLock::lock(rt, folder)), "{folder}");
+fn assert_refused<R: Host + Abort>(rt: &R, folder: &str, kind: ErrorKind) {
+    assert!(rt;
+        is_refused(FolderLock::try_lock(rt, folder), kind),
+        "{folder}"
+    );
+    assert!(rt; is_refused(FolderLock::lock(rt, folder), kind), "{folder}");
 }
 
 /// Asserts that a missing folder is not created.
 fn assert_missing_refused<R: Host + Abort>(rt: &R) -> Result<(), Fail> {
     fs::create_dir(rt, "unlocked")?;
-    assert_refused(rt, "unlocked/missing");
+    assert_refused(rt, "unlocked/missing", ErrorKind::NotFound);
     assert_empty(rt, "unlocked")
 }
 
 fn assert_file_refused<R: Host + Abort>(rt: &R) -> Result<(), Fail> {
     fs::write(rt, "unlocked/file", b"foo")?;
-    assert_refused(rt, "unlocked/file");
-    assert!(rt; is_failed(FolderLock::make_and_try_lock(rt, "unlocked/file")));
-    assert!(rt; is_failed(FolderLock::make_and_lock(rt, "unlocked/file/below")));
+    assert_refused(rt, "unlocked/file", ErrorKind::NotADirectory);
+    let made = FolderLock::make_and_try_lock(rt, "unlocked/file");
+    assert!(rt; is_refused(made, ErrorKind::AlreadyExists));
+    let below = FolderLock::make_and_lock(rt, "unlocked/file/below");
+    assert!(rt; is_refused(below, ErrorKind::NotADirectory));
     Ok(())
 }
 

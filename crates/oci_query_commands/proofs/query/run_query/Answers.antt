@@ -12,9 +12,9 @@ returns g c =
     let device = g.D.Dir.device in
     let opened = c.in-Ok.ensures in
     record {
-      verified = λ good asks honest.
+      verified = λ good honest.
           IsVerified-whole (device c.args.dir) layout.graph layout.tags layout.opened honest (opened.opened honest)
-          (subst (λ d. IsWhole (device d) layout.graph layout.opened) opened.same (c.in_ok-answer_from.ensures.verified good asks));
+          (subst (λ d. IsWhole (device d) layout.graph layout.opened) opened.same (c.in_ok-answer_from.ensures.verified good));
       answered = λ asks honest.
           HasWholeManifests-undamaged (device c.args.dir) layout.graph layout.tags layout.opened honest (opened.opened honest)
           (subst (λ d. AreUndamaged (device d) (manifests_of layout.opened.damaged)) opened.same (c.in_ok-answer_from.ensures.answered asks));
