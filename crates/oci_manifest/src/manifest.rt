@@ -18,6 +18,7 @@ use crate::fault::ManifestFault;
 use crate::key::Key;
 use crate::kind::Kind;
 pub use artifact::artifact_type;
+pub use descriptor::key_of;
 use distinct::keep_distributed;
 use member::{fields, push_fields, push_manifests};
 use oci_digest::NoMemory;

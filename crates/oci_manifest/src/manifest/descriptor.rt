@@ -10,9 +10,13 @@ use serde_json::Value;
 use std::alloc::Global;
 
 /// Returns the key of the descriptor in `value` (OCI image-spec 1.1, descriptor.md, "Properties"),
-/// or `None` if `value` is not a descriptor.
+/// or `None` if `value` is not a descriptor. Other members are ignored.
+///
+/// # Errors
+///
+/// `NoMemory` if memory runs out.
 #[tactic(auto, unfolding(crate::specs::Reading::descriptor_of))]
-pub(crate) fn key_of(alloc: Global, value: &Value) -> Result<Option<Key>, NoMemory>
+pub fn key_of(alloc: Global, value: &Value) -> Result<Option<Key>, NoMemory>
     ensures { IfOk result (λ found. found ≡ descriptor_of (view value.now)) }
 {
     let Some(media_type) = value.get("mediaType").and_then(Value::as_str) else {
