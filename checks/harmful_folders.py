@@ -1,11 +1,12 @@
 """Copies from and into layouts that have something in the place of a file that would harm a careless reader."""
 import os
 import re
+import shutil
 import stat
 
 from support.files import files, read
 from support.harms import CONTENTS, FROM, OLD_IMAGE, PLAIN, PLAIN_TAGS, SECRET, answers_to, fresh, wrong_copy
-from support.layouts import BAR, E, FOO, M2, blob, key
+from support.layouts import BAR, E, FOO, LAYER, M2, Content, blob, image, key, write_layout
 from support.program import first, leftovers, run, told, wrong_layout
 
 
@@ -36,12 +37,12 @@ HARMS = {
 }
 
 # The answers of a copy into such a layout. A link in the place of a new layer is replaced, and not followed. A copy does not read an old
-# layer, and holds it if there is a file with its name and its size; otherwise the destination is not closed. An old manifest that is damaged
-# stays.
+# layer, and holds it if there is a regular file with its name and its size; otherwise the destination is not closed. An old manifest that is
+# damaged stays.
 INTO = {
     "oci-layout": FROM["oci-layout"],
     "index.json": FROM["index.json"],
-    "an old manifest": {"": ["74 Device"], "a sparse file of 1 TB": [""], "a link to another file": [""], "a link to nothing": [""]},
+    "an old manifest": {"": [""], "a link to itself": ["74 Device"]},
     "an old layer": {"": ["80 DestinationOpen HOLDER KEY"], "a link to itself": ["74 Device"]},
     "a new layer": {"": [""], "a folder": ["82 Push KEY 43 Device"]},
 }
@@ -122,6 +123,23 @@ def harms(room):
     return made, others
 
 
+def wrong_size(folder, harm):
+    """Return the problem with a copy into a layout that has the harm in the place of a layer of the size that the system tells for it, or None."""
+    shutil.rmtree(folder, ignore_errors=True)
+    os.makedirs(folder)
+    HARMS[harm](folder + "/measured")
+    layer = Content(LAYER, b"a" * os.stat(folder + "/measured").st_size)
+    old = image([layer])
+    write_layout(folder + "/source", [E, FOO, M2], {"new": M2})
+    write_layout(folder + "/copied", [E, layer, old], {"old": old})
+    path = "%s/copied/%s" % (folder, blob(layer))
+    os.remove(path)
+    HARMS[harm](path)
+    ended = run(["copy", "source", "new", "copied"], folder)
+    if ended[:3] != (1, "", "ocicp: 80 DestinationOpen %s %s\n" % (key(old), key(layer))):
+        return told(ended)
+
+
 def checks(room):
     folder = room + "/room"
     made, others = harms(room)
@@ -131,3 +149,5 @@ def checks(room):
         for file in table:
             for harm in made:
                 yield "a copy %s a layout with %s in the place of %s" % (where, harm, file), wrong(folder, file, harm)
+    for harm in "a FIFO", "a folder":
+        yield "%s in the place of a layer of its size" % harm, wrong_size(folder, harm)

@@ -22,11 +22,10 @@ CONTENTS = {
 }
 
 # The answers of a copy from a layout with each harm in the place of a file. A harm without an answer of its own is no regular file, or is a
-# link in the place of a file that no digest checks. An empty answer is success. A layer or config of another size counts as missing; a folder
-# may have any size.
+# link in the place of a file that no digest checks. An empty answer is success. A layer or config of another size counts as missing, and so
+# does what is no regular file.
 LEAF = {
     "": ["81 Plan 53 NotFound KEY"],
-    "a folder": ["81 Plan 53 NotFound KEY", "88 Fetch KEY 22 Device"],
     "a link to itself": ["74 Device"],
 }
 FROM = {
@@ -39,9 +38,8 @@ FROM = {
         "a sparse file of 1 TB": ["memory", "73 BadIndex 10 NotJson"],
     },
     "the manifest": {
-        "": ["74 Device"],
-        "a sparse file of 1 TB": ["75 Corrupt KEY"],
-        "a link to another file": ["75 Corrupt KEY"],
+        "": ["75 Corrupt KEY"],
+        "a link to itself": ["74 Device"],
         "a link to nothing": ["36 UnknownReference"],
     },
     "the config": LEAF,
