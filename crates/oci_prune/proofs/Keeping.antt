@@ -1,5 +1,5 @@
--- How far the walk to the kept keys is.
-use Rattle.std.proofs.Common.{◌≡◌, ℕ, ◌+◌, ◌<◌, ◌≤◌, true, false, ◌⊎◌, inl, inr, List, [], length, get_or, Some, is_some, sym, ap, subst, ◌∙◌, arith}
+-- How far the walk to the members is.
+use Rattle.std.proofs.Common.{◌≡◌, ℕ, ◌+◌, ◌<◌, ◌≤◌, Bool, true, false, ◌⊎◌, inl, inr, List, [], length, get_or, Some, is_some, sym, ap, subst, ◌∙◌, arith}
 use Rattle.std.specs.Prelude.{◌≢◌, Contains}
 use Rattle.std.specs.BTreeSet.{BTreeSet, contains}
 use Rattle.std.specs.List.{slice_get}
@@ -15,9 +15,10 @@ use Rattle.oci_store.specs.Visiting.{with_keys}
 use Rattle.oci_store.proofs.KeyOrder.{key_cmp_total, key_cmp_exact}
 use Rattle.oci_store.proofs.Membership.{Keys, Contains-from_among, among_from_Contains, among-with_keys, among_from_place, place_from_among, slice_get-with_keys, stays-with_keys, there-with_keys}
 use Rattle.oci_prune.proofs.Elements.{no_element}
-use Rattle.oci_prune.specs.Kept.{Needs, IsKept, root, needed, IsNeeded, IsUnknown, AreKept, AllKnown}
+use Rattle.oci_prune.specs.Attached.{AttachedIn, attached_in}
+use Rattle.oci_prune.specs.Belongs.{Needs, Belongs, given, needed, IsNeeded, IsUnknown, AreMembers, AllKnown}
 use Rattle.oci_prune.specs.Refusal.{IsUnknownFault}
-use Rattle.oci_prune.specs.Subjects.{Referrers, RefersBy, referrers_in}
+use Rattle.oci_prune.specs.declared.attachments.Attachments.{Attachments}
 use Rattle.oci_prune.specs.Walk.{IsVisit, KeepsHeld, HasOneMore, IsWalking}
 use Rattle.oci_prune.specs.declared.fault.PruneFault.{PruneFault}
 use Rattle.oci_prune.specs.declared.fault.PruneFault.TheVariants as fault
@@ -32,34 +33,34 @@ none_kept set none k h = no_element k (subst (λ (ks : Keys). Contains ks k) non
 -- ---- a visit
 
 -- a visit of a held key
-pub visit_held : (graph : List Node) (referrers : Referrers) (k : Descriptor) (old new successors : Keys) → value_at graph k ≡ Some successors → new ≡ with_keys (with_keys old successors) (referrers_in referrers k) → IsVisit graph (RefersBy referrers) k old new
-visit_held graph referrers k old new successors listed e = record {
-  stays = λ i j h. subst (λ (t : Keys). slice_get t i ≡ Some j) (sym e) (slice_get-with_keys (with_keys old successors) (referrers_in referrers k) i j (slice_get-with_keys old successors i j h));
+pub visit_held : (graph : List Node) (attachments : Attachments) (k : Descriptor) (old new successors : Keys) → value_at graph k ≡ Some successors → new ≡ with_keys (with_keys old successors) (attached_in attachments k) → IsVisit graph (AttachedIn attachments) k old new
+visit_held graph attachments k old new successors listed e = record {
+  stays = λ i j h. subst (λ (t : Keys). slice_get t i ≡ Some j) (sym e) (slice_get-with_keys (with_keys old successors) (attached_in attachments k) i j (slice_get-with_keys old successors i j h));
   each = λ j. (λ h. to j (subst (λ (t : Keys). is_among t j ≡ true) e (among_from_Contains new j h)), λ h. Contains-from_among new j (subst (λ (t : Keys). is_among t j ≡ true) (sym e) (back j h)));
 }
   where
-    to : (j : Descriptor) → is_among (with_keys (with_keys old successors) (referrers_in referrers k)) j ≡ true → Contains old j ⊎ ((has_key graph k ≡ true) × Needs graph (RefersBy referrers) k j)
+    to : (j : Descriptor) → is_among (with_keys (with_keys old successors) (attached_in attachments k)) j ≡ true → Contains old j ⊎ ((has_key graph k ≡ true) × Needs graph (AttachedIn attachments) k j)
     to j h =
         let held : has_key graph k ≡ true = ap is_some listed in
-        elim (among-with_keys (with_keys old successors) (referrers_in referrers k) j h) [
+        elim (among-with_keys (with_keys old successors) (attached_in attachments k) j h) [
           | inl first ↦
               elim (among-with_keys old successors j first) [
                 | inl was ↦ inl (Contains-from_among old j was)
                 | inr lists ↦ inr (held, inl (successors, listed, Contains-from_among successors j lists))
               ]
-          | inr refers ↦ inr (held, inr (Contains-from_among (referrers_in referrers k) j refers))
+          | inr refers ↦ inr (held, inr (Contains-from_among (attached_in attachments k) j refers))
         ]
 
-    back : (j : Descriptor) → Contains old j ⊎ ((has_key graph k ≡ true) × Needs graph (RefersBy referrers) k j) → is_among (with_keys (with_keys old successors) (referrers_in referrers k)) j ≡ true
+    back : (j : Descriptor) → Contains old j ⊎ ((has_key graph k ≡ true) × Needs graph (AttachedIn attachments) k j) → is_among (with_keys (with_keys old successors) (attached_in attachments k)) j ≡ true
     back j h =
         elim h [
-          | inl was ↦ stays-with_keys (with_keys old successors) (referrers_in referrers k) j (stays-with_keys old successors j (among_from_Contains old j was))
+          | inl was ↦ stays-with_keys (with_keys old successors) (attached_in attachments k) j (stays-with_keys old successors j (among_from_Contains old j was))
           | inr needs ↦
               elim needs.1 [
                 | inl edge ↦
                     let same : edge.0 ≡ successors = cc (sym edge.1 ∙ listed) in
-                    stays-with_keys (with_keys old successors) (referrers_in referrers k) j (there-with_keys old successors j (among_from_Contains successors j (subst (λ (t : Keys). Contains t j) same edge.2)))
-                | inr refers ↦ there-with_keys (with_keys old successors) (referrers_in referrers k) j (among_from_Contains (referrers_in referrers k) j refers)
+                    stays-with_keys (with_keys old successors) (attached_in attachments k) j (there-with_keys old successors j (among_from_Contains successors j (subst (λ (t : Keys). Contains t j) same edge.2)))
+                | inr refers ↦ there-with_keys (with_keys old successors) (attached_in attachments k) j (among_from_Contains (attached_in attachments k) j refers)
               ]
         ]
 
@@ -78,28 +79,28 @@ noted_absent graph k set absent j = (λ h. inl h, λ h. elim h [ inl was ↦ was
 
 -- ---- the walk
 
-pub walking_start : (graph : List Node) (roots found : Keys) (refers : Relation) (set : BTreeSet Descriptor) → found ≡ with_keys [] roots → set.keys ≡ [] → IsWalking graph roots refers found set 0
-walking_start graph roots found refers set e none = record {
-  has_roots = λ k h. Contains-from_among found k (subst (λ (t : Keys). is_among t k ≡ true) (sym e) (there-with_keys [] roots k (among_from_Contains roots k h)));
+pub walking_start : (graph : List Node) (roots found : Keys) (refers : Relation) (refuses : Bool) (set : BTreeSet Descriptor) → found ≡ with_keys [] roots → set.keys ≡ [] → IsWalking graph roots refers refuses found set 0
+walking_start graph roots found refers refuses set e none = record {
+  has_keys = λ k h. Contains-from_among found k (subst (λ (t : Keys). is_among t k ≡ true) (sym e) (there-with_keys [] roots k (among_from_Contains roots k h)));
   needed = λ k h.
       elim (among-with_keys [] roots k (subst (λ (t : Keys). is_among t k ≡ true) e (among_from_Contains found k h))) [
         | inl never ↦ cc never
         | inr listed ↦ inl (Contains-from_among roots k listed)
       ];
   visited = λ i from k lt. absurd (omega (arith, lt));
-  known = λ i k lt. absurd (omega (arith, lt));
+  known = λ _ i k lt. absurd (omega (arith, lt));
   kept = λ k. (λ h. absurd (none_kept set none k h), λ p. absurd (omega (arith, p.1)));
 }
 
 -- a needed key that is held is kept
-pub kept_from_needed : (graph : List Node) (roots : Keys) (refers : Relation) (k : Descriptor) → IsNeeded graph roots refers k → has_key graph k ≡ true → IsKept graph roots refers k
-kept_from_needed graph roots refers k (inl named) held = root named held
+pub kept_from_needed : (graph : List Node) (roots : Keys) (refers : Relation) (k : Descriptor) → IsNeeded graph roots refers k → has_key graph k ≡ true → Belongs graph roots refers k
+kept_from_needed graph roots refers k (inl named) held = given named held
 kept_from_needed graph roots refers k (inr p) held = needed p.1 p.2 held
 
-pub walking_step : (graph : List Node) (roots : Keys) (refers : Relation) (found more : Keys) (set set_after : BTreeSet Descriptor) (place : ℕ) (key : Descriptor) → IsWalking graph roots refers found set place → slice_get found place ≡ Some key
-    → IsVisit graph refers key found more → KeepsHeld graph key set set_after → (has_key graph key ≡ false → kind_of key.media_type ≡ Leaf) → IsWalking graph roots refers more set_after (place + 1)
-walking_step graph roots refers found more set set_after place key w at visit noted known = record {
-  has_roots = λ k h. (visit.each k).1 (inl (w.has_roots k h));
+pub walking_step : (graph : List Node) (roots : Keys) (refers : Relation) (refuses : Bool) (found more : Keys) (set set_after : BTreeSet Descriptor) (place : ℕ) (key : Descriptor) → IsWalking graph roots refers refuses found set place → slice_get found place ≡ Some key
+    → IsVisit graph refers key found more → KeepsHeld graph key set set_after → (refuses ≡ true → has_key graph key ≡ false → kind_of key.media_type ≡ Leaf) → IsWalking graph roots refers refuses more set_after (place + 1)
+walking_step graph roots refers refuses found more set set_after place key w at visit noted known = record {
+  has_keys = λ k h. (visit.each k).1 (inl (w.has_keys k h));
   needed = λ k h.
       elim ((visit.each k).0 h) [
         | inl was ↦ w.needed k was
@@ -112,10 +113,10 @@ walking_step graph roots refers found more set set_after place key w at visit no
             (visit.each k).1
             (inr (subst (λ (x : Descriptor). has_key graph x ≡ true) p.1 held, subst (λ (x : Descriptor). Needs graph refers x k) p.1 needs))
       ];
-  known = λ i k lt there absent.
+  known = λ strict i k lt there absent.
       elim (earlier i k lt there) [
-        | inl p ↦ w.known i k p.0 p.1 absent
-        | inr p ↦ subst (λ (x : Descriptor). kind_of x.media_type ≡ Leaf) (sym p.1) (known (subst (λ (x : Descriptor). has_key graph x ≡ false) p.1 absent))
+        | inl p ↦ w.known strict i k p.0 p.1 absent
+        | inr p ↦ subst (λ (x : Descriptor). kind_of x.media_type ≡ Leaf) (sym p.1) (known strict (subst (λ (x : Descriptor). has_key graph x ≡ false) p.1 absent))
       ];
   kept = λ k. (
     λ h. elim ((noted k).0 h) [
@@ -156,51 +157,53 @@ inside_step found place k at =
     omega (arith, lt)
 
 -- the fault of a visit is one of the walk
-pub walk_fault : (graph : List Node) (roots : Keys) (refers : Relation) (found : Keys) (set : BTreeSet Descriptor) (place : ℕ) (key : Descriptor) (e : PruneFault) → IsWalking graph roots refers found set place → slice_get found place ≡ Some key
-    → IsUnknownFault (λ (k : Descriptor). (k ≡ key) × (has_key graph k ≡ false) × (kind_of k.media_type ≢ Leaf)) e → IsUnknownFault (IsUnknown graph roots refers) e
-walk_fault graph roots refers found set place key (fault.Unknown k) w at h =
-    record { needed = subst (IsNeeded graph roots refers) (sym h.0) (w.needed key (Contains-from_among found key (among_from_place found place key at))); absent = h.1; is_manifest = h.2 }
-walk_fault graph roots refers found set place key fault.Memory w at h = tt
-walk_fault graph roots refers found set place key (fault.NotRemoved path) w at h = absurd h
-walk_fault graph roots refers found set place key (fault.Layout e) w at h = absurd h
-walk_fault graph roots refers found set place key (fault.Fetch k e) w at h = absurd h
-walk_fault graph roots refers found set place key fault.NoTags w at h = absurd h
-walk_fault graph roots refers found set place key (fault.LinkedBlobs path) w at h = absurd h
+pub walk_fault : (graph : List Node) (roots : Keys) (refers : Relation) (refuses : Bool) (found : Keys) (set : BTreeSet Descriptor) (place : ℕ) (key : Descriptor) (e : PruneFault) → IsWalking graph roots refers refuses found set place
+    → slice_get found place ≡ Some key → IsUnknownFault (λ (k : Descriptor). (refuses ≡ true) × (k ≡ key) × (has_key graph k ≡ false) × (kind_of k.media_type ≢ Leaf)) e
+    → IsUnknownFault (λ (k : Descriptor). (refuses ≡ true) × IsUnknown graph roots refers k) e
+walk_fault graph roots refers refuses found set place key (fault.Unknown k) w at h =
+    let there = w.needed key (Contains-from_among found key (among_from_place found place key at)) in
+    (h.0, record { needed = subst (IsNeeded graph roots refers) (sym h.1) there; absent = h.2; is_manifest = h.3 })
+walk_fault graph roots refers refuses found set place key fault.Memory w at h = tt
+walk_fault graph roots refers refuses found set place key (fault.NotRemoved path) w at h = absurd h
+walk_fault graph roots refers refuses found set place key (fault.Layout e) w at h = absurd h
+walk_fault graph roots refers refuses found set place key (fault.Fetch k e) w at h = absurd h
+walk_fault graph roots refers refuses found set place key fault.NoTags w at h = absurd h
+walk_fault graph roots refers refuses found set place key (fault.LinkedBlobs path) w at h = absurd h
 
 -- ---- the end
 
 -- a kept key is held
-pub held_from_kept : (graph : List Node) (roots : Keys) (refers : Relation) (k : Descriptor) → IsKept graph roots refers k → has_key graph k ≡ true
-held_from_kept graph roots refers k (root named held) = held
+pub held_from_kept : (graph : List Node) (roots : Keys) (refers : Relation) (k : Descriptor) → Belongs graph roots refers k → has_key graph k ≡ true
+held_from_kept graph roots refers k (given named held) = held
 held_from_kept graph roots refers k (needed kept needs held) = held
 
 -- every key that is needed was found
-all_found : (graph : List Node) (roots : Keys) (refers : Relation) (found : Keys) (set : BTreeSet Descriptor) → IsWalking graph roots refers found set (length found) → (k : Descriptor) → IsKept graph roots refers k → Contains found k
-all_found graph roots refers found set w k (root named held) = w.has_roots k named
-all_found graph roots refers found set w k (needed {from} kept needs held) =
-    let there = all_found graph roots refers found set w from kept in
+all_found : (graph : List Node) (roots : Keys) (refers : Relation) (refuses : Bool) (found : Keys) (set : BTreeSet Descriptor) → IsWalking graph roots refers refuses found set (length found) → (k : Descriptor) → Belongs graph roots refers k → Contains found k
+all_found graph roots refers refuses found set w k (given named held) = w.has_keys k named
+all_found graph roots refers refuses found set w k (needed {from} kept needs held) =
+    let there = all_found graph roots refers refuses found set w from kept in
     let at = place_from_among found from (among_from_Contains found from there) in
     w.visited at.0 from k (slice_get_within found at.0 from at.1) at.1 (held_from_kept graph roots refers from kept) needs
 
-pub walked_kept : (graph : List Node) (roots : Keys) (refers : Relation) (found : Keys) (set : BTreeSet Descriptor) → IsWalking graph roots refers found set (length found) → AreKept graph roots refers set
-walked_kept graph roots refers found set w k = (
+pub walked_kept : (graph : List Node) (roots : Keys) (refers : Relation) (refuses : Bool) (found : Keys) (set : BTreeSet Descriptor) → IsWalking graph roots refers refuses found set (length found) → AreMembers graph roots refers set
+walked_kept graph roots refers refuses found set w k = (
   λ h.
       let p = (w.kept k).0 h in
       kept_from_needed graph roots refers k (w.needed k (Contains-from_among found k (among_from_place found p.0 k p.2))) p.3,
   λ kept.
-      let at = place_from_among found k (among_from_Contains found k (all_found graph roots refers found set w k kept)) in
+      let at = place_from_among found k (among_from_Contains found k (all_found graph roots refers refuses found set w k kept)) in
       (w.kept k).1 (at.0, slice_get_within found at.0 k at.1, at.1, held_from_kept graph roots refers k kept),
 )
 
-pub walked_known : (graph : List Node) (roots : Keys) (refers : Relation) (found : Keys) (set : BTreeSet Descriptor) → IsWalking graph roots refers found set (length found) → AllKnown graph roots refers
-walked_known graph roots refers found set w k unknown =
+pub walked_known : (graph : List Node) (roots : Keys) (refers : Relation) (refuses : Bool) (found : Keys) (set : BTreeSet Descriptor) → IsWalking graph roots refers refuses found set (length found) → refuses ≡ true → AllKnown graph roots refers
+walked_known graph roots refers refuses found set w strict k unknown =
     let there = found_from_needed unknown.needed in
     let at = place_from_among found k (among_from_Contains found k there) in
-    unknown.is_manifest (w.known at.0 k (slice_get_within found at.0 k at.1) at.1 unknown.absent)
+    unknown.is_manifest (w.known strict at.0 k (slice_get_within found at.0 k at.1) at.1 unknown.absent)
   where
     found_from_needed : IsNeeded graph roots refers k → Contains found k
-    found_from_needed (inl named) = w.has_roots k named
+    found_from_needed (inl named) = w.has_keys k named
     found_from_needed (inr p) =
-        let there = all_found graph roots refers found set w p.0 p.1 in
+        let there = all_found graph roots refers refuses found set w p.0 p.1 in
         let at = place_from_among found p.0 (among_from_Contains found p.0 there) in
         w.visited at.0 p.0 k (slice_get_within found at.0 p.0 at.1) at.1 (held_from_kept graph roots refers p.0 p.1) p.2

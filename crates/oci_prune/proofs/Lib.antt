@@ -7,3 +7,7 @@ pub mod Noting
 pub mod Leaving
 pub mod Results
 pub mod Plans
+pub mod Reaching
+pub mod Following
+pub mod Stems
+pub mod Bringing

@@ -1,12 +1,8 @@
 -- What is planned, from its parts.
-use Rattle.std.proofs.Common.{◌≡◌, ℕ, nat_cmp, Bool, true, false, not, ◌⊎◌, inl, inr, List, [], ◌∷◌, ◌++◌, filter, get_or, None, Ok, is_some, refl, sym, ap, subst, Option}
+use Rattle.std.proofs.Common.{◌≡◌, Bool, true, false, not, ◌⊎◌, inl, inr, List, [], ◌∷◌, ◌++◌, filter, get_or, None, Ok, is_some, refl, sym, ap, subst}
 use Rattle.std.specs.Prelude.{◌↔◌, Contains}
-use Rattle.std.specs.BTreeMap.{get}
 use Rattle.std.specs.BTreeSet.{BTreeSet, contains}
-use Rattle.std.specs.Cmp.Lexicographic.{slice_cmp}
-use Rattle.std.specs.Global.{Vec}
 use Rattle.std.specs.List.Sorted.{IsStrictlySortedBy}
-use Rattle.std.specs.Option.{option_map_or}
 use Rattle.std.specs.List.{All, slice_get}
 use Rattle.std.specs.Map.{keys_of, values_of}
 use Rattle.std.proofs.lemmas.Bool.{not-true}
@@ -27,10 +23,12 @@ use Rattle.oci_layout.specs.Layout.{LayoutState, OpenedIndex, manifests_of}
 use Rattle.oci_layout.specs.Saved.{first_entries, shadowed_keys}
 use Rattle.oci_layout.proofs.Loose.{HasKeys}
 use Rattle.oci_layout.proofs.SavedEntries.{named_held-held}
-use Rattle.oci_prune.specs.Kept.{Needs, IsKept, root, needed, IsNeeded, IsUnknown, AreKept, AllKnown}
+use Rattle.oci_prune.specs.Attached.{AttachedIn, AreAttachments}
+use Rattle.oci_prune.specs.Belongs.{Needs, Belongs, given, needed, IsNeeded, IsUnknown, AreMembers, AllKnown}
 use Rattle.oci_prune.specs.Plan.{AreHeld, AreRemoved, RefersIf, IsSafe, roots_of}
 use Rattle.oci_prune.specs.Refusal.{ChecksWhole, IsKeyFault, IsPlanFault, IsUnknownFault}
-use Rattle.oci_prune.specs.Subjects.{Referrers, AreReferrers, RefersBy, IsSubjectFault}
+use Rattle.oci_prune.specs.Subjects.{IsSubjectFault}
+use Rattle.oci_prune.specs.declared.attachments.Attachments.{Attachments}
 use Rattle.oci_prune.specs.declared.fault.PruneFault.{PruneFault}
 use Rattle.oci_prune.specs.declared.fault.PruneFault.TheVariants as fault
 use Rattle.oci_prune.proofs.Elements.{no_element}
@@ -55,8 +53,8 @@ needs_same : (graph : List Node) (R Q : Descriptor → Descriptor → Type 0) �
 needs_same graph R Q to k other (inl edge) = inl edge
 needs_same graph R Q to k other (inr refers) = inr (to other k refers)
 
-pub kept_same : (graph : List Node) (roots : List Descriptor) (R Q : Descriptor → Descriptor → Type 0) → ((referrer subject : Descriptor) → R referrer subject → Q referrer subject) → (k : Descriptor) → IsKept graph roots R k → IsKept graph roots Q k
-kept_same graph roots R Q to k (root named held) = root named held
+pub kept_same : (graph : List Node) (roots : List Descriptor) (R Q : Descriptor → Descriptor → Type 0) → ((referrer subject : Descriptor) → R referrer subject → Q referrer subject) → (k : Descriptor) → Belongs graph roots R k → Belongs graph roots Q k
+kept_same graph roots R Q to k (given named held) = given named held
 kept_same graph roots R Q to k (needed {from} kept needs held) = needed (kept_same graph roots R Q to from kept) (needs_same graph R Q to from k needs) held
 
 unknown_same : (graph : List Node) (roots : List Descriptor) (R Q : Descriptor → Descriptor → Type 0) → ((referrer subject : Descriptor) → R referrer subject → Q referrer subject) → (k : Descriptor) → IsUnknown graph roots R k → IsUnknown graph roots Q k
@@ -66,10 +64,10 @@ unknown_same graph roots R Q to k u = record { needed = now u.needed; absent = u
     now (inl named) = inl named
     now (inr p) = inr (p.0, kept_same graph roots R Q to p.0 p.1, needs_same graph R Q to p.0 k p.2)
 
-abbrev Same : (R Q : Descriptor → Descriptor → Type 0) → Type 0
+abbrev pub Same : (R Q : Descriptor → Descriptor → Type 0) → Type 0
 Same R Q = (referrer subject : Descriptor) → R referrer subject ↔ Q referrer subject
 
-pub are_kept_same : (graph : List Node) (roots : List Descriptor) (R Q : Descriptor → Descriptor → Type 0) (set : BTreeSet Descriptor) → Same R Q → AreKept graph roots R set → AreKept graph roots Q set
+pub are_kept_same : (graph : List Node) (roots : List Descriptor) (R Q : Descriptor → Descriptor → Type 0) (set : BTreeSet Descriptor) → Same R Q → AreMembers graph roots R set → AreMembers graph roots Q set
 are_kept_same graph roots R Q set same are k = (
   λ h. kept_same graph roots R Q (λ r s. (same r s).0) k ((are k).0 h),
   λ kept. (are k).1 (kept_same graph roots Q R (λ r s. (same r s).1) k kept),
@@ -78,14 +76,14 @@ are_kept_same graph roots R Q set same are k = (
 pub all_known_same : (graph : List Node) (roots : List Descriptor) (R Q : Descriptor → Descriptor → Type 0) → Same R Q → AllKnown graph roots R → AllKnown graph roots Q
 all_known_same graph roots R Q same known k unknown = known k (unknown_same graph roots Q R (λ r s. (same r s).1) k unknown)
 
-pub walk_key_fault : (store : State) (roots : List Descriptor) (keeps : Bool) (R : Descriptor → Descriptor → Type 0) (e : PruneFault) → (store.is_honest → Same R (RefersIf keeps store)) → IsUnknownFault (IsUnknown store.nodes roots R) e → IsKeyFault store roots keeps e
-walk_key_fault store roots keeps R (fault.Unknown k) same h = λ honest. unknown_same store.nodes roots R (RefersIf keeps store) (λ r s. (same honest r s).0) k h
-walk_key_fault store roots keeps R fault.Memory same h = tt
-walk_key_fault store roots keeps R (fault.NotRemoved path) same h = absurd h
-walk_key_fault store roots keeps R (fault.Fetch k e) same h = absurd h
-walk_key_fault store roots keeps R (fault.Layout e) same h = absurd h
-walk_key_fault store roots keeps R fault.NoTags same h = absurd h
-walk_key_fault store roots keeps R (fault.LinkedBlobs path) same h = absurd h
+pub walk_key_fault : (store : State) (roots : List Descriptor) (keeps : Bool) (R : Descriptor → Descriptor → Type 0) (refuses : Bool) (e : PruneFault) → (store.is_honest → Same R (RefersIf keeps store)) → IsUnknownFault (λ (k : Descriptor). (refuses ≡ true) × IsUnknown store.nodes roots R k) e → IsKeyFault store roots keeps e
+walk_key_fault store roots keeps R refuses (fault.Unknown k) same h = λ honest. unknown_same store.nodes roots R (RefersIf keeps store) (λ r s. (same honest r s).0) k h.1
+walk_key_fault store roots keeps R refuses fault.Memory same h = tt
+walk_key_fault store roots keeps R refuses (fault.NotRemoved path) same h = absurd h
+walk_key_fault store roots keeps R refuses (fault.Fetch k e) same h = absurd h
+walk_key_fault store roots keeps R refuses (fault.Layout e) same h = absurd h
+walk_key_fault store roots keeps R refuses fault.NoTags same h = absurd h
+walk_key_fault store roots keeps R refuses (fault.LinkedBlobs path) same h = absurd h
 
 pub subject_key_fault : (store : State) (roots : List Descriptor) (keeps : Bool) (e : PruneFault) → IsSubjectFault store (λ (k : Descriptor). (keeps ≡ true) × (has_key store.nodes k ≡ true)) e → IsKeyFault store roots keeps e
 subject_key_fault store roots keeps (fault.Unknown k) h = absurd h
@@ -98,33 +96,33 @@ subject_key_fault store roots keeps (fault.LinkedBlobs path) h = absurd h
 
 -- ---- the subjects of the held keys
 
-pub refers_by_held : (store : State) (keys : List Descriptor) (referrers : Referrers) → keys_of store.nodes ≡ keys_of store.entries → AreHeld store.nodes keys → AreReferrers store.entries keys referrers → Same (RefersBy referrers) (RefersIf true store)
-refers_by_held store keys referrers same held are referrer subject = (
-  λ refers. ((are referrer subject).0 refers).1,
-  λ refers. (are referrer subject).1 ((held.each referrer).1 (has_key-same_keys store.entries store.nodes referrer (sym same) (ap is_some refers.1.1)), refers),
+pub attached_by_held : (store : State) (keys : List Descriptor) (attachments : Attachments) → keys_of store.nodes ≡ keys_of store.entries → AreHeld store.nodes keys → AreAttachments store.entries keys [] attachments → Same (AttachedIn attachments) (RefersIf true store)
+attached_by_held store keys attachments same held are referrer subject = (
+  λ attached. elim ((are referrer subject).0 attached) [
+    | inl refers ↦ refers.1
+    | inr follows ↦ absurd (no_element (follows.0, referrer) follows.1)
+  ],
+  λ refers. (are referrer subject).1 (inl ((held.each referrer).1 (has_key-same_keys store.entries store.nodes referrer (sym same) (ap is_some refers.1.1)), refers)),
 )
 
-pub refers_by_none : (store : State) (referrers : Referrers) → ((digest : List ℕ) → get (slice_cmp nat_cmp) referrers digest ≡ None) → Same (RefersBy referrers) (RefersIf false store)
-refers_by_none store referrers none referrer subject = (
-  λ refers. absurd (no_element referrer (subst (λ (o : Option (Vec Descriptor)). Contains (option_map_or (λ (keys : Vec Descriptor). keys.items) o []) referrer) (none subject.digest) refers)),
-  λ never. absurd never,
-)
+pub attached_by_none : (store : State) (attachments : Attachments) → ((k subject : Descriptor) → AttachedIn attachments k subject → ⊥) → Same (AttachedIn attachments) (RefersIf false store)
+attached_by_none store attachments none referrer subject = (λ attached. absurd (none referrer subject attached), λ never. absurd never)
 
 -- ---- safety
 
-pub kept_from_reached : (graph : List Node) (roots : List Descriptor) (R : Descriptor → Descriptor → Type 0) (k : Descriptor) → Reaches graph roots k → has_key graph k ≡ true → IsKept graph roots R k
-kept_from_reached graph roots R k (start named) held = root named held
+pub kept_from_reached : (graph : List Node) (roots : List Descriptor) (R : Descriptor → Descriptor → Type 0) (k : Descriptor) → Reaches graph roots k → has_key graph k ≡ true → Belongs graph roots R k
+kept_from_reached graph roots R k (start named) held = given named held
 kept_from_reached graph roots R k (along {from} path edge) held = needed (kept_from_reached graph roots R from path (ap is_some edge.1)) (inl edge) held
 
-pub reached_from_kept : (graph : List Node) (roots : List Descriptor) (k : Descriptor) → IsKept graph roots (λ _ _. ⊥) k → Reaches graph roots k × (has_key graph k ≡ true)
-reached_from_kept graph roots k (root named held) = (start named, held)
+pub reached_from_kept : (graph : List Node) (roots : List Descriptor) (k : Descriptor) → Belongs graph roots (λ _ _. ⊥) k → Reaches graph roots k × (has_key graph k ≡ true)
+reached_from_kept graph roots k (given named held) = (start named, held)
 reached_from_kept graph roots k (needed {from} kept (inl edge) held) = (along (reached_from_kept graph roots from kept).0 edge, held)
 reached_from_kept graph roots k (needed {from} kept (inr never) held) = absurd never
 
-pub safe_from_kept : (graph : List Node) (roots : List Descriptor) (R : Descriptor → Descriptor → Type 0) (set : BTreeSet Descriptor) → AreKept graph roots R set → HasAll graph roots → IsSafe graph roots set
+pub safe_from_kept : (graph : List Node) (roots : List Descriptor) (R : Descriptor → Descriptor → Type 0) (set : BTreeSet Descriptor) → AreMembers graph roots R set → HasAll graph roots → IsSafe graph roots set
 safe_from_kept graph roots R set are all = record {
   held = λ k h. held_from_kept graph roots R k ((are k).0 h);
-  rooted = λ place d lt. (are (get_or roots place d)).1 (root (Contains-get_or roots place d lt) (all place d lt));
+  rooted = λ place d lt. (are (get_or roots place d)).1 (given (Contains-get_or roots place d lt) (all place d lt));
   reached = λ k reaches held. (are k).1 (kept_from_reached graph roots R k reaches held);
   closed = λ from to kept edge held. (are to).1 (needed ((are from).0 kept) (inl edge) held);
 }

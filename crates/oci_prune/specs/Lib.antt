@@ -1,7 +1,9 @@
 pub mod Numbers
 pub mod Faults
-pub mod Kept
+pub mod Belongs
 pub mod Subjects
+pub mod Attached
+pub mod Belonging
 pub mod Walk
 pub mod Plan
 pub mod Files

@@ -16,6 +16,7 @@ use Rattle.oci_layout.specs.Device.{Device, File}
 use Rattle.oci_layout.specs.Layout.{LayoutState}
 use Rattle.oci_layout.specs.Prunable.{HasLength, by_name}
 use Rattle.oci_layout.specs.Saved.{shadowed_keys}
+use Rattle.oci_prune.specs.Belongs.{AreMembers}
 use Rattle.oci_prune.specs.Subjects.{Refers}
 use Rattle.oci_prune.specs.declared.plan.PrunedFile.{PrunedFile}
 use Rattle.oci_prune.specs.declared.plan.PrunePlan.{PrunePlan}
@@ -38,6 +39,10 @@ pub record AreRoots (graph : List Node) (roots held : List Descriptor) : Type 0 
 abbrev pub RefersIf : Bool → State → Descriptor → Descriptor → Type 0
 RefersIf true store referrer subject = Refers store.entries referrer subject
 RefersIf false store referrer subject = ⊥
+
+-- the kept keys are those that belong to the roots
+abbrev pub AreKept : List Node → List Descriptor → (Descriptor → Descriptor → Type 0) → BTreeSet Descriptor → Type 0
+AreKept graph roots refers kept = AreMembers graph roots refers kept
 
 -- the kept keys are held; each root is kept, and each held key that a root reaches or that a kept
 -- key lists

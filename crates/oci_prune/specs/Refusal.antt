@@ -12,7 +12,7 @@ use Rattle.oci_layout.specs.Device.{Device}
 use Rattle.oci_layout.specs.Layout.{LayoutState, OpenedIndex, manifests_of}
 use Rattle.oci_layout.specs.declared.fault.LayoutFault.{LayoutFault}
 use Rattle.oci_layout.specs.declared.fault.LayoutFault.TheVariants as layout
-use Rattle.oci_prune.specs.Kept.{IsUnknown}
+use Rattle.oci_prune.specs.Belongs.{IsUnknown}
 use Rattle.oci_prune.specs.Plan.{RefersIf, roots_of}
 use Rattle.oci_prune.specs.Subjects.{IsSubjectFault}
 use Rattle.oci_prune.specs.declared.fault.PruneFault.{PruneFault}

@@ -3,8 +3,8 @@ ghost use Rattle.std.specs.Option.{option_copied};
 ghost use Rattle.oci_store.specs.Keyed.{HasAll, first_missing};
 ghost use Rattle.oci_layout.specs.Blobs.{meaning, blob_path};
 ghost use Rattle.oci_layout.specs.Layout.{manifests_of};
-ghost use Rattle.oci_prune.specs.Kept.{AreKept, AllKnown};
-ghost use Rattle.oci_prune.specs.Plan.{IsPrunePlan, RefersIf, roots_of};
+ghost use Rattle.oci_prune.specs.Belongs.{AllKnown};
+ghost use Rattle.oci_prune.specs.Plan.{AreKept, IsPrunePlan, RefersIf, roots_of};
 ghost use Rattle.oci_prune.specs.Refusal.{ChecksWhole, IsCheckFault, IsPlanFault, IsUnknownFault};
 
 use crate::fault::PruneFault;

@@ -71,7 +71,7 @@ fn add(
 }
 
 /// Appends a key.
-fn put(keys: &mut Vec<Key>, key: Key) -> Result<(), NoMemory>
+pub(crate) fn put(keys: &mut Vec<Key>, key: Key) -> Result<(), NoMemory>
     ensures { OnOk result (keys.new.items ≡ keys.old.items ++ key ∷ []) }
 {
     keys.push(key)?;

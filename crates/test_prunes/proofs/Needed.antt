@@ -15,7 +15,7 @@ use Rattle.oci_store.proofs.Membership.{Contains-from_among, among_from_Contains
 use Rattle.oci_store.proofs.Predecessors.{lists_key-edge}
 use Rattle.oci_prune.proofs.Elements.{no_element, Contains-head, Contains-tail, Contains-cons}
 use Rattle.oci_prune.proofs.Keeping.{held_from_kept}
-use Rattle.oci_prune.specs.Kept.{IsKept, root, needed, AreKept}
+use Rattle.oci_prune.specs.Belongs.{Belongs, given, needed, AreMembers}
 use Rattle.oci_prune.specs.Walk.{HasOneMore}
 use Rattle.test_prunes.specs.declared.plain.Held.{Held}
 use Rattle.test_prunes.specs.Plain.{graph_of, RefersIn, has_kept_digest, is_listed, states_kept, is_needed, is_next, next_in}
@@ -139,10 +139,10 @@ entry_from_held (x ∷ held) k h =
 
 -- all keys of the set are kept
 abbrev pub AllKept : List Held → List Descriptor → BTreeSet Descriptor → Type 0
-AllKept held roots set = (k : Descriptor) → contains key_cmp set k ≡ true → IsKept (graph_of held) roots (RefersIn held) k
+AllKept held roots set = (k : Descriptor) → contains key_cmp set k ≡ true → Belongs (graph_of held) roots (RefersIn held) k
 
 stated : (held : List Held) (roots : List Descriptor) (set : BTreeSet Descriptor) (h : Held) (subject : Option Descriptor) → h.subject ≡ subject → AllKept held roots set → Contains held h
-    → option_map_or (has_kept_digest held set) subject false ≡ true → IsKept (graph_of held) roots (RefersIn held) h.key
+    → option_map_or (has_kept_digest held set) subject false ≡ true → Belongs (graph_of held) roots (RefersIn held) h.key
 stated held roots set h None is kept there states = cc states
 stated held roots set h (Some subject) is kept there states =
     let r = any_one (λ (other : Held). contains key_cmp set other.key && bytes_eq other.key.digest subject.digest) held states in
@@ -150,13 +150,13 @@ stated held roots set h (Some subject) is kept there states =
     let digest : subject.digest ≡ r.0.key.digest = sym ((bytes_eq-Decides r.0.key.digest subject.digest).0 both.1) in
     needed (kept r.0.key both.0) (inr (h, subject, there, refl, is, digest)) (held_from_entry held h there)
 
-needed_kept : (held : List Held) (roots : List Descriptor) (set : BTreeSet Descriptor) (h : Held) → AllKept held roots set → Contains held h → is_needed held roots set h ≡ true → IsKept (graph_of held) roots (RefersIn held) h.key
+needed_kept : (held : List Held) (roots : List Descriptor) (set : BTreeSet Descriptor) (h : Held) → AllKept held roots set → Contains held h → is_needed held roots set h ≡ true → Belongs (graph_of held) roots (RefersIn held) h.key
 needed_kept held roots set h kept there needs =
     elim (or_cases (is_among roots h.key || is_listed held set h.key) (states_kept held set h) needs) [
       | inr states ↦ stated held roots set h h.subject refl kept there states
       | inl above ↦
           elim (or_cases (is_among roots h.key) (is_listed held set h.key) above) [
-            | inl named ↦ root (Contains-from_among roots h.key named) (held_from_entry held h there)
+            | inl named ↦ given (Contains-from_among roots h.key named) (held_from_entry held h there)
             | inr listed ↦
                 let r = any_one (λ (other : Held). contains key_cmp set other.key && lists_key (graph_of held) other.key h.key) held listed in
                 let both = and_parts (contains key_cmp set r.0.key) (lists_key (graph_of held) r.0.key h.key) r.2 in
@@ -172,7 +172,7 @@ grown_kept held roots old new h kept found grown k there =
     let both = and_parts (not (contains key_cmp old h.key)) (is_needed held roots old h) is.1 in
     elim ((grown k).0 there) [
       | inl was ↦ kept k was
-      | inr same ↦ subst (λ (x : Descriptor). IsKept (graph_of held) roots (RefersIn held) x) (sym same) (needed_kept held roots old h kept is.0 both.1)
+      | inr same ↦ subst (λ (x : Descriptor). Belongs (graph_of held) roots (RefersIn held) x) (sym same) (needed_kept held roots old h kept is.0 both.1)
     ]
 
 -- the number of entries whose keys are not in the set
@@ -200,8 +200,8 @@ there_if_needed held roots set h none there needs =
       | inr never ↦ absurd (both_ways (is_needed held roots set h) never needs)
     ]
 
-all_there : (held : List Held) (roots : List Descriptor) (set : BTreeSet Descriptor) → next_in held roots set ≡ None → (k : Descriptor) → IsKept (graph_of held) roots (RefersIn held) k → contains key_cmp set k ≡ true
-all_there held roots set none k (root named holds) =
+all_there : (held : List Held) (roots : List Descriptor) (set : BTreeSet Descriptor) → next_in held roots set ≡ None → (k : Descriptor) → Belongs (graph_of held) roots (RefersIn held) k → contains key_cmp set k ≡ true
+all_there held roots set none k (given named holds) =
     let e = entry_from_held held k holds in
     let named_e = among_from_Contains roots e.0.key (subst (λ (x : Descriptor). Contains roots x) (sym e.2) named) in
     subst (λ (x : Descriptor). contains key_cmp set x ≡ true) e.2 (there_if_needed held roots set e.0 none e.1
@@ -227,5 +227,5 @@ all_there held roots set none k (needed {from} kept (inr refers) holds) =
     subst (λ (x : Descriptor). contains key_cmp set x ≡ true) refers.3 (there_if_needed held roots set refers.0 none refers.2
     (or_right (is_among roots refers.0.key || is_listed held set refers.0.key) (states_kept held set refers.0) states))
 
-pub kept_at_end : (held : List Held) (roots : List Descriptor) (set : BTreeSet Descriptor) → AllKept held roots set → next_in held roots set ≡ None → AreKept (graph_of held) roots (RefersIn held) set
+pub kept_at_end : (held : List Held) (roots : List Descriptor) (set : BTreeSet Descriptor) → AllKept held roots set → next_in held roots set ≡ None → AreMembers (graph_of held) roots (RefersIn held) set
 kept_at_end held roots set kept none k = (kept k, all_there held roots set none k)

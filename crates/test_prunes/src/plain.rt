@@ -2,7 +2,7 @@ ghost use Rattle.std.specs.Prelude.{◌≡◌, IfOk, OnOk, find};
 ghost use Rattle.std.specs.Option.{option_copied};
 ghost use Rattle.oci_manifest.specs.Descriptor.{same_key};
 ghost use Rattle.oci_store.specs.Predecessors.{lists_key};
-ghost use Rattle.oci_prune.specs.Kept.{AreKept};
+ghost use Rattle.oci_prune.specs.Plan.{AreKept};
 ghost use Rattle.oci_prune.specs.Walk.{HasOneMore};
 ghost use Rattle.test_prunes.specs.Plain.{graph_of, RefersIn, has_kept_digest, is_listed, states_kept, is_needed, next_in};
 

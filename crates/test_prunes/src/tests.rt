@@ -1,2 +1,3 @@
+mod belonging;
 mod layouts;
 mod random;

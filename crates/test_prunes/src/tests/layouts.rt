@@ -42,7 +42,7 @@ fn cloned(alloc: Global, keys: &[Key]) -> Result<Vec<Key>, Fail> {
     Ok(copies)
 }
 
-fn created(alloc: Global) -> Result<Layout<MemDir>, Fail> {
+pub(crate) fn created(alloc: Global) -> Result<Layout<MemDir>, Fail> {
     match Layout::create(alloc, MemDir::new(alloc)) {
         Ok(layout) => Ok(layout),
         Err((_, fault)) => Err(Fail::from(fault)),

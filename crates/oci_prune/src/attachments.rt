@@ -1,0 +1,148 @@
+ghost use Rattle.std.specs.Prelude.{◌≡◌, ◌++◌, [], Contains, IfOk, IfErr, OnOk};
+ghost use Rattle.oci_manifest.specs.Descriptor.{Descriptor};
+ghost use Rattle.oci_store.specs.Tags.{by_bytes};
+ghost use Rattle.oci_prune.specs.Attached.{AreAttachments, AreFollowers, AttachedIn, attached_in, followers_in, stemmed_in, dashed, cut};
+ghost use Rattle.oci_prune.specs.Subjects.{IsSubjectFault, referrers_in};
+
+use crate::fault::PruneFault;
+use crate::followers::{cut, dashed, followers_of};
+use crate::referrers::referrers_of;
+use oci_digest::{Digest, NoMemory};
+use oci_manifest::{Key, Kind};
+use oci_store::Source;
+use std::alloc::Global;
+use std::collections::BTreeMap;
+
+/// What is attached to keys: the manifests that state a subject, under the digests of their
+/// subjects, and the keys of tags, under what their names have before the first `.`.
+#[derive(Drop)]
+pub struct Attachments {
+    pub(crate) referrers: BTreeMap<Digest, Vec<Key>>,
+    pub(crate) followers: BTreeMap<String, Vec<Key>>,
+}
+
+impl Attachments {
+    /// Returns what is attached to keys, if these are held and have these tags. Reads each held
+    /// manifest that may state a subject once.
+    ///
+    /// # Errors
+    ///
+    /// - 77 `BadManifest` if a manifest cannot be read.
+    /// - 88 `Fetch` if the bytes of a manifest cannot be fetched.
+    /// - 89 `Memory` if memory runs out.
+    pub(crate) fn of<S: Source>(
+        alloc: Global,
+        source: &S,
+        held: &[Key],
+        tags: &[(String, Key)],
+    ) -> Result<Attachments, PruneFault>
+        ensures exact { IfOk result (λ attachments. (S.state source.now).is_honest
+            → AreAttachments (S.state source.now).entries held.now (by_bytes tags.now)
+            attachments) }
+        ensures followers { IfOk result (λ attachments.
+            AreFollowers (by_bytes tags.now) attachments.followers) }
+        ensures cause { IfErr result (IsSubjectFault (S.state source.now) (Contains held.now)) }
+    {
+        let referrers = referrers_of(alloc, source, held)?;
+        let followers = followers_of(alloc, tags)?;
+        Ok(Attachments {
+            referrers,
+            followers,
+        })
+    }
+
+    /// Returns that nothing is attached to any key. Does not allocate.
+    pub(crate) fn none(alloc: Global) -> Attachments
+        ensures { (k subject : Descriptor) → AttachedIn result k subject → ⊥ }
+    {
+        Attachments {
+            referrers: BTreeMap::new(alloc),
+            followers: BTreeMap::new(alloc),
+        }
+    }
+
+    /// Returns the keys that are attached to a key. A key may occur twice.
+    ///
+    /// # Errors
+    ///
+    /// Returns [`NoMemory`] if an allocation fails.
+    pub fn attached_to(&self, alloc: Global, key: &Key) -> Result<Vec<Key>, NoMemory>
+        ensures { IfOk result (λ keys. keys.items ≡ attached_in self.now key.now) }
+    {
+        let mut keys = Vec::new(alloc);
+        add_referrers(&self.referrers, key, &mut keys)?;
+        add_followers(alloc, &self.followers, key, &mut keys)?;
+        Ok(keys)
+    }
+}
+
+/// Adds the keys that refer to a key.
+fn add_referrers(
+    referrers: &BTreeMap<Digest, Vec<Key>>,
+    subject: &Key,
+    keys: &mut Vec<Key>,
+) -> Result<(), NoMemory>
+    ensures { OnOk result (keys.new.items
+        ≡ keys.old.items ++ referrers_in referrers.now subject.now) }
+{
+    match referrers.get(subject.digest()) {
+        Some(found) => add_copies(found, keys),
+        None => Ok(()),
+    }
+}
+
+/// Adds the keys of the tags that name the digest of a key of a manifest kind.
+fn add_followers(
+    alloc: Global,
+    followers: &BTreeMap<String, Vec<Key>>,
+    subject: &Key,
+    keys: &mut Vec<Key>,
+) -> Result<(), NoMemory>
+    ensures { OnOk result (keys.new.items
+        ≡ keys.old.items ++ followers_in followers.now subject.now) }
+{
+    match Kind::of(subject.media_type()) {
+        Kind::Leaf => Ok(()),
+        _ => add_named(alloc, followers, subject.digest(), keys),
+    }
+}
+
+/// Adds the keys of the tags that name a digest.
+fn add_named(
+    alloc: Global,
+    followers: &BTreeMap<String, Vec<Key>>,
+    digest: &Digest,
+    keys: &mut Vec<Key>,
+) -> Result<(), NoMemory>
+    ensures { OnOk result (keys.new.items ≡ keys.old.items
+        ++ (stemmed_in followers.now (dashed digest.now)
+        ++ stemmed_in followers.now (cut digest.now))) }
+{
+    let text = dashed(alloc, digest)?;
+    add_stemmed(followers, text.as_str(), keys)?;
+    add_stemmed(followers, cut(text.as_str()), keys)
+}
+
+/// Adds the keys of the tags with this before the first `.` of their names.
+fn add_stemmed(
+    followers: &BTreeMap<String, Vec<Key>>,
+    stem: &str,
+    keys: &mut Vec<Key>,
+) -> Result<(), NoMemory>
+    ensures { OnOk result (keys.new.items ≡ keys.old.items ++ stemmed_in followers.now stem.now) }
+{
+    match followers.get(stem) {
+        Some(found) => add_copies(found, keys),
+        None => Ok(()),
+    }
+}
+
+/// Adds copies of keys.
+fn add_copies(found: &[Key], keys: &mut Vec<Key>) -> Result<(), NoMemory>
+    ensures { OnOk result (keys.new.items ≡ keys.old.items ++ found.now) }
+{
+    for key in found {
+        keys.push(key.try_clone()?)?;
+    }
+    Ok(())
+}
