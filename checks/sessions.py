@@ -31,6 +31,7 @@ def parts(algorithm, media_type, text):
         None: "%s %d %s" % (digest, len(text), media_type),
         "digest": digest,
         "short": "%s:%.12s" % (algorithm, digits),
+        "tag": "%s-%.64s" % (algorithm, digits),
         "descriptor": '{"mediaType":"%s","digest":"%s","size":%d}' % (media_type, digest, len(text)),
         "type": media_type,
         "bytes": text,

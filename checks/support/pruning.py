@@ -76,19 +76,23 @@ class Held:
     def subject(self, key):
         return self.member(key, "subject") if "subject" in MEMBERS.get(key.media_type, []) else []
 
-    def kept(self, keeps_referrers):
-        """Return the least set of held keys with the tagged keys, all keys that its keys list, and all keys whose subject has the digest of
-        one of its keys."""
-        kept = set()
-        more = set(self.tags.values())
+    def members(self, given, attached):
+        """Return the least set of held keys with the given ones, all keys that its keys list, and all keys that `attached` finds for it."""
+        found, more = set(), set(given)
         while more:
-            kept |= more
-            more = {it for key in kept for it in self.listed(key)}
-            if keeps_referrers:
-                digests = {it.digest for it in kept}
-                more |= {it for it in self.keys if any(subject.digest in digests for subject in self.subject(it))}
-            more = (more & self.keys) - kept
-        return kept
+            found |= more
+            more = {it for key in found for it in self.listed(key)} | attached(found)
+            more = (more & self.keys) - found
+        return found
+
+    def referrers(self, keys):
+        """Return the keys whose subject has the digest of one of these keys."""
+        digests = {it.digest for it in keys}
+        return {it for it in self.keys if any(subject.digest in digests for subject in self.subject(it))}
+
+    def kept(self, keeps_referrers):
+        """Return the keys that a prune keeps."""
+        return self.members(self.tags.values(), self.referrers if keeps_referrers else lambda keys: set())
 
 
 class Prune:

@@ -7,6 +7,7 @@ use Rattle.std.specs.Map.{lookup}
 use Rattle.std.specs.Ordering.{is_eq}
 use Rattle.std.proofs.lemmas.List.Elements.{All-append, All-contains, All-cons, All-nil}
 use Rattle.oci_manifest.specs.Descriptor.{Descriptor, key_cmp, same_key}
+use Rattle.oci_store.specs.Tags.{Tags}
 use Rattle.oci_store.proofs.KeyOrder.{is_eq-key_cmp}
 use Rattle.oci_copy.proofs.Places.{Contains-from_slice_get}
 use Rattle.oci_layout.specs.Brought.{annotations_of, renamed, same_name, with_annotations, with_name, IsShallowEntry}
@@ -15,7 +16,7 @@ use Rattle.oci_layout.specs.Saved.{later_place, no_name}
 use Rattle.oci_layout.specs.declared.index.IndexEntry.{IndexEntry as CodeEntry}
 use Rattle.oci_layout.proofs.Brought.{shallow_with}
 use Rattle.oci_layout.proofs.LastNames.{entries-more, later_place-cond, later_place-none, length-entries}
-use Rattle.oci_copy_commands.specs.Brought.{entry_at, if_there, is_of, last_such, place_of_key, root_entry, with_roots, HasLastPlaces}
+use Rattle.oci_copy_commands.specs.Brought.{entry_at, if_there, is_of, last_such, place_of_key, place_of_reference, reference_entry, root_entry, tag_entries, with_roots, HasLastPlaces}
 
 -- ---- the last entry of each key
 
@@ -74,3 +75,12 @@ roots_shallow entries named (k ∷ roots) all =
 
 pub with_roots_shallow : (entries named : List IndexEntry) (roots : List Descriptor) → All IsShallowEntry entries → All IsShallowEntry named → All IsShallowEntry (with_roots entries named roots)
 with_roots_shallow entries named roots all of_named = All-append IsShallowEntry named (flat_map (root_entry entries named) roots) of_named (roots_shallow entries named roots all)
+
+tags_shallow : (entries : List IndexEntry) (tags : Tags) → All IsShallowEntry entries → All IsShallowEntry (tag_entries entries tags)
+tags_shallow entries [] all = All-nil IsShallowEntry
+tags_shallow entries (t ∷ tags) all =
+    All-append IsShallowEntry (reference_entry entries t.0 t.0 t.1) (tag_entries entries tags) (at_shallow (Some t.0) entries (place_of_reference entries t.0 t.1) all) (tags_shallow entries tags all)
+
+pub named_shallow : (entries : List IndexEntry) (from to : List ℕ) (k : Descriptor) (others : Tags) → All IsShallowEntry entries → All IsShallowEntry (reference_entry entries from to k ++ tag_entries entries others)
+named_shallow entries from to k others all =
+    All-append IsShallowEntry (reference_entry entries from to k) (tag_entries entries others) (at_shallow (Some to) entries (place_of_reference entries from k) all) (tags_shallow entries others all)

@@ -1,3 +1,4 @@
+mod AttachedRoots
 mod BroughtEntries
 mod Saved
 mod Selections

@@ -16,19 +16,19 @@ use Rattle.oci_store.specs.declared.fault.RefFault.{RefFault}
 use Rattle.oci_store.specs.declared.fault.RefFault.TheVariants as fault
 use Rattle.oci_store.proofs.Membership.{Keys, Contains-from_among, among_from_Contains, among-append_cases, among-with_keys, stays-with_keys, there-with_keys}
 use Rattle.oci_copy.proofs.Places.{Contains-from_slice_get}
-use Rattle.oci_copy_commands.specs.Selected.{AreRoots, AreRootsOfKeys, IsRootOfKey, IsRootOfKeys}
+use Rattle.oci_copy_commands.specs.Selected.{AreClimbed, AreClimbedOfKeys, IsClimbed, IsClimbedOfKeys}
 
 -- keys that are among held keys are held
 pub among_held : (graph : List Node) (roots keys : List Descriptor) → HasAll graph roots → All (λ (k : Descriptor). Contains roots k) keys → HasAll graph keys
 among_held graph roots keys held = All-weaker (λ (k : Descriptor). Contains roots k) (λ (k : Descriptor). has_key graph k ≡ true) (λ k there. All-contains (λ (k : Descriptor). has_key graph k ≡ true) roots k held there) keys
 
 -- a copy of a key starts from that key
-starts_there : (graph : List Node) (referrers : Option ℕ) (k : Descriptor) → IsRootOfKey graph referrers k k
+starts_there : (graph : List Node) (referrers : Option ℕ) (k : Descriptor) → IsClimbed graph referrers k k
 starts_there graph None k = refl
 starts_there graph (Some depth) k = (0, (λ limited. omega arith), refl)
 
 -- the roots of a copy of one key are exactly the keys from which it starts
-roots_are : (graph : List Node) (referrers : Option ℕ) (k : Descriptor) (roots : Keys) → AreRoots graph referrers k roots → (root : Descriptor) → Contains roots root ↔ IsRootOfKey graph referrers k root
+roots_are : (graph : List Node) (referrers : Option ℕ) (k : Descriptor) (roots : Keys) → AreClimbed graph referrers k roots → (root : Descriptor) → Contains roots root ↔ IsClimbed graph referrers k root
 roots_are graph None k roots is root = subst (λ (keys : Keys). Contains keys root ↔ (root ≡ k)) (sym is) (alone, there)
   where
     alone : Contains (k ∷ []) root → root ≡ k
@@ -39,54 +39,54 @@ roots_are graph None k roots is root = subst (λ (keys : Keys). Contains keys ro
 roots_are graph (Some depth) k roots up root = up.each root
 
 -- a key is among the roots of its copy
-pub root_there : (graph : List Node) (referrers : Option ℕ) (k : Descriptor) (roots : Keys) → AreRoots graph referrers k roots → Contains roots k
+pub root_there : (graph : List Node) (referrers : Option ℕ) (k : Descriptor) (roots : Keys) → AreClimbed graph referrers k roots → Contains roots k
 root_there graph referrers k roots are = (roots_are graph referrers k roots are k).1 (starts_there graph referrers k)
 
 -- once the roots of a copy of one key are added, the roots are the old ones and those
-pub roots_placed : (graph : List Node) (referrers : Option ℕ) (k : Descriptor) (old more new : Keys) → AreRoots graph referrers k more → new ≡ with_keys old more
-    → (root : Descriptor) → Contains new root ↔ (Contains old root ⊎ IsRootOfKey graph referrers k root)
-roots_placed graph referrers k old more new are is root = subst (λ (keys : Keys). Contains keys root ↔ (Contains old root ⊎ IsRootOfKey graph referrers k root)) (sym is) (came, there)
+pub roots_placed : (graph : List Node) (referrers : Option ℕ) (k : Descriptor) (old more new : Keys) → AreClimbed graph referrers k more → new ≡ with_keys old more
+    → (root : Descriptor) → Contains new root ↔ (Contains old root ⊎ IsClimbed graph referrers k root)
+roots_placed graph referrers k old more new are is root = subst (λ (keys : Keys). Contains keys root ↔ (Contains old root ⊎ IsClimbed graph referrers k root)) (sym is) (came, there)
   where
-    came : Contains (with_keys old more) root → Contains old root ⊎ IsRootOfKey graph referrers k root
+    came : Contains (with_keys old more) root → Contains old root ⊎ IsClimbed graph referrers k root
     came h =
         elim (among-with_keys old more root (among_from_Contains (with_keys old more) root h)) [
           | inl before ↦ inl (Contains-from_among old root before)
           | inr added ↦ inr ((roots_are graph referrers k more are root).0 (Contains-from_among more root added))
         ]
 
-    there : Contains old root ⊎ IsRootOfKey graph referrers k root → Contains (with_keys old more) root
+    there : Contains old root ⊎ IsClimbed graph referrers k root → Contains (with_keys old more) root
     there (inl before) = Contains-from_among (with_keys old more) root (stays-with_keys old more root (among_from_Contains old root before))
     there (inr of) = Contains-from_among (with_keys old more) root (there-with_keys old more root (among_from_Contains more root ((roots_are graph referrers k more are root).1 of)))
 
 -- the roots of a copy of some keys and those of one key more are the roots of a copy of all these
 -- keys
 roots_more : (graph : List Node) (referrers : Option ℕ) (keys : Keys) (k : Descriptor) (old new : Keys)
-    → ((root : Descriptor) → Contains new root ↔ (Contains old root ⊎ IsRootOfKey graph referrers k root))
-    → ((root : Descriptor) → Contains old root ↔ IsRootOfKeys graph referrers keys root)
-    → (root : Descriptor) → Contains new root ↔ IsRootOfKeys graph referrers (keys ++ k ∷ []) root
+    → ((root : Descriptor) → Contains new root ↔ (Contains old root ⊎ IsClimbed graph referrers k root))
+    → ((root : Descriptor) → Contains old root ↔ IsClimbedOfKeys graph referrers keys root)
+    → (root : Descriptor) → Contains new root ↔ IsClimbedOfKeys graph referrers (keys ++ k ∷ []) root
 roots_more graph referrers keys k old new grown before root = (λ h. joined ((grown root).0 h), λ of. (grown root).1 (apart of))
   where
-    joined : Contains old root ⊎ IsRootOfKey graph referrers k root → IsRootOfKeys graph referrers (keys ++ k ∷ []) root
+    joined : Contains old root ⊎ IsClimbed graph referrers k root → IsClimbedOfKeys graph referrers (keys ++ k ∷ []) root
     joined (inl there) =
         let of = (before root).0 there in
         (of.0, Contains-append_left keys (k ∷ []) of.0 of.1, of.2)
     joined (inr of) = (k, Contains-push keys k, of)
 
-    apart : IsRootOfKeys graph referrers (keys ++ k ∷ []) root → Contains old root ⊎ IsRootOfKey graph referrers k root
+    apart : IsClimbedOfKeys graph referrers (keys ++ k ∷ []) root → Contains old root ⊎ IsClimbed graph referrers k root
     apart of =
         elim (Contains-push_cases keys k of.0 of.1) [
           | inl earlier ↦ inl ((before root).1 (of.0, earlier, of.2))
-          | inr last ↦ inr (subst (λ (key : Descriptor). IsRootOfKey graph referrers key root) (sym last) of.2)
+          | inr last ↦ inr (subst (λ (key : Descriptor). IsClimbed graph referrers key root) (sym last) of.2)
         ]
 
 -- the key of each tag is among the roots of a copy of its keys
-pub tagged_there : (graph : List Node) (referrers : Option ℕ) (tags : Tags) (keys roots : Keys) → ((k : Descriptor) → Contains (values_of tags) k → Contains keys k) → AreRootsOfKeys graph referrers keys roots
+pub tagged_there : (graph : List Node) (referrers : Option ℕ) (tags : Tags) (keys roots : Keys) → ((k : Descriptor) → Contains (values_of tags) k → Contains keys k) → AreClimbedOfKeys graph referrers keys roots
     → All (λ (k : Descriptor). Contains roots k) (values_of tags)
 tagged_there graph referrers tags keys roots among are =
     All-weaker (λ (k : Descriptor). Contains (values_of tags) k) (λ (k : Descriptor). Contains roots k) (λ k tagged. (are.each k).1 (k, among k tagged, starts_there graph referrers k)) (values_of tags) (All-contains_itself (values_of tags))
 
 -- the roots of a copy of keys are those of a copy of any list with the same keys
-pub roots_by : (graph : List Node) (referrers : Option ℕ) (keys other roots : Keys) → ((k : Descriptor) → Contains keys k ↔ Contains other k) → AreRootsOfKeys graph referrers keys roots → AreRootsOfKeys graph referrers other roots
+pub roots_by : (graph : List Node) (referrers : Option ℕ) (keys other roots : Keys) → ((k : Descriptor) → Contains keys k ↔ Contains other k) → AreClimbedOfKeys graph referrers keys roots → AreClimbedOfKeys graph referrers other roots
 roots_by graph referrers keys other roots same are = record {
   each = λ root. (
     (λ there. let of = (are.each root).0 there in (of.0, (same of.0).0 of.1, of.2)),
@@ -146,26 +146,26 @@ module _ (tags : List (String Global × Descriptor)) (i : ℕ) (t : String Globa
 
 -- once the roots of one more key are added, the roots are those of the keys so far
 pub placed_more : (graph : List Node) (referrers : Option ℕ) (keys : Keys) (i : ℕ) (k : Descriptor) (old new : Keys) → i < length keys → k ≡ get_or keys i k
-    → ((root : Descriptor) → Contains new root ↔ (Contains old root ⊎ IsRootOfKey graph referrers k root))
-    → ((root : Descriptor) → Contains old root ↔ IsRootOfKeys graph referrers (take i keys) root)
-    → (root : Descriptor) → Contains new root ↔ IsRootOfKeys graph referrers (take (i + 1) keys) root
+    → ((root : Descriptor) → Contains new root ↔ (Contains old root ⊎ IsClimbed graph referrers k root))
+    → ((root : Descriptor) → Contains old root ↔ IsClimbedOfKeys graph referrers (take i keys) root)
+    → (root : Descriptor) → Contains new root ↔ IsClimbedOfKeys graph referrers (take (i + 1) keys) root
 placed_more graph referrers keys i k old new within is grown before root =
     let taken : take (i + 1) keys ≡ take i keys ++ k ∷ [] = take_more keys i k within ∙ ap (λ (x : Descriptor). take i keys ++ x ∷ []) (sym is) in
-    subst (λ (ks : Keys). Contains new root ↔ IsRootOfKeys graph referrers ks root) (sym taken) (roots_more graph referrers (take i keys) k old new grown before root)
+    subst (λ (ks : Keys). Contains new root ↔ IsClimbedOfKeys graph referrers ks root) (sym taken) (roots_more graph referrers (take i keys) k old new grown before root)
 
 -- before the first key there are none, and once the roots of all keys are added, they are those of
 -- the keys
-pub placed_none : (graph : List Node) (referrers : Option ℕ) (roots : Keys) → roots ≡ [] → (root : Descriptor) → Contains roots root ↔ IsRootOfKeys graph referrers [] root
-placed_none graph referrers roots none root = subst (λ (keys : Keys). Contains keys root ↔ IsRootOfKeys graph referrers [] root) (sym none) (λ there. absurd (empty root there), λ of. absurd (empty of.0 of.1))
+pub placed_none : (graph : List Node) (referrers : Option ℕ) (roots : Keys) → roots ≡ [] → (root : Descriptor) → Contains roots root ↔ IsClimbedOfKeys graph referrers [] root
+placed_none graph referrers roots none root = subst (λ (keys : Keys). Contains keys root ↔ IsClimbedOfKeys graph referrers [] root) (sym none) (λ there. absurd (empty root there), λ of. absurd (empty of.0 of.1))
   where
     empty : (k : Descriptor) → Contains [] k → ⊥
     empty k there = let h : there.0 < 0 = there.1 in omega arith
 
 pub placed_all : (graph : List Node) (referrers : Option ℕ) (roots keys : Keys) (i : ℕ) → length keys ≤ i
-    → ((root : Descriptor) → Contains roots root ↔ IsRootOfKeys graph referrers (take i keys) root)
-    → (root : Descriptor) → Contains roots root ↔ IsRootOfKeys graph referrers keys root
+    → ((root : Descriptor) → Contains roots root ↔ IsClimbedOfKeys graph referrers (take i keys) root)
+    → (root : Descriptor) → Contains roots root ↔ IsClimbedOfKeys graph referrers keys root
 placed_all graph referrers roots keys i past so_far root =
-    subst (λ (ks : Keys). Contains roots root ↔ IsRootOfKeys graph referrers ks root) (take_all i keys past) (so_far root)
+    subst (λ (ks : Keys). Contains roots root ↔ IsClimbedOfKeys graph referrers ks root) (take_all i keys past) (so_far root)
 
 -- combines three facts about a result that succeeded
 pub all_ok : {X E : Type 0} {P Q S R : X → Type 0} (r : Result X E) → ((x : X) → P x → Q x → S x → R x) → IfOk r P → IfOk r Q → IfOk r S → IfOk r R

@@ -3,6 +3,7 @@ use Rattle.std.specs.Prelude.{◌≡◌, ◌++◌, ◌∷◌, [], ℕ, Bool, tru
 use Rattle.std.specs.BTreeMap.{BTreeMap, get}
 use Rattle.std.specs.List.{flat_map}
 use Rattle.oci_manifest.specs.Descriptor.{Descriptor, key_cmp, same_key}
+use Rattle.oci_store.specs.Tags.{Tags}
 use Rattle.oci_layout.specs.Brought.{renamed}
 use Rattle.oci_layout.specs.Entries.{IndexEntry}
 use Rattle.oci_layout.specs.Saved.{is_name, later_place, no_name}
@@ -53,6 +54,10 @@ named_entries entries = filter (λ (e : IndexEntry). not (no_name e.name)) entri
 -- the entry that a copy of a reference brings, under a name
 abbrev pub reference_entry : List IndexEntry → List ℕ → List ℕ → Descriptor → List IndexEntry
 reference_entry entries from to k = if_there (option_map (renamed (Some to)) (entry_at entries (place_of_reference entries from k)))
+
+-- the entries that a copy brings of tags of the source, each under its own name
+abbrev pub tag_entries : List IndexEntry → Tags → List IndexEntry
+tag_entries entries tags = flat_map (λ (t : List ℕ × Descriptor). reference_entry entries t.0 t.0 t.1) tags
 
 -- the entry that a root brings, without its name, unless one of the named ones has its key
 abbrev pub root_entry : List IndexEntry → List IndexEntry → Descriptor → List IndexEntry

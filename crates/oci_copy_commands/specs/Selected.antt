@@ -5,13 +5,18 @@ use Rattle.std.specs.Map.{keys_of, values_of}
 use Rattle.oci_manifest.specs.Descriptor.{Descriptor, same_key}
 use Rattle.oci_store.specs.Graph.{Node}
 use Rattle.oci_store.specs.Keyed.{has_key}
-use Rattle.oci_store.specs.Tags.{Tags, set_tag, tag_at, without_tag}
+use Rattle.oci_store.specs.State.{State}
+use Rattle.oci_store.specs.Tags.{Tags, by_bytes, set_tag, tag_at, without_tag}
+use Rattle.oci_store.specs.Visiting.{with_keys}
 use Rattle.oci_layout.specs.Brought.{IsShallowEntry}
 use Rattle.oci_layout.specs.Entries.{IndexEntry, entry_keys, text_of}
 use Rattle.oci_layout.specs.Saved.{no_name}
 use Rattle.oci_layout.specs.declared.index.IndexEntry.{IndexEntry as CodeEntry}
 use Rattle.oci_copy_commands.specs.Brought.{named_entries}
 use Rattle.oci_plan.specs.Up.{HasPath, IsUp, IsWithinDepth}
+use Rattle.oci_prune.specs.Attached.{AttachedBy}
+use Rattle.oci_prune.specs.Belonging.{IsBelonging, IsComplete}
+use Rattle.oci_prune.specs.declared.belonging.Belonging.{Belonging}
 
 -- no tag is empty, and each tags a root
 pub record AreOfRoots (roots : List Descriptor) (tags : Tags) : Type 0 where
@@ -23,30 +28,65 @@ pub record IsSelected (roots : List Descriptor) (tags : Tags) (entries : List In
   pub of_roots : AreOfRoots roots tags
   pub shallow : All IsShallowEntry entries
 
--- the roots of a copy of one key: only the key, or with referrers the keys from which a path within
--- the depth leads to it
-abbrev pub AreRoots : List Node → Option ℕ → Descriptor → List Descriptor → Type 0
-AreRoots graph None k roots = roots ≡ k ∷ []
-AreRoots graph (Some depth) k roots = IsUp graph k depth roots
+-- ---- the roots
 
--- a root of a copy of one key: the key itself, or with referrers a key from which a path within the
--- depth leads to it
-abbrev pub IsRootOfKey : List Node → Option ℕ → Descriptor → Descriptor → Type 0
-IsRootOfKey graph None k root = root ≡ k
-IsRootOfKey graph (Some depth) k root = (edges : ℕ) × IsWithinDepth depth edges × HasPath graph edges root k
+-- the keys that a copy of one key climbs to: only the key, or with referrers the keys from which a path
+-- within the depth leads to it
+abbrev pub AreClimbed : List Node → Option ℕ → Descriptor → List Descriptor → Type 0
+AreClimbed graph None k climbed = climbed ≡ k ∷ []
+AreClimbed graph (Some depth) k climbed = IsUp graph k depth climbed
 
--- a root of a copy of these keys: a root of a copy of one of them
-abbrev pub IsRootOfKeys : List Node → Option ℕ → List Descriptor → Descriptor → Type 0
-IsRootOfKeys graph referrers keys root = (k : Descriptor) × Contains keys k × IsRootOfKey graph referrers k root
+-- a copy of one key climbs to a key: to the key itself, or with referrers to a key from which a path
+-- within the depth leads to it
+abbrev pub IsClimbed : List Node → Option ℕ → Descriptor → Descriptor → Type 0
+IsClimbed graph None k from = from ≡ k
+IsClimbed graph (Some depth) k from = (edges : ℕ) × IsWithinDepth depth edges × HasPath graph edges from k
 
--- the roots of a copy of these keys, each once
-pub record AreRootsOfKeys (graph : List Node) (referrers : Option ℕ) (keys roots : List Descriptor) : Type 0 where
-  pub each : (root : Descriptor) → Contains roots root ↔ IsRootOfKeys graph referrers keys root
-  pub distinct : IsDistinct same_key roots
+-- a copy of these keys climbs to a key: a copy of one of them does
+abbrev pub IsClimbedOfKeys : List Node → Option ℕ → List Descriptor → Descriptor → Type 0
+IsClimbedOfKeys graph referrers keys from = (k : Descriptor) × Contains keys k × IsClimbed graph referrers k from
+
+-- the keys that a copy of these keys climbs to, each once
+pub record AreClimbedOfKeys (graph : List Node) (referrers : Option ℕ) (keys climbed : List Descriptor) : Type 0 where
+  pub each : (from : Descriptor) → Contains climbed from ↔ IsClimbedOfKeys graph referrers keys from
+  pub distinct : IsDistinct same_key climbed
+
+-- these keys, each once, at its first place
+abbrev pub each_once : List Descriptor → List Descriptor
+each_once keys = with_keys [] keys
+
+-- what belongs to keys of a source: all that is held and listed or tagged, and in an honest source
+-- exactly what is attached
+pub record IsSourceBelonging (store : State) (keys : List Descriptor) (b : Belonging) : Type 0 where
+  pub complete : IsComplete store.nodes keys store.tags b
+  pub exact : store.is_honest → IsBelonging store.nodes keys (AttachedBy store.entries store.tags) b
+
+-- the climbed keys, and then what is attached to the keys that belong to them
+abbrev pub AddsAttached : State → List Descriptor → List Descriptor → Type 0
+AddsAttached store climbed roots = (b : Belonging) × IsSourceBelonging store climbed b × (roots ≡ each_once (climbed ++ b.attached.items))
+
+-- The roots of a copy with referrers, and the tags that come with the tag of a name: those of the source
+-- that name a manifest which belongs to the climbed keys, but for one of that name.
+abbrev pub AreWithAttached : State → List Descriptor → List ℕ → List Descriptor → Tags → Type 0
+AreWithAttached store climbed name roots others =
+    (b : Belonging) × IsSourceBelonging store climbed b × (roots ≡ each_once (climbed ++ b.attached.items)) × (others ≡ without_tag (by_bytes b.tags.items) name)
+
+-- the roots of a copy of a reference, and the tags that come with its own
+abbrev pub AreReferenceRoots : State → Option ℕ → Descriptor → List ℕ → List Descriptor → Tags → Type 0
+AreReferenceRoots store None k name roots others = (roots ≡ k ∷ []) × (others ≡ [])
+AreReferenceRoots store (Some depth) k name roots others = (climbed : List Descriptor) × IsUp store.nodes k depth climbed × AreWithAttached store climbed name roots others
+
+-- the roots of a copy of all tags: the keys that it climbs to, and with referrers also what is attached
+-- to the keys that belong to them
+abbrev pub AreAllRoots : State → Option ℕ → List Descriptor → List Descriptor → Type 0
+AreAllRoots store None keys roots = AreClimbedOfKeys store.nodes None keys roots
+AreAllRoots store (Some depth) keys roots = (climbed : List Descriptor) × AreClimbedOfKeys store.nodes (Some depth) keys climbed × AddsAttached store climbed roots
 
 -- the keys that a copy of all tags starts from: the tagged ones, and those of the entries with a name
 abbrev pub named_keys : Tags → List IndexEntry → List Descriptor
 named_keys tags entries = values_of tags ++ entry_keys (named_entries entries)
+
+-- ---- the tags
 
 -- the key of an entry is held, if the entry has a name
 abbrev pub IsNamedHeld : List Node → CodeEntry → Type 0

@@ -3,6 +3,7 @@ ghost use Rattle.std.specs.Prelude.{◌≡◌, ◌++◌, ◌||◌, false, not, m
 ghost use Rattle.std.specs.BTreeMap.{get};
 ghost use Rattle.std.specs.List.{flat_map};
 ghost use Rattle.oci_manifest.specs.Descriptor.{Descriptor, key_cmp};
+ghost use Rattle.oci_store.specs.Tags.{by_bytes};
 ghost use Rattle.oci_layout.specs.Entries.{entry_of};
 ghost use Rattle.oci_layout.specs.Saved.{no_name};
 ghost use Rattle.oci_copy_commands.specs.Brought.{
@@ -15,6 +16,7 @@ ghost use Rattle.oci_copy_commands.specs.Brought.{
   place_of_reference,
   reference_entry,
   root_entry,
+  tag_entries,
   with_roots,
   HasLastPlaces,
 };
@@ -173,21 +175,24 @@ fn is_tagged(entry: &IndexEntry, name: &str, key: &Key) -> bool
 }
 
 /// Returns the entries that a copy of a reference brings: the entry of the reference under a name,
-/// and those of the other roots without theirs.
+/// those of the other tags under their own, and those of the other roots without theirs.
 pub(crate) fn entries_of_reference(
     alloc: Global,
     entries: &[IndexEntry],
     from: &str,
     to: &str,
     key: &Key,
+    others: &[(String, Key)],
     roots: &[Key],
 ) -> Result<Vec<IndexEntry>, NoMemory>
     ensures { IfOk result (λ brought. map entry_of brought.items
         ≡ with_roots (map entry_of entries.now)
-        (reference_entry (map entry_of entries.now) from.now to.now key.now) roots.now) }
+        (reference_entry (map entry_of entries.now) from.now to.now key.now
+        ++ tag_entries (map entry_of entries.now) (by_bytes others.now)) roots.now) }
 {
     let last = LastEntries::of(alloc, entries)?;
-    let named = reference_entry(alloc, &last, from, to, key)?;
+    let mut named = reference_entry(alloc, &last, from, to, key)?;
+    add_tags(alloc, &last, others, &mut named)?;
     with_roots(alloc, &last, named, roots)
 }
 
@@ -238,6 +243,38 @@ fn reference_entry(
     };
     found.push(entry.with_name(alloc, to)?)?;
     Ok(found)
+}
+
+/// Adds the entries of tags, each under the name of its tag.
+fn add_tags(
+    alloc: Global,
+    last: &LastEntries<'_>,
+    tags: &[(String, Key)],
+    named: &mut Vec<IndexEntry>,
+) -> Result<(), NoMemory>
+    ensures { OnOk result (map entry_of named.new.items ≡ map entry_of named.old.items
+        ++ tag_entries (map entry_of last.now) (by_bytes tags.now)) }
+{
+    for (name, key) in tags {
+        add_tag(alloc, last, name, key, named)?;
+    }
+    Ok(())
+}
+
+/// Adds the entry of a tag under its name, if there is one.
+fn add_tag(
+    alloc: Global,
+    last: &LastEntries<'_>,
+    name: &str,
+    key: &Key,
+    named: &mut Vec<IndexEntry>,
+) -> Result<(), NoMemory>
+    ensures { OnOk result (map entry_of named.new.items ≡ map entry_of named.old.items
+        ++ reference_entry (map entry_of last.now) name.now name.now key.now) }
+{
+    let mut found = reference_entry(alloc, last, name, name, key)?;
+    named.append(&mut found)?;
+    Ok(())
 }
 
 /// Returns the named entries, and those that the other roots bring.

@@ -34,6 +34,7 @@ use std::io::Write;
 ///   `index.json` than that of an empty layout; 74 also if DST cannot be created or locked, or its
 ///   folder `blobs/sha256` cannot be made.
 /// - 75 `Corrupt` and 77 `BadManifest` with `--referrers`, if any manifest of SRC is damaged.
+///   77 `BadManifest` and 88 `Fetch` if one cannot be read after all.
 /// - 35 `EmptyReference` and 36 `UnknownReference` for the reference; 75 `Corrupt` and 77
 ///   `BadManifest` if it is that of a damaged blob.
 /// - 99 `Locked` if another process has the lock of DST, and the words say not to wait.

@@ -27,6 +27,7 @@ use std::io::Write;
 /// - 70 to 74 if one of the two is not a layout or cannot be read; 70 for the destination only if it
 ///   has another `index.json` than that of an empty layout.
 /// - 75 `Corrupt` and 77 `BadManifest` with `--referrers`, if any manifest of SRC is damaged.
+///   77 `BadManifest` and 88 `Fetch` if one cannot be read after all.
 /// - 35 `EmptyReference` and 36 `UnknownReference` for the reference; 75 `Corrupt` and 77
 ///   `BadManifest` if it is that of a damaged blob.
 /// - 97 `NoTags` with `--all`, if SRC has no tag, and 96 `Unknown` if the blob of an entry of its

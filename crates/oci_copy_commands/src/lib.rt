@@ -16,6 +16,7 @@ mod mem;
 mod mirror;
 mod progress;
 mod retag;
+mod roots;
 mod selected;
 
 pub use between::copy_between;

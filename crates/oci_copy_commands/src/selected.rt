@@ -1,27 +1,34 @@
-ghost use Rattle.std.specs.Prelude.{◌≡◌, ◌≢◌, ◌↔◌, ◌⊎◌, [], ◌∷◌, true, is_some, map, string_bytes, Contains, IfOk, OnOk};
+ghost use Rattle.std.specs.Prelude.{◌≡◌, ◌≢◌, ◌++◌, [], ◌∷◌, true, is_some, map, string_bytes, Contains, IfOk, OnOk};
 ghost use Rattle.std.specs.List.{All};
-ghost use Rattle.std.specs.Map.{keys_of, values_of};
+ghost use Rattle.std.specs.Map.{keys_of};
 ghost use Rattle.oci_manifest.specs.Descriptor.{Descriptor};
 ghost use Rattle.oci_copy.specs.Tagged.{name_of};
-ghost use Rattle.oci_store.specs.Tags.{by_bytes};
+ghost use Rattle.oci_store.specs.Tags.{Tags, by_bytes};
 ghost use Rattle.oci_store.specs.Keyed.{has_key};
-ghost use Rattle.oci_store.specs.Visiting.{with_keys};
+ghost use Rattle.oci_layout.specs.Blobs.{meaning};
 ghost use Rattle.oci_layout.specs.Brought.{IsShallowEntry};
-ghost use Rattle.oci_layout.specs.Entries.{entry_keys, entry_of, said};
+ghost use Rattle.oci_layout.specs.Entries.{entry_of, said};
 ghost use Rattle.oci_layout.specs.Layout.{manifests_of};
 ghost use Rattle.oci_program.specs.Reference.{Names};
-ghost use Rattle.oci_copy_commands.specs.Brought.{named_entries, reference_entry, with_roots};
-ghost use Rattle.oci_copy_commands.specs.Selected.{named_keys, AreNamedHeld, AreOfRoots, AreRoots, AreRootsOfKeys, IsNamedHeld, IsRootOfKey};
+ghost use Rattle.oci_copy_commands.specs.Brought.{named_entries, reference_entry, tag_entries, with_roots};
+ghost use Rattle.oci_copy_commands.specs.Selected.{
+  named_keys,
+  AreAllRoots,
+  AreNamedHeld,
+  AreOfRoots,
+  AreReferenceRoots,
+  IsNamedHeld,
+};
 
 use crate::brought::{entries_of_reference, entries_of_tags};
+use crate::roots::{ReferenceRoots, named_keys, roots_of_keys, roots_of_reference};
 use oci_command_line::{CopyWords, Selection};
 use oci_digest::NoMemory;
 use oci_layout::{Dir, IndexEntry, Layout};
 use oci_manifest::Key;
-use oci_plan::climb;
 use oci_program::{ProgramFault, resolve};
 use oci_prune::PruneFault;
-use oci_store::{Dest, GraphSource, KeyList};
+use oci_store::Dest;
 use std::alloc::Global;
 use std::marker::Model;
 
@@ -65,6 +72,7 @@ impl Selected {
     /// - 75 `Corrupt` and 77 `BadManifest` if it is that of a damaged blob, and 74 `Device` if the
     ///   file of that one cannot be read.
     /// - 96 `Unknown` and 97 `NoTags` for every tag, as from [`Selected::all_tags`].
+    /// - 77 `BadManifest` and 88 `Fetch` with referrers, if a manifest of the source cannot be read.
     /// - Out of memory, at any point.
     pub(crate) fn of<D: Dir>(
         alloc: Global,
@@ -86,19 +94,26 @@ impl Selected {
         }
     }
 
-    /// Selects the blob that a reference of the source resolves to. With `referrers` its referrers
-    /// are selected too, at most that number of levels up; 0 means no limit. The blob is tagged
-    /// `to`, or `from` if `to` is empty.
+    /// Selects the blob that a reference of the source resolves to. It is tagged `to`, or `from` if
+    /// `to` is empty.
     ///
-    /// The copy brings the entry of the reference under that name: the last one of the name `from`,
-    /// or else the last one of the blob without a name, or else its last one. It brings the entries
-    /// of the referrers without their names.
+    /// With `referrers`, the keys that list it or refer to it are selected too, at most that number
+    /// of levels up; 0 means no limit. So is all that is attached to what these reach: the manifests
+    /// whose `subject` has its digest, and the blobs of the source's tags that are named for its
+    /// digest, as [`belonging_of`](oci_prune::belonging_of) says. Those tags are set too, each under
+    /// its own name, in byte order after the tag of the reference. One that has the name of that tag
+    /// is left out.
+    ///
+    /// The copy brings the entry of the reference under its tag: the last one of the name `from`, or
+    /// else the last one of the blob without a name, or else its last one. It brings the entries of
+    /// the other tags under their names, and those of the other roots without a name.
     ///
     /// # Errors
     ///
     /// - 35 `EmptyReference` if `from` is empty, and 36 `UnknownReference` if it is unknown.
     /// - 75 `Corrupt` and 77 `BadManifest` if it is that of a damaged blob, and 74 `Device` if the
     ///   file of that one cannot be read.
+    /// - 77 `BadManifest` and 88 `Fetch` with referrers, if a manifest of the source cannot be read.
     /// - Out of memory, at any point.
     pub fn reference<D: Dir>(
         alloc: Global,
@@ -107,38 +122,59 @@ impl Selected {
         to: &str,
         referrers: Option<u32>,
     ) -> Result<Selected, ProgramFault>
-        ensures { IfOk result (λ selected. (k : Descriptor)
+        ensures { IfOk result (λ selected. (k : Descriptor) × (others : Tags)
             × Names (keys_of source.now.graph) source.now.tags from.now k
-            × AreRoots source.now.graph referrers k selected.0
-            × (selected.1 ≡ (name_of from.now to.now, k) ∷ [])
+            × AreReferenceRoots (meaning (D.device source.now.dir) source.now.graph source.now.tags)
+            referrers k (name_of from.now to.now) selected.0 others
+            × (selected.1 ≡ (name_of from.now to.now, k) ∷ others)
             × (map entry_of selected.2 ≡ with_roots (said source.now.opened.content).entries
             (reference_entry (said source.now.opened.content).entries from.now
-            (name_of from.now to.now) k) selected.0)) }
+            (name_of from.now to.now) k
+            ++ tag_entries (said source.now.opened.content).entries others) selected.0)) }
     {
         let key = resolve(source, from)?;
-        let roots = roots_of(alloc, source, &key, referrers)?;
         let name = tag_name(alloc, from, to)?;
-        let entries = entries_of_reference(alloc, source.entries(), from, &name, &key, &roots)?;
-        Selected::tagged(alloc, roots, name, key, entries)
+        let roots = roots_of_reference(alloc, source, &key, &name, referrers)?;
+        Selected::tagged(alloc, source, from, name, key, roots)
     }
 
-    /// Selects roots, one of which is tagged, and entries.
-    fn tagged(
+    /// Selects the roots of a copy of a reference, whose tag has this name, and the entries of the
+    /// source that the copy brings.
+    fn tagged<D: Dir>(
         alloc: Global,
-        roots: Vec<Key>,
+        source: &Layout<D>,
+        from: &str,
         name: String,
         key: Key,
-        entries: Vec<IndexEntry>,
+        roots: ReferenceRoots,
     ) -> Result<Selected, ProgramFault>
         requires named { string_bytes name ≢ [] }
-        requires rooted { Contains roots.items key }
-        requires shallow { All IsShallowEntry (map entry_of entries.items) }
-        ensures roots { IfOk result (λ selected. selected.0 ≡ roots.items) }
-        ensures tags { IfOk result (λ selected. selected.1 ≡ (string_bytes name, key) ∷ []) }
-        ensures entries { IfOk result (λ selected. selected.2 ≡ entries.items) }
+        requires rooted { Contains roots.keys.items key }
+        requires others { AreOfRoots roots.keys.items (by_bytes roots.tags.items) }
+        ensures roots { IfOk result (λ selected. selected.0 ≡ roots.keys.items) }
+        ensures tags { IfOk result (λ selected. selected.1
+            ≡ (string_bytes name, key) ∷ by_bytes roots.tags.items) }
+        ensures entries { IfOk result (λ selected. map entry_of selected.2
+            ≡ with_roots (said source.now.opened.content).entries
+            (reference_entry (said source.now.opened.content).entries from.now
+            (string_bytes name) key
+            ++ tag_entries (said source.now.opened.content).entries (by_bytes roots.tags.items))
+            roots.keys.items) }
     {
-        let mut tags = Vec::new(alloc);
-        tags.push((name, key))?;
+        let ReferenceRoots {
+            keys: roots,
+            tags: others,
+        } = roots;
+        let entries = entries_of_reference(
+            alloc,
+            source.entries(),
+            from,
+            &name,
+            &key,
+            &others,
+            &roots,
+        )?;
+        let tags = first_tag(alloc, name, key, others)?;
         Ok(Selected {
             roots,
             tags,
@@ -147,14 +183,16 @@ impl Selected {
     }
 
     /// Selects the blob of each tag of the source, and that of each entry with a name, also if a
-    /// later entry has the name too. With `referrers` their referrers are selected too. The copy
-    /// sets the same tags, brings all entries with a name, and those of the referrers.
+    /// later entry has the name too. With `referrers`, the keys that list them or refer to them are
+    /// selected too, and what is attached to what these reach, as from [`Selected::reference`]. The
+    /// copy sets the same tags, brings all entries with a name, and those of the other roots.
     ///
     /// # Errors
     ///
     /// - 96 `Unknown` if the blob of an entry of the index that has a tag is missing or damaged: the
     ///   first one. A copy would leave it out.
     /// - 97 `NoTags` if there is no tag.
+    /// - 77 `BadManifest` and 88 `Fetch` with referrers, if a manifest of the source cannot be read.
     /// - Out of memory, at any point.
     pub fn all_tags<D: Dir>(
         alloc: Global,
@@ -165,7 +203,8 @@ impl Selected {
             source.now.opened.content.entries) }
         ensures tagged { OnOk result (source.now.tags ≢ []) }
         ensures tags { IfOk result (λ selected. selected.1 ≡ source.now.tags) }
-        ensures roots { IfOk result (λ selected. AreRootsOfKeys source.now.graph referrers
+        ensures roots { IfOk result (λ selected. AreAllRoots
+            (meaning (D.device source.now.dir) source.now.graph source.now.tags) referrers
             (named_keys source.now.tags (said source.now.opened.content).entries) selected.0) }
         ensures entries { IfOk result (λ selected. map entry_of selected.2
             ≡ with_roots (said source.now.opened.content).entries
@@ -275,94 +314,19 @@ fn tag_name(alloc: Global, from: &str, to: &str) -> Result<String, ProgramFault>
     }
 }
 
-/// Returns the tagged keys, and those of the entries with a name, each once.
-fn named_keys(
+/// Returns a tag, and after it the others.
+fn first_tag(
     alloc: Global,
-    tags: &[(String, Key)],
-    entries: &[IndexEntry],
-) -> Result<Vec<Key>, NoMemory>
-    ensures { IfOk result (λ keys. (k : Descriptor) → Contains keys.items k
-        ↔ Contains (named_keys (by_bytes tags.now) (map entry_of entries.now)) k) }
+    name: String,
+    key: Key,
+    others: Vec<(String, Key)>,
+) -> Result<Vec<(String, Key)>, NoMemory>
+    ensures { IfOk result (λ tags. by_bytes tags.items
+        ≡ (string_bytes name, key) ∷ by_bytes others.items) }
 {
-    let mut keys = KeyList::new(alloc);
-    place_tags(tags, &mut keys)?;
-    place_named(entries, &mut keys)?;
-    Ok(keys.into_keys())
-}
-
-/// Adds the keys of tags, each if it is new.
-fn place_tags(tags: &[(String, Key)], keys: &mut KeyList) -> Result<(), NoMemory>
-    ensures { OnOk result (keys.new ≡ with_keys keys.old (values_of (by_bytes tags.now))) }
-{
-    for (_, key) in tags {
-        keys.place(key)?;
-    }
-    Ok(())
-}
-
-/// Adds the keys of the entries with a name, each if it is new.
-fn place_named(entries: &[IndexEntry], keys: &mut KeyList) -> Result<(), NoMemory>
-    ensures { OnOk result (keys.new
-        ≡ with_keys keys.old (entry_keys (named_entries (map entry_of entries.now)))) }
-{
-    for entry in entries {
-        if entry.has_name() {
-            keys.place(&entry.key)?;
-        }
-    }
-    Ok(())
-}
-
-/// The roots of a copy of these keys, each once.
-fn roots_of_keys<A: GraphSource>(
-    alloc: Global,
-    source: &A,
-    keys: &[Key],
-    referrers: Option<u32>,
-) -> Result<Vec<Key>, ProgramFault>
-    ensures { IfOk result (λ roots. AreRootsOfKeys (A.state source.now).nodes referrers keys.now
-        roots.items) }
-{
-    let mut roots = KeyList::new(alloc);
-    for key in keys {
-        place_roots(alloc, source, key, referrers, &mut roots)?;
-    }
-    Ok(roots.into_keys())
-}
-
-/// Adds the roots of a copy of one key.
-fn place_roots<A: GraphSource>(
-    alloc: Global,
-    source: &A,
-    key: &Key,
-    referrers: Option<u32>,
-    roots: &mut KeyList,
-) -> Result<(), ProgramFault>
-    ensures { OnOk result ((root : Descriptor) → Contains roots.new root
-        ↔ (Contains roots.old root
-        ⊎ IsRootOfKey (A.state source.now).nodes referrers key.now root)) }
-{
-    let more = roots_of(alloc, source, key, referrers)?;
-    roots.place_all(&more)?;
-    Ok(())
-}
-
-/// The roots of a copy of one key: the key, and with `referrers` its referrers.
-fn roots_of<A: GraphSource>(
-    alloc: Global,
-    source: &A,
-    key: &Key,
-    referrers: Option<u32>,
-) -> Result<Vec<Key>, ProgramFault>
-    ensures { IfOk result (λ roots. AreRoots (A.state source.now).nodes referrers key.now
-        roots.items) }
-{
-    match referrers {
-        Some(depth) => Ok(climb(alloc, source, key, depth)?),
-        None => {
-            let mut roots = Vec::new(alloc);
-            roots.push(key.try_clone()?)?;
-            Ok(roots)
-        }
-    }
+    let mut others = others;
+    let mut tags = Vec::new(alloc);
+    tags.push((name, key))?;
+    tags.append(&mut others)?;
+    Ok(tags)
 }

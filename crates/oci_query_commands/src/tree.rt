@@ -1,19 +1,22 @@
-use oci_digest::NoMemory;
 use oci_layout::{Dir, Layout};
-use oci_manifest::{Key, Kind, artifact_type};
+use oci_manifest::Key;
+use oci_plan::climb;
 use oci_program::{ProgramFault, Readable, resolve};
-use oci_store::GraphSource;
+use oci_prune::belonging_of;
 use serde::Serialize;
 use std::alloc::Global;
-use std::collections::BTreeSet;
 use std::fmt;
 
 mod labels;
+mod walk;
 
 pub(crate) use labels::Labels;
+use walk::Walk;
 
-/// The blobs that a reference reaches and its referrers, each as a list of nodes with depths.
-/// `Display` prints a node a line, and a title above the referrers if they were asked for.
+/// The blobs that a reference reaches and its referrers, each as a list of nodes with depths. Of the
+/// referrers, those that list the blob come first, and then each blob to which something more is
+/// attached, with that below it. `Display` prints a node a line, and a title above the referrers if
+/// they were asked for.
 #[derive(Drop, Serialize)]
 pub(crate) struct Tree<'l> {
     blobs: Vec<Node<'l>>,
@@ -26,9 +29,9 @@ impl<'l> Tree<'l> {
     /// Returns the blobs that a reference reaches, and its referrers if they are asked for.
     ///
     /// The time and the memory grow with the nodes, and with the digests and tags of the layout.
-    /// With referrers the time also grows with the bytes of the manifests in their nodes: each is
-    /// read for its type, one at a time. No other content is read. A deep graph needs no stack,
-    /// since the blobs to visit are in a list.
+    /// With referrers each manifest of the layout is read for its subject, one at a time, and those
+    /// in their nodes once more for their type. No other content is read. A deep graph needs no
+    /// stack, since the blobs to visit are in a list.
     pub(crate) fn of<D: Dir>(
         alloc: Global,
         layout: &Layout<D>,
@@ -37,15 +40,12 @@ impl<'l> Tree<'l> {
         shows_referrers: bool,
     ) -> Result<Tree<'l>, ProgramFault> {
         let root = resolve(layout, reference)?;
-        let mut walk = Walk {
-            alloc,
-            source: layout,
-            labels,
-            shown: BTreeSet::new(alloc),
-        };
+        let mut walk = Walk::new(alloc, layout, labels);
         let blobs = walk.blobs(&root)?;
         let referrers = if shows_referrers {
-            walk.referrers(&root)?
+            let climbed = climb(alloc, layout, &root, 0)?;
+            let belonging = belonging_of(alloc, layout, &climbed, &layout.tags()?)?;
+            walk.referrers(&root, &belonging)?
         } else {
             Vec::new(alloc)
         };
@@ -134,137 +134,6 @@ impl Node<'_> {
 fn print_tags<W: fmt::Write>(tags: &[String], f: &mut fmt::Formatter<W>) -> fmt::Result {
     for tag in tags {
         write!(f, " [{tag}]")?;
-    }
-    Ok(())
-}
-
-/// A blob to visit.
-#[derive(Drop)]
-struct Visit {
-    key: Key,
-    depth: usize,
-}
-
-/// Where a walk goes from a blob.
-#[derive(Clone, Copy)]
-enum Way {
-    /// To the blobs that it lists.
-    Down,
-    /// To the manifests that list it.
-    Up,
-}
-
-/// A walk over a graph that makes the nodes of a tree.
-#[derive(Drop)]
-struct Walk<'w, 'l, A> {
-    alloc: Global,
-    source: &'w A,
-    labels: &'l Labels,
-    /// The blobs that have a node.
-    shown: BTreeSet<Key>,
-}
-
-impl<'w, 'l, A: GraphSource> Walk<'w, 'l, A> {
-    /// Returns the nodes of a blob and of the blobs that it reaches.
-    fn blobs(&mut self, root: &Key) -> Result<Vec<Node<'l>>, ProgramFault> {
-        let mut pending = Vec::new(self.alloc);
-        pending.push(Visit {
-            key: root.try_clone()?,
-            depth: 0,
-        })?;
-        self.nodes(pending, Way::Down)
-    }
-
-    /// Returns the nodes of the manifests that list a blob, of those that list one of them, and so
-    /// on.
-    fn referrers(&mut self, root: &Key) -> Result<Vec<Node<'l>>, ProgramFault> {
-        let mut pending = Vec::new(self.alloc);
-        add_all(&mut pending, self.source.predecessors(root)?, 1)?;
-        self.nodes(pending, Way::Up)
-    }
-
-    /// Returns the nodes of these blobs and of those to which this way leads from them. The last
-    /// one is visited first.
-    fn nodes(&mut self, pending: Vec<Visit>, way: Way) -> Result<Vec<Node<'l>>, ProgramFault> {
-        let mut nodes = Vec::new(self.alloc);
-        let mut pending = pending;
-        for _ in 0..u64::MAX {
-            let Some(visit) = pending.pop() else {
-                break;
-            };
-            let node = match way {
-                Way::Down => self.visit_blob(visit, &mut pending)?,
-                Way::Up => self.visit_referrer(visit, &mut pending)?,
-            };
-            nodes.push(node)?;
-        }
-        Ok(nodes)
-    }
-
-    /// Returns the node of a blob, and adds the blobs that it lists to those to visit.
-    fn visit_blob(
-        &mut self,
-        visit: Visit,
-        pending: &mut Vec<Visit>,
-    ) -> Result<Node<'l>, ProgramFault> {
-        let depth = visit.depth;
-        let mut node = self.node(visit)?;
-        let Some(listed) = self.source.successors(&node.descriptor)? else {
-            node.absent = true;
-            return Ok(node);
-        };
-        if self.shown.insert(node.descriptor.try_clone()?)? {
-            add_all(pending, listed, depth.saturating_add(1))?;
-        } else {
-            node.repeated = true;
-        }
-        Ok(node)
-    }
-
-    /// Returns the node of a manifest, and adds the manifests that list it to those to visit.
-    fn visit_referrer(
-        &mut self,
-        visit: Visit,
-        pending: &mut Vec<Visit>,
-    ) -> Result<Node<'l>, ProgramFault> {
-        let depth = visit.depth;
-        let mut node = self.node(visit)?;
-        node.artifact_type = self.stated_type(&node.descriptor)?;
-        if self.shown.insert(node.descriptor.try_clone()?)? {
-            let referrers = self.source.predecessors(&node.descriptor)?;
-            add_all(pending, referrers, depth.saturating_add(1))?;
-        } else {
-            node.repeated = true;
-        }
-        Ok(node)
-    }
-
-    /// Returns the node of a blob without an artifact type and a mark.
-    fn node(&self, visit: Visit) -> Result<Node<'l>, NoMemory> {
-        let Visit { key, depth } = visit;
-        Ok(Node {
-            depth,
-            tags: self.labels.tags(&key),
-            repeated: false,
-            absent: false,
-            artifact_type: None,
-            short_digest: self.labels.short_digest(self.alloc, &key)?,
-            descriptor: key,
-        })
-    }
-
-    /// Reads the type that a referrer states.
-    fn stated_type(&self, key: &Key) -> Result<Option<String>, ProgramFault> {
-        let bytes = self.source.fetch(key)?;
-        let kind = Kind::of(key.media_type());
-        Ok(artifact_type(self.alloc, kind, bytes.as_slice())?)
-    }
-}
-
-/// Adds these blobs to those to visit. They are visited before all others, in their order.
-fn add_all(pending: &mut Vec<Visit>, keys: Vec<Key>, depth: usize) -> Result<(), NoMemory> {
-    for key in keys.into_iter().rev() {
-        pending.push(Visit { key, depth })?;
     }
     Ok(())
 }

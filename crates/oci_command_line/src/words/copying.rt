@@ -45,16 +45,16 @@ pub(crate) fn copy_arguments(most_workers: u32) -> [Argument; 15] {
         all(),
         flag(
             "referrers",
-            "Also copies its referrers, such as signatures and SBOMs, and the indexes that list it, with everything that these reach",
+            "Also copies the indexes that list it, and what is attached to it and to anything it reaches, such as signatures and SBOMs, with everything that these reach. Attached is a manifest by its `subject`, and a tag by its name, such as `sha256-DIGITS.sig`; such tags are set too",
         ),
         Argument::new(
             "depth",
             DEPTH,
-            "With --referrers: follows them at most D levels up; 0 means no limit",
+            "With --referrers: looks at most D levels up for what lists it or refers to it; 0 means no limit. What is attached to the blobs found comes at any depth",
         ),
         flag(
             "descend",
-            "Also looks below the blobs that DST has, and copies those that are missing, damaged manifests, and layers of another size; without it, a DST that lists one of these is an error",
+            "Also looks below the blobs that DST has, and copies those that are missing, damaged manifests, and layers and configs of another size; without it, a DST in which a manifest lists one of these is an error",
         ),
         prune(),
         Argument::new(

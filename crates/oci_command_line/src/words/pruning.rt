@@ -51,16 +51,16 @@ pub(crate) const PRUNE: CommandText = CommandText {
          the digest of that blob. An index is not kept because it lists a kept blob. \
          Layers that are not to be distributed are not kept, as `copy` does not copy them. A manifest of \
          a type that `copy` does not read, such as Docker's schema 1, counts as a blob that lists nothing.\n\n\
-         All other blobs are removed, with their entries in `index.json`. Of the files in `blobs/sha256` \
-         and `blobs/sha512` whose name is a digest, those stay that a kept blob has, or a blob \
-         that it lists. Files that a killed copy left are removed, and all other files stay.\n\n\
+         All other blobs are removed, with their entries in `index.json`. A file in `blobs/sha256` or \
+         `blobs/sha512` whose name is a digest stays only if a kept blob has that digest, or a blob that \
+         one lists. Files that a killed copy left are removed, and all other files stay.\n\n\
          Prints `removed` with the digest, the size and the media type of each blob that is removed, and \
          `removed-file` with the path and the length of each other file. The last line counts the blobs \
          `kept` and `removed`, and all `files` that are removed, with their `bytes`.\n\n\
          Refused, before anything is changed: a layout without tags (97); a damaged manifest, or a \
          missing blob that is an entry of `index.json` or a manifest that a kept manifest lists (96), \
          since it is not known what it needs; a folder `blobs`, `blobs/sha256` or `blobs/sha512` that is \
-         a symbolic link (98), since another layout may need the blobs there; a manifest that cannot be \
+         a symbolic link (98), since another layout may need the blobs there; a manifest whose file cannot be \
          read. FOLDER is not created, and cannot be an archive (95).\n\n\
          `index.json` is saved first. If the prune is then killed, or a file cannot be removed (79), no \
          tag has lost anything, and the next prune removes the rest. If a blob is removed, `index.json` is \

@@ -51,10 +51,12 @@ pub(crate) const TREE: CommandText = CommandText {
          marked `(shown above)`, and its list is not shown again. A blob that the layout does not have, \
          or whose file is damaged, is marked `(absent)`.\n\n\
          With `--referrers` the title `referrers:` follows, and below it the manifests that list the \
-         blob, each with the manifests that list it in turn. If such a manifest states an artifact type, \
-         its line has the type in parentheses: its `artifactType`, or else the media type of its \
-         config. Then each damaged manifest of the layout is reported, as an error (75 or 77), since it \
-         may list the blob too.\n\n\
+         blob, each with the manifests that list it in turn. Then the manifests follow that are attached \
+         to the blob, and each other blob that `copy --referrers` would bring and to which a manifest is \
+         attached, with these below it. Attached is a manifest by its `subject`, or by a tag such as \
+         `sha256-DIGITS.sig`. If a manifest states an artifact type, its line has the type in \
+         parentheses: its `artifactType`, or else the media type of its config. Then each damaged \
+         manifest of the layout is reported, as an error (75 or 77), since it may list the blob too.\n\n\
          Scripts should use `resolve` and `predecessors`, which print whole digests.",
     ),
     usage: "ocicp tree [OPTIONS] <FOLDER> <REF>",
@@ -101,7 +103,7 @@ pub(crate) fn tags_all() -> Argument {
 pub(crate) fn tree_referrers() -> Argument {
     flag(
         "referrers",
-        "Then shows the manifests that list it, such as signatures, and the manifests that list these",
+        "Then shows the manifests that list it, such as signatures, those that list these, and what is attached to any blob that it reaches",
     )
 }
 

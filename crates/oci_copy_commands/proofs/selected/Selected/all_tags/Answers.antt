@@ -5,13 +5,14 @@ use Rattle.std.specs.Map.{values_of}
 use Rattle.std.proofs.lemmas.List.Elements.{All-filter, Contains-append_left}
 use Rattle.oci_manifest.specs.Descriptor.{Descriptor}
 use Rattle.oci_store.specs.Tags.{by_bytes}
+use Rattle.oci_layout.specs.Blobs.{meaning}
 use Rattle.oci_layout.specs.Brought.{IsShallowEntry}
 use Rattle.oci_layout.specs.Entries.{IndexEntry, entry_keys, entry_of}
 use Rattle.oci_layout.specs.Saved.{no_name}
 use Rattle.oci_copy_commands.specs.Brought.{named_entries, with_roots}
-use Rattle.oci_copy_commands.specs.Selected.{named_keys, AreRootsOfKeys}
+use Rattle.oci_copy_commands.specs.Selected.{named_keys, AreAllRoots}
 use Rattle.oci_copy_commands.proofs.BroughtEntries.{with_roots_shallow}
-use Rattle.oci_copy_commands.proofs.Selections.{roots_by, tagged_there}
+use Rattle.oci_copy_commands.proofs.AttachedRoots.{all_roots_by, all_tagged_there}
 use Rattle.oci_copy_commands.proofs.selected.Selected.all_tags.Goals as goal
 
 pub invariant_of-result : goal.invariant_of-result
@@ -20,13 +21,14 @@ invariant_of-result g c =
     let keys = c.in_ok-keys.keys.items in
     let entries = map entry_of c.entries-3.result.now in
     let same : (k : Descriptor) → Contains keys k ↔ Contains (named_keys tags (map entry_of c.entries-2.result.now)) k = rw c.deref.ensures.value at c.in_ok-keys.ensures in
-    let of : AreRootsOfKeys c.args.source.now.graph c.args.referrers keys c.in_ok-roots.roots.items = rw c.deref-2.ensures.value at c.in_ok-roots.ensures in
+    let store = meaning (g.D.Dir.device c.args.source.now.dir) c.args.source.now.graph c.args.source.now.tags in
+    let of : AreAllRoots store c.args.referrers keys c.in_ok-roots.roots.items = rw c.deref-2.ensures.value at c.in_ok-roots.ensures in
     let shallow : All IsShallowEntry entries = subst (All IsShallowEntry) (sym (ap (map entry_of) c.entries-3.ensures.entries)) c.entries-3.ensures.shallow in
     record {
       of_roots = record {
         named = rw c.in_ok-tags.ensures.exact c.tags.ensures.names.named;
         rooted =
-            tagged_there c.args.source.now.graph c.args.referrers tags keys c.in_ok-roots.roots.items
+            all_tagged_there store c.args.referrers tags keys c.in_ok-roots.roots.items
             (λ k tagged. (same k).1 (Contains-append_left (values_of tags) (entry_keys (named_entries (map entry_of c.entries-2.result.now))) k tagged)) of;
       };
       shallow =
@@ -42,8 +44,9 @@ returns-clause-roots g c =
     let is_tags : by_bytes c.deref.result.now ≡ tags = ap by_bytes c.deref.ensures.value ∙ c.in_ok-tags.ensures.exact in
     let is_entries : map entry_of c.entries-2.result.now ≡ entries = ap (map entry_of) c.entries-2.ensures.entries in
     let same : (k : Descriptor) → Contains keys k ↔ Contains (named_keys tags entries) k = rw (is_tags, is_entries) at c.in_ok-keys.ensures in
-    let of : AreRootsOfKeys c.args.source.now.graph c.args.referrers keys c.in_ok-roots.roots.items = rw c.deref-2.ensures.value at c.in_ok-roots.ensures in
-    roots_by c.args.source.now.graph c.args.referrers keys (named_keys tags entries) c.in_ok-roots.roots.items same of
+    let store = meaning (g.D.Dir.device c.args.source.now.dir) c.args.source.now.graph c.args.source.now.tags in
+    let of : AreAllRoots store c.args.referrers keys c.in_ok-roots.roots.items = rw c.deref-2.ensures.value at c.in_ok-roots.ensures in
+    all_roots_by store c.args.referrers keys (named_keys tags entries) c.in_ok-roots.roots.items same of
 
 pub returns-clause-entries : goal.returns-clause-entries
 returns-clause-entries g c =

@@ -6,7 +6,7 @@ use Rattle.oci_store.proofs.Membership.{Keys}
 use Rattle.oci_layout.specs.Entries.{entry_keys, entry_of}
 use Rattle.oci_copy_commands.specs.Brought.{named_entries}
 use Rattle.oci_copy_commands.proofs.Selections.{placed_both}
-use Rattle.oci_copy_commands.proofs.selected.named_keys.Goals as goal
+use Rattle.oci_copy_commands.proofs.roots.named_keys.Goals as goal
 
 pub returns : goal.returns
 returns c =

@@ -2,7 +2,7 @@ use Rattle.std.proofs.Common.{◌≡◌, drop, map}
 use Rattle.oci_store.specs.Visiting.{with_keys}
 use Rattle.oci_layout.specs.Entries.{entry_keys, entry_of}
 use Rattle.oci_copy_commands.specs.Brought.{named_entries}
-use Rattle.oci_copy_commands.proofs.selected.place_named.Given as goal
+use Rattle.oci_copy_commands.proofs.roots.place_named.Given as goal
 
 -- placing the remaining keys now has the effect of placing all at first
 abbrev pub invariant-loop-entry : goal.invariant-loop-entry

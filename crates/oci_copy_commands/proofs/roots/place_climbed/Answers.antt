@@ -1,5 +1,5 @@
 use Rattle.oci_copy_commands.proofs.Selections.{roots_placed}
-use Rattle.oci_copy_commands.proofs.selected.place_roots.Goals as goal
+use Rattle.oci_copy_commands.proofs.roots.place_climbed.Goals as goal
 
 pub returns : goal.returns
 returns g c =

@@ -2,7 +2,7 @@ use Rattle.std.proofs.Common.{◌≡◌, drop}
 use Rattle.std.specs.Map.{values_of}
 use Rattle.oci_store.specs.Tags.{by_bytes}
 use Rattle.oci_store.specs.Visiting.{with_keys}
-use Rattle.oci_copy_commands.proofs.selected.place_tags.Given as goal
+use Rattle.oci_copy_commands.proofs.roots.place_tags.Given as goal
 
 -- placing the remaining keys now has the effect of placing all at first
 abbrev pub invariant-loop-key : goal.invariant-loop-key

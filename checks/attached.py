@@ -1,0 +1,135 @@
+"""`copy --referrers` of layouts made by hand and at random, against what belongs to the image by the rules of README, worked out from the files."""
+import json
+import os
+import random
+import shutil
+
+from support.layouts import BAR, E, FOO, I1, IMAGE, INDEX, M2, M3, S, Content, digits, image, index, write_layout
+from support.program import first, run, told
+from support.pruning import MEMBERS, Held, text
+
+OCTETS = "application/octet-stream"
+# The number of random layouts.
+LAYOUTS = 40
+
+
+def tag_of(content, suffix="", most=128):
+    """Return the tag that is made of the digest of a content, with at most this number of its digits."""
+    return "%s-%s%s" % (content.algorithm, digits(content)[:most], suffix)
+
+
+OTHER = image([BAR], number=1)
+OF_S, OF_OCTETS = image([BAR], subject=S), image([BAR], subject=M2._replace(media_type=OCTETS))
+OF_BOTH, OF_OTHER = index([OTHER], subject=I1), image([], subject=OTHER)
+LONG = M2._replace(algorithm="sha512")
+ALL = [E, FOO, BAR, M2, M3, I1]
+# The contents of a layout, its tags, and the other entries of its index.
+CASES = {
+    "a signature of an index's image": ([*ALL, S], {"both": I1}, [S]),
+    "a signature of a signature of an index's image": ([*ALL, S, OF_S], {"both": I1}, [OF_S]),
+    "a subject with another media type": ([E, FOO, BAR, M2, OF_OCTETS], {"new": M2}, [OF_OCTETS]),
+    "a subject with another media type, of an index's image": ([*ALL, OF_OCTETS], {"both": I1}, [OF_OCTETS]),
+    "an index with a subject, and what is attached to its image": ([*ALL, OTHER, OF_BOTH, OF_OTHER], {"both": I1}, [OF_BOTH, OF_OTHER]),
+    "tags by digest": ([*ALL, OTHER, S], {"both": I1, tag_of(I1): OTHER, tag_of(M3, ".sig"): M2, tag_of(M2, ".att"): S}, []),
+    "a tag by the digest of what such a tag brings": ([*ALL, OTHER, S], {"b": M3, tag_of(M3, ".sig"): OTHER, tag_of(OTHER, ".sig"): S}, []),
+    "two tags by the digests of each other's image": ([E, FOO, BAR, M2, M3], {"a": M2, tag_of(M2): M3, tag_of(M3): M2}, []),
+    "tags that are made of no digest of an image": (
+        [*ALL, S], {"b": M3, tag_of(FOO, ".sig"): M2, tag_of(M3)[:-1]: S, tag_of(M3) + "0": S, tag_of(M3).upper(): S, "x" + tag_of(M3): S}, []),
+    "a tag by half of a sha512 digest": ([E, FOO, LONG, M3, BAR], {"long": LONG, tag_of(LONG, ".sig", 64): M3}, []),
+    "a tag by a whole sha512 digest": ([E, FOO, LONG, M3, BAR], {"long": LONG, tag_of(LONG, ".sig"): M3}, []),
+    "a tag by a part of a sha512 digest": ([E, FOO, LONG, M3, BAR], {"long": LONG, tag_of(LONG, ".sig", 63): M3, tag_of(LONG, "", 65): M3}, []),
+}
+
+
+def random_layout(chance):
+    """Return the contents of a random layout, its tags, and the other entries of its index."""
+    contents, manifests = [E, FOO, BAR], []
+    for number in range(chance.randrange(3, 12)):
+        subject = chance.choice([None, *manifests, *contents[1:]])
+        if subject and chance.random() < 0.3:
+            subject = subject._replace(media_type=OCTETS)
+        if manifests and chance.random() < 0.4:
+            made = index(chance.sample(manifests, chance.randrange(1, min(len(manifests), 3) + 1)), subject)
+        else:
+            made = image(chance.sample([FOO, BAR], chance.randrange(3)), subject, number)
+        manifests += [] if made in manifests else [made]
+    tags = {"t%d" % number: chance.choice(manifests) for number in range(3)}
+    for _ in range(chance.randrange(4)):
+        tags[tag_of(chance.choice(manifests), chance.choice(["", ".sig", ".a.b"]))] = chance.choice(manifests)
+    return contents + manifests, tags, manifests
+
+
+class Source(Held):
+    """A layout that is copied from."""
+
+    def climbed(self, key, depth):
+        """Return the held keys from which a path of at most this number of steps leads to a key; 0 means any number."""
+        found, level, steps = {key}, {key}, 0
+        while level and (depth == 0 or steps < depth):
+            level = {it for it in self.keys if level & set(self.listed(it))} - found
+            found, steps = found | level, steps + 1
+        return found
+
+    def named(self, keys):
+        """Return the tags that are made of the digest of a manifest among these keys."""
+        whole = {it.digest.replace(":", "-") for it in keys if it.media_type in MEMBERS}
+        stems = whole | {it[: len("sha512-") + 64] for it in whole}
+        return {name: key for name, key in self.tags.items() if name.split(".")[0] in stems}
+
+    def attached(self, keys):
+        return self.referrers(keys) | set(self.named(keys).values())
+
+    def belonging(self, keys):
+        return self.members(keys, self.attached)
+
+
+def wrong_copy(room, words, source, tag, members, tags):
+    """Return the problem with a copy of a tag that is to bring these members and these tags, or None."""
+    shutil.rmtree(room + "/new", ignore_errors=True)
+    ended = run(["copy", *words, "source", tag, "new"], room)
+    copied = ["copied %s\n" % text(source.tags[it]) for it in [tag, *sorted(set(tags) - {tag})]]
+    out = "".join(copied) + "planned %d pushed %d skipped 0\n" % (len(members), len(members))
+    if ended[:3] != (0, out, ""):
+        return "%s: %s" % (" ".join(words), told(ended))
+    new = Held(room + "/new")
+    return first([
+        None if new.keys == members else "%s: it brings %s, not %s" % (words, sorted(map(text, new.keys)), sorted(map(text, members))),
+        None if new.tags == tags else "%s: the tags are %s" % (words, new.tags),
+    ])
+
+
+def wrong_tree(room, source, tag):
+    """Return the problem with the tree of a tag, which is to show all that is attached to what belongs to it, or None."""
+    ended = run(["tree", "--json", "--referrers", "source", tag], room)
+    if ended.status != 0:
+        return told(ended)
+    tree = json.loads(ended.out)
+    shown = {node["descriptor"]["digest"] for node in tree["blobs"] + tree["referrers"]}
+    members = source.belonging(source.climbed(source.tags[tag], 0))
+    lost = {it.digest for it in source.attached(members)} - shown
+    return "the tree lacks %s" % sorted(lost) if lost else None
+
+
+def wrong_layout(room, layout):
+    """Return the problem with the copies of each tag of a layout, or None."""
+    shutil.rmtree(room + "/source", ignore_errors=True)
+    write_layout(room + "/source", *layout)
+    source = Source(room + "/source")
+    for tag, key in sorted(source.tags.items()):
+        problem = wrong_copy(room, [], source, tag, source.members([key], lambda keys: set()), {tag: key})
+        for depth in 0, 1, 2:
+            members = source.belonging(source.climbed(key, depth))
+            tags = {**source.named(members), tag: key}
+            words = ["--referrers", *(["--depth", str(depth)] if depth else [])]
+            problem = problem or wrong_copy(room, words, source, tag, members, tags)
+        problem = problem or wrong_tree(room, source, tag)
+        if problem:
+            return "%s: %s" % (tag, problem)
+
+
+def checks(room):
+    for name, layout in CASES.items():
+        yield name, wrong_layout(room, layout)
+    chance = random.Random(1)
+    for number in range(LAYOUTS):
+        yield "random layout %d" % number, wrong_layout(room, random_layout(chance))

@@ -1,0 +1,279 @@
+//! The roots of a copy, and the tags of the source that come with them.
+ghost use Rattle.std.specs.Prelude.{◌≡◌, ◌↔◌, ◌⊎◌, ◌++◌, [], ◌∷◌, map, Contains, IfOk, OnOk};
+ghost use Rattle.std.specs.Map.{values_of};
+ghost use Rattle.oci_manifest.specs.Descriptor.{Descriptor};
+ghost use Rattle.oci_store.specs.Tags.{by_bytes, without_tag, AreNames};
+ghost use Rattle.oci_store.specs.Visiting.{with_keys};
+ghost use Rattle.oci_layout.specs.Blobs.{meaning};
+ghost use Rattle.oci_layout.specs.Entries.{entry_keys, entry_of};
+ghost use Rattle.oci_copy_commands.specs.Brought.{named_entries};
+ghost use Rattle.oci_copy_commands.specs.Selected.{
+  each_once,
+  named_keys,
+  AddsAttached,
+  AreAllRoots,
+  AreClimbed,
+  AreClimbedOfKeys,
+  AreOfRoots,
+  AreReferenceRoots,
+  AreWithAttached,
+  IsClimbed,
+  IsSourceBelonging,
+};
+
+use oci_digest::NoMemory;
+use oci_layout::{Dir, IndexEntry, Layout};
+use oci_manifest::Key;
+use oci_plan::climb;
+use oci_program::ProgramFault;
+use oci_prune::{Belonging, belonging_of};
+use oci_store::{GraphSource, KeyList};
+use std::alloc::Global;
+
+/// The roots of a copy of a reference.
+#[derive(Drop)]
+pub(crate) struct ReferenceRoots {
+    /// The roots, each once.
+    pub(crate) keys: Vec<Key>,
+    /// The tags of the source that come with the reference's, in byte order of the names.
+    pub(crate) tags: Vec<(String, Key)>,
+}
+
+/// Returns the roots of a copy of the key that a reference resolves to, whose tag has this name.
+/// Without referrers it is the only root, and no other tag comes with it.
+///
+/// With referrers, the keys from which a path within the depth leads to the key come first, in key
+/// order, and then what is attached to what belongs to these keys. The tags are those of the source
+/// that name what belongs to them by its digest, but for one of the same name.
+///
+/// # Errors
+///
+/// - 77 `BadManifest` and 88 `Fetch` with referrers, if a manifest of the source cannot be read.
+/// - Out of memory, at any point.
+pub(crate) fn roots_of_reference<D: Dir>(
+    alloc: Global,
+    source: &Layout<D>,
+    key: &Key,
+    name: &str,
+    referrers: Option<u32>,
+) -> Result<ReferenceRoots, ProgramFault>
+    ensures exact { IfOk result (λ roots. AreReferenceRoots
+        (meaning (D.device source.now.dir) source.now.graph source.now.tags) referrers key.now
+        name.now roots.keys.items (by_bytes roots.tags.items)) }
+    ensures tagged { IfOk result (λ roots.
+        AreOfRoots roots.keys.items (by_bytes roots.tags.items)) }
+{
+    match referrers {
+        Some(depth) => with_attached(alloc, source, &climb(alloc, source, key, depth)?, name),
+        None => only(alloc, key),
+    }
+}
+
+/// Returns one root, and no tags.
+fn only(alloc: Global, key: &Key) -> Result<ReferenceRoots, ProgramFault>
+    ensures keys { IfOk result (λ roots. roots.keys.items ≡ key.now ∷ []) }
+    ensures tags { IfOk result (λ roots. roots.tags.items ≡ []) }
+{
+    let mut keys = Vec::new(alloc);
+    keys.push(key.try_clone()?)?;
+    Ok(ReferenceRoots {
+        keys,
+        tags: Vec::new(alloc),
+    })
+}
+
+/// Returns the roots of a copy with referrers, and the tags that come with a tag of this name.
+fn with_attached<D: Dir>(
+    alloc: Global,
+    source: &Layout<D>,
+    climbed: &[Key],
+    name: &str,
+) -> Result<ReferenceRoots, ProgramFault>
+    ensures exact { IfOk result (λ roots. AreWithAttached
+        (meaning (D.device source.now.dir) source.now.graph source.now.tags) climbed.now
+        name.now roots.keys.items (by_bytes roots.tags.items)) }
+    ensures tagged { IfOk result (λ roots.
+        AreOfRoots roots.keys.items (by_bytes roots.tags.items)) }
+{
+    let belonging = source_belonging(alloc, source, climbed)?;
+    let keys = both(alloc, climbed, &belonging.attached)?;
+    let tags = tags_without(alloc, &belonging.tags, name)?;
+    Ok(ReferenceRoots { keys, tags })
+}
+
+/// Returns the roots of a copy of these keys, each once. With referrers, what is attached to what
+/// belongs to the keys comes after them.
+///
+/// # Errors
+///
+/// - 77 `BadManifest` and 88 `Fetch` with referrers, if a manifest of the source cannot be read.
+/// - Out of memory, at any point.
+pub(crate) fn roots_of_keys<D: Dir>(
+    alloc: Global,
+    source: &Layout<D>,
+    keys: &[Key],
+    referrers: Option<u32>,
+) -> Result<Vec<Key>, ProgramFault>
+    ensures { IfOk result (λ roots. AreAllRoots
+        (meaning (D.device source.now.dir) source.now.graph source.now.tags) referrers keys.now
+        roots.items) }
+{
+    let climbed = climb_from_all(alloc, source, keys, referrers)?;
+    match referrers {
+        Some(_) => add_attached(alloc, source, &climbed),
+        None => Ok(climbed),
+    }
+}
+
+/// Returns the keys, and after them what is attached to what belongs to them, each once.
+fn add_attached<D: Dir>(
+    alloc: Global,
+    source: &Layout<D>,
+    climbed: &[Key],
+) -> Result<Vec<Key>, ProgramFault>
+    ensures { IfOk result (λ roots. AddsAttached
+        (meaning (D.device source.now.dir) source.now.graph source.now.tags) climbed.now
+        roots.items) }
+{
+    let belonging = source_belonging(alloc, source, climbed)?;
+    Ok(both(alloc, climbed, &belonging.attached)?)
+}
+
+/// Returns what belongs to keys of a source, by its manifests and its tags.
+fn source_belonging<D: Dir>(
+    alloc: Global,
+    source: &Layout<D>,
+    keys: &[Key],
+) -> Result<Belonging, ProgramFault>
+    ensures exact { IfOk result (IsSourceBelonging
+        (meaning (D.device source.now.dir) source.now.graph source.now.tags) keys.now) }
+    ensures names { AreNames source.now.graph source.now.tags }
+{
+    let tags = source.tags()?;
+    match belonging_of(alloc, source, keys, &tags) {
+        Ok(found) => Ok(found),
+        Err(fault) => Err(ProgramFault::Source(fault)),
+    }
+}
+
+/// Returns the keys of both lists, each once.
+fn both(alloc: Global, first: &[Key], second: &[Key]) -> Result<Vec<Key>, NoMemory>
+    ensures { IfOk result (λ keys. keys.items ≡ each_once (first.now ++ second.now)) }
+{
+    let mut keys = KeyList::new(alloc);
+    keys.place_all(first)?;
+    keys.place_all(second)?;
+    Ok(keys.into_keys())
+}
+
+/// Returns the tags that do not have this name, in their order.
+fn tags_without(
+    alloc: Global,
+    tags: &[(String, Key)],
+    name: &str,
+) -> Result<Vec<(String, Key)>, NoMemory>
+    ensures { IfOk result (λ others. by_bytes others.items
+        ≡ without_tag (by_bytes tags.now) name.now) }
+{
+    let mut others = Vec::new(alloc);
+    for (other, key) in tags {
+        if name == other.as_str() {
+            continue;
+        }
+        others.push((other.clone()?, key.try_clone()?))?;
+    }
+    Ok(others)
+}
+
+/// Returns the tagged keys, and those of the entries with a name, each once.
+pub(crate) fn named_keys(
+    alloc: Global,
+    tags: &[(String, Key)],
+    entries: &[IndexEntry],
+) -> Result<Vec<Key>, NoMemory>
+    ensures { IfOk result (λ keys. (k : Descriptor) → Contains keys.items k
+        ↔ Contains (named_keys (by_bytes tags.now) (map entry_of entries.now)) k) }
+{
+    let mut keys = KeyList::new(alloc);
+    place_tags(tags, &mut keys)?;
+    place_named(entries, &mut keys)?;
+    Ok(keys.into_keys())
+}
+
+/// Adds the keys of tags, each if it is new.
+fn place_tags(tags: &[(String, Key)], keys: &mut KeyList) -> Result<(), NoMemory>
+    ensures { OnOk result (keys.new ≡ with_keys keys.old (values_of (by_bytes tags.now))) }
+{
+    for (_, key) in tags {
+        keys.place(key)?;
+    }
+    Ok(())
+}
+
+/// Adds the keys of the entries with a name, each if it is new.
+fn place_named(entries: &[IndexEntry], keys: &mut KeyList) -> Result<(), NoMemory>
+    ensures { OnOk result (keys.new
+        ≡ with_keys keys.old (entry_keys (named_entries (map entry_of entries.now)))) }
+{
+    for entry in entries {
+        if entry.has_name() {
+            keys.place(&entry.key)?;
+        }
+    }
+    Ok(())
+}
+
+/// Returns the keys that a copy of these keys climbs to, each once.
+fn climb_from_all<A: GraphSource>(
+    alloc: Global,
+    source: &A,
+    keys: &[Key],
+    referrers: Option<u32>,
+) -> Result<Vec<Key>, ProgramFault>
+    ensures { IfOk result (λ roots. AreClimbedOfKeys (A.state source.now).nodes referrers keys.now
+        roots.items) }
+{
+    let mut roots = KeyList::new(alloc);
+    for key in keys {
+        place_climbed(alloc, source, key, referrers, &mut roots)?;
+    }
+    Ok(roots.into_keys())
+}
+
+/// Adds the keys that a copy of one key climbs to.
+fn place_climbed<A: GraphSource>(
+    alloc: Global,
+    source: &A,
+    key: &Key,
+    referrers: Option<u32>,
+    roots: &mut KeyList,
+) -> Result<(), ProgramFault>
+    ensures { OnOk result ((root : Descriptor) → Contains roots.new root
+        ↔ (Contains roots.old root
+        ⊎ IsClimbed (A.state source.now).nodes referrers key.now root)) }
+{
+    let more = climb_from(alloc, source, key, referrers)?;
+    roots.place_all(&more)?;
+    Ok(())
+}
+
+/// Returns the keys that a copy of one key climbs to: the key, and with `referrers` the keys from
+/// which a path within that number of levels leads to it.
+fn climb_from<A: GraphSource>(
+    alloc: Global,
+    source: &A,
+    key: &Key,
+    referrers: Option<u32>,
+) -> Result<Vec<Key>, ProgramFault>
+    ensures { IfOk result (λ roots. AreClimbed (A.state source.now).nodes referrers key.now
+        roots.items) }
+{
+    match referrers {
+        Some(depth) => Ok(climb(alloc, source, key, depth)?),
+        None => {
+            let mut roots = Vec::new(alloc);
+            roots.push(key.try_clone()?)?;
+            Ok(roots)
+        }
+    }
+}

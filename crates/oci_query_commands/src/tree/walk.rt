@@ -1,0 +1,245 @@
+use crate::tree::{Labels, Node};
+use oci_digest::NoMemory;
+use oci_manifest::{Key, Kind, artifact_type};
+use oci_program::ProgramFault;
+use oci_prune::Belonging;
+use oci_store::{GraphSource, keys_of_set};
+use std::alloc::Global;
+use std::collections::BTreeSet;
+
+/// A blob to visit.
+#[derive(Drop)]
+struct Visit {
+    key: Key,
+    depth: usize,
+}
+
+/// Where a walk goes from a blob.
+#[derive(Clone, Copy)]
+enum Way<'b> {
+    /// To the blobs that it lists.
+    Down,
+    /// To the manifests that list it.
+    Up,
+    /// To the manifests that are attached to it.
+    Attached(&'b Belonging),
+}
+
+/// A walk over a graph that makes the nodes of a tree.
+#[derive(Drop)]
+pub(crate) struct Walk<'w, 'l, A> {
+    alloc: Global,
+    source: &'w A,
+    labels: &'l Labels,
+    /// The blobs that have a node.
+    shown: BTreeSet<Key>,
+}
+
+impl<'w, 'l, A: GraphSource> Walk<'w, 'l, A> {
+    /// Creates a walk that has no node yet.
+    pub(crate) fn new(alloc: Global, source: &'w A, labels: &'l Labels) -> Walk<'w, 'l, A> {
+        Walk {
+            alloc,
+            source,
+            labels,
+            shown: BTreeSet::new(alloc),
+        }
+    }
+
+    /// Returns the nodes of a blob and of the blobs that it reaches.
+    pub(crate) fn blobs(&mut self, root: &Key) -> Result<Vec<Node<'l>>, ProgramFault> {
+        let mut pending = Vec::new(self.alloc);
+        pending.push(Visit {
+            key: root.try_clone()?,
+            depth: 0,
+        })?;
+        let mut nodes = Vec::new(self.alloc);
+        self.add_nodes(pending, Way::Down, &mut nodes)?;
+        Ok(nodes)
+    }
+
+    /// Returns the nodes of the manifests that list a blob, of those that list one of them, and so
+    /// on. Then of the manifests that are attached to it and have no node yet, and of each other
+    /// blob that belongs to the same keys and has such manifests, with these below it.
+    pub(crate) fn referrers(
+        &mut self,
+        root: &Key,
+        belonging: &Belonging,
+    ) -> Result<Vec<Node<'l>>, ProgramFault> {
+        let mut nodes = Vec::new(self.alloc);
+        let mut pending = Vec::new(self.alloc);
+        add_all(&mut pending, self.source.predecessors(root)?, 1)?;
+        self.add_nodes(pending, Way::Up, &mut nodes)?;
+        self.add_attached(root, 1, belonging, &mut nodes)?;
+        self.add_members(belonging, &mut nodes)?;
+        Ok(nodes)
+    }
+
+    /// Adds the node of each member to which something more is attached, with that below it: first
+    /// those that are attached to no other one.
+    fn add_members(
+        &mut self,
+        belonging: &Belonging,
+        nodes: &mut Vec<Node<'l>>,
+    ) -> Result<(), ProgramFault> {
+        let attached = set_of(self.alloc, &belonging.attached)?;
+        for key in &belonging.members {
+            if !attached.contains(key) {
+                self.add_member(key, belonging, nodes)?;
+            }
+        }
+        for key in &belonging.attached {
+            self.add_member(key, belonging, nodes)?;
+        }
+        Ok(())
+    }
+
+    /// Adds the node of a member and of what is attached to it, if something is that has no node.
+    fn add_member(
+        &mut self,
+        key: &Key,
+        belonging: &Belonging,
+        nodes: &mut Vec<Node<'l>>,
+    ) -> Result<(), ProgramFault> {
+        if self.fresh_attached(key, belonging)?.is_empty() {
+            return Ok(());
+        }
+        let visit = Visit {
+            key: key.try_clone()?,
+            depth: 1,
+        };
+        nodes.push(self.node(visit)?)?;
+        self.add_attached(key, 2, belonging, nodes)
+    }
+
+    /// Adds the nodes of what is attached to a key and has no node, at this depth, and of what is
+    /// attached to these.
+    fn add_attached(
+        &mut self,
+        key: &Key,
+        depth: usize,
+        belonging: &Belonging,
+        nodes: &mut Vec<Node<'l>>,
+    ) -> Result<(), ProgramFault> {
+        let mut pending = Vec::new(self.alloc);
+        add_all(&mut pending, self.fresh_attached(key, belonging)?, depth)?;
+        self.add_nodes(pending, Way::Attached(belonging), nodes)
+    }
+
+    /// Returns the manifests that are attached to a key and have no node, in key order.
+    fn fresh_attached(&self, key: &Key, belonging: &Belonging) -> Result<Vec<Key>, NoMemory> {
+        let mut fresh = BTreeSet::new(self.alloc);
+        for attached in belonging.attachments.attached_to(self.alloc, key)? {
+            if !self.shown.contains(&attached) {
+                fresh.insert(attached)?;
+            }
+        }
+        keys_of_set(self.alloc, &fresh)
+    }
+
+    /// Adds the nodes of these blobs and of those to which this way leads from them. The last one is
+    /// visited first.
+    fn add_nodes(
+        &mut self,
+        pending: Vec<Visit>,
+        way: Way<'_>,
+        nodes: &mut Vec<Node<'l>>,
+    ) -> Result<(), ProgramFault> {
+        let mut pending = pending;
+        for _ in 0..u64::MAX {
+            let Some(visit) = pending.pop() else {
+                break;
+            };
+            let node = match way {
+                Way::Down => self.visit_blob(visit, &mut pending)?,
+                Way::Up => self.visit_referrer(visit, None, &mut pending)?,
+                Way::Attached(belonging) => {
+                    self.visit_referrer(visit, Some(belonging), &mut pending)?
+                }
+            };
+            nodes.push(node)?;
+        }
+        Ok(())
+    }
+
+    /// Returns the node of a blob, and adds the blobs that it lists to those to visit.
+    fn visit_blob(
+        &mut self,
+        visit: Visit,
+        pending: &mut Vec<Visit>,
+    ) -> Result<Node<'l>, ProgramFault> {
+        let depth = visit.depth;
+        let mut node = self.node(visit)?;
+        let Some(listed) = self.source.successors(&node.descriptor)? else {
+            node.absent = true;
+            return Ok(node);
+        };
+        if self.shown.insert(node.descriptor.try_clone()?)? {
+            add_all(pending, listed, depth.saturating_add(1))?;
+        } else {
+            node.repeated = true;
+        }
+        Ok(node)
+    }
+
+    /// Returns the node of a referrer, and adds those above it to those to visit: the manifests that
+    /// list it, or with `belonging` those that are attached to it and have no node.
+    fn visit_referrer(
+        &mut self,
+        visit: Visit,
+        belonging: Option<&Belonging>,
+        pending: &mut Vec<Visit>,
+    ) -> Result<Node<'l>, ProgramFault> {
+        let depth = visit.depth;
+        let mut node = self.node(visit)?;
+        node.artifact_type = self.stated_type(&node.descriptor)?;
+        if self.shown.insert(node.descriptor.try_clone()?)? {
+            let above = match belonging {
+                Some(belonging) => self.fresh_attached(&node.descriptor, belonging)?,
+                None => self.source.predecessors(&node.descriptor)?,
+            };
+            add_all(pending, above, depth.saturating_add(1))?;
+        } else {
+            node.repeated = true;
+        }
+        Ok(node)
+    }
+
+    /// Returns the node of a blob without an artifact type and a mark.
+    fn node(&self, visit: Visit) -> Result<Node<'l>, NoMemory> {
+        let Visit { key, depth } = visit;
+        Ok(Node {
+            depth,
+            tags: self.labels.tags(&key),
+            repeated: false,
+            absent: false,
+            artifact_type: None,
+            short_digest: self.labels.short_digest(self.alloc, &key)?,
+            descriptor: key,
+        })
+    }
+
+    /// Reads the type that a referrer states.
+    fn stated_type(&self, key: &Key) -> Result<Option<String>, ProgramFault> {
+        let bytes = self.source.fetch(key)?;
+        let kind = Kind::of(key.media_type());
+        Ok(artifact_type(self.alloc, kind, bytes.as_slice())?)
+    }
+}
+
+/// Returns a set of keys.
+fn set_of(alloc: Global, keys: &[Key]) -> Result<BTreeSet<Key>, NoMemory> {
+    let mut set = BTreeSet::new(alloc);
+    for key in keys {
+        set.insert(key.try_clone()?)?;
+    }
+    Ok(set)
+}
+
+/// Adds these blobs to those to visit. They are visited before all others, in their order.
+fn add_all(pending: &mut Vec<Visit>, keys: Vec<Key>, depth: usize) -> Result<(), NoMemory> {
+    for key in keys.into_iter().rev() {
+        pending.push(Visit { key, depth })?;
+    }
+    Ok(())
+}
