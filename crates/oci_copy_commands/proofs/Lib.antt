@@ -1,4 +1,7 @@
 mod AttachedRoots
 mod BroughtEntries
+mod Mirrored
+mod Refusals
+mod Retagged
 mod Saved
 mod Selections

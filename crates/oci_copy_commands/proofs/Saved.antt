@@ -27,7 +27,7 @@ after_report {P = P} copied (Ok x) gives same holds = gives x (IfOk-at_ok P same
 after_report copied (Err e) gives same holds = same
 
 -- a copy that succeeded has few enough workers for a cause of its own; a refused one has its cause
-refused_with : {X : Type 0} (workers : ℕ) (cause : CopyFault → Type 0) → cause fault.Memory → (copied : Result X CopyFault) → IsAnswerByWorkers workers cause copied
+pub refused_with : {X : Type 0} (workers : ℕ) (cause : CopyFault → Type 0) → cause fault.Memory → (copied : Result X CopyFault) → IsAnswerByWorkers workers cause copied
     → (e : CopyFault) → (copied ≡ Err e) ⊎ (IsOk copied × (e ≡ fault.Memory)) → RefusedByWorkers workers cause e
 refused_with workers cause memory copied answers e (inl same) = (subst (IsAnswerByWorkers workers cause) same answers).1
 refused_with workers cause memory (Ok x) within e (inr it) = inr (within, subst cause (sym it.1) memory)

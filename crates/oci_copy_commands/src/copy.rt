@@ -1,3 +1,6 @@
+ghost use Rattle.std.specs.Prelude.{◌≡◌, true, OnOk};
+ghost use Rattle.oci_copy_commands.specs.Mirror.{IsWholeSource};
+
 use crate::Host;
 use crate::answer::CopyAnswer;
 use crate::between::copy_between;
@@ -103,11 +106,16 @@ where
 {
     let source = Layout::open_as_is(rt.alloc(), source)?;
     let selected = Selected::of(rt.alloc(), &source, words)?;
-    if words.prunes {
-        check_source(&source)?;
-    }
+    check_source_if(words.prunes, &source)?;
     let copied = copy_selected(rt, &source, destination, &selected, words, err)?;
     Ok(CopyAnswer::of(rt.alloc(), selected, copied)?)
+}
+
+/// Refuses a source that a mirror must not follow, if the copy prunes.
+fn check_source_if<S: Dir>(prunes: bool, source: &Layout<S>) -> Result<(), ProgramFault>
+    ensures { OnOk result (prunes ≡ true → IsWholeSource source.now) }
+{
+    if prunes { check_source(source) } else { Ok(()) }
 }
 
 /// Copies the selected blobs of an open layout into a folder. The folder is locked from before it
@@ -123,6 +131,7 @@ fn copy_selected<R: Host, S: Dir + Sync, D: PrunableDir + Drop + Send, X: Write 
 where
     S::Draft: Send,
     D::Draft: Send,
+    requires whole { words.now.prunes ≡ true → IsWholeSource source.now }
 {
     let lock = make_and_lock_folder(
         rt,
@@ -149,6 +158,7 @@ fn copy_under_lock<R: Host, S: Dir + Sync, D: PrunableDir + Drop + Send, X: Writ
 where
     S::Draft: Send,
     D::Draft: Send,
+    requires whole { words.now.prunes ≡ true → IsWholeSource source.now }
 {
     let options = options_of(words);
     if words.prunes {
@@ -159,7 +169,7 @@ where
     remove_leftovers(rt, lock)?;
     let progress = Progress::new(rt, err, words.shown, &plan);
     let copied = if words.prunes {
-        mirror(
+        let (_mirrored, copied) = mirror(
             rt,
             source,
             destination,
@@ -167,7 +177,8 @@ where
             selected,
             &options,
             &progress,
-        )
+        );
+        copied
     } else {
         let (_saved, copied) = copy_between(
             rt,

@@ -1,17 +1,28 @@
-ghost use Rattle.std.specs.Prelude.{◌≡◌, ◌≢◌, [], map, OnOk};
-ghost use Rattle.oci_copy.specs.Planned.{IsPlanOf};
+ghost use Rattle.std.specs.Prelude.{◌≡◌, ◌≢◌, ◌⊎◌, [], Ok, Err, Some, map, Contains, IsOk, IfOk, IfErr, OnOk, OnErr};
+ghost use Rattle.std.specs.List.{All};
+ghost use Rattle.std.specs.Map.{values_of};
+ghost use Rattle.oci_store.specs.Closed.{IsClosed};
 ghost use Rattle.oci_store.specs.Keyed.{HasAll};
+ghost use Rattle.oci_copy.specs.Cause.{CanFail, IsStepCause, RefusedAt, RefusedByWorkers};
+ghost use Rattle.oci_copy.specs.Grown.{BeginsWith};
+ghost use Rattle.oci_copy.specs.Planned.{IsPlanOf};
 ghost use Rattle.oci_layout.specs.Brought.{Brings};
 ghost use Rattle.oci_layout.specs.Entries.{entry_of};
-ghost use Rattle.oci_layout.specs.Layout.{manifests_of};
-ghost use Rattle.oci_copy_commands.specs.Selected.{other_tags, set_tags, without_tags};
+ghost use Rattle.oci_layout.specs.Index.{HasIndex};
+ghost use Rattle.oci_layout.specs.Layout.{manifests_of, OnlyIndex};
+ghost use Rattle.oci_prune.specs.Plan.{roots_of};
+ghost use Rattle.oci_prune.specs.Pruned.{KeepsReached};
+ghost use Rattle.oci_copy_commands.specs.Between.{HasReached};
+ghost use Rattle.oci_copy_commands.specs.Mirror.{of_prune, IsCleaned, IsCleanedCopy, IsMirrored, IsPruned, IsRefusedMirror, IsWholeSource, KeepsContents, KeepsHeld};
+ghost use Rattle.oci_copy_commands.specs.Refusal.{AfterRefusedCopy};
+ghost use Rattle.oci_copy_commands.specs.Selected.{set_tags};
 
 use crate::Host;
 use crate::copy::Copied;
 use crate::retag::retag;
 use crate::selected::Selected;
-use oci_copy::{Options, copy_plan};
-use oci_layout::{Dir, Layout, PrunableDir};
+use oci_copy::{CopyFault, Options, Report, copy_plan};
+use oci_layout::{Dir, Layout, OpenedIndex, PrunableDir};
 use oci_manifest::Key;
 use oci_plan::Plan;
 use oci_pool::Hooks;
@@ -41,9 +52,7 @@ pub(crate) struct CleanUp {
 ///   if any other manifest is damaged: the first one.
 /// - Out of memory.
 pub(crate) fn check_source<S: Dir>(source: &Layout<S>) -> Result<(), ProgramFault>
-    ensures tags { OnOk result (source.now.tags ≢ []) }
-    ensures absent { OnOk result (source.now.opened.absent ≡ []) }
-    ensures damaged { OnOk result (manifests_of source.now.opened.damaged ≡ []) }
+    ensures { OnOk result (IsWholeSource source.now) }
 {
     if source.tags()?.is_empty() {
         return Err(ProgramFault::Source(PruneFault::NoTags));
@@ -108,7 +117,8 @@ fn check_plan<D: PrunableDir>(alloc: Global, layout: &Layout<D>) -> Result<(), P
 /// before a file is removed that the old index needs.
 ///
 /// The plan is one that `plan_copy` made of these two layouts, the selected roots and these
-/// options. If the copy is refused, no tag and no file is removed, and the index is not written.
+/// options. The destination is always returned. If the copy is refused, no tag, no entry and no
+/// file is removed, and the index is not written.
 ///
 /// # Errors
 ///
@@ -126,17 +136,50 @@ pub(crate) fn mirror<R: Host, S: Dir + Sync, D: PrunableDir + Drop + Send, H: Ho
     selected: &Selected,
     options: &Options,
     hooks: &H,
-) -> Result<Copied, ProgramFault>
+) -> (Layout<D>, Result<Copied, ProgramFault>)
 where
     S::Draft: Send,
     D::Draft: Send,
-    requires { IsPlanOf (⟦<Layout<S> as Store>⟧.state source.now) options.now
+    requires planned { IsPlanOf (⟦<Layout<S> as Store>⟧.state source.now) options.now
         (⟦<Layout<D> as Store>⟧.state destination) selected.now.0 plan.now }
+    requires whole { IsWholeSource source.now }
+
+    // After a mirror the destination has exactly the selected tags, and what they need.
+    ensures tags { OnOk result.1 (result.0.tags ≡ set_tags [] selected.now.1) }
+    ensures brought { OnOk result.1 (Brings (map entry_of selected.now.2) result.0.tags
+        destination.opened result.0.opened) }
+    ensures saved { OnOk result.1 ((D.device result.0.dir).is_honest
+        → HasIndex (D.device result.0.dir).file result.0.graph result.0.tags result.0.opened) }
+    ensures pruned { IfOk result.1 (IsMirrored D.device (⟦<Layout<S> as Store>⟧.state source.now)
+        selected.now.0 destination result.0) }
+    ensures reached { OnOk result.1 (HasReached (⟦<Layout<S> as Store>⟧.state source.now)
+        (⟦<Layout<D> as Store>⟧.state destination) (values_of result.0.tags)
+        (⟦<Layout<D> as Store>⟧.state result.0)) }
+
+    // What its tags need stays, whatever the result.
+    ensures stays { KeepsHeld destination.graph result.0.graph (values_of result.0.tags) }
+    ensures closed { IsClosed destination.graph → IsClosed result.0.graph }
+
+    // A refused copy removes nothing.
+    ensures untagged { IfErr result.1 (AfterRefusedCopy (result.0.tags ≡ destination.tags)) }
+    ensures remembered { IfErr result.1 (AfterRefusedCopy
+        (result.0.opened ≡ destination.opened)) }
+    ensures unpruned { IfErr result.1 (AfterRefusedCopy
+        (BeginsWith destination.graph result.0.graph)) }
+    ensures contents { IfErr result.1 (AfterRefusedCopy (KeepsContents
+        (⟦<Layout<S> as Store>⟧.state source.now) (⟦<Layout<D> as Store>⟧.state destination)
+        (⟦<Layout<D> as Store>⟧.state result.0))) }
+    ensures refused { IfErr result.1 (IsRefusedMirror (RefusedByWorkers options.now.workers
+        (RefusedAt (Contains plan.now.keys) (IsStepCause
+        (CanFail ⟦<Layout<D> as Store>⟧.state (⟦<Layout<D> as Store>⟧.state destination))
+        (⟦<Layout<S> as Store>⟧.state source.now) (⟦<Layout<D> as Store>⟧.state destination))))
+        (D.device result.0.dir) result.0) }
 {
+    // A copy may change what the destination remembers of its index, as far as its contract says.
     let mut destination = destination;
     let index = destination.take_index();
     let roots = selected.roots();
-    let (mut destination, copied) = copy_plan(
+    let (destination, copied) = copy_plan(
         rt,
         rt.alloc(),
         source,
@@ -146,16 +189,55 @@ where
         options,
         hooks,
     );
+    finish(rt.alloc(), destination, index, copied, selected)
+}
+
+/// Gives the destination of a copy back what it remembered of its index, and cleans it up, unless
+/// the copy was refused.
+fn finish<D: PrunableDir>(
+    alloc: Global,
+    destination: Layout<D>,
+    index: OpenedIndex,
+    copied: Result<Report, CopyFault>,
+    selected: &Selected,
+) -> (Layout<D>, Result<Copied, ProgramFault>)
+    requires held { OnOk copied (HasAll destination.graph selected.now.0) }
+    ensures tags { OnOk result.1 (result.0.tags ≡ set_tags [] selected.now.1) }
+    ensures rooted { OnOk result.1 (All (λ k. Contains selected.now.0 k)
+        (values_of result.0.tags)) }
+    ensures brought { OnOk result.1 (Brings (map entry_of selected.now.2) result.0.tags index
+        result.0.opened) }
+    ensures saved { OnOk result.1 ((D.device result.0.dir).is_honest
+        → HasIndex (D.device result.0.dir).file result.0.graph result.0.tags result.0.opened) }
+    ensures pruned { IfOk result.1 (IsCleanedCopy D.device destination result.0) }
+    ensures report { IfOk result.1 (λ done. copied ≡ Ok done.report) }
+    ensures reached { KeepsReached destination.graph result.0.graph (values_of result.0.tags) }
+    ensures closed { IsClosed destination.graph → IsClosed result.0.graph }
+    ensures unsaved { OnErr copied (OnlyIndex destination result.0) }
+    ensures remembered { OnErr copied (result.0.opened ≡ index) }
+    ensures refused { IfErr result.1 (IsRefusedMirror
+        (λ fault. (copied ≡ Err fault) ⊎ (IsOk copied × (fault ≡ CopyFault.Memory)))
+        (D.device result.0.dir) result.0) }
+{
+    let mut destination = destination;
     destination.put_index(index);
     match copied {
-        Ok(report) => match clean_up(rt.alloc(), &mut destination, selected) {
-            Ok(removed) => Ok(Copied {
-                report,
-                removed: Some(removed),
-            }),
-            Err(fault) => Err(fault),
+        Ok(report) => match clean_up(alloc, &mut destination, selected) {
+            Ok(removed) => (destination, Ok(copied_of(report, removed))),
+            Err(fault) => (destination, Err(fault)),
         },
-        Err(fault) => Err(ProgramFault::Copy(fault)),
+        Err(fault) => (destination, Err(ProgramFault::Copy(fault))),
+    }
+}
+
+/// Returns what was copied and removed.
+fn copied_of(report: Report, removed: CleanUp) -> Copied
+    ensures report { result.report ≡ report }
+    ensures removed { result.removed ≡ Some removed }
+{
+    Copied {
+        report,
+        removed: Some(removed),
     }
 }
 
@@ -171,19 +253,59 @@ fn clean_up<D: PrunableDir>(
     selected: &Selected,
 ) -> Result<CleanUp, ProgramFault>
     requires held { HasAll destination.old.graph selected.now.0 }
-    ensures tags { OnOk result (destination.new.tags
-        ≡ without_tags (set_tags destination.old.tags selected.now.1)
-        (other_tags destination.old.tags selected.now.1)) }
+    ensures tags { OnOk result (destination.new.tags ≡ set_tags [] selected.now.1) }
+    ensures rooted { OnOk result (All (λ k. Contains selected.now.0 k)
+        (values_of destination.new.tags)) }
     ensures brought { OnOk result (Brings (map entry_of selected.now.2) destination.new.tags
         destination.old.opened destination.new.opened) }
+    ensures saved { OnOk result ((D.device destination.new.dir).is_honest
+        → HasIndex (D.device destination.new.dir).file destination.new.graph
+        destination.new.tags destination.new.opened) }
+    ensures pruned { IfOk result (IsCleaned D.device destination.old destination.new) }
+    ensures reached { KeepsReached destination.old.graph destination.new.graph
+        (values_of destination.new.tags) }
+    ensures closed { IsClosed destination.old.graph → IsClosed destination.new.graph }
+    ensures refused { IfErr result (IsRefusedMirror (λ fault. fault ≡ CopyFault.Memory)
+        (D.device destination.new.dir) destination.new) }
 {
     let untagged = retag(alloc, destination, selected)?;
     destination.bring(selected.entries())?;
+    match prune_and_save(alloc, destination) {
+        Ok((plan, pruned)) => Ok(CleanUp {
+            untagged,
+            plan,
+            pruned,
+        }),
+        Err(fault) => Err(fault),
+    }
+}
+
+/// Removes what no tag of a layout needs, and saves it. Returns the plan, and what was removed.
+fn prune_and_save<D: PrunableDir>(
+    alloc: Global,
+    destination: &mut Layout<D>,
+) -> Result<(PrunePlan, Pruned), ProgramFault>
+    ensures tags { destination.new.tags ≡ destination.old.tags }
+    ensures opened { destination.new.opened ≡ destination.old.opened }
+    ensures pruned { IfOk result (λ done. IsPruned D.device destination.old destination.new
+        done.0.kept) }
+    ensures saved { OnOk result ((D.device destination.new.dir).is_honest
+        → HasIndex (D.device destination.new.dir).file destination.new.graph
+        destination.new.tags destination.new.opened) }
+    ensures reached { KeepsReached destination.old.graph destination.new.graph
+        (roots_of destination.old) }
+    ensures closed { IsClosed destination.old.graph → IsClosed destination.new.graph }
+    ensures refused { IfErr result (IsRefusedMirror (λ fault. fault ≡ CopyFault.Memory)
+        (D.device destination.new.dir) destination.new) }
+{
     let plan = match plan_prune(alloc, destination, true) {
         Ok(plan) => plan,
         Err(fault) => return Err(fault_of(fault)),
     };
-    let pruned = prune(alloc, destination, &plan).map_err(fault_of)?;
+    let pruned = match prune(alloc, destination, &plan) {
+        Ok(pruned) => pruned,
+        Err(fault) => return Err(fault_of(fault)),
+    };
     // A prune saves the layout, before it removes a file, only if it drops a key. If it does not,
     // it removes only files that the old index does not need either.
     if plan.removed.is_empty()
@@ -191,15 +313,13 @@ fn clean_up<D: PrunableDir>(
     {
         return Err(ProgramFault::Destination(fault));
     }
-    Ok(CleanUp {
-        untagged,
-        plan,
-        pruned,
-    })
+    Ok((plan, pruned))
 }
 
 /// Returns the fault of a command that prunes its destination.
-fn fault_of(fault: PruneFault) -> ProgramFault {
+fn fault_of(fault: PruneFault) -> ProgramFault
+    ensures { result ≡ of_prune fault }
+{
     match fault {
         PruneFault::Layout(fault) => ProgramFault::Destination(fault),
         _ => ProgramFault::Prune(fault),

@@ -1,4 +1,10 @@
-ghost use Rattle.std.specs.Prelude.{◌≡◌, [], is_some, IfOk, OnOk};
+ghost use Rattle.std.specs.Prelude.{◌≡◌, ◌≢◌, ◌⊎◌, [], None, is_some, Contains, IfOk, IfErr, OnOk, OnErr};
+ghost use Rattle.std.specs.Cmp.Lexicographic.{slice_cmp};
+ghost use Rattle.std.specs.List.{All};
+ghost use Rattle.std.specs.List.Sorted.{IsStrictlySortedBy};
+ghost use Rattle.std.specs.Map.{keys_of, values_of};
+ghost use Rattle.std.specs.Ordering.{nat_cmp};
+ghost use Rattle.oci_layout.specs.Layout.{OnlyTags};
 ghost use Rattle.oci_store.specs.Keyed.{HasAll};
 ghost use Rattle.oci_store.specs.Tags.{by_bytes, tag_at};
 ghost use Rattle.oci_copy_commands.specs.Selected.{other_tags, set_tags, without_tags};
@@ -25,13 +31,14 @@ pub(crate) fn retag<D: Dir>(
     selected: &Selected,
 ) -> Result<Vec<(String, Key)>, ProgramFault>
     requires held { HasAll layout.old.graph selected.now.0 }
-    ensures tags { OnOk result (layout.new.tags
-        ≡ without_tags (set_tags layout.old.tags selected.now.1)
-        (other_tags layout.old.tags selected.now.1)) }
+    ensures tags { OnOk result (layout.new.tags ≡ set_tags [] selected.now.1) }
+    ensures rooted { OnOk result (All (λ k. Contains selected.now.0 k)
+        (values_of layout.new.tags)) }
     ensures removed { IfOk result (λ others. by_bytes others.items
         ≡ other_tags layout.old.tags selected.now.1) }
-    ensures graph { layout.new.graph ≡ layout.old.graph }
-    ensures opened { layout.new.opened ≡ layout.old.opened }
+    ensures only { OnlyTags layout.old layout.new }
+    ensures memory { IfErr result (λ fault. (fault ≡ ProgramFault.Memory)
+        ⊎ (fault ≡ ProgramFault.Copy CopyFault.Memory)) }
 {
     let tags = selected.tags();
     let others = other_tags(alloc, &layout.tags()?, tags)?;
@@ -44,16 +51,15 @@ pub(crate) fn retag<D: Dir>(
     Ok(others)
 }
 
-/// Removes these tags, in their order.
-///
-/// # Errors
-///
-/// The first refusal of a tag. The tags before it are removed.
+/// Removes these tags of a layout, which are in byte order of the names. None is refused.
 fn untag_all<D: Dir>(layout: &mut Layout<D>, tags: &[(String, Key)]) -> Result<(), RefFault>
+    requires there { All (λ t. (t.0 ≢ []) × (tag_at layout.old.tags t.0 ≢ None))
+        (by_bytes tags.now) }
+    requires order { IsStrictlySortedBy (slice_cmp nat_cmp) (keys_of (by_bytes tags.now)) }
     ensures untagged { OnOk result (layout.new.tags
         ≡ without_tags layout.old.tags (by_bytes tags.now)) }
-    ensures graph { layout.new.graph ≡ layout.old.graph }
-    ensures opened { layout.new.opened ≡ layout.old.opened }
+    ensures only { OnlyTags layout.old layout.new }
+    ensures never { OnErr result ⊥ }
 {
     for (name, _) in tags {
         layout.untag(name)?;

@@ -1,8 +1,79 @@
 use denote.Exit.{no}
 use denote.Param.{param}
 use denote.Param.Send.{param_send, param_sync, arg_send, arg_sync}
+use Rattle.std.proofs.Common.{inl, refl}
+use Rattle.std.specs.Map.{values_of}
+use Rattle.oci_copy.specs.Grown.{BeginsWith}
+use Rattle.oci_layout.specs.Blobs.{meaning}
+use Rattle.oci_layout.specs.Layout.{LayoutState}
 use Rattle.oci_layout.proofs.Crosses.{layout_send, layout_sync}
+use Rattle.oci_layout.proofs.Law.{keys_of_one_digest}
+use Rattle.oci_copy_commands.specs.Mirror.{KeepsContents}
+use Rattle.oci_copy_commands.specs.declared.copy.Copied.{Copied}
+use Rattle.oci_copy_commands.proofs.Mirrored.{both_give, contents_after, err_gives, held_stay, ok_gives, reached_kept}
+use Rattle.oci_copy_commands.proofs.Refusals.{after_refused, mirror_refused}
 use Rattle.oci_copy_commands.proofs.mirror.mirror.Goals as goal
+
+pub returns-clause-brought : goal.returns-clause-brought
+returns-clause-brought g c = rw c.take_index-index.ensures.taken at c.finish.ensures.brought
+
+pub returns-clause-pruned : goal.returns-clause-pruned
+returns-clause-pruned g c =
+    let left = c.copy_plan-destination in
+    let only = c.take_index-index.ensures.only in
+    let grows = rw (c.roots-roots.ensures, only.dir, only.graph, only.tags) at left.ensures.grows in
+    ok_gives c.finish.result.1 (λ done cleaned. (left.result.0, grows.met, cleaned)) c.finish.ensures.pruned
+
+pub returns-clause-reached : goal.returns-clause-reached
+returns-clause-reached g c =
+    let from = c.args.source.now in
+    let to = c.args.destination in
+    let left = c.copy_plan-destination in
+    let only = c.take_index-index.ensures.only in
+    let new = c.finish.result.0 in
+    let source = meaning (g.S.Dir.device from.dir) from.graph from.tags in
+    let old = meaning (g.D.Dir.device to.dir) to.graph to.tags in
+    let copied = meaning (g.D.Dir.device left.result.0.dir) left.result.0.graph left.result.0.tags in
+    both_give left.result.1 c.finish.result.1 (λ (done : Copied). done.report) (λ report copy rooted. reached_kept source old copied c.args.selected.now.0 new.graph new.tags copy c.finish.ensures.reached rooted)
+    c.finish.ensures.report (rw (c.roots-roots.ensures, only.dir, only.graph, only.tags) at left.ensures.copied) c.finish.ensures.rooted
+
+pub returns-clause-stays : goal.returns-clause-stays
+returns-clause-stays g c =
+    let left = c.copy_plan-destination in
+    let only = c.take_index-index.ensures.only in
+    let grows = rw (c.roots-roots.ensures, only.dir, only.graph, only.tags) at left.ensures.grows in
+    let new = c.finish.result.0 in
+    held_stay c.args.destination.graph left.result.0.graph new.graph (values_of new.tags) grows.begins c.finish.ensures.reached
+
+pub returns-clause-unpruned : goal.returns-clause-unpruned
+returns-clause-unpruned g c =
+    let left = c.copy_plan-destination in
+    let only = c.take_index-index.ensures.only in
+    let grows = rw (c.roots-roots.ensures, only.dir, only.graph, only.tags) at left.ensures.grows in
+    let new = c.finish.result.0 in
+    after_refused (BeginsWith c.args.destination.graph new.graph) left.result.1 (g.D.Dir.device new.dir) new c.finish.result.1 c.finish.ensures.refused
+    (err_gives left.result.1 (λ same. rw same.graph grows.begins) c.finish.ensures.unsaved)
+
+pub returns-clause-contents : goal.returns-clause-contents
+returns-clause-contents g c =
+    let from = c.args.source.now in
+    let to = c.args.destination in
+    let left = c.copy_plan-destination in
+    let only = c.take_index-index.ensures.only in
+    let grows = rw (c.roots-roots.ensures, only.dir, only.graph, only.tags) at left.ensures.grows in
+    let new = c.finish.result.0 in
+    let source = meaning (g.S.Dir.device from.dir) from.graph from.tags in
+    let old = meaning (g.D.Dir.device to.dir) to.graph to.tags in
+    let copied = meaning (g.D.Dir.device left.result.0.dir) left.result.0.graph left.result.0.tags in
+    after_refused (KeepsContents source old (meaning (g.D.Dir.device new.dir) new.graph new.tags)) left.result.1 (g.D.Dir.device new.dir) new c.finish.result.1 c.finish.ensures.refused
+    (err_gives left.result.1 (λ same. rw (same.dir, same.graph, same.tags) (contents_after source old copied c.args.selected.now.0 (keys_of_one_digest (g.S.Dir.device from.dir).file from.graph) grows)) c.finish.ensures.unsaved)
+
+pub returns-clause-refused : goal.returns-clause-refused
+returns-clause-refused g c =
+    let left = c.copy_plan-destination in
+    let only = c.take_index-index.ensures.only in
+    let new = c.finish.result.0 in
+    mirror_refused c.args.options.now.workers _ (inl refl) left.result.1 (rw (only.dir, only.graph, only.tags) at left.ensures.refused) (g.D.Dir.device new.dir) new c.finish.result.1 c.finish.ensures.refused
 
 pub copy_plan-destination-requires-send-D : goal.copy_plan-destination-requires-send-D
 copy_plan-destination-requires-send-D g c κs within = param_send _ _ (arg_send _ no _ (layout_send _ (param 5 g.row.D-Draft) _ g.D.Draft.Drafting c.type_bounds.send-D))

@@ -1,0 +1,110 @@
+-- What a copy and a prune after it leave.
+use Rattle.std.proofs.Common.{◌≡◌, true, inr, List, ◌++◌, is_some, sym, ap, subst, ◌∙◌}
+use Rattle.std.specs.Prelude.{⊤, Contains, Result, Ok, Err, IfOk, OnOk, OnErr}
+use Rattle.std.specs.List.{All}
+use Rattle.std.specs.Map.{values_of}
+use Rattle.std.proofs.lemmas.List.Elements.{All-contains, Contains-append_left}
+use Rattle.std.proofs.lemmas.Result.{IfOk-at_ok}
+use Rattle.oci_manifest.specs.Descriptor.{Descriptor}
+use Rattle.oci_store.specs.Copied.{Agree, IsCopied}
+use Rattle.oci_store.specs.Graph.{Node, Reaches, root as start, along}
+use Rattle.oci_store.specs.Keyed.{has_key, value_at}
+use Rattle.oci_store.specs.State.{State}
+use Rattle.oci_store.specs.Tags.{Tags}
+use Rattle.oci_store.proofs.Lookups.{found, value_at-append_left}
+use Rattle.oci_copy.specs.Copy.{IsCopy, OnlyGrows}
+use Rattle.oci_copy.specs.Grown.{graph_of, BeginsWith, SameByDigest}
+use Rattle.oci_copy.specs.declared.options.Options.{Options}
+use Rattle.oci_copy.specs.declared.report.Report.{Report}
+use Rattle.oci_layout.specs.Layout.{LayoutState, OpenedIndex}
+use Rattle.oci_layout.specs.Saved.{shadowed_keys}
+use Rattle.oci_prune.specs.Plan.{roots_of}
+use Rattle.oci_prune.specs.Pruned.{KeepsReached}
+use Rattle.oci_copy_commands.specs.Between.{IsTrusted}
+
+-- ---- a layout from its parts
+
+-- layouts of the same parts are the same
+pub same_layout : {D : Type 0} (a b : LayoutState D) → a.dir ≡ b.dir → a.graph ≡ b.graph → a.tags ≡ b.tags → a.opened ≡ b.opened → a ≡ b
+same_layout {D} a b dir graph tags opened =
+    ap (λ (d : D). record { dir = d; graph = a.graph; tags = a.tags; opened = a.opened }) dir
+    ∙ ap (λ (g : List Node). record { dir = b.dir; graph = g; tags = a.tags; opened = a.opened }) graph
+    ∙ ap (λ (t : Tags). record { dir = b.dir; graph = b.graph; tags = t; opened = a.opened }) tags
+    ∙ ap (λ (o : OpenedIndex). record { dir = b.dir; graph = b.graph; tags = b.tags; opened = o }) opened
+
+-- ---- what is reached
+
+-- what is reached from some keys is reached from more
+pub reached_from_more : (graph : List Node) (keys more : List Descriptor) → ((k : Descriptor) → Contains keys k → Contains more k) → (k : Descriptor) → Reaches graph keys k → Reaches graph more k
+reached_from_more graph keys more among k (start named) = start (among k named)
+reached_from_more graph keys more among k (along {from} path edge) = along (reached_from_more graph keys more among from path) edge
+
+-- a prune keeps what the tags reach
+pub tagged_stay : {D : Type 0} (l : LayoutState D) (graph : List Node) → KeepsReached l.graph graph (roots_of l) → KeepsReached l.graph graph (values_of l.tags)
+tagged_stay l graph keeps k reached =
+    keeps k (reached_from_more l.graph (values_of l.tags) (roots_of l) (λ other named. Contains-append_left (values_of l.tags) (shadowed_keys l.opened l.graph l.tags) other named) k reached)
+
+-- what is unchanged keeps what is reached
+pub all_stay : (old new : List Node) (keys : List Descriptor) → new ≡ old → KeepsReached old new keys
+all_stay old new keys same k reached = ap (λ (graph : List Node). value_at graph k) same
+
+-- what a graph reaches is reached in one that begins with it, and has the same under it
+grown_value : (old added : List Node) (k : Descriptor) → has_key old k ≡ true → value_at (old ++ added) k ≡ value_at old k
+grown_value old added k held =
+    let one = found old k held in
+    value_at-append_left old added k one.0 one.1 ∙ sym one.1
+
+reached_in_more : (old added : List Node) (keys : List Descriptor) (k : Descriptor) → Reaches old keys k → Reaches (old ++ added) keys k
+reached_in_more old added keys k (start named) = start named
+reached_in_more old added keys k (along {from} path edge) = along (reached_in_more old added keys from path) (edge.0, value_at-append_left old added from edge.0 edge.1, edge.2)
+
+-- what was held before a copy and is reached from the keys that a prune after it keeps is held
+pub held_stay : (old copied new : List Node) (keys : List Descriptor) → BeginsWith old copied → KeepsReached copied new keys → (k : Descriptor) → Reaches old keys k → has_key old k ≡ true → value_at new k ≡ value_at old k
+held_stay old copied new keys begins keeps k reached held =
+    let added = begins.0 in
+    let reaches : Reaches copied keys k = subst (λ (graph : List Node). Reaches graph keys k) (sym begins.1) (reached_in_more old added keys k reached) in
+    keeps k reaches ∙ ap (λ (graph : List Node). value_at graph k) begins.1 ∙ grown_value old added k held
+
+-- ---- what the source reaches
+
+-- what an agreeing source reaches from some of the roots of a copy, the copy reaches from them too
+copied_path : (source old copied : List Node) (roots keys : List Descriptor) → IsCopied source source roots old copied → ((k : Descriptor) → Contains keys k → Contains roots k) → (k : Descriptor) → Reaches source keys k → Reaches copied keys k
+copied_path source old copied roots keys is among k (start named) = start named
+copied_path source old copied roots keys is among k (along {from} path edge) =
+    along (copied_path source old copied roots keys is among from path) (edge.0, (is from edge.0).1 (inr (edge.1, reached_from_more source keys roots among from path)), edge.2)
+
+-- so a prune that keeps what these keys reach holds all that the source reaches from them
+pub reached_after_prune : (source old copied new : List Node) (roots keys : List Descriptor) → IsCopied source source roots old copied → ((k : Descriptor) → Reaches source roots k → has_key copied k ≡ true) → KeepsReached copied new keys
+    → ((k : Descriptor) → Contains keys k → Contains roots k) → (k : Descriptor) → Reaches source keys k → has_key new k ≡ true
+reached_after_prune source old copied new roots keys is all keeps among k reached =
+    ap is_some (keeps k (copied_path source old copied roots keys is among k reached)) ∙ all k (reached_from_more source keys roots among k reached)
+
+-- so a copy that was cleaned up holds all that an honest source reaches from the tags, which are of
+-- its roots
+pub reached_kept : {options : Options} {report : Report} (source old copied : State) (roots : List Descriptor) (new : List Node) (tags : Tags) → IsCopy ⊤ options source old roots copied report → KeepsReached copied.nodes new (values_of tags)
+    → All (λ (k : Descriptor). Contains roots k) (values_of tags) → source.is_honest → Agree (graph_of source) old.nodes → (k : Descriptor) → Reaches (graph_of source) (values_of tags) k → has_key new k ≡ true
+reached_kept source old copied roots new tags copy keeps rooted honest agree =
+    reached_after_prune (graph_of source) old.nodes copied.nodes new roots (values_of tags) (copy.graph honest agree) (copy.reached honest agree) keeps (λ k named. All-contains (λ (other : Descriptor). Contains roots other) (values_of tags) k rooted named)
+
+-- a refused copy keeps the bytes of what was held, if the bytes are known
+pub contents_after : (source old copied : State) (roots : List Descriptor) → SameByDigest source.entries source.entries → OnlyGrows ⊤ source old roots copied → IsTrusted source old copied → BeginsWith old.entries copied.entries
+contents_after source old copied roots alike grows trusted =
+    let grown = grows.grown_content (record { is_honest = trusted.is_honest; is_sound = trusted.is_sound; is_calm = trusted.is_calm; same_old = λ _. trusted.same; same_source = λ _. alike }) in
+    (grown.0, grown.1)
+
+-- ---- results
+
+-- a consequence of a success
+pub ok_gives : {X E : Type 0} {P Q : X → Type 0} (r : Result X E) → ((x : X) → P x → Q x) → IfOk r P → IfOk r Q
+ok_gives (Ok x) gives p = gives x p
+ok_gives (Err e) gives p = p
+
+-- a consequence of a refusal
+pub err_gives : {X E : Type 0} {P Q : Type 0} (r : Result X E) → (P → Q) → OnErr r P → OnErr r Q
+err_gives (Ok x) gives p = p
+err_gives (Err e) gives p = gives p
+
+-- a consequence of the success of a copy and of its clean-up
+pub both_give : {X Y E F : Type 0} {R : X → Type 0} {S T : Type 0} (copied : Result X E) (done : Result Y F) (report_of : Y → X) → ((x : X) → R x → S → T) → IfOk done (λ it. copied ≡ Ok (report_of it)) → IfOk copied R → OnOk done S → OnOk done T
+both_give {R = R} copied (Ok y) report_of gives same holds also = gives (report_of y) (IfOk-at_ok R same holds) also
+both_give copied (Err e) report_of gives same holds also = also

@@ -1,0 +1,83 @@
+-- Why a mirror is refused.
+use Rattle.std.proofs.Common.{◌≡◌, ◌⊎◌, inl, inr, ℕ, true, Result, Ok, Err, sym, subst, ◌∙◌}
+use Rattle.std.specs.Prelude.{IsOk, IfErr, OnErr}
+use Rattle.oci_copy.specs.Cause.{IsAnswerByWorkers, RefusedByWorkers}
+use Rattle.oci_copy.specs.declared.fault.CopyFault.{CopyFault}
+use Rattle.oci_copy.specs.declared.fault.CopyFault.TheVariants as copy
+use Rattle.oci_layout.specs.Device.{Device}
+use Rattle.oci_layout.specs.Layout.{LayoutState}
+use Rattle.oci_layout.specs.declared.fault.LayoutFault.{LayoutFault}
+use Rattle.oci_layout.specs.declared.fault.LayoutFault.TheVariants as layout
+use Rattle.oci_program.specs.declared.fault.ProgramFault.{ProgramFault}
+use Rattle.oci_program.specs.declared.fault.ProgramFault.TheVariants as program
+use Rattle.oci_prune.specs.Refusal.{IsDeviceFault, IsPlanFault, MayNotSave}
+use Rattle.oci_prune.specs.declared.fault.PruneFault.{PruneFault}
+use Rattle.oci_prune.specs.declared.fault.PruneFault.TheVariants as prune
+use Rattle.oci_copy_commands.specs.Mirror.{of_prune, IsRefusedMirror}
+use Rattle.oci_copy_commands.specs.Refusal.{AfterRefusedCopy}
+use Rattle.oci_copy_commands.proofs.Saved.{refused_with}
+
+module _ {D : Type 0} (cause : CopyFault → Type 0) where
+  -- a plan that is refused is a cause
+  pub plan_refused : (dir : Device) (l : LayoutState D) (e : PruneFault) → IsPlanFault dir l true e → IsRefusedMirror cause dir l (of_prune e)
+  plan_refused dir l (prune.NotRemoved path) h = h
+  plan_refused dir l (prune.Fetch k e) h = h
+  plan_refused dir l (prune.Layout e) h = inr h
+  plan_refused dir l prune.Memory h = h
+  plan_refused dir l (prune.Unknown k) h = h
+  plan_refused dir l prune.NoTags h = h
+  plan_refused dir l (prune.LinkedBlobs path) h = h
+
+  device_refused : (old dir : Device) (l : LayoutState D) → dir.fails_reads ≡ old.fails_reads → (e : LayoutFault) → IsDeviceFault (MayNotSave old dir) (prune.Layout e) → IsRefusedMirror cause dir l (program.Destination e)
+  device_refused old dir l reads layout.Device (inl may) = inr (reads ∙ may)
+  device_refused old dir l reads layout.Device (inr raised) = inl (old.failures, raised)
+  device_refused old dir l reads layout.NoLayoutFile h = absurd h
+  device_refused old dir l reads layout.BadLayoutFile h = absurd h
+  device_refused old dir l reads layout.BadVersion h = absurd h
+  device_refused old dir l reads (layout.BadIndex e) h = absurd h
+  device_refused old dir l reads (layout.Corrupt k) h = absurd h
+  device_refused old dir l reads layout.Memory h = absurd h
+  device_refused old dir l reads (layout.BadManifest k e) h = absurd h
+  device_refused old dir l reads layout.AlreadyLayout h = absurd h
+
+  -- a prune that is refused is a cause
+  pub prune_refused : (old dir : Device) (l : LayoutState D) → dir.fails_reads ≡ old.fails_reads → (e : PruneFault) → IsDeviceFault (MayNotSave old dir) e → IsRefusedMirror cause dir l (of_prune e)
+  prune_refused old dir l reads (prune.NotRemoved path) h = absurd h
+  prune_refused old dir l reads (prune.Fetch k e) h = absurd h
+  prune_refused old dir l reads (prune.Layout e) h = device_refused old dir l reads e h
+  prune_refused old dir l reads prune.Memory h = tt
+  prune_refused old dir l reads (prune.Unknown k) h = absurd h
+  prune_refused old dir l reads prune.NoTags h = absurd h
+  prune_refused old dir l reads (prune.LinkedBlobs path) h = absurd h
+
+  -- a cause of the clean-up is one of the mirror
+  pub cleaned_refused : (other : CopyFault → Type 0) → ((e : CopyFault) → cause e → other e) → (dir : Device) (l : LayoutState D) (e : ProgramFault) → IsRefusedMirror cause dir l e → IsRefusedMirror other dir l e
+  cleaned_refused other gives dir l (program.Copy e) h = gives e h
+  cleaned_refused other gives dir l (program.Destination e) h = h
+  cleaned_refused other gives dir l (program.Prune e) h = h
+  cleaned_refused other gives dir l program.Memory h = h
+  cleaned_refused other gives dir l e h = absurd h
+
+-- a copy by workers and its clean-up are refused for a cause of the copy, or for one of the clean-up
+pub mirror_refused : {D X Y : Type 0} (workers : ℕ) (cause : CopyFault → Type 0) → cause copy.Memory → (copied : Result X CopyFault) → IsAnswerByWorkers workers cause copied
+    → (dir : Device) (l : LayoutState D) (answer : Result Y ProgramFault) → IfErr answer (IsRefusedMirror (λ e. (copied ≡ Err e) ⊎ (IsOk copied × (e ≡ copy.Memory))) dir l)
+    → IfErr answer (IsRefusedMirror (RefusedByWorkers workers cause) dir l)
+mirror_refused workers cause memory copied answers dir l (Ok y) is = is
+mirror_refused workers cause memory copied answers dir l (Err e) is =
+    cleaned_refused (λ e. (copied ≡ Err e) ⊎ (IsOk copied × (e ≡ copy.Memory))) (RefusedByWorkers workers cause) (refused_with workers cause memory copied answers) dir l e is
+
+-- what holds after a refused copy holds unless memory ran out
+after_copy : (holds : Type 0) (e : CopyFault) → holds → AfterRefusedCopy holds (program.Copy e)
+after_copy holds copy.Memory is = tt
+after_copy holds e is = is
+
+refused_there : {X : Type 0} (holds : Type 0) (copied : Result X CopyFault) (e : CopyFault) → (copied ≡ Err e) ⊎ (IsOk copied × (e ≡ copy.Memory)) → OnErr copied holds → AfterRefusedCopy holds (program.Copy e)
+refused_there holds copied e (inl same) there = after_copy holds e (subst (λ r. OnErr r holds) same there)
+refused_there holds copied e (inr it) there = subst (λ (x : CopyFault). AfterRefusedCopy holds (program.Copy x)) (sym it.1) tt
+
+-- what a refused copy leaves is left after a mirror whose copy was refused
+pub after_refused : {D X Y : Type 0} (holds : Type 0) (copied : Result X CopyFault) (dir : Device) (l : LayoutState D) (answer : Result Y ProgramFault)
+    → IfErr answer (IsRefusedMirror (λ e. (copied ≡ Err e) ⊎ (IsOk copied × (e ≡ copy.Memory))) dir l) → OnErr copied holds → IfErr answer (AfterRefusedCopy holds)
+after_refused holds copied dir l (Ok y) is there = is
+after_refused holds copied dir l (Err (program.Copy e)) is there = refused_there holds copied e is there
+after_refused holds copied dir l (Err e) is there = tt
