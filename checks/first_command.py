@@ -59,7 +59,7 @@ class Repository:
         ended = subprocess.run(["./ocicp", "these", "words"], cwd=self.room, env=how, capture_output=True, text=True, timeout=60)
         with open(self.room + "/asked") as file:
             asked = file.read().split()
-        says = refusal or wanted and "build: proving %d of 5 crates; all of them take about 25 minutes on four cores\n" % len(asked)
+        says = refusal or wanted and "build: proving %d of 5 crates; all of them take about 35 minutes on four cores\n" % len(asked)
         right = says in ended.stderr if says else ended.stderr == ""
         right = right and (ended.returncode, ended.stdout) == ((1, "") if refusal else (0, runs + " with these words\n"))
         return None if right and sorted(asked) == sorted(wanted.split()) else "%s, %s" % (asked, ended)
@@ -104,4 +104,4 @@ def checks(room):
     yield "a release of other sources, without a toolchain", here.wrong("", refusal="there is no rt", tools="none")
     yield "a release of other sources", here.wrong("high ocicp")
     with open(TOP + "/README.md") as file:
-        yield "README.md has the minutes of a build", None if "in about 25 minutes on four cores" in file.read() else "it has not"
+        yield "README.md has the minutes of a build", None if "in about 35 minutes on four cores" in file.read() else "it has not"

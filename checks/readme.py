@@ -81,7 +81,7 @@ def commands_alone(folder):
     if others:
         yield "blocks", "nothing runs those of the kinds %s" % others
     for command in found:
-        # (`./test` runs this file, and `./build` takes 25 minutes)
+        # (`./test` runs this file, and `./build` takes 35 minutes)
         if command in ("./build", "./test"):
             yield "$ " + command, None if os.access(TOP + command[1:], os.X_OK) else "there is no such script"
             continue
