@@ -41,7 +41,7 @@ REFERENCES = ["resolve good REF", "predecessors good REF", "tree good REF", "cop
 ONTO_FILES = ["copy good one file", "copy --all good file", "untag file one", "prune file"]
 ITEMS = ["type", "type=nothing", "a=good/oci-layout a=good/oci-layout", "%s=good/%s" % (IMAGE, blob(M2))]
 # The numbers that the refusals here have.
-NUMBERS = {*range(10, 15), 21, 22, 30, 33, 35, 36, 43, 53, 54, *range(70, 76), 77, *range(79, 83), 88, *range(92, 105)}
+NUMBERS = {*range(10, 15), 21, 30, 33, 35, 36, 43, 53, 54, *range(70, 76), 77, *range(79, 83), 88, *range(92, 105)}
 
 
 def write_good(folder):
