@@ -1,10 +1,9 @@
 """`copy --referrers` of layouts made by hand and at random, against what belongs to the image by the rules of README, worked out from the files."""
 import json
-import os
 import random
 import shutil
 
-from support.layouts import BAR, E, FOO, I1, IMAGE, INDEX, M2, M3, S, Content, digits, image, index, write_layout
+from support.layouts import BAR, E, FOO, I1, M2, M3, S, digits, image, index, write_layout
 from support.program import first, run, told
 from support.pruning import MEMBERS, Held, text
 
@@ -107,7 +106,8 @@ def wrong_tree(room, source, tag):
     shown = {node["descriptor"]["digest"] for node in tree["blobs"] + tree["referrers"]}
     members = source.belonging(source.climbed(source.tags[tag], 0))
     lost = {it.digest for it in source.attached(members)} - shown
-    return "the tree lacks %s" % sorted(lost) if lost else None
+    more = {node["descriptor"]["digest"] for node in tree["blobs"] + tree["referrers"] if not node["absent"]} - {it.digest for it in members}
+    return "the tree lacks %s, and has %s" % (sorted(lost), sorted(more)) if lost or more else None
 
 
 def wrong_layout(room, layout):
