@@ -41,7 +41,7 @@ Build the manifest again with a tool that follows the OCI image specification.
 
 14 BadDescriptor
 The named member has an invalid descriptor at this position, counted from 0. Its `mediaType`, `digest` or `size` is missing or malformed.
-Build the manifest again with a tool that follows the OCI image specification.
+Build the manifest again with a tool that follows the OCI image specification. After 73, see there.
 
 15 Memory
 Memory ran out while a manifest was read.
@@ -113,7 +113,7 @@ Push every blob that a manifest lists before the manifest.
 
 43 Device
 A file of the destination could not be written.
-Check the permissions and the free space of the disk, and run the same copy again.
+Check the permissions and the free space of the disk, remove a folder that is in the place of a blob's file, and run the same copy again.
 
 44 Halted
 The live store accepts no more blobs, because an earlier push ran out of memory while it was published.
@@ -204,16 +204,16 @@ The layout has another version than 1.0.0.
 Create the layout again with a tool that writes version 1.0.0.
 
 73 BadIndex
-The file `index.json` is not an image index. The next error says why.
-Look up the next number, and fetch `index.json` again from the layout's origin.
+The file `index.json` is not an image index. The next error says why. If it is 14, only the entry at that position is no descriptor: commands answer for the other entries, and are refused if they need this one.
+Look up the next number, and fetch `index.json` again from the layout's origin. If an entry that is no descriptor is no longer needed, run `ocicp untag` for its tag, or delete it from `index.json` if it has none.
 
 74 Device
 A file or the folder of the layout could not be read or written, or is not of the right kind.
 Check the permissions and the free space of the disk. The files of a layout have to be regular files.
 
 75 Corrupt
-The file of the named manifest does not match its size and digest, or that of the named layer or config has another size. It is not known what such a manifest lists. The other images of the layout can be used.
-Copy its image again with `ocicp copy --descend` from a layout that has it; its tags are in `index.json`. If it is no longer needed, run `ocicp untag` for each of its tags. Delete an entry that has no tag from `index.json`.
+The file of the named manifest does not match its size and digest, or that of the named layer or config has another size. A folder in the file's place counts as damage too. It is not known what a damaged manifest lists. The other images of the layout can be used.
+Remove a folder in the file's place. Copy its image again with `ocicp copy --descend` from a layout that has it; its tags are in `index.json`. If it is no longer needed, run `ocicp untag` for each of its tags. Delete an entry that has no tag from `index.json`.
 
 76 Memory
 Memory ran out while a layout was opened, created or saved.
@@ -232,8 +232,8 @@ The named file could not be removed. `index.json` is saved, the other files are 
 Check the permissions of the folder that has the file, and run the same `ocicp prune` again.
 
 80 DestinationOpen
-The destination is damaged: the manifest of the first KEY lists the blob of the second, which is missing there, or has a damaged file. Nothing was copied.
-Copy the image that needs that blob with `ocicp copy --descend`, from a layout that has it.
+The destination is damaged: the manifest of the first KEY lists the blob of the second, which is missing there, or has a damaged file. A folder in the file's place counts as damage too. Nothing was copied.
+Remove a folder in the file's place. Copy the image that needs that blob with `ocicp copy --descend`, from a layout that has it.
 
 81 Plan
 The copy could not be planned. The next error says why. Nothing was copied.
@@ -296,8 +296,8 @@ The named path is a file, or is new and has the name of an archive, and `ocicp` 
 Copy into a folder, without `oci:` before its path. To change an archive, unpack it into a folder, and change the layout there. `tar -cf FILE -C FOLDER .` makes an archive of a folder.
 
 96 Unknown
-The layout does not have the named blob, or has a damaged manifest there, so it is not known what that blob needs. It is an entry of `index.json`, a damaged manifest, or a manifest that a kept manifest lists. Nothing was removed, and no tag was set. Nothing was copied either, unless it turned out only after the copy of a mirror that its destination cannot be pruned; then the copied blobs are there.
-Restore the blob with `ocicp copy --descend` from a layout that has it. If it is no longer needed, run `ocicp untag` for each of its tags, and delete an entry that has no tag from `index.json`. A damaged manifest that only an index lists can be deleted from `blobs` once no tag needs that index.
+The layout does not have the named blob, or has a damaged manifest there, so it is not known what that blob needs. It is an entry of `index.json`, a damaged manifest, or a manifest that a kept manifest lists. A folder in a file's place counts as damage too. Nothing was removed, and no tag was set. Nothing was copied either, unless it turned out only after the copy of a mirror that its destination cannot be pruned; then the copied blobs are there.
+Remove a folder in the file's place, and restore the blob with `ocicp copy --descend` from a layout that has it. If it is no longer needed, run `ocicp untag` for each of its tags, and delete an entry that has no tag from `index.json`. A damaged manifest that only an index lists can be deleted from `blobs` once no tag needs that index.
 
 97 NoTags
 The layout has no tag, so no blob would be kept or copied. Nothing was copied or removed.

@@ -6,12 +6,12 @@ use Rattle.std.specs.Option.{is_some}
 use Rattle.std.specs.Map.{lookup}
 use Rattle.std.specs.Ordering.{is_eq}
 use Rattle.std.proofs.lemmas.List.Elements.{All-append, All-contains, All-cons, All-nil}
-use Rattle.oci_manifest.specs.Descriptor.{Descriptor, key_cmp, same_key}
+use Rattle.oci_manifest.specs.Descriptor.{Descriptor, key_cmp}
 use Rattle.oci_store.specs.Tags.{Tags}
 use Rattle.oci_store.proofs.KeyOrder.{is_eq-key_cmp}
 use Rattle.oci_copy.proofs.Places.{Contains-from_slice_get}
 use Rattle.oci_layout.specs.Brought.{annotations_of, renamed, same_name, with_annotations, with_name, IsShallowEntry}
-use Rattle.oci_layout.specs.Entries.{IndexEntry, entry_of}
+use Rattle.oci_layout.specs.Entries.{IndexEntry, entry_of, is_this_key}
 use Rattle.oci_layout.specs.Saved.{later_place, no_name}
 use Rattle.oci_layout.specs.declared.index.IndexEntry.{IndexEntry as CodeEntry}
 use Rattle.oci_layout.proofs.Brought.{shallow_with}
@@ -41,10 +41,10 @@ HasLastPlaces-more unnamed old new es i e lt is before set k =
     set k ∙ ap (cond (is_of unnamed k (entry_of e)) (Some i)) (before k) ∙ sym (last_such-next (is_of unnamed k) es i e lt is)
 
 -- a map in which the place of an entry that counts was set
-pub set_key : (unnamed : Bool) (e : IndexEntry) (place : ℕ) (old new : BTreeMap Descriptor ℕ) (key : Descriptor) → (not unnamed || no_name e.name) ≡ true → key ≡ e.key
+pub set_key : (unnamed : Bool) (e : IndexEntry) (place : ℕ) (old new : BTreeMap Descriptor ℕ) (key : Descriptor) → (not unnamed || no_name e.name) ≡ true → e.key ≡ Some key
     → ((k : Descriptor) → get key_cmp new k ≡ cond (is_eq (key_cmp key k)) (Some place) (get key_cmp old k)) → (k : Descriptor) → get key_cmp new k ≡ cond (is_of unnamed k e) (Some place) (get key_cmp old k)
 set_key unnamed e place old new key counts is set k =
-    set k ∙ ap (λ (b : Bool). cond b (Some place) (get key_cmp old k)) (is_eq-key_cmp key k ∙ ap (λ (j : Descriptor). same_key j k) is ∙ sym (ap (λ (b : Bool). b && same_key e.key k) counts))
+    set k ∙ ap (λ (b : Bool). cond b (Some place) (get key_cmp old k)) (is_eq-key_cmp key k ∙ sym (ap (is_this_key k) is) ∙ sym (ap (λ (b : Bool). b && is_this_key k e.key) counts))
 
 -- ---- entries that are not nested too deeply
 

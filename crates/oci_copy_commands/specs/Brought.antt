@@ -2,10 +2,10 @@
 use Rattle.std.specs.Prelude.{◌≡◌, ◌++◌, ◌∷◌, [], ℕ, Bool, true, false, not, ◌&&◌, ◌||◌, List, filter, Option, None, Some, is_some, option_map, option_and_then, slice_get, if◌then◌else◌}
 use Rattle.std.specs.BTreeMap.{BTreeMap, get}
 use Rattle.std.specs.List.{flat_map}
-use Rattle.oci_manifest.specs.Descriptor.{Descriptor, key_cmp, same_key}
+use Rattle.oci_manifest.specs.Descriptor.{Descriptor, key_cmp}
 use Rattle.oci_store.specs.Tags.{Tags}
 use Rattle.oci_layout.specs.Brought.{renamed}
-use Rattle.oci_layout.specs.Entries.{IndexEntry}
+use Rattle.oci_layout.specs.Entries.{IndexEntry, is_this_key}
 use Rattle.oci_layout.specs.Saved.{is_name, later_place, no_name}
 
 -- ---- the last entry of a key
@@ -15,13 +15,13 @@ abbrev pub last_such : (IndexEntry → Bool) → List IndexEntry → Option ℕ
 last_such test [] = None
 last_such test (e ∷ es) = later_place (last_such test es) (test e)
 
--- whether an entry is of a key; with `unnamed` it must have no name
+-- whether an entry is of a key; with `unnamed` it must have no name. One without a key is of none
 abbrev pub is_of : Bool → Descriptor → IndexEntry → Bool
-is_of unnamed k e = (not unnamed || no_name e.name) && same_key e.key k
+is_of unnamed k e = (not unnamed || no_name e.name) && is_this_key k e.key
 
 -- whether an entry is of a name and a key
 abbrev pub is_tagged : List ℕ → Descriptor → IndexEntry → Bool
-is_tagged name k e = is_name name e.name && same_key e.key k
+is_tagged name k e = is_name name e.name && is_this_key k e.key
 
 -- the first of two places that is there
 abbrev pub first_of : Option ℕ → Option ℕ → Option ℕ

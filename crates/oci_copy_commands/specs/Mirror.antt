@@ -10,6 +10,7 @@ use Rattle.oci_copy.specs.Grown.{BeginsWith}
 use Rattle.oci_copy.specs.declared.fault.CopyFault.{CopyFault}
 use Rattle.oci_layout.specs.Blobs.{meaning, stored}
 use Rattle.oci_layout.specs.Device.{Device}
+use Rattle.oci_layout.specs.Entries.{said, unreadable_places}
 use Rattle.oci_layout.specs.Layout.{LayoutState, manifests_of}
 use Rattle.oci_layout.specs.Refusal.{IsPutFault}
 use Rattle.oci_program.specs.declared.fault.ProgramFault.{ProgramFault}
@@ -24,11 +25,12 @@ use Rattle.oci_copy_commands.specs.declared.copy.Copied.{Copied}
 use Rattle.oci_copy_commands.specs.declared.mirror.CleanUp.{CleanUp}
 
 -- a source that a mirror may follow: it has a tag, the key of each entry of its index was held when
--- it was opened, and none of its manifests was damaged
+-- it was opened, none of its manifests was damaged, and each entry is a descriptor
 pub record IsWholeSource {D : Type 0} (source : LayoutState D) : Type 0 where
   pub tagged : source.tags ≢ []
   pub known : source.opened.absent ≡ []
   pub undamaged : manifests_of source.opened.damaged ≡ []
+  pub readable : unreadable_places (said source.opened.content).entries ≡ []
 
 -- ---- what is left
 

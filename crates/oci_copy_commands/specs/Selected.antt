@@ -1,19 +1,26 @@
 -- The roots of a copy, the tags that it sets, and the entries that it brings.
-use Rattle.std.specs.Prelude.{◌≡◌, ◌≢◌, ◌↔◌, ℕ, true, not, List, [], ◌∷◌, ◌++◌, filter, Option, None, Some, is_some, Contains}
+use Rattle.std.specs.Prelude.{◌≡◌, ◌≢◌, ◌↔◌, ℕ, true, not, List, [], ◌∷◌, ◌++◌, map, filter, Option, None, Some, is_some, Contains}
 use Rattle.std.specs.List.{All, IsDistinct}
 use Rattle.std.specs.Map.{keys_of, values_of}
+use Rattle.oci_command_line.specs.declared.changing.CopyWords.{CopyWords}
+use Rattle.oci_command_line.specs.declared.changing.Selection.{Selection}
+use Rattle.oci_command_line.specs.declared.changing.Selection.TheVariants as selection
+use Rattle.oci_copy.specs.Tagged.{name_of}
 use Rattle.oci_manifest.specs.Descriptor.{Descriptor, same_key}
 use Rattle.oci_store.specs.Graph.{Node}
-use Rattle.oci_store.specs.Keyed.{has_key}
 use Rattle.oci_store.specs.State.{State}
 use Rattle.oci_store.specs.Tags.{Tags, by_bytes, set_tag, tag_at, without_tag}
 use Rattle.oci_store.specs.Visiting.{with_keys}
+use Rattle.oci_layout.specs.Blobs.{meaning}
 use Rattle.oci_layout.specs.Brought.{IsShallowEntry}
-use Rattle.oci_layout.specs.Entries.{IndexEntry, entry_keys, text_of}
+use Rattle.oci_layout.specs.Device.{Device}
+use Rattle.oci_layout.specs.Entries.{IndexEntry, entry_keys, entry_of, is_held, said, text_of, unreadable_places}
+use Rattle.oci_layout.specs.Layout.{LayoutState, manifests_of}
 use Rattle.oci_layout.specs.Saved.{no_name}
 use Rattle.oci_layout.specs.declared.index.IndexEntry.{IndexEntry as CodeEntry}
-use Rattle.oci_copy_commands.specs.Brought.{named_entries}
+use Rattle.oci_copy_commands.specs.Brought.{named_entries, reference_entry, tag_entries, with_roots}
 use Rattle.oci_plan.specs.Up.{HasPath, IsUp, IsWithinDepth}
+use Rattle.oci_program.specs.Reference.{Names}
 use Rattle.oci_prune.specs.Attached.{AttachedBy}
 use Rattle.oci_prune.specs.Belonging.{IsBelonging, IsComplete}
 use Rattle.oci_prune.specs.declared.belonging.Belonging.{Belonging}
@@ -88,11 +95,11 @@ named_keys tags entries = values_of tags ++ entry_keys (named_entries entries)
 
 -- ---- the tags
 
--- the key of an entry is held, if the entry has a name
+-- an entry has a key that is held, if it has a name
 abbrev pub IsNamedHeld : List Node → CodeEntry → Type 0
-IsNamedHeld graph e = not (no_name (text_of e.name)) ≡ true → has_key graph e.key ≡ true
+IsNamedHeld graph e = not (no_name (text_of e.name)) ≡ true → is_held graph e.key ≡ true
 
--- the keys of these entries that have a name are held
+-- those of these entries that have a name have keys that are held
 abbrev pub AreNamedHeld : List Node → List CodeEntry → Type 0
 AreNamedHeld graph entries = All (IsNamedHeld graph) entries
 
@@ -109,3 +116,40 @@ without_tags tags (t ∷ more) = without_tags (without_tag tags t.0) more
 -- the tags that do not have the name of a kept one
 abbrev pub other_tags : Tags → Tags → Tags
 other_tags tags kept = filter (λ t. not (is_some (tag_at (set_tags [] kept) t.0))) tags
+
+-- ---- what the words of a copy select
+
+-- everything in a layout can be read: no manifest is damaged, and each entry of its index is a
+-- descriptor
+pub record IsReadable {D : Type 0} (layout : LayoutState D) : Type 0 where
+  pub manifests : manifests_of layout.opened.damaged ≡ []
+  pub entries : unreadable_places (said layout.opened.content).entries ≡ []
+
+-- the roots of a copy, the tags that it sets, and the entries that it brings
+abbrev pub Selected : Type 0
+Selected = List Descriptor × Tags × List CodeEntry
+
+-- a copy of a reference, which is tagged with its second name if that is not empty, selects the key
+-- that it names
+abbrev pub SelectsReference : {D : Type 0} → (D → Device) → LayoutState D → List ℕ → List ℕ → Option ℕ → Selected → Type 0
+SelectsReference device source from to referrers s =
+    (k : Descriptor) × (others : Tags) × Names (keys_of source.graph) source.tags from k
+    × AreReferenceRoots (meaning (device source.dir) source.graph source.tags) referrers k (name_of from to) s.0 others
+    × (s.1 ≡ (name_of from to, k) ∷ others)
+    × (map entry_of s.2 ≡ with_roots (said source.opened.content).entries (reference_entry (said source.opened.content).entries from (name_of from to) k ++ tag_entries (said source.opened.content).entries others) s.0)
+
+-- a copy of all tags selects what each entry with a name names
+pub record SelectsAllTags {D : Type 0} (device : D → Device) (source : LayoutState D) (referrers : Option ℕ) (s : Selected) : Type 0 where
+  pub named : AreNamedHeld source.graph source.opened.content.entries
+  pub tagged : source.tags ≢ []
+  pub tags : s.1 ≡ source.tags
+  pub roots : AreAllRoots (meaning (device source.dir) source.graph source.tags) referrers (named_keys source.tags (said source.opened.content).entries) s.0
+  pub entries : map entry_of s.2 ≡ with_roots (said source.opened.content).entries (named_entries (said source.opened.content).entries) s.0
+
+-- a copy selects what its words name: a reference, or all tags
+abbrev pub SelectsBy : {D : Type 0} → (D → Device) → LayoutState D → Option ℕ → Selection → Selected → Type 0
+SelectsBy device source referrers (selection.Reference from to) s = SelectsReference device source from.now to.now referrers s
+SelectsBy device source referrers selection.AllTags s = SelectsAllTags device source referrers s
+
+abbrev pub Selects : {D : Type 0} → (D → Device) → LayoutState D → CopyWords → Selected → Type 0
+Selects device source words s = SelectsBy device source words.referrers words.selection s

@@ -4,7 +4,7 @@ ghost use Rattle.std.specs.BTreeMap.{get};
 ghost use Rattle.std.specs.List.{flat_map};
 ghost use Rattle.oci_manifest.specs.Descriptor.{Descriptor, key_cmp};
 ghost use Rattle.oci_store.specs.Tags.{by_bytes};
-ghost use Rattle.oci_layout.specs.Entries.{entry_of};
+ghost use Rattle.oci_layout.specs.Entries.{entry_of, is_this_key};
 ghost use Rattle.oci_layout.specs.Saved.{no_name};
 ghost use Rattle.oci_copy_commands.specs.Brought.{
   entry_at,
@@ -65,7 +65,7 @@ impl<'l> Model for LastEntries<'l> {
 }
 
 impl<'l> LastEntries<'l> {
-    /// Finds the last entry of each key.
+    /// Finds the last entry of each key. An entry without a key is of none.
     fn of(alloc: Global, entries: &'l [IndexEntry]) -> Result<LastEntries<'l>, NoMemory>
         ensures { IfOk result (λ last. last ≡ entries.now) }
     {
@@ -126,7 +126,7 @@ fn last_places(
     Ok(places)
 }
 
-/// Sets the place of an entry's key; with `unnamed` only if it has no name.
+/// Sets the place of an entry's key, if it has one; with `unnamed` only if it has no name.
 fn set_place(
     places: &mut BTreeMap<Key, usize>,
     unnamed: bool,
@@ -140,7 +140,10 @@ fn set_place(
     if !counts(entry, unnamed) {
         return Ok(());
     }
-    places.insert(entry.key.try_clone()?, place)?;
+    let Some(key) = &entry.key else {
+        return Ok(());
+    };
+    places.insert(key.try_clone()?, place)?;
     Ok(())
 }
 
@@ -169,7 +172,17 @@ fn is_tagged(entry: &IndexEntry, name: &str, key: &Key) -> bool
     ensures { result ≡ is_tagged name.now key.now (entry_of entry.now) }
 {
     match &entry.name {
-        Some(other) => name == other.as_str() && entry.key == *key,
+        Some(other) => name == other.as_str() && has_key(entry, key),
+        None => false,
+    }
+}
+
+/// Returns whether the key of an entry is this one.
+fn has_key(entry: &IndexEntry, key: &Key) -> bool
+    ensures { result ≡ is_this_key key.now (entry_of entry.now).key }
+{
+    match &entry.key {
+        Some(other) => other == key,
         None => false,
     }
 }

@@ -6,7 +6,7 @@ use crate::answer::CopyAnswer;
 use crate::between::copy_between;
 use crate::destination::{make_blobs_folder, open_or_create, remove_leftovers};
 use crate::dry_run::show_plan;
-use crate::mirror::{CleanUp, check_destination, check_source, mirror};
+use crate::mirror::{CleanUp, check_destination, check_source, check_unnamed, mirror};
 use crate::progress::Progress;
 use crate::selected::Selected;
 use oci_command_line::CopyWords;
@@ -36,6 +36,8 @@ use std::io::Write;
 /// - 70 to 74 if SRC or DST is not a layout or cannot be read; 70 for DST only if it has another
 ///   `index.json` than that of an empty layout; 74 also if DST cannot be created or locked, or its
 ///   folder `blobs/sha256` cannot be made.
+/// - 73 `BadIndex` for an entry that is no descriptor: with `--all`, if SRC has one with a tag; with
+///   `--referrers` or `--prune`, if SRC has any; with `--prune`, if DST has one without a tag.
 /// - 75 `Corrupt` and 77 `BadManifest` with `--referrers`, if any manifest of SRC is damaged.
 ///   77 `BadManifest` and 88 `Fetch` if one cannot be read after all.
 /// - 35 `EmptyReference` and 36 `UnknownReference` for the reference; 75 `Corrupt` and 77
@@ -162,6 +164,7 @@ where
 {
     let options = options_of(words);
     if words.prunes {
+        check_unnamed(&destination)?;
         destination.forget_names()?;
         check_destination(rt.alloc(), &destination)?;
     }

@@ -26,6 +26,8 @@ use std::io::Write;
 ///
 /// - 70 to 74 if one of the two is not a layout or cannot be read; 70 for the destination only if it
 ///   has another `index.json` than that of an empty layout.
+/// - 73 `BadIndex` for an entry that is no descriptor: with `--all`, if SRC has one with a tag; with
+///   `--referrers`, if SRC has any.
 /// - 75 `Corrupt` and 77 `BadManifest` with `--referrers`, if any manifest of SRC is damaged.
 ///   77 `BadManifest` and 88 `Fetch` if one cannot be read after all.
 /// - 35 `EmptyReference` and 36 `UnknownReference` for the reference; 75 `Corrupt` and 77

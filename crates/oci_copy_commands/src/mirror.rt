@@ -7,7 +7,7 @@ ghost use Rattle.oci_copy.specs.Cause.{CanFail, IsStepCause, RefusedAt, RefusedB
 ghost use Rattle.oci_copy.specs.Grown.{BeginsWith};
 ghost use Rattle.oci_copy.specs.Planned.{IsPlanOf};
 ghost use Rattle.oci_layout.specs.Brought.{Brings};
-ghost use Rattle.oci_layout.specs.Entries.{entry_of};
+ghost use Rattle.oci_layout.specs.Entries.{entry_of, said, unreadable_places};
 ghost use Rattle.oci_layout.specs.Index.{HasIndex};
 ghost use Rattle.oci_layout.specs.Layout.{manifests_of, OnlyIndex};
 ghost use Rattle.oci_prune.specs.Plan.{roots_of};
@@ -22,7 +22,7 @@ use crate::copy::Copied;
 use crate::retag::retag;
 use crate::selected::Selected;
 use oci_copy::{CopyFault, Options, Report, copy_plan};
-use oci_layout::{Dir, Layout, OpenedIndex, PrunableDir};
+use oci_layout::{Dir, Layout, OpenedIndex, PrunableDir, unreadable_entry};
 use oci_manifest::Key;
 use oci_plan::Plan;
 use oci_pool::Hooks;
@@ -50,6 +50,7 @@ pub(crate) struct CleanUp {
 /// - 97 `NoTags` if it has no tag.
 /// - 96 `Unknown` if the blob of an entry of its index is missing or damaged: the first one. Or else
 ///   if any other manifest is damaged: the first one.
+/// - 73 `BadIndex` if an entry of its index is no descriptor: for the first one.
 /// - Out of memory.
 pub(crate) fn check_source<S: Dir>(source: &Layout<S>) -> Result<(), ProgramFault>
     ensures { OnOk result (IsWholeSource source.now) }
@@ -58,7 +59,11 @@ pub(crate) fn check_source<S: Dir>(source: &Layout<S>) -> Result<(), ProgramFaul
         return Err(ProgramFault::Source(PruneFault::NoTags));
     }
     check_all_known(source.absent())?;
-    check_all_known(&source.damaged_manifests()?)
+    check_all_known(&source.damaged_manifests()?)?;
+    match source.check_entries() {
+        Ok(()) => Ok(()),
+        Err(fault) => Err(ProgramFault::Layout(fault)),
+    }
 }
 
 /// Refuses a source for the first of these keys if there is one, since it is not known what it
@@ -72,12 +77,28 @@ fn check_all_known(unknown: &[Key]) -> Result<(), ProgramFault>
     }
 }
 
+/// Refuses a destination for the first entry of its index that has no name and is no descriptor. The
+/// fault has its place in the index, so this is called before entries are forgotten.
+///
+/// # Errors
+///
+/// 73 `BadIndex`.
+pub(crate) fn check_unnamed<D: Dir>(destination: &Layout<D>) -> Result<(), ProgramFault> {
+    for (place, entry) in destination.entries().iter().enumerate() {
+        if entry.key.is_none() && !entry.has_name() {
+            return Err(ProgramFault::Destination(unreadable_entry(place)));
+        }
+    }
+    Ok(())
+}
+
 /// Refuses a destination that cannot be pruned as it is. One without tags can.
 ///
 /// # Errors
 ///
 /// - 96 `Unknown` if the blob of a remembered entry of its index is missing or damaged; or if it has
 ///   tags, and any other manifest is damaged, or a kept manifest lists a missing one.
+/// - 73 `BadIndex` if a remembered entry of its index is no descriptor: for the first one.
 /// - 98 `LinkedBlobs` if a folder of blobs is a link.
 /// - 88 `Fetch` and 77 `BadManifest` if a held manifest cannot be read.
 /// - 74 `Device` if the directory cannot be read.
@@ -86,12 +107,18 @@ pub(crate) fn check_destination<D: PrunableDir>(
     alloc: Global,
     destination: &Layout<D>,
 ) -> Result<(), ProgramFault>
+    ensures readable { OnOk result
+        (unreadable_places (said destination.now.opened.content).entries ≡ []) }
     ensures absent { OnOk result (destination.now.opened.absent ≡ []) }
     ensures damaged { OnOk result (destination.now.tags ≢ []
         → HasAll destination.now.graph (manifests_of destination.now.opened.damaged)) }
 {
     if let Some(key) = destination.absent().first() {
         return Err(ProgramFault::Prune(PruneFault::Unknown(key.try_clone()?)));
+    }
+    match destination.check_entries() {
+        Ok(()) => {}
+        Err(fault) => return Err(ProgramFault::Destination(fault)),
     }
     match destination.linked() {
         Ok(Some(folder)) => Err(ProgramFault::Prune(PruneFault::LinkedBlobs(folder))),

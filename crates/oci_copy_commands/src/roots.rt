@@ -216,10 +216,23 @@ fn place_named(entries: &[IndexEntry], keys: &mut KeyList) -> Result<(), NoMemor
         ≡ with_keys keys.old (entry_keys (named_entries (map entry_of entries.now)))) }
 {
     for entry in entries {
-        if entry.has_name() {
-            keys.place(&entry.key)?;
-        }
+        place_if_named(entry, keys)?;
     }
+    Ok(())
+}
+
+/// Adds the key of an entry, if it has one and a name, and the key is new.
+fn place_if_named(entry: &IndexEntry, keys: &mut KeyList) -> Result<(), NoMemory>
+    ensures { OnOk result (keys.new
+        ≡ with_keys keys.old (entry_keys (named_entries (entry_of entry.now ∷ [])))) }
+{
+    if !entry.has_name() {
+        return Ok(());
+    }
+    let Some(key) = &entry.key else {
+        return Ok(());
+    };
+    keys.place(key)?;
     Ok(())
 }
 

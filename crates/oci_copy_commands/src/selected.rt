@@ -1,30 +1,30 @@
 ghost use Rattle.std.specs.Prelude.{◌≡◌, ◌≢◌, ◌++◌, [], ◌∷◌, true, is_some, map, string_bytes, Contains, IfOk, OnOk};
 ghost use Rattle.std.specs.List.{All};
 ghost use Rattle.std.specs.Map.{keys_of};
-ghost use Rattle.oci_manifest.specs.Descriptor.{Descriptor};
 ghost use Rattle.oci_copy.specs.Tagged.{name_of};
-ghost use Rattle.oci_store.specs.Tags.{Tags, by_bytes};
+ghost use Rattle.oci_store.specs.Tags.{by_bytes};
 ghost use Rattle.oci_store.specs.Keyed.{has_key};
 ghost use Rattle.oci_layout.specs.Blobs.{meaning};
 ghost use Rattle.oci_layout.specs.Brought.{IsShallowEntry};
 ghost use Rattle.oci_layout.specs.Entries.{entry_of, said};
 ghost use Rattle.oci_layout.specs.Layout.{manifests_of};
-ghost use Rattle.oci_program.specs.Reference.{Names};
 ghost use Rattle.oci_copy_commands.specs.Brought.{named_entries, reference_entry, tag_entries, with_roots};
 ghost use Rattle.oci_copy_commands.specs.Selected.{
   named_keys,
   AreAllRoots,
   AreNamedHeld,
   AreOfRoots,
-  AreReferenceRoots,
   IsNamedHeld,
+  IsReadable,
+  Selects,
+  SelectsReference,
 };
 
 use crate::brought::{entries_of_reference, entries_of_tags};
 use crate::roots::{ReferenceRoots, named_keys, roots_of_keys, roots_of_reference};
 use oci_command_line::{CopyWords, Selection};
 use oci_digest::NoMemory;
-use oci_layout::{Dir, IndexEntry, Layout};
+use oci_layout::{Dir, IndexEntry, Layout, unreadable_entry};
 use oci_manifest::Key;
 use oci_program::{ProgramFault, resolve};
 use oci_prune::PruneFault;
@@ -68,10 +68,13 @@ impl Selected {
     ///
     /// - 75 `Corrupt` or 77 `BadManifest` with referrers, if a manifest of the source is damaged: it
     ///   may be one. Then also 74 `Device` if its file cannot be read. Checked first.
+    /// - 73 `BadIndex` with referrers, if an entry of the source's index is no descriptor: it may be
+    ///   that of one. Checked second.
     /// - 35 `EmptyReference` if the reference is empty, and 36 `UnknownReference` if it is unknown.
     /// - 75 `Corrupt` and 77 `BadManifest` if it is that of a damaged blob, and 74 `Device` if the
     ///   file of that one cannot be read.
-    /// - 96 `Unknown` and 97 `NoTags` for every tag, as from [`Selected::all_tags`].
+    /// - 73 `BadIndex`, 96 `Unknown` and 97 `NoTags` for every tag, as from
+    ///   [`Selected::all_tags`].
     /// - 77 `BadManifest` and 88 `Fetch` with referrers, if a manifest of the source cannot be read.
     /// - Out of memory, at any point.
     pub(crate) fn of<D: Dir>(
@@ -80,10 +83,11 @@ impl Selected {
         words: &CopyWords<'_>,
     ) -> Result<Selected, ProgramFault>
         ensures sound { OnOk result (is_some words.now.referrers ≡ true
-            → manifests_of source.now.opened.damaged ≡ []) }
+            → IsReadable source.now) }
+        ensures selects { IfOk result (Selects D.device source.now words.now) }
     {
         if words.referrers.is_some() {
-            check_undamaged(source)?;
+            check_readable(source)?;
         }
         match words.selection {
             Selection::Reference {
@@ -122,15 +126,7 @@ impl Selected {
         to: &str,
         referrers: Option<u32>,
     ) -> Result<Selected, ProgramFault>
-        ensures { IfOk result (λ selected. (k : Descriptor) × (others : Tags)
-            × Names (keys_of source.now.graph) source.now.tags from.now k
-            × AreReferenceRoots (meaning (D.device source.now.dir) source.now.graph source.now.tags)
-            referrers k (name_of from.now to.now) selected.0 others
-            × (selected.1 ≡ (name_of from.now to.now, k) ∷ others)
-            × (map entry_of selected.2 ≡ with_roots (said source.now.opened.content).entries
-            (reference_entry (said source.now.opened.content).entries from.now
-            (name_of from.now to.now) k
-            ++ tag_entries (said source.now.opened.content).entries others) selected.0)) }
+        ensures { IfOk result (SelectsReference D.device source.now from.now to.now referrers) }
     {
         let key = resolve(source, from)?;
         let name = tag_name(alloc, from, to)?;
@@ -189,8 +185,8 @@ impl Selected {
     ///
     /// # Errors
     ///
-    /// - 96 `Unknown` if the blob of an entry of the index that has a tag is missing or damaged: the
-    ///   first one. A copy would leave it out.
+    /// - 73 `BadIndex` if an entry of the index that has a tag is no descriptor, and 96 `Unknown` if
+    ///   the blob of one is missing or damaged: for the first such entry. A copy would leave it out.
     /// - 97 `NoTags` if there is no tag.
     /// - 77 `BadManifest` and 88 `Fetch` with referrers, if a manifest of the source cannot be read.
     /// - Out of memory, at any point.
@@ -257,24 +253,43 @@ impl Selected {
     }
 }
 
-/// Refuses the first entry with a name whose key a layout does not hold.
+/// Refuses the first entry with a name that has no key, or one that a layout does not hold.
 fn check_entries<D: Dir>(layout: &Layout<D>, entries: &[IndexEntry]) -> Result<(), ProgramFault>
     ensures { OnOk result (AreNamedHeld layout.now.graph entries.now) }
 {
-    for entry in entries {
-        check_entry(layout, entry)?;
+    for (place, entry) in entries.iter().enumerate() {
+        check_entry(layout, place, entry)?;
     }
     Ok(())
 }
 
-/// Refuses an entry with a name whose key a layout does not hold.
-fn check_entry<D: Dir>(layout: &Layout<D>, entry: &IndexEntry) -> Result<(), ProgramFault>
+/// Refuses the entry at this place if it has a name, and no key or one that a layout does not hold.
+fn check_entry<D: Dir>(
+    layout: &Layout<D>,
+    place: usize,
+    entry: &IndexEntry,
+) -> Result<(), ProgramFault>
     ensures { OnOk result (IsNamedHeld layout.now.graph entry.now) }
 {
     if !entry.has_name() {
         return Ok(());
     }
-    check_held(layout, &entry.key)
+    match &entry.key {
+        Some(key) => check_held(layout, key),
+        None => Err(ProgramFault::Layout(unreadable_entry(place))),
+    }
+}
+
+/// Refuses a layout for its first damaged manifest, or else for its first entry that is no
+/// descriptor.
+fn check_readable<D: Dir>(layout: &Layout<D>) -> Result<(), ProgramFault>
+    ensures { OnOk result (IsReadable layout.now) }
+{
+    check_undamaged(layout)?;
+    match layout.check_entries() {
+        Ok(()) => Ok(()),
+        Err(fault) => Err(ProgramFault::Layout(fault)),
+    }
 }
 
 /// Refuses a layout that has a damaged manifest, for the first one.

@@ -20,7 +20,8 @@ use Rattle.oci_layout.specs.Entries.{absent_in, IndexContent, IndexEntry, IsInde
 use Rattle.oci_layout.specs.Law.{IsWhole, OpensAsWritten}
 use Rattle.oci_layout.specs.Opened.{IsWalk, held_in, holds, is_there, is_whole, listed_in, lists}
 use Rattle.oci_layout.specs.Saved.{AreLoose, IsTop, saved_entries, is_left}
-use Rattle.oci_layout.proofs.Law.{Contains_among, Lists, all_loose_held, both_true, covered, each_lists, has_held, listed_held, loose_there, one_index, same_values, some_listed, visited_all}
+use Rattle.oci_layout.proofs.Law.{Contains_among, Lists, all_loose_held, both_true, covered, each_lists, has_held, listed_held, loose_there, same_values, some_listed, visited_all}
+use Rattle.oci_layout.proofs.Read.{one_index}
 use Rattle.oci_layout.proofs.SavedAll.{all_saved, loose_keys}
 use Rattle.oci_layout.proofs.Stored.{value_at-stored}
 use Rattle.oci_layout.proofs.Walk.{all_held, leaf_or, leaf_whole, manifest_whole, unheld_lists}
@@ -89,17 +90,17 @@ opens_as_written file graph again tags tags_again opened memory are names_ok sor
     let all_whole : All IsWhole written =
     all_saved IsWhole IsKey whole-new opened.absent entries graph tags loose whole (All-weaker G IsKey key_ok (values_of tags) names_ok.held) (All-weaker G IsKey key_ok (loose_keys loose) loose_held) in
     let back = reads_as_written idx.bytes (record { entries = written; members = (said opened.content).members }) all_whole idx.is_index in
-    let read : IsIndex idx.bytes (said memory.content) = subst (λ (o : Option (List ℕ)). IsIndexFile o (said memory.content)) idx.is_there is_opened.read.index in
-    let entries_are : (said memory.content).entries ≡ written = ap (λ (i : IndexContent). i.entries) (one_index idx.bytes (said memory.content) back.0 read back.1) ∙ back.2 in
+    let read : IsIndex true idx.bytes (said memory.content) = subst (λ (o : Option (List ℕ)). IsIndexFile true o (said memory.content)) idx.is_there is_opened.read.index in
+    let entries_are : (said memory.content).entries ≡ written = ap (λ (i : IndexContent). i.entries) (one_index true idx.bytes (said memory.content) back.0 read back.1) ∙ back.2 in
     let starts : List Descriptor = entry_keys written in
     let are_listed = each_lists file graph graph refl sound.listed in
     let walk : IsWalk true file starts visited = subst (λ (es : List IndexEntry). IsWalk true file (entry_keys es) visited) entries_are is_opened.read.walked.walk in
-    let left_ok : (k : Descriptor) → is_left (is_among opened.absent) graph k ≡ true → Q k = λ k h lost. elim (cases_Bool (is_among opened.absent k)) [
+    let left_ok : (k : Descriptor) → is_left (is_among opened.absent) graph (Some k) ≡ true → Q k = λ k h lost. elim (cases_Bool (is_among opened.absent k)) [
       | inl was ↦ All-contains (λ (x : Descriptor). is_whole file x ≡ false) opened.absent k gone (Contains_among opened.absent k was)
       | inr never ↦ cc (rw (never, lost) at h)
     ] in
     let starts_ok : All Q starts =
-    All-weaker (λ (k : Descriptor). is_left (is_among opened.absent) graph k ≡ true) Q left_ok starts (starts_left opened.absent entries graph tags loose idx.are_loose names_ok.held loose_held) in
+    All-weaker (λ (k : Descriptor). is_left (is_among opened.absent) graph (Some k) ≡ true) Q left_ok starts (starts_left opened.absent entries graph tags loose idx.are_loose names_ok.held loose_held) in
     let listed_ok : (k : Descriptor) → Q k → All Q (lists true file k) = λ k q. elim (cases_Bool (has_key graph k)) [
       | inl held ↦ some_listed Q true file k (All-weaker G Q held_ok (listed_in file k) (listed_held file graph closed are_listed k held))
       | inr lost ↦ subst (λ (ks : List Descriptor). All Q ks) (sym (unheld_lists true file k (q lost))) (All-nil Q)

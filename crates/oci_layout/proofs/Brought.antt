@@ -19,10 +19,10 @@ use Rattle.serde_json.proofs.Views.{get_member-put, get_member-put_other}
 use Rattle.oci_manifest.specs.Descriptor.{Descriptor, is_among, key_cmp}
 use Rattle.oci_manifest.specs.Reading.{descriptor_of}
 use Rattle.oci_store.proofs.Membership.{Contains-from_among, among_from_Contains}
-use Rattle.oci_layout.specs.Brought.{annotations_of, comes, coming, with_annotations, with_name, IsShallowEntry}
+use Rattle.oci_layout.specs.Brought.{annotations_of, comes, coming, is_free, with_annotations, with_name, IsShallowEntry}
 use Rattle.oci_layout.specs.Entries.{IndexEntry, content_of, entry_of, name_of, object_members, without_member, IsShallow}
 use Rattle.oci_layout.specs.Law.{IsWhole}
-use Rattle.oci_layout.specs.Saved.{unnamed_keys}
+use Rattle.oci_layout.specs.Saved.{no_name, unnamed_keys}
 use Rattle.oci_layout.specs.declared.index.IndexEntry.{IndexEntry as CodeEntry}
 use Rattle.oci_layout.proofs.Members.{AtMost, get-depth, members_depth-put, members_depth-without, object_members-depth}
 
@@ -118,11 +118,16 @@ set_is : (set : BTreeSet Descriptor) (keys : List Descriptor) → ((k : Descript
 set_is set keys h k =
     same_bool (contains key_cmp set k) (is_among keys k) ((λ there. among_from_Contains keys k ((h k).0 there)), (λ there. (h k).1 (Contains-from_among keys k there)))
 
+free_by : (tagged unnamed : BTreeSet Descriptor) (keys old : List Descriptor) → ((k : Descriptor) → contains key_cmp tagged k ≡ is_among keys k) → ((k : Descriptor) → contains key_cmp unnamed k ≡ is_among old k)
+    → (key : Option Descriptor) → is_free (contains key_cmp tagged) (contains key_cmp unnamed) key ≡ is_free (is_among keys) (is_among old) key
+free_by tagged unnamed keys old is_tagged is_unnamed None = refl
+free_by tagged unnamed keys old is_tagged is_unnamed (Some k) = rw (is_tagged k, is_unnamed k) refl
+
 pub coming_by : (tagged unnamed : BTreeSet Descriptor) (keys : List Descriptor) (old entries : List IndexEntry) → ((k : Descriptor) → (contains key_cmp tagged k ≡ true) ↔ Contains keys k)
     → ((k : Descriptor) → (contains key_cmp unnamed k ≡ true) ↔ Contains (unnamed_keys old) k) → filter (comes (contains key_cmp tagged) (contains key_cmp unnamed)) entries ≡ coming keys old entries
 coming_by tagged unnamed keys old entries is_tagged is_unnamed =
     filter_as (comes (contains key_cmp tagged) (contains key_cmp unnamed)) (comes (is_among keys) (is_among (unnamed_keys old)))
-    (λ e. rw (set_is tagged keys is_tagged e.key, set_is unnamed (unnamed_keys old) is_unnamed e.key) refl) entries
+    (λ e. ap (λ (b : Bool). not (no_name e.name) || b) (free_by tagged unnamed keys (unnamed_keys old) (set_is tagged keys is_tagged) (set_is unnamed (unnamed_keys old) is_unnamed) e.key)) entries
 
 -- at the end of a loop nothing is left
 pub all_found : (test : IndexEntry → Bool) (es : List CodeEntry) (i : ℕ) (found all : List IndexEntry) → length es ≤ i → found ++ filter test (map entry_of (drop i es)) ≡ all → found ≡ all

@@ -1,5 +1,5 @@
 -- Places in a list, and keys with the places that follow a place.
-use Rattle.std.proofs.Common.{◌≡◌, ℕ, ◌+◌, ◌<◌, ◌==◌, ◌⊎◌, zero, suc, Bool, true, false, cond, ◌≢◌, inl, inr, List, [], ◌∷◌, ◌++◌, map, length, slice_get, Some, Less, Equal, Greater, Ordering, lt-ltb, refl, sym, ap, subst, ◌∙◌, arith}
+use Rattle.std.proofs.Common.{◌≡◌, ℕ, ◌+◌, ◌<◌, ◌==◌, ◌⊎◌, zero, suc, Bool, true, false, cond, ◌≢◌, inl, inr, List, [], ◌∷◌, ◌++◌, map, filter, length, slice_get, Some, Less, Equal, Greater, Ordering, lt-ltb, refl, sym, ap, subst, ◌∙◌, arith}
 use Rattle.std.specs.Prelude.{Contains}
 use Rattle.std.specs.List.{All, AllByRecursion}
 use Rattle.std.specs.List.Sorted.{IsStrictlySortedBy}
@@ -10,8 +10,9 @@ use Rattle.std.proofs.lemmas.List.Elements.{All-head, All-tail, All-nil, All-con
 use Rattle.std.proofs.lemmas.Option.{none-some, same_Some}
 use Rattle.oci_manifest.specs.Descriptor.{Descriptor, key_cmp}
 use Rattle.oci_store.specs.Tags.{Tags}
-use Rattle.oci_layout.specs.Entries.{IndexEntry}
+use Rattle.oci_layout.specs.Entries.{IndexEntry, entry_keys}
 use Rattle.oci_layout.specs.Saved.{no_name, place_cmp, tag_entry, unnamed_keys}
+use Rattle.oci_layout.proofs.EntryKeys.{entry_keys-append, first_key}
 use Rattle.oci_layout.proofs.Law.{one_is}
 use Rattle.oci_layout.proofs.Loose.{no_element}
 use Rattle.oci_layout.proofs.SavedAll.{loose_keys}
@@ -61,18 +62,20 @@ key_back (x ∷ ls) k c =
       | inr rest ↦ let it = key_back ls k rest in (it.0, Contains-append_right (x ∷ []) ls it.0 it.1, it.2)
     ]
 
-pub unnamed_there : (es : List IndexEntry) (e : IndexEntry) → Contains es e → no_name e.name ≡ true → Contains (unnamed_keys es) e.key
-unnamed_there [] e c none = absurd (no_element e c)
-unnamed_there (x ∷ es) e c none =
+pub unnamed_there : (es : List IndexEntry) (e : IndexEntry) (k : Descriptor) → Contains es e → no_name e.name ≡ true → e.key ≡ Some k → Contains (unnamed_keys es) k
+unnamed_there [] e k c none is = absurd (no_element e c)
+unnamed_there (x ∷ es) e k c none is =
+    let rest : List IndexEntry = filter (λ (y : IndexEntry). no_name y.name) es in
     elim (Contains-append_cases (x ∷ []) es e c) [
       | inl here ↦
-          let is : x ≡ e = one_is x e here in
-          let this : no_name x.name ≡ true = ap (λ (y : IndexEntry). no_name y.name) is ∙ none in
-          rw this (subst (λ (y : IndexEntry). Contains (x.key ∷ unnamed_keys es) y.key) is (here_is x.key (unnamed_keys es)))
-      | inr rest ↦
-          let ih : Contains (unnamed_keys es) e.key = unnamed_there es e rest none in
+          let same : x ≡ e = one_is x e here in
+          let this : no_name x.name ≡ true = ap (λ (y : IndexEntry). no_name y.name) same ∙ none in
+          let key : x.key ≡ Some k = ap (λ (y : IndexEntry). y.key) same ∙ is in
+          rw this (subst (λ (ks : List Descriptor). Contains ks k) (sym (first_key x rest k key)) (here_is k (entry_keys rest)))
+      | inr later ↦
+          let ih : Contains (unnamed_keys es) k = unnamed_there es e k later none is in
           elim (cases_Bool (no_name x.name)) [
-            | inl this ↦ rw this (Contains-append_right (x.key ∷ []) (unnamed_keys es) e.key ih)
+            | inl this ↦ rw this (subst (λ (ks : List Descriptor). Contains ks k) (sym (entry_keys-append (x ∷ []) rest)) (Contains-append_right (entry_keys (x ∷ [])) (entry_keys rest) k ih))
             | inr named ↦ rw named ih
           ]
     ]

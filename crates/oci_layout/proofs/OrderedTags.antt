@@ -103,10 +103,11 @@ ordered_without : (tags : Tags) (name : List ℕ) → IsOrdered tags → IsOrder
 ordered_without tags name s =
     subst (λ (ns : List (List ℕ)). IsStrictlySortedBy (slice_cmp nat_cmp) ns) (sym (keys_without tags name)) (IsStrictlySortedBy-filter (slice_cmp nat_cmp) (λ (n : List ℕ). not (bytes_eq name n)) (keys_of tags) s)
 
-ordered_one : (graph : List Node) (k : Descriptor) (name : Option (List ℕ)) (tags : Tags) → IsOrdered tags → IsOrdered (tag_owned graph k name tags)
-ordered_one graph k None tags s = s
-ordered_one graph k (Some []) tags s = s
-ordered_one graph k (Some (c ∷ cs)) tags s =
+ordered_one : (graph : List Node) (key : Option Descriptor) (name : Option (List ℕ)) (tags : Tags) → IsOrdered tags → IsOrdered (tag_owned graph key name tags)
+ordered_one graph key None tags s = s
+ordered_one graph key (Some []) tags s = s
+ordered_one graph None (Some (c ∷ cs)) tags s = ordered_without tags (c ∷ cs) s
+ordered_one graph (Some k) (Some (c ∷ cs)) tags s =
     elim (has_key graph k) as (λ b. IsOrdered (cond b (set_tag tags (c ∷ cs) k) (without_tag tags (c ∷ cs)))) [
       | true ↦ ordered_set tags (c ∷ cs) k s
       | false ↦ ordered_without tags (c ∷ cs) s

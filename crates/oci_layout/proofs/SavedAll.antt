@@ -5,10 +5,10 @@ use Rattle.std.specs.List.{All}
 use Rattle.std.specs.Option.{unwrap_or}
 use Rattle.std.specs.Map.{values_of}
 use Rattle.std.proofs.lemmas.List.Elements.{All-head, All-tail, All-nil, All-cons, All-append}
-use Rattle.oci_manifest.specs.Descriptor.{Descriptor, is_among, same_key}
+use Rattle.oci_manifest.specs.Descriptor.{Descriptor, is_among}
 use Rattle.oci_store.specs.Graph.{Node}
 use Rattle.oci_store.specs.Tags.{Tags}
-use Rattle.oci_layout.specs.Entries.{IndexEntry, new_entry}
+use Rattle.oci_layout.specs.Entries.{IndexEntry, is_this_key, new_entry}
 use Rattle.oci_layout.specs.Saved.{entry_or_new, first_from, is_first, last_place, loose_entry, saved_entries, tag_entry}
 
 -- the keys of entries without a tag
@@ -37,7 +37,7 @@ module _ (P : IndexEntry → Type 0) (Q : Descriptor → Type 0) (new : (k : Des
   one_tag : (o : Option IndexEntry) (k : Descriptor) (name : List ℕ) → Q k → IfSome o P → P (entry_or_new o k name)
   one_tag None k name q h = new k (Some name) q
   one_tag (Some e) k name q h =
-      elim (same_key e.key k) as (λ b. P (cond b e (new_entry k (Some name)))) [
+      elim (is_this_key k e.key) as (λ b. P (cond b e (new_entry k (Some name)))) [
         | true ↦ h
         | false ↦ new k (Some name) q
       ]

@@ -9,11 +9,12 @@ use Rattle.oci_store.specs.Graph.{Node}
 use Rattle.oci_store.specs.Keyed.{has_key, HasAll}
 use Rattle.oci_store.specs.Tags.{Tags, by_bytes, tag_at}
 use Rattle.oci_store.proofs.KeyOrder.{cond-or, is_eq-key_cmp}
-use Rattle.oci_layout.specs.Entries.{IndexEntry, entry_keys, entry_of, new_entry}
-use Rattle.oci_layout.specs.Saved.{comes_before, first_entries, first_from, is_first, is_place, last_entry, last_place, loose_entry, named_held, no_name, saved_entries, tag_entry}
+use Rattle.oci_layout.specs.Entries.{IndexEntry, entry_keys, entry_of, is_held, new_entry}
+use Rattle.oci_layout.specs.Saved.{comes_before, first_entries, first_from, is_first, is_place, last_entry, last_place, loose_entry, named_held, no_name, saved_entries, tag_entry, was_absent}
 use Rattle.oci_layout.specs.declared.index.IndexEntry.{IndexEntry as CodeEntry}
 use Rattle.std.proofs.lemmas.Bool.{and_parts}
-use Rattle.std.proofs.lemmas.List.Elements.{All-map, All-weaker, filter-append, filter_passes}
+use Rattle.std.proofs.lemmas.List.Elements.{All-weaker, filter-append, filter_passes}
+use Rattle.oci_layout.proofs.EntryKeys.{all_keys, entry_keys-append}
 use Rattle.oci_layout.proofs.Opened.{next_entry}
 use Rattle.oci_layout.proofs.LastNames.{entries-more, length-entries}
 
@@ -72,18 +73,22 @@ first_entries-more absent graph tags es i e first lt is before =
     ∙ ap (first_from absent graph tags (map entry_of es) 0) (sym (entries-more es i e lt is))
 
 -- two tests of a key that agree
+was_absent-same : (p q : Descriptor → Bool) → ((k : Descriptor) → p k ≡ q k) → (key : Option Descriptor) → was_absent p key ≡ was_absent q key
+was_absent-same p q h None = refl
+was_absent-same p q h (Some k) = h k
+
 comes_before-same : (p q : Descriptor → Bool) → ((k : Descriptor) → p k ≡ q k) → (tagged : Option Descriptor) (is_last : Bool) (last : Option IndexEntry) → comes_before p tagged is_last last ≡ comes_before q tagged is_last last
 comes_before-same p q h tagged is_last None = refl
-comes_before-same p q h None is_last (Some last) = ap (λ (b : Bool). b && (not is_last || true)) (h last.key)
+comes_before-same p q h None is_last (Some last) = ap (λ (b : Bool). b && (not is_last || true)) (was_absent-same p q h last.key)
 comes_before-same p q h (Some k) is_last (Some last) = refl
 
-is_first-same : (p q : Descriptor → Bool) → ((k : Descriptor) → p k ≡ q k) → (graph : List Node) (tags : Tags) (all : List IndexEntry) (place : ℕ) (k : Descriptor) (name : Option (List ℕ))
-    → is_first p graph tags all place k name ≡ is_first q graph tags all place k name
-is_first-same p q h graph tags all place k None = ap (λ (b : Bool). b && not (has_key graph k)) (h k)
-is_first-same p q h graph tags all place k (Some []) = ap (λ (b : Bool). b && not (has_key graph k)) (h k)
-is_first-same p q h graph tags all place k (Some (c ∷ cs)) =
-    ap (λ (b : Bool). (b || has_key graph k) && comes_before p (tag_at tags (c ∷ cs)) (is_place place (last_place (c ∷ cs) all)) (last_entry (c ∷ cs) all)) (h k)
-    ∙ ap (λ (b : Bool). (q k || has_key graph k) && b) (comes_before-same p q h (tag_at tags (c ∷ cs)) (is_place place (last_place (c ∷ cs) all)) (last_entry (c ∷ cs) all))
+is_first-same : (p q : Descriptor → Bool) → ((k : Descriptor) → p k ≡ q k) → (graph : List Node) (tags : Tags) (all : List IndexEntry) (place : ℕ) (key : Option Descriptor) (name : Option (List ℕ))
+    → is_first p graph tags all place key name ≡ is_first q graph tags all place key name
+is_first-same p q h graph tags all place key None = ap (λ (b : Bool). b && not (is_held graph key)) (was_absent-same p q h key)
+is_first-same p q h graph tags all place key (Some []) = ap (λ (b : Bool). b && not (is_held graph key)) (was_absent-same p q h key)
+is_first-same p q h graph tags all place key (Some (c ∷ cs)) =
+    ap (λ (b : Bool). (b || is_held graph key) && comes_before p (tag_at tags (c ∷ cs)) (is_place place (last_place (c ∷ cs) all)) (last_entry (c ∷ cs) all)) (was_absent-same p q h key)
+    ∙ ap (λ (b : Bool). (was_absent q key || is_held graph key) && b) (comes_before-same p q h (tag_at tags (c ∷ cs)) (is_place place (last_place (c ∷ cs) all)) (last_entry (c ∷ cs) all))
 
 first_from-same : (p q : Descriptor → Bool) → ((k : Descriptor) → p k ≡ q k) → (graph : List Node) (tags : Tags) (all : List IndexEntry) (place : ℕ) (es : List IndexEntry)
     → first_from p graph tags all place es ≡ first_from q graph tags all place es
@@ -135,10 +140,10 @@ loose_entry-new es k place i h past =
 -- ---- the shadowed entries
 
 named_held-append : (graph : List Node) (xs ys : List IndexEntry) → named_held graph (xs ++ ys) ≡ named_held graph xs ++ named_held graph ys
-named_held-append graph xs ys = ap entry_keys (filter-append is_one xs ys) ∙ map-append (λ (e : IndexEntry). e.key) (filter is_one xs) (filter is_one ys)
+named_held-append graph xs ys = ap entry_keys (filter-append is_one xs ys) ∙ entry_keys-append (filter is_one xs) (filter is_one ys)
   where
     is_one : IndexEntry → Bool
-    is_one e = not (no_name e.name) && has_key graph e.key
+    is_one e = not (no_name e.name) && is_held graph e.key
 
 pub named_held-more : (graph : List Node) (es : List CodeEntry) (i : ℕ) (e : CodeEntry) (old new : List Descriptor) → i < length es → e ≡ get_or es i e → old ≡ named_held graph (map entry_of (take i es))
     → new ≡ old ++ named_held graph (entry_of e ∷ []) → new ≡ named_held graph (map entry_of (take (i + 1) es))
@@ -150,11 +155,12 @@ named_held-more graph es i e old new lt is before more =
 
 pub named_held-held : (graph : List Node) (entries : List IndexEntry) → HasAll graph (named_held graph entries)
 named_held-held graph entries =
-    All-map (λ (k : Descriptor). has_key graph k ≡ true) (λ (e : IndexEntry). e.key) (filter is_one entries)
-    (All-weaker (λ (e : IndexEntry). is_one e ≡ true) (λ (e : IndexEntry). has_key graph e.key ≡ true) (λ e one. (and_parts (not (no_name e.name)) (has_key graph e.key) one).1) (filter is_one entries) (filter_passes is_one entries))
+    all_keys (λ (k : Descriptor). has_key graph k ≡ true) (filter is_one entries)
+    (All-weaker (λ (e : IndexEntry). is_one e ≡ true) (λ (e : IndexEntry). (k : Descriptor) → e.key ≡ Some k → has_key graph k ≡ true)
+    (λ e one k is. sym (ap (is_held graph) is) ∙ (and_parts (not (no_name e.name)) (is_held graph e.key) one).1) (filter is_one entries) (filter_passes is_one entries))
   where
     is_one : IndexEntry → Bool
-    is_one e = not (no_name e.name) && has_key graph e.key
+    is_one e = not (no_name e.name) && is_held graph e.key
 
 pub shadowed-same : (absent : Descriptor → Bool) (keys : List Descriptor) (graph : List Node) (tags : Tags) (all : List IndexEntry) (first : List IndexEntry) (held : List Descriptor) → ((k : Descriptor) → absent k ≡ is_among keys k)
     → first ≡ first_entries absent graph tags all → held ≡ named_held graph first → held ≡ named_held graph (first_entries (is_among keys) graph tags all)

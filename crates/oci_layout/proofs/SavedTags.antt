@@ -1,14 +1,13 @@
 -- The tags of the entries that a save writes, and the last entry of each name.
-use Rattle.std.proofs.Common.{◌≡◌, ℕ, ◌<◌, ◌⊎◌, zero, suc, Bool, true, false, cond, not, ◌&&◌, ◌||◌, ◌≢◌, inl, inr, List, [], ◌∷◌, ◌++◌, map, length, slice_get, option_map, Option, Some, None, refl, sym, ap, subst, ◌∙◌}
+use Rattle.std.proofs.Common.{◌≡◌, ℕ, ◌<◌, ◌⊎◌, zero, suc, Bool, true, false, cond, not, ◌&&◌, ◌||◌, ◌≢◌, inl, inr, List, [], ◌∷◌, ◌++◌, map, filter, length, slice_get, option_map, Option, Some, None, refl, sym, ap, subst, ◌∙◌}
 use Rattle.std.specs.Prelude.{Contains, IfSome, option_and_then}
-use Rattle.std.specs.List.{All}
+use Rattle.std.specs.List.{All, cons_option}
 use Rattle.std.specs.Option.{unwrap_or}
 use Rattle.std.specs.Map.{keys_of, values_of}
 use Rattle.std.specs.List.Sorted.{IsStrictlySortedBy}
 use Rattle.std.specs.Str.{bytes_eq}
 use Rattle.std.proofs.lemmas.Bool.{cases_Bool, and_parts, or_left, or_right}
-use Rattle.std.proofs.lemmas.List.{map-append}
-use Rattle.std.proofs.lemmas.List.Elements.{All-head, All-tail, All-nil, All-cons, All-contains, Contains-append_left, Contains-append_right, Contains-push, All-append, All-map, All-weaker}
+use Rattle.std.proofs.lemmas.List.Elements.{All-head, All-tail, All-nil, All-cons, All-contains, Contains-append_left, Contains-append_right, Contains-push, All-append, All-weaker}
 use Rattle.std.proofs.lemmas.Map.Views.{IfSome-lookup_from_All}
 use Rattle.std.proofs.lemmas.Option.{none-some, same_Some, slice_get-get_or}
 use Rattle.std.proofs.lemmas.Slice.Eq.{bytes_eq-Decides}
@@ -18,8 +17,9 @@ use Rattle.oci_store.specs.Graph.{Node}
 use Rattle.oci_store.specs.Keyed.{has_key}
 use Rattle.oci_store.specs.Tags.{Tags, AreNames, set_tag, tag_at, without_tag}
 use Rattle.oci_store.proofs.TagNames.{tag_at-set, tag_at-kept, tag_at-removed, tag_at-left}
-use Rattle.oci_layout.specs.Entries.{IndexEntry, entry_keys, new_entry, owned, tag_owned}
-use Rattle.oci_layout.specs.Saved.{AreLoose, HasLooseEntry, IsLoose, IsTop, comes_before, entry_or_new, first_from, is_first, is_left, is_name, is_place, last_entry, last_place, later_place, loose_entry, no_name, saved_entries, tag_entry, unnamed_keys}
+use Rattle.oci_layout.specs.Entries.{IndexEntry, entry_keys, is_held, is_this_key, new_entry, owned, tag_owned}
+use Rattle.oci_layout.specs.Saved.{AreLoose, HasLooseEntry, IsLoose, IsTop, comes_before, entry_or_new, first_from, is_first, is_left, is_name, is_place, last_entry, last_place, later_place, loose_entry, no_name, saved_entries, tag_entry, unnamed_keys, was_absent}
+use Rattle.oci_layout.proofs.EntryKeys.{all_keys, entry_keys-append, first_key, key_or_none, no_first_key, same_held, this_key_is}
 use Rattle.oci_layout.proofs.LastNames.{last_place-within}
 use Rattle.oci_layout.proofs.Law.{Contains_among, among_from, key_in}
 use Rattle.oci_layout.proofs.SavedAll.{loose_keys}
@@ -93,23 +93,37 @@ last_nameless name (e ∷ es) full h =
 
 -- ---- the tags of entries
 
+-- the key of an entry, if it is held
+abbrev held_key : List Node → Option Descriptor → Option Descriptor
+held_key graph None = None
+held_key graph (Some k) = cond (has_key graph k) (Some k) None
+
 -- the key of a name, by its last entry
 abbrev owner : List Node → Option IndexEntry → Option Descriptor → Option Descriptor
 owner graph None before = before
-owner graph (Some e) before = cond (has_key graph e.key) (Some e.key) None
+owner graph (Some e) before = held_key graph e.key
 
 owner_later : (graph : List Node) (o p : Option IndexEntry) (before : Option Descriptor) → owner graph (later o p) before ≡ owner graph o (owner graph p before)
 owner_later graph (Some e) p before = refl
 owner_later graph None p before = refl
 
-owner_cond : (graph : List Node) (b : Bool) (e : IndexEntry) (before : Option Descriptor) → owner graph (cond b (Some e) None) before ≡ cond b (cond (has_key graph e.key) (Some e.key) None) before
+owner_cond : (graph : List Node) (b : Bool) (e : IndexEntry) (before : Option Descriptor) → owner graph (cond b (Some e) None) before ≡ cond b (held_key graph e.key) before
 owner_cond graph true e before = refl
 owner_cond graph false e before = refl
 
-owned_one : (graph : List Node) (k : Descriptor) (n : Option (List ℕ)) (tags : Tags) (name : List ℕ) → name ≢ [] → tag_at (tag_owned graph k n tags) name ≡ cond (is_name name n) (cond (has_key graph k) (Some k) None) (tag_at tags name)
-owned_one graph k None tags name full = refl
-owned_one graph k (Some []) tags name full = let apart = nameless name (Some []) full refl in rw apart refl
-owned_one graph k (Some (c ∷ cs)) tags name full =
+owned_one : (graph : List Node) (key : Option Descriptor) (n : Option (List ℕ)) (tags : Tags) (name : List ℕ) → name ≢ [] → tag_at (tag_owned graph key n tags) name ≡ cond (is_name name n) (held_key graph key) (tag_at tags name)
+owned_one graph key None tags name full = refl
+owned_one graph key (Some []) tags name full = let apart = nameless name (Some []) full refl in rw apart refl
+owned_one graph None (Some (c ∷ cs)) tags name full =
+    elim (cases_Bool (bytes_eq name (c ∷ cs))) [
+      | inl same ↦
+          let is : name ≡ c ∷ cs = (bytes_eq-Decides name (c ∷ cs)).0 same in
+          rw same (ap (tag_at (without_tag tags (c ∷ cs))) is ∙ tag_at-removed tags (c ∷ cs))
+      | inr apart ↦
+          let differ : name ≢ c ∷ cs = λ e. cc (sym apart ∙ (bytes_eq-Decides name (c ∷ cs)).1 e) in
+          rw apart (tag_at-left tags (c ∷ cs) name differ)
+    ]
+owned_one graph (Some k) (Some (c ∷ cs)) tags name full =
     elim (cases_Bool (bytes_eq name (c ∷ cs))) [
       | inl same ↦
           let is : name ≡ c ∷ cs = (bytes_eq-Decides name (c ∷ cs)).0 same in
@@ -133,10 +147,13 @@ owned_at graph (e ∷ es) tags name full =
     ∙ sym (owner_later graph (last_of name es) (cond (is_name name e.name) (Some e) None) (tag_at tags name))
 
 -- an empty text is no tag
-unnamed_one : (graph : List Node) (k : Descriptor) (n : Option (List ℕ)) (tags : Tags) → tag_at tags [] ≡ None → tag_at (tag_owned graph k n tags) [] ≡ None
-unnamed_one graph k None tags h = h
-unnamed_one graph k (Some []) tags h = h
-unnamed_one graph k (Some (c ∷ cs)) tags h =
+unnamed_one : (graph : List Node) (key : Option Descriptor) (n : Option (List ℕ)) (tags : Tags) → tag_at tags [] ≡ None → tag_at (tag_owned graph key n tags) [] ≡ None
+unnamed_one graph key None tags h = h
+unnamed_one graph key (Some []) tags h = h
+unnamed_one graph None (Some (c ∷ cs)) tags h =
+    let differ : [] ≢ c ∷ cs = λ e. cc e in
+    tag_at-left tags (c ∷ cs) [] differ ∙ h
+unnamed_one graph (Some k) (Some (c ∷ cs)) tags h =
     let differ : [] ≢ c ∷ cs = λ e. cc e in
     elim (has_key graph k) as (λ b. tag_at (cond b (set_tag tags (c ∷ cs) k) (without_tag tags (c ∷ cs))) [] ≡ None) [
       | true ↦ tag_at-kept tags (c ∷ cs) [] k differ ∙ h
@@ -160,7 +177,7 @@ unnamed_tag (t ∷ tags) h =
 -- a name that is no tag belongs to its last entry
 abbrev pub owns : (Descriptor → Bool) → Option IndexEntry → Bool
 owns absent None = false
-owns absent (Some e) = absent e.key
+owns absent (Some e) = was_absent absent e.key
 
 and_or : (a b : Bool) → (a && (b || true)) ≡ a
 and_or true true = refl
@@ -173,16 +190,16 @@ and_false false = refl
 
 pub owns_before : (absent : Descriptor → Bool) (is_last : Bool) (o : Option IndexEntry) → comes_before absent None is_last o ≡ owns absent o
 owns_before absent is_last None = refl
-owns_before absent is_last (Some e) = and_or (absent e.key) (not is_last)
+owns_before absent is_last (Some e) = and_or (was_absent absent e.key) (not is_last)
 
 module _ (absent : Descriptor → Bool) (graph : List Node) (tags : Tags) (all : List IndexEntry) where
-  pub first_named : (place : ℕ) (k : Descriptor) (name : List ℕ) (n : Option (List ℕ)) → name ≢ [] → n ≡ Some name → tag_at tags name ≡ None
-      → is_first absent graph tags all place k n ≡ (is_left absent graph k && owns absent (last_of name all))
-  first_named place k [] n full is none = absurd (full refl)
-  first_named place k (c ∷ cs) n full is none =
+  pub first_named : (place : ℕ) (key : Option Descriptor) (name : List ℕ) (n : Option (List ℕ)) → name ≢ [] → n ≡ Some name → tag_at tags name ≡ None
+      → is_first absent graph tags all place key n ≡ (is_left absent graph key && owns absent (last_of name all))
+  first_named place key [] n full is none = absurd (full refl)
+  first_named place key (c ∷ cs) n full is none =
       let is_last : Bool = is_place place (last_place (c ∷ cs) all) in
-      ap (is_first absent graph tags all place k) is
-      ∙ ap (λ (b : Bool). is_left absent graph k && b) (
+      ap (is_first absent graph tags all place key) is
+      ∙ ap (λ (b : Bool). is_left absent graph key && b) (
       ap (λ (t : Option Descriptor). comes_before absent t is_last (last_entry (c ∷ cs) all)) none
       ∙ owns_before absent is_last (last_entry (c ∷ cs) all) ∙ ap (owns absent) (last_entry-last_of (c ∷ cs) all)
       )
@@ -211,7 +228,7 @@ module _ (absent : Descriptor → Bool) (graph : List Node) (tags : Tags) (all :
   last_step_first false true e None rest name named is h = cc (h refl refl)
   last_step_first false false e None rest name named is h = is
 
-  last_first : (name : List ℕ) → name ≢ [] → tag_at tags name ≡ None → owns absent (last_of name all) ≡ true → (place : ℕ) (es : List IndexEntry) → ((d : IndexEntry) → last_of name es ≡ Some d → absent d.key ≡ true)
+  last_first : (name : List ℕ) → name ≢ [] → tag_at tags name ≡ None → owns absent (last_of name all) ≡ true → (place : ℕ) (es : List IndexEntry) → ((d : IndexEntry) → last_of name es ≡ Some d → was_absent absent d.key ≡ true)
       → last_of name (first_from absent graph tags all place es) ≡ last_of name es
   last_first name full none owned place [] each = refl
   last_first name full none owned place (e ∷ es) each =
@@ -220,25 +237,25 @@ module _ (absent : Descriptor → Bool) (graph : List Node) (tags : Tags) (all :
       last_step_first (is_first absent graph tags all place e.key e.name) (is_name name e.name) e (last_of name es) (first_from absent graph tags all (suc place) es) name refl ih
       (λ nothing named.
       let is : later (last_of name es) here ≡ Some e = ap (λ (o : Option IndexEntry). later o here) nothing ∙ ap (λ (b : Bool). cond b (Some e) None) named in
-      let gone : absent e.key ≡ true = each e is in
-      first_named place e.key name e.name full (name_is name e.name named) none ∙ ap (λ (b : Bool). (b || has_key graph e.key) && owns absent (last_of name all)) gone ∙ owned)
+      let gone : was_absent absent e.key ≡ true = each e is in
+      first_named place e.key name e.name full (name_is name e.name named) none ∙ ap (λ (b : Bool). (b || is_held graph e.key) && owns absent (last_of name all)) gone ∙ owned)
 
-  -- of a name that is no tag the last entry among the first has an absent key
-  pub first_absent : (name : List ℕ) → name ≢ [] → tag_at tags name ≡ None → (d : IndexEntry) → last_of name (first_from absent graph tags all 0 all) ≡ Some d → absent d.key ≡ true
+  -- of a name that is no tag the last entry among the first has an absent key, or none
+  pub first_absent : (name : List ℕ) → name ≢ [] → tag_at tags name ≡ None → (d : IndexEntry) → last_of name (first_from absent graph tags all 0 all) ≡ Some d → was_absent absent d.key ≡ true
   first_absent name full none d h =
       elim (cases_Bool (owns absent (last_of name all))) [
         | inl owned ↦
-            let each : (e : IndexEntry) → last_of name all ≡ Some e → absent e.key ≡ true = λ e g. sym (ap (owns absent) g) ∙ owned in
+            let each : (e : IndexEntry) → last_of name all ≡ Some e → was_absent absent e.key ≡ true = λ e g. sym (ap (owns absent) g) ∙ owned in
             each d (sym (last_first name full none owned 0 all each) ∙ h)
         | inr free ↦ absurd (none-some d (sym (none_first name full none free 0 all) ∙ h))
       ]
 
 -- the key of an entry that comes first was absent or is held
-first_left : (absent : Descriptor → Bool) (graph : List Node) (tags : Tags) (all : List IndexEntry) (place : ℕ) (k : Descriptor) (name : Option (List ℕ)) → is_first absent graph tags all place k name ≡ true → is_left absent graph k ≡ true
-first_left absent graph tags all place k None h = or_left (absent k) (has_key graph k) (and_parts (absent k) (not (has_key graph k)) h).0
-first_left absent graph tags all place k (Some []) h = or_left (absent k) (has_key graph k) (and_parts (absent k) (not (has_key graph k)) h).0
-first_left absent graph tags all place k (Some (c ∷ cs)) h =
-    (and_parts (is_left absent graph k) (comes_before absent (tag_at tags (c ∷ cs)) (is_place place (last_place (c ∷ cs) all)) (last_entry (c ∷ cs) all)) h).0
+first_left : (absent : Descriptor → Bool) (graph : List Node) (tags : Tags) (all : List IndexEntry) (place : ℕ) (key : Option Descriptor) (name : Option (List ℕ)) → is_first absent graph tags all place key name ≡ true → is_left absent graph key ≡ true
+first_left absent graph tags all place key None h = or_left (was_absent absent key) (is_held graph key) (and_parts (was_absent absent key) (not (is_held graph key)) h).0
+first_left absent graph tags all place key (Some []) h = or_left (was_absent absent key) (is_held graph key) (and_parts (was_absent absent key) (not (is_held graph key)) h).0
+first_left absent graph tags all place key (Some (c ∷ cs)) h =
+    (and_parts (is_left absent graph key) (comes_before absent (tag_at tags (c ∷ cs)) (is_place place (last_place (c ∷ cs) all)) (last_entry (c ∷ cs) all)) h).0
 
 all_first_left : (absent : Descriptor → Bool) (graph : List Node) (tags : Tags) (all : List IndexEntry) (place : ℕ) (es : List IndexEntry)
     → All (λ (e : IndexEntry). is_left absent graph e.key ≡ true) (first_from absent graph tags all place es)
@@ -256,25 +273,25 @@ all_first_left absent graph tags all place (e ∷ es) =
 
 named_entry : (o : Option IndexEntry) (k : Descriptor) (name : List ℕ) → ((d : IndexEntry) → o ≡ Some d → d.name ≡ Some name) → (entry_or_new o k name).name ≡ Some name
 named_entry None k name h = refl
-named_entry (Some e) k name h = elim (same_key e.key k) as (λ b. (cond b e (new_entry k (Some name))).name ≡ Some name) [ true ↦ h e refl | false ↦ refl ]
+named_entry (Some e) k name h = elim (is_this_key k e.key) as (λ b. (cond b e (new_entry k (Some name))).name ≡ Some name) [ true ↦ h e refl | false ↦ refl ]
 
-keyed_entry : (o : Option IndexEntry) (k : Descriptor) (name : List ℕ) → (entry_or_new o k name).key ≡ k
+keyed_entry : (o : Option IndexEntry) (k : Descriptor) (name : List ℕ) → (entry_or_new o k name).key ≡ Some k
 keyed_entry None k name = refl
 keyed_entry (Some e) k name =
-    elim (cases_Bool (same_key e.key k)) [
-      | inl same ↦ rw same ((Decides-same_key e.key k).0 same)
+    elim (cases_Bool (is_this_key k e.key)) [
+      | inl same ↦ rw same (this_key_is k e.key same)
       | inr apart ↦ rw apart refl
     ]
 
 pub tag_name : (entries : List IndexEntry) (t : List ℕ × Descriptor) → (tag_entry entries t).name ≡ Some t.0
 tag_name entries t = named_entry (last_entry t.0 entries) t.1 t.0 (λ d h. last_named t.0 entries d (sym (last_entry-last_of t.0 entries) ∙ h))
 
-pub tag_key : (entries : List IndexEntry) (t : List ℕ × Descriptor) → (tag_entry entries t).key ≡ t.1
+pub tag_key : (entries : List IndexEntry) (t : List ℕ × Descriptor) → (tag_entry entries t).key ≡ Some t.1
 tag_key entries t = keyed_entry (last_entry t.0 entries) t.1 t.0
 
 pub tags_keyed : (entries : List IndexEntry) (tags : Tags) → entry_keys (map (tag_entry entries) tags) ≡ values_of tags
 tags_keyed entries [] = refl
-tags_keyed entries (t ∷ tags) = ap (λ (k : Descriptor). k ∷ entry_keys (map (tag_entry entries) tags)) (tag_key entries t) ∙ ap (λ (ks : List Descriptor). t.1 ∷ ks) (tags_keyed entries tags)
+tags_keyed entries (t ∷ tags) = ap (λ (key : Option Descriptor). cons_option key (entry_keys (map (tag_entry entries) tags))) (tag_key entries t) ∙ ap (λ (ks : List Descriptor). t.1 ∷ ks) (tags_keyed entries tags)
 
 pub tags_last : (entries : List IndexEntry) (tags : Tags) (name : List ℕ) → IsOrdered tags → last_of name (map (tag_entry entries) tags) ≡ option_map (λ (k : Descriptor). tag_entry entries (name, k)) (tag_at tags name)
 unfolding IsStrictlySortedBy
@@ -305,7 +322,7 @@ pub here_is : {X : Type 0} (x : X) (xs : List X) → Contains (x ∷ xs) x
 here_is x xs = Contains-append_left (x ∷ []) xs x (Contains-push [] x)
 
 module _ (graph : List Node) (tags : Tags) (entries : List IndexEntry) where
-  pub loose_is : (k : Descriptor) (i : ℕ) → HasLooseEntry graph tags entries k i → (no_name (loose_entry entries (k, i)).name ≡ true) × ((loose_entry entries (k, i)).key ≡ k)
+  pub loose_is : (k : Descriptor) (i : ℕ) → HasLooseEntry graph tags entries k i → (no_name (loose_entry entries (k, i)).name ≡ true) × ((loose_entry entries (k, i)).key ≡ Some k)
   loose_is k zero h = (refl, refl)
   loose_is k (suc i) h =
       let is : loose_entry entries (k, suc i) ≡ h.1 = ap (λ (o : Option IndexEntry). unwrap_or o (new_entry k None)) h.2 in
@@ -320,20 +337,27 @@ module _ (graph : List Node) (tags : Tags) (entries : List IndexEntry) where
   pub loose_keyed : (loose : List (Descriptor × ℕ)) → ((l : Descriptor × ℕ) → Contains loose l → HasLooseEntry graph tags entries l.0 l.1) → entry_keys (map (loose_entry entries) loose) ≡ loose_keys loose
   loose_keyed [] each = refl
   loose_keyed (l ∷ loose) each =
-      ap (λ (k : Descriptor). k ∷ entry_keys (map (loose_entry entries) loose)) (loose_is l.0 l.1 (each l (here_is l loose))).1
+      ap (λ (key : Option Descriptor). cons_option key (entry_keys (map (loose_entry entries) loose))) (loose_is l.0 l.1 (each l (here_is l loose))).1
       ∙ ap (λ (ks : List Descriptor). l.0 ∷ ks) (loose_keyed loose (λ x c. each x (Contains-append_right (l ∷ []) loose x c)))
 
 -- a key of an entry without a name
-unnamed_at : (es : List IndexEntry) (k : Descriptor) → is_among (unnamed_keys es) k ≡ true → (i : ℕ) × (e : IndexEntry) × (slice_get es i ≡ Some e) × (no_name e.name ≡ true) × (e.key ≡ k)
+unnamed_at : (es : List IndexEntry) (k : Descriptor) → is_among (unnamed_keys es) k ≡ true → (i : ℕ) × (e : IndexEntry) × (slice_get es i ≡ Some e) × (no_name e.name ≡ true) × (e.key ≡ Some k)
 unnamed_at [] k h = cc h
 unnamed_at (e ∷ es) k h =
-    let more : is_among (unnamed_keys es) k ≡ true → (i : ℕ) × (x : IndexEntry) × (slice_get (e ∷ es) i ≡ Some x) × (no_name x.name ≡ true) × (x.key ≡ k) =
+    let rest : List IndexEntry = filter (λ (x : IndexEntry). no_name x.name) es in
+    let more : is_among (unnamed_keys es) k ≡ true → (i : ℕ) × (x : IndexEntry) × (slice_get (e ∷ es) i ≡ Some x) × (no_name x.name ≡ true) × (x.key ≡ Some k) =
     λ c. (let it = unnamed_at es k c in (suc it.0, it.1, it.2, it.3, it.4)) in
     elim (cases_Bool (no_name e.name)) [
       | inl none ↦
-          elim (cases_Bool (same_key e.key k)) [
-            | inl same ↦ (0, e, refl, none, (Decides-same_key e.key k).0 same)
-            | inr apart ↦ more (rw (none, apart) at h)
+          let here : is_among (entry_keys (e ∷ rest)) k ≡ true = rw none at h in
+          elim (key_or_none e.key) [
+            | inl it ↦
+                let split : is_among (it.0 ∷ entry_keys rest) k ≡ true = subst (λ (ks : List Descriptor). is_among ks k ≡ true) (first_key e rest it.0 it.1) here in
+                elim (cases_Bool (same_key it.0 k)) [
+                  | inl same ↦ (0, e, refl, none, it.1 ∙ ap Some ((Decides-same_key it.0 k).0 same))
+                  | inr apart ↦ more (rw apart at split)
+                ]
+            | inr keyless ↦ more (subst (λ (ks : List Descriptor). is_among ks k ≡ true) (no_first_key e rest keyless) here)
           ]
       | inr some ↦ more (rw some at h)
     ]
@@ -358,22 +382,24 @@ module _ (absent : List Descriptor) (entries : List IndexEntry) (graph : List No
 
   pub saved_keys : entry_keys saved ≡ entry_keys first ++ (values_of tags ++ loose_keys loose)
   saved_keys =
-      map-append (λ (e : IndexEntry). e.key) first (of_tags ++ of_loose)
+      entry_keys-append first (of_tags ++ of_loose)
       ∙ ap (λ (ks : List Descriptor). entry_keys first ++ ks) (
-      map-append (λ (e : IndexEntry). e.key) of_tags of_loose
+      entry_keys-append of_tags of_loose
       ∙ ap (λ (ks : List Descriptor). ks ++ entry_keys of_loose) (tags_keyed entries tags)
       ∙ ap (λ (ks : List Descriptor). values_of tags ++ ks) (loose_keyed graph tags entries loose each_loose)
       )
 
   -- the keys of all entries were absent or are held
   pub starts_left : All (λ (k : Descriptor). has_key graph k ≡ true) (values_of tags) → All (λ (k : Descriptor). has_key graph k ≡ true) (loose_keys loose)
-      → All (λ (k : Descriptor). is_left (is_among absent) graph k ≡ true) (entry_keys saved)
+      → All (λ (k : Descriptor). is_left (is_among absent) graph (Some k) ≡ true) (entry_keys saved)
   starts_left tagged untagged =
       let G : Descriptor → Type 0 = λ (k : Descriptor). has_key graph k ≡ true in
-      let P : Descriptor → Type 0 = λ (k : Descriptor). is_left (is_among absent) graph k ≡ true in
+      let P : Descriptor → Type 0 = λ (k : Descriptor). is_left (is_among absent) graph (Some k) ≡ true in
+      let came : All P (entry_keys first) = all_keys P first (All-weaker (λ (e : IndexEntry). is_left (is_among absent) graph e.key ≡ true) (λ (e : IndexEntry). (k : Descriptor) → e.key ≡ Some k → P k)
+      (λ e left k is. sym (ap (is_left (is_among absent) graph) is) ∙ left) first (all_first_left (is_among absent) graph tags entries 0 entries)) in
       let held : (k : Descriptor) → G k → P k = λ k h. or_right (is_among absent k) (has_key graph k) h in
       subst (λ (ks : List Descriptor). All P ks) (sym saved_keys)
-      (All-append P (entry_keys first) (values_of tags ++ loose_keys loose) (All-map P (λ (e : IndexEntry). e.key) first (all_first_left (is_among absent) graph tags entries 0 entries))
+      (All-append P (entry_keys first) (values_of tags ++ loose_keys loose) came
       (All-append P (values_of tags) (loose_keys loose) (All-weaker G P held (values_of tags) tagged) (All-weaker G P held (loose_keys loose) untagged)))
 
   pub tail_last : (rest : Tags) (name : List ℕ) → name ≢ [] → IsOrdered rest → last_of name (map (tag_entry entries) rest ++ of_loose) ≡ option_map (λ (k : Descriptor). tag_entry entries (name, k)) (tag_at rest name)
@@ -410,9 +436,17 @@ module _ (absent : List Descriptor) (entries : List IndexEntry) (graph : List No
     pub absent_unheld : (k : Descriptor) → is_among absent k ≡ true → has_key graph k ≡ false
     absent_unheld k h = All-contains (λ (x : Descriptor). has_key graph x ≡ false) absent k unheld (Contains_among absent k h)
 
-    none_owned : (o : Option IndexEntry) → ((d : IndexEntry) → o ≡ Some d → has_key again d.key ≡ false) → owner again o None ≡ None
+    pub unheld_key : (key : Option Descriptor) → was_absent (is_among absent) key ≡ true → is_held graph key ≡ false
+    unheld_key None h = refl
+    unheld_key (Some k) h = absent_unheld k h
+
+    no_held_key : (key : Option Descriptor) → is_held again key ≡ false → held_key again key ≡ None
+    no_held_key None h = refl
+    no_held_key (Some k) h = rw h refl
+
+    none_owned : (o : Option IndexEntry) → ((d : IndexEntry) → o ≡ Some d → is_held again d.key ≡ false) → owner again o None ≡ None
     none_owned None h = refl
-    none_owned (Some d) h = rw (h d refl) refl
+    none_owned (Some d) h = no_held_key d.key (h d refl)
 
     tag_held : (o : Option Descriptor) (k : Descriptor) → IfSome o (λ (x : Descriptor). has_key graph x ≡ true) → o ≡ Some k → has_key again k ≡ true
     tag_held None k h e = absurd (none-some k e)
@@ -421,8 +455,8 @@ module _ (absent : List Descriptor) (entries : List IndexEntry) (graph : List No
     by_tag : (name : List ℕ) → name ≢ [] → (o : Option Descriptor) → tag_at tags name ≡ o → owner again (later (option_map (λ (k : Descriptor). tag_entry entries (name, k)) o) (last_of name first)) None ≡ o
     by_tag name full (Some k) is =
         let held : has_key again k ≡ true = tag_held (tag_at tags name) k (IfSome-lookup_from_All (λ (x : Descriptor). has_key graph x ≡ true) (bytes_eq name) tags names.held) is in
-        ap (λ (j : Descriptor). cond (has_key again j) (Some j) None) (tag_key entries (name, k)) ∙ ap (λ (b : Bool). cond b (Some k) None) held
-    by_tag name full None is = none_owned (last_of name first) (λ d h. same d.key ∙ absent_unheld d.key (first_absent (is_among absent) graph tags entries name full is d h))
+        ap (held_key again) (tag_key entries (name, k)) ∙ ap (λ (b : Bool). cond b (Some k) None) held
+    by_tag name full None is = none_owned (last_of name first) (λ d h. same_held graph again same d.key ∙ unheld_key d.key (first_absent (is_among absent) graph tags entries name full is d h))
 
     owned_saved : (name : List ℕ) → tag_at (owned again saved []) name ≡ tag_at tags name
     owned_saved [] = unnamed_owned again saved [] refl ∙ sym (unnamed_tag tags names.named)

@@ -16,18 +16,19 @@ use Rattle.std.proofs.lemmas.Map.Text.{is_eq-slice_cmp}
 use Rattle.std.proofs.lemmas.Map.Lookups.{btree_set_from_contains}
 use Rattle.std.proofs.lemmas.Map.Views.{btree_set_contains_iff}
 use Rattle.std.proofs.lemmas.Slice.Eq.{bytes_eq-Decides}
-use Rattle.std.proofs.lemmas.Option.{none-some, slice_get-map}
+use Rattle.std.proofs.lemmas.Option.{none-some, same_Some, slice_get-map}
 use Rattle.oci_manifest.specs.Descriptor.{Descriptor, is_among, same_key}
 use Rattle.oci_manifest.proofs.Keys.{Decides-same_key}
 use Rattle.oci_store.specs.Graph.{IsEdge, Node}
 use Rattle.oci_store.specs.Keyed.{has_key}
 use Rattle.oci_store.specs.Tags.{AreNames, Tags, tag_at}
-use Rattle.oci_layout.specs.Entries.{IndexEntry, absent_in, entry_keys, new_entry}
-use Rattle.oci_layout.specs.Saved.{AreLoose, HasLooseEntry, IsLoose, IsTop, comes_before, entry_or_new, first_from, is_first, is_left, is_missing, is_name, is_place, last_entry, last_place, later_place, loose_entry, no_name, place_cmp, saved_entries, tag_entry, unnamed_keys}
+use Rattle.oci_layout.specs.Entries.{IndexEntry, absent_in, entry_keys, is_held, is_this_key, new_entry}
+use Rattle.oci_layout.specs.Saved.{AreLoose, HasLooseEntry, IsLoose, IsTop, comes_before, entry_or_new, first_from, is_first, is_left, is_missing, is_name, is_place, last_entry, last_place, later_place, loose_entry, no_name, place_cmp, saved_entries, tag_entry, unnamed_keys, was_absent}
+use Rattle.oci_layout.proofs.EntryKeys.{first_key, key_or_none, no_first_key, same_held, this_key_from}
 use Rattle.oci_layout.proofs.Law.{both_true, loose_there, one_is}
 use Rattle.oci_layout.proofs.Loose.{no_element, place_cmp_exact, place_cmp_total}
 use Rattle.oci_layout.proofs.OrderedTags.{IsOrdered, below_none, first_at, same_bytes}
-use Rattle.oci_layout.proofs.SavedTags.{absent_unheld, and_false, each_loose, first_absent, here_is, last_cases, last_entry-last_of, last_of, later, loose_is, loose_top, owns, owns_before, saved_last, tag_key, tag_name, tail_last}
+use Rattle.oci_layout.proofs.SavedTags.{and_false, each_loose, first_absent, here_is, last_cases, last_entry-last_of, last_of, later, loose_is, loose_top, owns, owns_before, saved_last, tag_key, tag_name, tail_last, unheld_key}
 use Rattle.oci_layout.proofs.Following.{contains_at, get_at, get_past, mapped_at, mapped_there, key_back, unnamed_there, numbered, numbered_sorted, numbered_at, in_numbered, tags_named}
 
 each_of : {X : Type 0} (P : X → Type 0) (xs : List X) → ((x : X) → Contains xs x → P x) → All P xs
@@ -92,12 +93,19 @@ last_there name (e ∷ es) d h =
       | inr here ↦ subst (λ (x : IndexEntry). Contains (e ∷ es) x) here.1 (here_is e es)
     ]
 
-key_among : (es : List IndexEntry) (e : IndexEntry) → Contains es e → is_among (entry_keys es) e.key ≡ true
-key_among [] e c = absurd (no_element e c)
-key_among (x ∷ es) e c =
+key_among : (es : List IndexEntry) (e : IndexEntry) (k : Descriptor) → Contains es e → e.key ≡ Some k → is_among (entry_keys es) k ≡ true
+key_among [] e k c is = absurd (no_element e c)
+key_among (x ∷ es) e k c is =
     elim (Contains-append_cases (x ∷ []) es e c) [
-      | inl here ↦ or_left (same_key x.key e.key) (is_among (entry_keys es) e.key) ((Decides-same_key x.key e.key).1 (ap (λ (y : IndexEntry). y.key) (one_is x e here)))
-      | inr rest ↦ or_right (same_key x.key e.key) (is_among (entry_keys es) e.key) (key_among es e rest)
+      | inl here ↦
+          let key : x.key ≡ Some k = ap (λ (y : IndexEntry). y.key) (one_is x e here) ∙ is in
+          subst (λ (ks : List Descriptor). is_among ks k ≡ true) (sym (first_key x es k key)) (or_left (same_key k k) (is_among (entry_keys es) k) ((Decides-same_key k k).1 refl))
+      | inr rest ↦
+          let ih : is_among (entry_keys es) k ≡ true = key_among es e k rest is in
+          elim (key_or_none x.key) [
+            | inl it ↦ subst (λ (ks : List Descriptor). is_among ks k ≡ true) (sym (first_key x es it.0 it.1)) (or_right (same_key it.0 k) (is_among (entry_keys es) k) ih)
+            | inr none ↦ subst (λ (ks : List Descriptor). is_among ks k ≡ true) (sym (no_first_key x es none)) ih
+          ]
     ]
 
 among_absent : (graph : List Node) (ks : List Descriptor) (k : Descriptor) → has_key graph k ≡ false → is_among ks k ≡ true → is_among (absent_in graph ks) k ≡ true
@@ -147,10 +155,10 @@ module _ (absent : Descriptor → Bool) (graph : List Node) (tags : Tags) (all :
         | false ↦ ih
       ]
 
-  unnamed_first : (n : ℕ) (k : Descriptor) (name : Option (List ℕ)) → no_name name ≡ true → is_first absent graph tags all n k name ≡ is_missing absent graph k
-  unnamed_first n k None h = refl
-  unnamed_first n k (Some []) h = refl
-  unnamed_first n k (Some (c ∷ cs)) h = cc h
+  unnamed_first : (n : ℕ) (key : Option Descriptor) (name : Option (List ℕ)) → no_name name ≡ true → is_first absent graph tags all n key name ≡ is_missing absent graph key
+  unnamed_first n key None h = refl
+  unnamed_first n key (Some []) h = refl
+  unnamed_first n key (Some (c ∷ cs)) h = cc h
 
   first_missing : (place : ℕ) (es : List IndexEntry) → All (λ (e : IndexEntry). no_name e.name ≡ true → is_missing absent graph e.key ≡ true) (first_from absent graph tags all place es)
   first_missing place [] = All-nil (λ (e : IndexEntry). no_name e.name ≡ true → is_missing absent graph e.key ≡ true)
@@ -184,19 +192,19 @@ all_found (t ∷ tags) s = All-cons (λ (u : List ℕ × Descriptor). tag_at (t 
 -- the last entry with the name of a tag is the tag's
 last_never : (absent : Descriptor → Bool) (k : Descriptor) (o : Option IndexEntry) → comes_before absent (Some k) true o ≡ false
 last_never absent k None = refl
-last_never absent k (Some e) = and_false (same_key k e.key)
+last_never absent k (Some e) = and_false (is_this_key k e.key)
 
-tag_not_first : (absent : Descriptor → Bool) (graph : List Node) (tags : Tags) (all : List IndexEntry) (n : ℕ) (k : Descriptor) (name : List ℕ) (tagged : Descriptor) → name ≢ [] → tag_at tags name ≡ Some tagged
-    → last_place name all ≡ Some n → is_first absent graph tags all n k (Some name) ≡ false
-tag_not_first absent graph tags all n k [] tagged full at last = absurd (full refl)
-tag_not_first absent graph tags all n k (c ∷ cs) tagged full at last =
+tag_not_first : (absent : Descriptor → Bool) (graph : List Node) (tags : Tags) (all : List IndexEntry) (n : ℕ) (key : Option Descriptor) (name : List ℕ) (tagged : Descriptor) → name ≢ [] → tag_at tags name ≡ Some tagged
+    → last_place name all ≡ Some n → is_first absent graph tags all n key (Some name) ≡ false
+tag_not_first absent graph tags all n key [] tagged full at last = absurd (full refl)
+tag_not_first absent graph tags all n key (c ∷ cs) tagged full at last =
     let name : List ℕ = c ∷ cs in
     let here : Bool = is_place n (last_place name all) in
     let place : here ≡ true = ap (is_place n) last ∙ (Decides-eqb n n).1 refl in
     let entry : Option IndexEntry = last_entry name all in
-    ap (λ (b : Bool). is_left absent graph k && b) (
+    ap (λ (b : Bool). is_left absent graph key && b) (
     ap (λ (o : Option Descriptor). comes_before absent o here entry) at ∙ ap (λ (b : Bool). comes_before absent (Some tagged) b entry) place ∙ last_never absent tagged entry
-    ) ∙ and_false (is_left absent graph k)
+    ) ∙ and_false (is_left absent graph key)
 
 -- ---- all entries
 
@@ -218,14 +226,21 @@ module _ (absent : List Descriptor) (entries : List IndexEntry) (graph : List No
   abbrev lost : Descriptor → Bool
   lost = is_among (absent_in again (entry_keys saved))
 
-  is_lost : (e : IndexEntry) → Contains saved e → has_key again e.key ≡ false → lost e.key ≡ true
-  is_lost e c gone = among_absent again (entry_keys saved) e.key gone (key_among saved e c)
+  lost_key : (e : IndexEntry) → Contains saved e → (key : Option Descriptor) → e.key ≡ key → is_held again key ≡ false → was_absent lost key ≡ true
+  lost_key e c None is gone = refl
+  lost_key e c (Some k) is gone = among_absent again (entry_keys saved) k gone (key_among saved e k c is)
+
+  is_lost : (e : IndexEntry) → Contains saved e → is_held again e.key ≡ false → was_absent lost e.key ≡ true
+  is_lost e c gone = lost_key e c e.key refl gone
+
+  held_too : (key : Option Descriptor) → is_held again key ≡ is_held graph key
+  held_too key = same_held graph again same key
 
   left : (e : IndexEntry) → Contains saved e → is_left lost again e.key ≡ true
   left e c =
-      elim (cases_Bool (has_key again e.key)) [
-        | inl held ↦ or_right (lost e.key) (has_key again e.key) held
-        | inr gone ↦ or_left (lost e.key) (has_key again e.key) (is_lost e c gone)
+      elim (cases_Bool (is_held again e.key)) [
+        | inl held ↦ or_right (was_absent lost e.key) (is_held again e.key) held
+        | inr gone ↦ or_left (was_absent lost e.key) (is_held again e.key) (is_lost e c gone)
       ]
 
   -- an entry that came first comes first again
@@ -233,8 +248,8 @@ module _ (absent : List Descriptor) (entries : List IndexEntry) (graph : List No
   first_unnamed e c none =
       let missing : is_missing (is_among absent) graph e.key ≡ true =
       All-contains (λ (x : IndexEntry). no_name x.name ≡ true → is_missing (is_among absent) graph x.key ≡ true) first e (first_missing (is_among absent) graph tags entries 0 entries) c none in
-      let gone : has_key again e.key ≡ false = same e.key ∙ not-true (has_key graph e.key) (and_parts (is_among absent e.key) (not (has_key graph e.key)) missing).1 in
-      and_from (lost e.key) (not (has_key again e.key)) (is_lost e (Contains-append_left first (of_tags ++ of_loose) e c) gone) (not_from_false (has_key again e.key) gone)
+      let gone : is_held again e.key ≡ false = held_too e.key ∙ not-true (is_held graph e.key) (and_parts (was_absent (is_among absent) e.key) (not (is_held graph e.key)) missing).1 in
+      and_from (was_absent lost e.key) (not (is_held again e.key)) (is_lost e (Contains-append_left first (of_tags ++ of_loose) e c) gone) (not_from_false (is_held again e.key) gone)
 
   before_tag : (n : ℕ) (name : List ℕ) → name ≢ [] → n < length first → (k : Descriptor) → tag_at tags name ≡ Some k → comes_before lost (tag_at tags name) (is_place n (last_place name saved)) (last_entry name saved) ≡ true
   before_tag n name full lt k at =
@@ -247,7 +262,7 @@ module _ (absent : List Descriptor) (entries : List IndexEntry) (graph : List No
       ap (λ (o : Option Descriptor). comes_before lost o (is_place n (last_place name saved)) (last_entry name saved)) at
       ∙ ap (λ (b : Bool). comes_before lost (Some k) b (last_entry name saved)) place
       ∙ ap (comes_before lost (Some k) false) last
-      ∙ ap (λ (b : Bool). b && true) ((Decides-same_key k entry.key).1 (sym (tag_key entries (name, k))))
+      ∙ ap (λ (b : Bool). b && true) (this_key_from k entry.key (tag_key entries (name, k)))
 
   before_none : (n : ℕ) (e : IndexEntry) (name : List ℕ) → name ≢ [] → Contains first e → e.name ≡ Some name → tag_at tags name ≡ None → (o : Option IndexEntry) → last_of name first ≡ o
       → comes_before lost (tag_at tags name) (is_place n (last_place name saved)) (last_entry name saved) ≡ true
@@ -255,7 +270,7 @@ module _ (absent : List Descriptor) (entries : List IndexEntry) (graph : List No
       let no : is_name name e.name ≡ false = All-contains (λ (x : IndexEntry). is_name name x.name ≡ false) first e (none_named name first last) c in
       cc (sym no ∙ ap (is_name name) is ∙ same_bytes name)
   before_none n e name full c is at (Some d) last =
-      let gone : has_key again d.key ≡ false = same d.key ∙ absent_unheld absent entries graph tags loose are again same unheld names sorted d.key (first_absent (is_among absent) graph tags entries name full at d last) in
+      let gone : is_held again d.key ≡ false = held_too d.key ∙ unheld_key absent entries graph tags loose are again same unheld names sorted d.key (first_absent (is_among absent) graph tags entries name full at d last) in
       let there : Contains saved d = Contains-append_left first (of_tags ++ of_loose) d (last_there name first d last) in
       let found : last_entry name saved ≡ Some d =
       last_entry-last_of name saved ∙ saved_last absent entries graph tags loose are name full sorted
@@ -300,10 +315,10 @@ module _ (absent : List Descriptor) (entries : List IndexEntry) (graph : List No
       ∙ tags_not_first (pre ++ e ∷ []) (suc n) rest longer (is ∙ sym (append_assoc pre (e ∷ []) es)) s.1 (All-tail (λ (m : List ℕ). m ≢ []) t.0 (keys_of rest) full)
       (All-tail (λ (u : List ℕ × Descriptor). tag_at tags u.0 ≡ Some u.1) t rest found)
 
-  loose_held_again : (l : Descriptor × ℕ) → Contains loose l → has_key again (loose_entry entries l).key ≡ true
+  loose_held_again : (l : Descriptor × ℕ) → Contains loose l → is_held again (loose_entry entries l).key ≡ true
   loose_held_again l c =
       let is = each_loose absent entries graph tags loose are l c in
-      ap (has_key again) (loose_is graph tags entries l.0 l.1 is).1 ∙ same l.0 ∙ loose_there graph tags entries l.0 l.1 is
+      ap (is_held again) (loose_is graph tags entries l.0 l.1 is).1 ∙ same l.0 ∙ loose_there graph tags entries l.0 l.1 is
 
   loose_not_first : (n : ℕ) → first_from lost again tags saved n of_loose ≡ []
   loose_not_first n =
@@ -311,7 +326,7 @@ module _ (absent : List Descriptor) (entries : List IndexEntry) (graph : List No
       first_none lost again tags saved n of_loose (All-map P (loose_entry entries) loose (each_of (λ (l : Descriptor × ℕ). P (loose_entry entries l)) loose (λ l c m.
       let e : IndexEntry = loose_entry entries l in
       unnamed_first lost again tags saved m e.key e.name (loose_is graph tags entries l.0 l.1 (each_loose absent entries graph tags loose are l c)).0
-      ∙ ap (λ (b : Bool). lost e.key && not b) (loose_held_again l c) ∙ and_false (lost e.key))))
+      ∙ ap (λ (b : Bool). was_absent lost e.key && not b) (loose_held_again l c) ∙ and_false (was_absent lost e.key))))
 
   first_twice : first_from lost again tags saved 0 saved ≡ first
   first_twice =
@@ -336,7 +351,7 @@ module _ (absent : List Descriptor) (entries : List IndexEntry) (graph : List No
       let at : tag_at tags t.0 ≡ Some t.1 = All-head (λ (u : List ℕ × Descriptor). tag_at tags u.0 ≡ Some u.1) t us found in
       let last : last_entry t.0 saved ≡ Some e =
       last_entry-last_of t.0 saved ∙ saved_last absent entries graph tags loose are t.0 named sorted ∙ ap (λ (o : Option Descriptor). later (option_map (λ (j : Descriptor). tag_entry entries (t.0, j)) o) (last_of t.0 first)) at in
-      let is : tag_entry saved t ≡ e = ap (λ (o : Option IndexEntry). entry_or_new o t.1 t.0) last ∙ ap (λ (b : Bool). cond b e (new_entry t.1 (Some t.0))) ((Decides-same_key e.key t.1).1 (tag_key entries t)) in
+      let is : tag_entry saved t ≡ e = ap (λ (o : Option IndexEntry). entry_or_new o t.1 t.0) last ∙ ap (λ (b : Bool). cond b e (new_entry t.1 (Some t.0))) (this_key_from t.1 e.key (tag_key entries t)) in
       ap (λ (x : IndexEntry). x ∷ map (tag_entry saved) us) is
       ∙ ap (λ (es : List IndexEntry). e ∷ es) (tags_twice us (All-tail (λ (m : List ℕ). m ≢ []) t.0 (keys_of us) full) (All-tail (λ (u : List ℕ × Descriptor). tag_at tags u.0 ≡ Some u.1) t us found))
 
@@ -350,11 +365,11 @@ module _ (absent : List Descriptor) (entries : List IndexEntry) (graph : List No
   is_loose : (l : Descriptor × ℕ) → Contains loose l → HasLooseEntry graph tags entries l.0 l.1
   is_loose l c = each_loose absent entries graph tags loose are l c
 
-  none_ahead : (e : IndexEntry) → Contains ahead e → no_name e.name ≡ true → has_key again e.key ≡ true → ⊥
+  none_ahead : (e : IndexEntry) → Contains ahead e → no_name e.name ≡ true → is_held again e.key ≡ true → ⊥
   none_ahead e c none held =
       elim (Contains-append_cases first of_tags e c) [
         | inl in_first ↦
-            let gone : has_key again e.key ≡ false = not-true (has_key again e.key) (and_parts (lost e.key) (not (has_key again e.key)) (first_unnamed e in_first none)).1 in
+            let gone : is_held again e.key ≡ false = not-true (is_held again e.key) (and_parts (was_absent lost e.key) (not (is_held again e.key)) (first_unnamed e in_first none)).1 in
             cc (held, gone)
         | inr in_tags ↦
             let named : no_name e.name ≡ false = All-contains (λ (x : IndexEntry). no_name x.name ≡ false) of_tags e (tags_named entries tags names.named) in_tags in
@@ -372,18 +387,18 @@ module _ (absent : List Descriptor) (entries : List IndexEntry) (graph : List No
         let e : IndexEntry = loose_entry entries it.0 in
         let facts = loose_is graph tags entries it.0.0 it.0.1 (is_loose it.0 it.1) in
         let there : Contains saved e = Contains-append_right first (of_tags ++ of_loose) e (Contains-append_right of_tags of_loose e (mapped_there (loose_entry entries) loose it.0 it.1)) in
-        absurd (h.1 (subst (λ (x : Descriptor). Contains (unnamed_keys saved) x) (facts.1 ∙ it.2) (unnamed_there saved e there facts.0)))
+        absurd (h.1 (unnamed_there saved e k there facts.0 (facts.1 ∙ ap Some it.2)))
     to_numbered k (suc i) h =
         let n : ℕ = length ahead in
         let e : IndexEntry = h.1 in
         let at : slice_get (ahead ++ of_loose) i ≡ Some e = ap (λ (es : List IndexEntry). slice_get es i) (sym whole) ∙ h.2 in
         elim (get_past ahead of_loose i e at) [
-          | inl before_it ↦ absurd (none_ahead e before_it h.3 (ap (has_key again) h.4 ∙ h.0))
+          | inl before_it ↦ absurd (none_ahead e before_it h.3 (ap (is_held again) h.4 ∙ h.0))
           | inr it ↦
               let j : ℕ = it.0 in
               let m = mapped_at (loose_entry entries) loose j e it.2 in
               let l : Descriptor × ℕ = m.0 in
-              let key : l.0 ≡ k = sym (loose_is graph tags entries l.0 l.1 (is_loose l (contains_at loose j l m.1))).1 ∙ ap (λ (x : IndexEntry). x.key) m.2 ∙ h.4 in
+              let key : l.0 ≡ k = same_Some l.0 k (sym (loose_is graph tags entries l.0 l.1 (is_loose l (contains_at loose j l m.1))).1 ∙ ap (λ (x : IndexEntry). x.key) m.2 ∙ h.4) in
               let is : ◌≡◌ {A = Descriptor × ℕ} (l.0, suc (n + j)) (k, suc i) = ap (λ (x : Descriptor). (x, suc (n + j))) key ∙ ap (λ (x : ℕ). (k, suc x)) (sym it.1) in
               subst (λ (p : Descriptor × ℕ). Contains (numbered n loose) p) is (in_numbered n loose j l m.1)
         ]

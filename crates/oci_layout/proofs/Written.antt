@@ -1,9 +1,7 @@
 -- An index that is written of whole entries has them when it is read.
-use Rattle.std.proofs.Common.{◌≡◌, ℕ, ◌+◌, ◌<◌, ◌^◌, true, List, [], ◌∷◌, map, codes, Option, Some, None, Ok, refl, ap, ◌∙◌}
+use Rattle.std.proofs.Common.{◌≡◌, ℕ, ◌<◌, ◌^◌, true, List, map, codes, Option, Some, None, Ok, Result, refl, ap, ◌∙◌}
 use Rattle.std.specs.Prelude.{nat_lt}
 use Rattle.std.proofs.lemmas.Bool.{lt-ltb}
-use Rattle.std.proofs.lemmas.List.Elements.{All-head, All-tail}
-use Rattle.std.specs.List.{All}
 use Rattle.serde_json.specs.Data.{Data, Items, Members, array, object, put, string, number, unsigned}
 use Rattle.serde_json.specs.Find.{get_member}
 use Rattle.serde_json.specs.View.{items_of}
@@ -11,10 +9,12 @@ use Rattle.serde_json.proofs.Views.{get_member-put}
 use Rattle.oci_digest.specs.Digest.{is_digest}
 use Rattle.oci_digest.proofs.Accepts.{Decides-is_digest}
 use Rattle.oci_manifest.specs.Descriptor.{Descriptor, IsKey}
-use Rattle.oci_manifest.specs.Reading.{descriptor_of, descriptors_from, index_keys, keys_of as member_keys}
-use Rattle.oci_layout.specs.Entries.{IndexContent, IndexEntry, elements_of, entry_keys, key_members, name_of, named_value, new_entry, object_members, with_elements, without_member}
+use Rattle.oci_manifest.specs.Fault.{Fault}
+use Rattle.oci_manifest.specs.Reading.{◌>>=◌, descriptor_of}
+use Rattle.oci_layout.specs.Entries.{IndexContent, IndexEntry, elements_of, entries_as_is, entries_in, index_elements, key_members, name_of, named_value, new_entry, object_members, without_member}
 use Rattle.oci_layout.specs.Index.{index_value}
 use Rattle.oci_layout.specs.Law.{IsWhole, ReadsAsWritten}
+use Rattle.oci_layout.proofs.Read.{entries_again}
 
 -- ---- a new entry is whole
 
@@ -42,24 +42,9 @@ whole-new k name is = record { key_is = descriptor-named k name is; name_is = na
 abbrev values : List IndexEntry → Items
 values entries = items_of (map (λ (e : IndexEntry). e.value) entries)
 
-keys_from : (name : List ℕ) (i : ℕ) (entries : List IndexEntry) → All IsWhole entries → descriptors_from name i (values entries) ≡ Ok (entry_keys entries)
-unfolding descriptors_from
-keys_from name i [] are = refl
-keys_from name i (e ∷ entries) are = rw ((All-head IsWhole e entries are).key_is, keys_from name (i + 1) entries (All-tail IsWhole e entries are)) refl
-
-keys_in : (ms : Members) (entries : List IndexEntry) → All IsWhole entries → get_member (codes "manifests") ms ≡ Some (array (values entries)) → index_keys (object ms) ≡ Ok (entry_keys entries)
-unfolding index_keys member_keys
-keys_in ms entries are found = rw (found, keys_from (codes "manifests") 0 entries are) refl
-
-elements_in : (ms : Members) (ds : Items) → get_member (codes "manifests") ms ≡ Some (array ds) → elements_of (object ms) ≡ ds
-unfolding elements_of
+elements_in : (ms : Members) (ds : Items) → get_member (codes "manifests") ms ≡ Some (array ds) → index_elements (object ms) ≡ Ok ds
+unfolding index_elements elements_of
 elements_in ms ds found = rw found refl
-
-entries_again : (entries : List IndexEntry) → All IsWhole entries → with_elements (entry_keys entries) (values entries) ≡ entries
-entries_again [] are = refl
-entries_again (e ∷ entries) are =
-    ap (λ (name : Option (List ℕ)). record { key = e.key; name = name; value = e.value } ∷ with_elements (entry_keys entries) (values entries)) (All-head IsWhole e entries are).name_is
-    ∙ ap (λ (es : List IndexEntry). e ∷ es) (entries_again entries (All-tail IsWhole e entries are))
 
 -- ---- an index that is written
 
@@ -73,19 +58,15 @@ written content = put (codes "manifests") (array (values content.entries)) (othe
 list-written : (content : IndexContent) → get_member (codes "manifests") (written content) ≡ Some (array (values content.entries))
 list-written content = get_member-put (codes "manifests") (array (values content.entries)) (others content)
 
-keys-written : (content : IndexContent) → All IsWhole content.entries → index_keys (index_value content) ≡ Ok (entry_keys content.entries)
-unfolding index_value
-keys-written content are = keys_in (written content) content.entries are (list-written content)
-
-elements-written : (content : IndexContent) → elements_of (index_value content) ≡ values content.entries
+elements-written : (content : IndexContent) → index_elements (index_value content) ≡ Ok (values content.entries)
 unfolding index_value
 elements-written content = elements_in (written content) (values content.entries) (list-written content)
 
 pub reads_as_written : ReadsAsWritten
 reads_as_written bytes content are compact =
     let value : Data = index_value content in
-    let keys : List Descriptor = entry_keys content.entries in (
-      record { entries = with_elements keys (elements_of value); members = without_member (codes "manifests") (object_members value) },
-      (value, keys, compact.read, keys-written content are, refl),
-      ap (with_elements keys) (elements-written content) ∙ entries_again content.entries are,
+    let read : entries_as_is value ≡ Ok content.entries = ap (λ (r : Result Items Fault). r >>= λ ds. Ok (entries_in ds)) (elements-written content) ∙ ap Ok (entries_again content.entries are) in (
+      record { entries = content.entries; members = without_member (codes "manifests") (object_members value) },
+      (value, content.entries, compact.read, read, refl),
+      refl,
     )

@@ -52,10 +52,15 @@ gives_way each entries (Some (c ∷ cs)) = each || is_some (last_place (c ∷ cs
 abbrev pub staying : Bool → List IndexEntry → List IndexEntry → List IndexEntry
 staying each entries old = filter (λ (e : IndexEntry). not (gives_way each entries e.name)) old
 
--- Whether an entry comes: it has a name, or else its key has no tag and no entry without a name.
--- `tagged` and `unnamed` say of a key whether it has one.
+-- whether the key of an entry has no tag and no entry without a name; `tagged` and `unnamed` say of a
+-- key whether it has one
+abbrev pub is_free : (Descriptor → Bool) → (Descriptor → Bool) → Option Descriptor → Bool
+is_free tagged unnamed None = false
+is_free tagged unnamed (Some k) = not (tagged k || unnamed k)
+
+-- whether an entry comes: it has a name, or else a key that has no tag and no entry without a name
 abbrev pub comes : (Descriptor → Bool) → (Descriptor → Bool) → IndexEntry → Bool
-comes tagged unnamed e = not (no_name e.name) || not (tagged e.key || unnamed e.key)
+comes tagged unnamed e = not (no_name e.name) || is_free tagged unnamed e.key
 
 -- those of these entries that come
 abbrev pub coming : List Descriptor → List IndexEntry → List IndexEntry → List IndexEntry
@@ -72,8 +77,8 @@ pub record IsReplaced (stay more : List IndexEntry) (old new : OpenedIndex) : Ty
   pub absent : new.absent ≡ still_absent (said old.content).entries stay old.absent
   pub damaged : new.damaged ≡ still_absent (said old.content).entries stay old.damaged
 
--- entries are brought: they replace those of their names; one without a name comes only if the
--- layout has no tag of its key and no entry without a name of it
+-- entries are brought: they replace those of their names; one without a name comes only if it has a
+-- key, and the layout has no tag of it and no entry without a name of it
 abbrev pub Brings : List IndexEntry → Tags → OpenedIndex → OpenedIndex → Type 0
 Brings entries tags old new = IsReplaced (staying false entries (said old.content).entries) (coming (values_of tags) (said old.content).entries entries) old new
 

@@ -1,10 +1,10 @@
 -- Why a layout is not opened, created or saved.
-use Rattle.std.specs.Prelude.{◌≡◌, ◌≢◌, ◌⊎◌, ℕ, Bool, true, false, List, [], ◌∷◌, ◌++◌, length, Some, None, is_some, Result, Err}
+use Rattle.std.specs.Prelude.{◌≡◌, ◌≢◌, ◌⊎◌, ℕ, Bool, true, false, List, [], ◌∷◌, ◌++◌, codes, length, slice_get, Some, None, is_some, Result, Err}
 use Rattle.std.specs.List.{All}
 use Rattle.oci_manifest.specs.Descriptor.{Descriptor}
-use Rattle.oci_manifest.specs.Fault.{Fault, not_json, IsFault}
+use Rattle.oci_manifest.specs.Fault.{Fault, bad_descriptor, not_json, IsFault}
 use Rattle.oci_manifest.specs.MediaTypes.{kind_of}
-use Rattle.oci_manifest.specs.Reading.{◌>>=◌, or_fault, reading, index_keys}
+use Rattle.oci_manifest.specs.Reading.{◌>>=◌, or_fault, reading}
 use Rattle.oci_manifest.specs.declared.fault.ManifestFault.{ManifestFault}
 use Rattle.oci_manifest.specs.declared.kind.Kind.TheVariants.{Leaf}
 use Rattle.oci_store.specs.Content.{Matches, succ_of}
@@ -13,7 +13,7 @@ use Rattle.oci_layout.specs.Device.{Device, File}
 use Rattle.oci_layout.specs.Index.{index_file, layout_file, layout_version, version_in, HasLayoutFile}
 use Rattle.oci_store.specs.Push.{IsRaised}
 use Rattle.oci_store.specs.Visiting.{IsVisiting}
-use Rattle.oci_layout.specs.Entries.{IndexContent, IsIndexFile, entry_keys}
+use Rattle.oci_layout.specs.Entries.{IndexContent, IndexEntry, IsIndexFile, entry_keys, index_entries, unreadable_places}
 use Rattle.oci_layout.specs.Opened.{IsGood, lists, any}
 use Rattle.oci_layout.specs.declared.fault.LayoutFault.{LayoutFault}
 use Rattle.oci_layout.specs.declared.fault.LayoutFault.TheVariants as fault
@@ -28,13 +28,14 @@ HasNoVersion file = (bytes : List ℕ) × (file layout_file ≡ Some bytes) × (
 abbrev pub HasOtherVersion : File → Type 0
 HasOtherVersion file = (bytes : List ℕ) × (version : List ℕ) × (file layout_file ≡ Some bytes) × (version_in bytes ≡ Some version) × (version ≢ layout_version)
 
--- the keys that the bytes of an index list, or the first rule that they break
-abbrev pub index_in : List ℕ → Result (List Descriptor) Fault
-index_in bytes = or_fault not_json (reading bytes) >>= index_keys
+-- the entries of an index with these bytes, or the first rule that it breaks; each is a descriptor,
+-- unless the index is read as it is
+abbrev pub index_in : Bool → List ℕ → Result (List IndexEntry) Fault
+index_in as_is bytes = or_fault not_json (reading bytes) >>= index_entries as_is
 
 -- the index is there, and breaks the rule that the fault names
-abbrev pub HasBadIndex : File → ManifestFault → Type 0
-HasBadIndex file e = (bytes : List ℕ) × (cause : Fault) × (file index_file ≡ Some bytes) × (index_in bytes ≡ Err cause) × IsFault e cause
+abbrev pub HasBadIndex : Bool → File → ManifestFault → Type 0
+HasBadIndex as_is file e = (bytes : List ℕ) × (cause : Fault) × (file index_file ≡ Some bytes) × (index_in as_is bytes ≡ Err cause) × IsFault e cause
 
 -- ---- the files of manifests
 
@@ -60,7 +61,7 @@ pub record IsNextVisited (file : File) (starts : List Descriptor) (k : Descripto
 -- it are good
 pub record IsNextOfIndex (file : File) (k : Descriptor) : Type 0 where
   pub content : IndexContent
-  pub index : IsIndexFile (file index_file) content
+  pub index : IsIndexFile false (file index_file) content
   pub next : IsNextVisited file (entry_keys content.entries) k
 
 -- ---- the faults of public calls
@@ -72,15 +73,17 @@ abbrev pub IsOpenFault : Device → LayoutFault → Type 0
 IsOpenFault dir fault.NoLayoutFile = dir.is_honest → dir.file layout_file ≡ None
 IsOpenFault dir fault.BadLayoutFile = dir.is_honest → HasNoVersion dir.file
 IsOpenFault dir fault.BadVersion = dir.is_honest → HasOtherVersion dir.file
-IsOpenFault dir (fault.BadIndex e) = dir.is_honest → HasLayoutFile dir.file × HasBadIndex dir.file e
+IsOpenFault dir (fault.BadIndex e) = dir.is_honest → HasLayoutFile dir.file × HasBadIndex false dir.file e
 IsOpenFault dir fault.Device = dir.fails_reads ≡ true
 IsOpenFault dir (fault.Corrupt k) = dir.is_honest → HasLayoutFile dir.file × IsNextOfIndex dir.file k × IsCorrupt dir.file k
 IsOpenFault dir fault.Memory = Unit {0}
 IsOpenFault dir (fault.BadManifest k e) = dir.is_honest → HasLayoutFile dir.file × IsNextOfIndex dir.file k × IsUnread dir.file k e
 IsOpenFault dir fault.AlreadyLayout = ⊥
 
--- why a directory is not opened as it is: as why it is not opened, but for no manifest
+-- why a directory is not opened as it is: as why it is not opened, but for no manifest, and for no
+-- entry of the index
 abbrev pub IsOpenAsIsFault : Device → LayoutFault → Type 0
+IsOpenAsIsFault dir (fault.BadIndex e) = dir.is_honest → HasLayoutFile dir.file × HasBadIndex true dir.file e
 IsOpenAsIsFault dir (fault.Corrupt k) = ⊥
 IsOpenAsIsFault dir (fault.BadManifest k e) = ⊥
 IsOpenAsIsFault dir other = IsOpenFault dir other
@@ -89,6 +92,15 @@ IsOpenAsIsFault dir other = IsOpenFault dir other
 abbrev pub IsOpenFaultBy : Bool → Device → LayoutFault → Type 0
 IsOpenFaultBy true dir e = IsOpenAsIsFault dir e
 IsOpenFaultBy false dir e = IsOpenFault dir e
+
+-- the entry at a place is no descriptor, as `open` names it
+abbrev pub IsUnreadable : ℕ → LayoutFault → Type 0
+IsUnreadable place (fault.BadIndex e) = IsFault e (bad_descriptor (codes "manifests") place)
+IsUnreadable place other = ⊥
+
+-- the fault names the first of these entries that is no descriptor
+abbrev pub IsFirstUnreadable : List IndexEntry → LayoutFault → Type 0
+IsFirstUnreadable entries e = (place : ℕ) × (slice_get (unreadable_places entries) 0 ≡ Some place) × IsUnreadable place e
 
 -- why no layout is created in a directory
 abbrev pub IsCreateFault : Device → Device → LayoutFault → Type 0

@@ -9,13 +9,13 @@ use Rattle.std.specs.Map.{values_of}
 use Rattle.std.specs.Ordering.{nat_cmp, ordering_then}
 use Rattle.std.specs.declared.cmp.Ordering.{Ordering}
 use Rattle.std.specs.Str.{bytes_eq}
-use Rattle.oci_manifest.specs.Descriptor.{Descriptor, key_cmp, same_key, is_among}
+use Rattle.oci_manifest.specs.Descriptor.{Descriptor, key_cmp, is_among}
 use Rattle.oci_manifest.specs.MediaTypes.{kind_of}
 use Rattle.oci_manifest.specs.declared.kind.Kind.TheVariants.{Leaf}
 use Rattle.oci_store.specs.Graph.{Node, IsEdge}
 use Rattle.oci_store.specs.Keyed.{has_key}
 use Rattle.oci_store.specs.Tags.{Tags, tag_at}
-use Rattle.oci_layout.specs.Entries.{IndexEntry, IndexContent, entry_keys, new_entry, said}
+use Rattle.oci_layout.specs.Entries.{IndexEntry, IndexContent, entry_keys, is_held, is_this_key, new_entry, said}
 use Rattle.oci_layout.specs.Layout.{OpenedIndex}
 
 -- ---- names
@@ -53,12 +53,17 @@ last_entry name entries = option_and_then (slice_get entries) (last_place name e
 
 -- ---- the entries that come first
 
--- A name belongs to its last entry, whose key is given: its tag has that key, or there is no such
--- tag, and the key was absent when the layout was opened. Here and below, `absent` says of a key
--- whether it was.
-abbrev pub belongs : (Descriptor → Bool) → Option Descriptor → Descriptor → Bool
-belongs absent None k = absent k
-belongs absent (Some tagged) k = same_key tagged k
+-- whether the key of an entry was absent when the layout was opened, or the entry has none; here and
+-- below, `absent` says of a key whether it was
+abbrev pub was_absent : (Descriptor → Bool) → Option Descriptor → Bool
+was_absent absent None = true
+was_absent absent (Some k) = absent k
+
+-- a name belongs to its last entry, whose key is given: its tag has that key, or there is no such
+-- tag, and the key was absent when the layout was opened
+abbrev pub belongs : (Descriptor → Bool) → Option Descriptor → Option Descriptor → Bool
+belongs absent None key = was_absent absent key
+belongs absent (Some tagged) key = is_this_key tagged key
 
 -- an entry whose name belongs to its last entry comes first if it is another one, or if there is no
 -- tag
@@ -67,19 +72,19 @@ comes_before absent tagged is_last None = false
 comes_before absent tagged is_last (Some last) = belongs absent tagged last.key && (not is_last || is_none tagged)
 
 -- an absent key that is not held
-abbrev pub is_missing : (Descriptor → Bool) → List Node → Descriptor → Bool
-is_missing absent graph k = absent k && not (has_key graph k)
+abbrev pub is_missing : (Descriptor → Bool) → List Node → Option Descriptor → Bool
+is_missing absent graph key = was_absent absent key && not (is_held graph key)
 
 -- a key that was absent or is held; the others were dropped, and their entries go
-abbrev pub is_left : (Descriptor → Bool) → List Node → Descriptor → Bool
-is_left absent graph k = absent k || has_key graph k
+abbrev pub is_left : (Descriptor → Bool) → List Node → Option Descriptor → Bool
+is_left absent graph key = was_absent absent key || is_held graph key
 
 -- whether the entry at a place comes first: it has no name and its key is missing; or its key was
 -- not dropped, and it has a name that belongs to a later entry, or to this one without a tag
-abbrev pub is_first : (Descriptor → Bool) → List Node → Tags → List IndexEntry → ℕ → Descriptor → Option (List ℕ) → Bool
-is_first absent graph tags entries place k None = is_missing absent graph k
-is_first absent graph tags entries place k (Some []) = is_missing absent graph k
-is_first absent graph tags entries place k (Some (c ∷ cs)) = is_left absent graph k && comes_before absent (tag_at tags (c ∷ cs)) (is_place place (last_place (c ∷ cs) entries)) (last_entry (c ∷ cs) entries)
+abbrev pub is_first : (Descriptor → Bool) → List Node → Tags → List IndexEntry → ℕ → Option Descriptor → Option (List ℕ) → Bool
+is_first absent graph tags entries place key None = is_missing absent graph key
+is_first absent graph tags entries place key (Some []) = is_missing absent graph key
+is_first absent graph tags entries place key (Some (c ∷ cs)) = is_left absent graph key && comes_before absent (tag_at tags (c ∷ cs)) (is_place place (last_place (c ∷ cs) entries)) (last_entry (c ∷ cs) entries)
 
 -- those of these entries that come first; the first of them is at the place
 abbrev pub first_from : (Descriptor → Bool) → List Node → Tags → List IndexEntry → ℕ → List IndexEntry → List IndexEntry
@@ -94,7 +99,7 @@ first_entries absent graph tags entries = first_from absent graph tags entries 0
 
 -- the held keys of those of these entries that have a name
 abbrev pub named_held : List Node → List IndexEntry → List Descriptor
-named_held graph entries = entry_keys (filter (λ (e : IndexEntry). not (no_name e.name) && has_key graph e.key) entries)
+named_held graph entries = entry_keys (filter (λ (e : IndexEntry). not (no_name e.name) && is_held graph e.key) entries)
 
 -- the held keys of the entries with a name that come first: the name belongs to a later entry, or
 -- is no tag
@@ -106,7 +111,7 @@ shadowed_keys opened graph tags = named_held graph (first_entries (is_among open
 -- an entry, if its key is the one of the tag, and otherwise a new one
 abbrev pub entry_or_new : Option IndexEntry → Descriptor → List ℕ → IndexEntry
 entry_or_new None k name = new_entry k (Some name)
-entry_or_new (Some e) k name = if same_key e.key k then e else new_entry k (Some name)
+entry_or_new (Some e) k name = if is_this_key k e.key then e else new_entry k (Some name)
 
 abbrev pub tag_entry : List IndexEntry → List ℕ × Descriptor → IndexEntry
 tag_entry entries t = entry_or_new (last_entry t.0 entries) t.1 t.0
@@ -131,7 +136,7 @@ unnamed_keys entries = entry_keys (filter (λ (e : IndexEntry). no_name e.name) 
 -- and no name, and the key is held; a new one for 0, if the key is loose and has no such entry.
 abbrev pub HasLooseEntry : List Node → Tags → List IndexEntry → Descriptor → ℕ → Type 0
 HasLooseEntry graph tags entries k zero = IsLoose graph tags k × (Contains (unnamed_keys entries) k → ⊥)
-HasLooseEntry graph tags entries k (suc i) = (has_key graph k ≡ true) × (e : IndexEntry) × (slice_get entries i ≡ Some e) × (no_name e.name ≡ true) × (e.key ≡ k)
+HasLooseEntry graph tags entries k (suc i) = (has_key graph k ≡ true) × (e : IndexEntry) × (slice_get entries i ≡ Some e) × (no_name e.name ≡ true) × (e.key ≡ Some k)
 
 -- the order of keys with places
 abbrev pub place_cmp : Descriptor × ℕ → Descriptor × ℕ → Ordering

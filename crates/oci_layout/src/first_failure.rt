@@ -5,8 +5,8 @@ use std::io;
 /// A call of the system that failed.
 #[derive(Drop)]
 pub struct Failure {
-    /// The path of the file or folder at which it failed. For a new file that would replace another,
-    /// it is the path of that one.
+    /// The path of the file or folder at which it failed. For a new file that would replace
+    /// another, it is the path of that one.
     pub path: String,
     /// The error of the system.
     pub error: io::Error,
@@ -36,7 +36,8 @@ impl FirstFailure {
         self.noted.get()
     }
 
-    /// Notes a failure at a path, unless one is noted already. If memory runs out, nothing is noted.
+    /// Notes a failure at a path, unless one is noted already. If memory runs out, nothing is
+    /// noted.
     pub fn note(&self, path: &str, error: io::Error) {
         if self.get().is_some() {
             return;

@@ -7,7 +7,7 @@ ghost use Rattle.oci_layout.specs.Brought.{gives_way, still_absent, staying, IsR
 ghost use Rattle.oci_layout.specs.Entries.{entry_keys, entry_of, said, text_of};
 ghost use Rattle.oci_layout.specs.Layout.{no_index};
 
-use crate::index::{IndexContent, IndexEntry, Names, keys_of, set_of};
+use crate::index::{IndexContent, IndexEntry, Names, add_key, keys_of, set_of};
 use oci_digest::NoMemory;
 use oci_manifest::Key;
 use std::alloc::Global;
@@ -171,7 +171,7 @@ fn remaining(
     Ok(remaining)
 }
 
-/// Returns the keys of those of these entries that stay.
+/// Returns the keys of those of these entries that stay and have one.
 fn staying_keys(
     alloc: Global,
     each: bool,
@@ -184,7 +184,7 @@ fn staying_keys(
     let mut keys = Vec::new(alloc);
     for entry in old {
         if !gives_way(each, names, entry) {
-            keys.push(entry.key.try_clone()?)?;
+            add_key(entry, &mut keys)?;
         }
     }
     Ok(keys)

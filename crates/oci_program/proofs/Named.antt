@@ -1,54 +1,38 @@
 -- The key that a reference names, one entry or one key at a time.
 use Rattle.std.proofs.Common.{◌≡◌, ◌≢◌, ℕ, ◌+◌, ◌<◌, Bool, true, false, cond, inl, inr, List, [], ◌∷◌, ◌++◌, map, length, take, get_or, Greater, Option, Some, None, refl, sym, ap, subst, ◌∙◌}
-use Rattle.std.specs.Prelude.{filter}
-use Rattle.std.specs.List.{All, last_or}
+use Rattle.std.specs.List.{All}
 use Rattle.std.specs.declared.cmp.Ordering.{Ordering}
 use Rattle.std.specs.declared.cmp.Ordering.TheVariants.{Less, Equal}
 use Rattle.std.specs.Ordering.{is_gt, is_lt, ordering_reverse}
 use Rattle.std.specs.Str.{bytes_eq}
 use Rattle.std.proofs.lemmas.Bool.{cases_Bool}
 use Rattle.std.proofs.lemmas.Cmp.{tied_itself, upto}
-use Rattle.std.proofs.lemmas.List.{map-append, take_more}
-use Rattle.std.proofs.lemmas.List.Elements.{All-nil, All-push, All-weaker, Contains-append_left, Contains-push, filter-append}
+use Rattle.std.proofs.lemmas.List.{take_more}
+use Rattle.std.proofs.lemmas.List.Elements.{All-nil, All-push, All-weaker, Contains-append_left, Contains-push}
 use Rattle.std.proofs.lemmas.Slice.Eq.{bytes_eq-Decides}
 use Rattle.oci_manifest.specs.Descriptor.{Descriptor, key_cmp}
 use Rattle.oci_store.specs.Tags.{IsLeastOf, IsLeastWith}
 use Rattle.oci_store.proofs.KeyOrder.{key_cmp_total}
-use Rattle.oci_layout.specs.Entries.{IndexEntry, entry_keys, entry_of}
-use Rattle.oci_layout.specs.Saved.{is_name}
+use Rattle.oci_layout.specs.Entries.{IndexEntry, entry_of}
+use Rattle.oci_layout.specs.Saved.{is_name, last_place, later_place}
 use Rattle.oci_layout.specs.declared.index.IndexEntry.{IndexEntry as CodeEntry}
-use Rattle.oci_layout.proofs.LastNames.{entries-more}
-use Rattle.oci_program.specs.Reference.{comes_first, last_key}
+use Rattle.oci_layout.proofs.LastNames.{entries-more, later_place-cond, later_place-none, length-entries}
+use Rattle.oci_program.specs.Reference.{comes_first}
 
 -- ---- the last entry with a name
 
-last_or-push : (o : Option Descriptor) (ks : List Descriptor) (k : Descriptor) → last_or o (ks ++ k ∷ []) ≡ Some k
-last_or-push o [] k = refl
-last_or-push o (x ∷ ks) k = last_or-push (Some x) ks k
-
-abbrev has_name : List ℕ → IndexEntry → Bool
-has_name name e = is_name name e.name
-
-last_key-append : (name : List ℕ) (es : List IndexEntry) (more : List IndexEntry) → last_key name (es ++ more) ≡ last_or None (entry_keys (filter (has_name name) es) ++ entry_keys (filter (has_name name) more))
-last_key-append name es more =
-    ap (λ (found : List IndexEntry). last_or None (entry_keys found)) (filter-append (has_name name) es more)
-    ∙ ap (last_or None) (map-append (λ (e : IndexEntry). e.key) (filter (has_name name) es) (filter (has_name name) more))
-
-append_nothing : (ks : List Descriptor) → ks ++ [] ≡ ks
-append_nothing [] = refl
-append_nothing (k ∷ ks) = ap (λ (js : List Descriptor). k ∷ js) (append_nothing ks)
+last_place-push : (name : List ℕ) (es : List IndexEntry) (e : IndexEntry) → last_place name (es ++ e ∷ []) ≡ cond (is_name name e.name) (Some (length es)) (last_place name es)
+last_place-push name [] e = later_place-none (is_name name e.name)
+last_place-push name (d ∷ es) e =
+    ap (λ (o : Option ℕ). later_place o (is_name name d.name)) (last_place-push name es e)
+    ∙ later_place-cond (is_name name e.name) (is_name name d.name) (length es) (last_place name es)
 
 -- the last entry of those so far, and of one entry more
-last_key-more : (name : List ℕ) (es : List IndexEntry) (e : IndexEntry) → last_key name (es ++ e ∷ []) ≡ cond (is_name name e.name) (Some e.key) (last_key name es)
-last_key-more name es e =
-    elim (cases_Bool (is_name name e.name)) [
-      | inl hit ↦ last_key-append name es (e ∷ []) ∙ rw hit (last_or-push None (entry_keys (filter (has_name name) es)) e.key)
-      | inr miss ↦ last_key-append name es (e ∷ []) ∙ rw miss (ap (last_or None) (append_nothing (entry_keys (filter (has_name name) es))))
-    ]
-
-pub last_key-next : (name : List ℕ) (es : List CodeEntry) (i : ℕ) (e : CodeEntry) → i < length es → e ≡ get_or es i e
-    → last_key name (map entry_of (take (i + 1) es)) ≡ cond (is_name name (entry_of e).name) (Some (entry_of e).key) (last_key name (map entry_of (take i es)))
-last_key-next name es i e lt is = ap (last_key name) (entries-more es i e lt is) ∙ last_key-more name (map entry_of (take i es)) (entry_of e)
+pub last_place-next : (name : List ℕ) (es : List CodeEntry) (i : ℕ) (e : CodeEntry) → i < length es → e ≡ get_or es i e
+    → last_place name (map entry_of (take (i + 1) es)) ≡ cond (is_name name (entry_of e).name) (Some i) (last_place name (map entry_of (take i es)))
+last_place-next name es i e lt is =
+    ap (last_place name) (entries-more es i e lt is) ∙ last_place-push name (map entry_of (take i es)) (entry_of e)
+    ∙ ap (λ (n : ℕ). cond (is_name name (entry_of e).name) (Some n) (last_place name (map entry_of (take i es)))) (length-entries es i lt)
 
 -- ---- the least key with a digest
 

@@ -1,32 +1,35 @@
-ghost use Rattle.std.specs.Prelude.{◌≡◌, ◌≢◌, ◌++◌, ◌∷◌, [], true, if◌then◌else◌, is_some, Some, None, map, IfErr, IfOk, MatchBool, OnOk, string_bytes};
+ghost use Rattle.std.specs.Prelude.{◌≡◌, ◌≢◌, ◌++◌, ◌∷◌, [], true, if◌then◌else◌, is_some, Some, None, map, option_map, IfErr, IfOk, MatchBool, MatchOption, OnOk, string_bytes};
 ghost use Rattle.std.specs.List.{list_any};
 ghost use Rattle.std.specs.Map.{keys_of};
 ghost use Rattle.std.specs.Option.{option_copied};
 ghost use Rattle.std.specs.Str.{bytes_eq};
 ghost use Rattle.oci_digest.specs.Digest.{is_digest};
-ghost use Rattle.oci_manifest.specs.Descriptor.{is_among};
 ghost use Rattle.oci_manifest.specs.MediaTypes.{kind_of};
 ghost use Rattle.oci_store.specs.Keyed.{has_key};
 ghost use Rattle.oci_store.specs.Tags.{tag_at, IsLeastOf, Resolves};
-ghost use Rattle.oci_layout.specs.Entries.{entry_of, text_of};
+ghost use Rattle.oci_layout.specs.Entries.{entry_of, said, text_of};
 ghost use Rattle.oci_layout.specs.Layout.{is_manifest, manifests_of};
-ghost use Rattle.oci_layout.specs.Saved.{is_name};
-ghost use Rattle.oci_program.specs.Reference.{comes_first, last_key, IsReferenceFault, IsUnresolved, Names, NamesDamaged};
+ghost use Rattle.oci_layout.specs.Saved.{is_name, last_entry, last_place};
+ghost use Rattle.oci_program.specs.Reference.{comes_first, damaged_in, last_key, IsReferenceFault, IsUnresolved, Names, NamesDamaged, NamesUnreadable};
 
 use crate::fault::ProgramFault;
 use oci_digest::{Digest, NoMemory};
-use oci_layout::{Dir, IndexEntry, Layout};
+use oci_layout::{Dir, IndexEntry, Layout, unreadable_entry};
 use oci_manifest::{Key, Kind};
 use oci_store::{Dest, RefFault, Tagger};
 use std::alloc::Global;
 
 /// Returns the key that a reference of a layout names: the one that it resolves to, but that a digest
 /// names a manifest rather than a leaf of the same bytes. Of a reference that names a
-/// [damaged](Layout::damaged) key, says what is wrong with its file.
+/// [damaged](Layout::damaged) key, says what is wrong with its file. A name belongs to its last
+/// entry, so an earlier one never answers in its place; a digest passes over
+/// [unreadable](Layout::unreadable) entries.
 ///
 /// # Errors
 ///
 /// - 35 `EmptyReference` if the reference is empty.
+/// - 73 `BadIndex` with 14 `BadDescriptor("manifests", place)` if it does not resolve, and the last
+///   entry of that name, which is at this place, is no descriptor.
 /// - 75 `Corrupt` or 77 `BadManifest` if it would resolve to a damaged key: the last entry of that
 ///   name has the key, or, if no entry has the name, it is the least one with that digest. Then also
 ///   74 `Device` if the file cannot be read.
@@ -129,11 +132,26 @@ fn refusal_of<D: Dir>(layout: &Layout<D>, reference: &str, fault: RefFault) -> P
     }
 }
 
-/// Returns why a reference is refused that is unknown: what is wrong with the file of the damaged
-/// key that it names, if something still is.
+/// Returns why a reference is refused that is unknown: the last entry of the name is no descriptor,
+/// or something is wrong with the file that the reference names.
 fn refusal_of_unknown<D: Dir>(layout: &Layout<D>, reference: &str) -> ProgramFault
     requires { IsUnresolved layout.now.graph layout.now.tags reference.now
         RefFault.UnknownReference }
+    ensures { IsReferenceFault (D.device layout.now.dir) layout.now reference.now result }
+{
+    match unreadable_place(layout.entries(), reference) {
+        Some(place) => ProgramFault::Layout(unreadable_entry(place)),
+        None => refusal_of_file(layout, reference),
+    }
+}
+
+/// Returns why a reference is refused that is unknown, whose last entry is a descriptor if it has
+/// one: what is wrong with the file of the damaged key that it names, if something still is.
+fn refusal_of_file<D: Dir>(layout: &Layout<D>, reference: &str) -> ProgramFault
+    requires unknown { IsUnresolved layout.now.graph layout.now.tags reference.now
+        RefFault.UnknownReference }
+    requires readable { last_key reference.now (said layout.now.opened.content).entries
+        ≢ Some None }
     ensures { IsReferenceFault (D.device layout.now.dir) layout.now reference.now result }
 {
     let Some(key) = damaged_key(layout, reference) else {
@@ -149,20 +167,44 @@ fn refusal_of_unknown<D: Dir>(layout: &Layout<D>, reference: &str) -> ProgramFau
 fn damaged_key<'l, D: Dir>(layout: &'l Layout<D>, reference: &str) -> Option<&'l Key>
     ensures { NamesDamaged layout.now.opened reference.now (option_copied result) }
 {
-    match last_key(layout.entries(), reference) {
-        Some(key) => if_among(layout.damaged(), key),
+    match last_entry(layout.entries(), reference) {
+        Some((_place, entry)) => damaged_in(layout.damaged(), &entry.key),
         None => with_digest(layout.damaged(), reference),
     }
 }
 
-/// Returns the key of the last entry with a name.
-fn last_key<'l>(entries: &'l [IndexEntry], name: &str) -> Option<&'l Key>
-    ensures { option_copied result ≡ last_key name.now (map entry_of entries.now) }
+/// Returns the place of the last entry with a name, if that one is no descriptor.
+fn unreadable_place(entries: &[IndexEntry], name: &str) -> Option<usize>
+    ensures { MatchOption result (last_key name.now (map entry_of entries.now) ≢ Some None)
+        (NamesUnreadable (map entry_of entries.now) name.now) }
+{
+    let (place, entry) = last_entry(entries, name)?;
+    match &entry.key {
+        Some(_) => None,
+        None => Some(place),
+    }
+}
+
+/// Returns the last entry with a name, and its place.
+fn last_entry<'l>(entries: &'l [IndexEntry], name: &str) -> Option<(usize, &'l IndexEntry)>
+    ensures place { option_map (λ last. last.0) result
+        ≡ last_place name.now (map entry_of entries.now) }
+    ensures entry { option_map (λ last. entry_of last.1.now) result
+        ≡ last_entry name.now (map entry_of entries.now) }
+{
+    let place = last_place(entries, name)?;
+    let entry = entries.get(place)?;
+    Some((place, entry))
+}
+
+/// Returns the place of the last entry with a name.
+fn last_place(entries: &[IndexEntry], name: &str) -> Option<usize>
+    ensures { result ≡ last_place name.now (map entry_of entries.now) }
 {
     let mut last = None;
-    for entry in entries {
+    for (place, entry) in entries.iter().enumerate() {
         if is_named(entry, name) {
-            last = Some(&entry.key);
+            last = Some(place);
         }
     }
     last
@@ -178,10 +220,19 @@ fn is_named(entry: &IndexEntry, name: &str) -> bool
     }
 }
 
+/// Returns the key of an entry if it is one of these.
+fn damaged_in<'l>(damaged: &[Key], key: &'l Option<Key>) -> Option<&'l Key>
+    ensures { option_copied result ≡ damaged_in damaged.now key.now }
+{
+    match key {
+        Some(key) => if_among(damaged, key),
+        None => None,
+    }
+}
+
 /// Returns a key if it is one of these.
 fn if_among<'l>(keys: &[Key], key: &'l Key) -> Option<&'l Key>
-    ensures { option_copied result
-        ≡ (if is_among keys.now key.now then Some key.now else None) }
+    ensures { option_copied result ≡ damaged_in keys.now (Some key.now) }
 {
     if keys.contains(key) { Some(key) } else { None }
 }

@@ -74,8 +74,9 @@ attached_members graph keys subjects found attachments set are same to k = (
 -- ---- what is always so
 
 pub complete_from : (graph : List Node) (keys : Keys) (tags : Tags) (attachments : Attachments) (b : Belonging) → AreMembers graph keys (AttachedIn attachments) b.members → AreAttached graph keys (AttachedIn attachments) b.attached.items
-    → AreFollowers tags attachments.followers → IsDistinct same_key b.attached.items → by_bytes b.tags.items ≡ filter (λ (t : List ℕ × Descriptor). follows_one b.members.keys t.0) tags → IsComplete graph keys tags b
-complete_from graph keys tags attachments b are to follow distinct named = record {
+    → AreFollowers tags attachments.followers → IsDistinct same_key b.attached.items → by_bytes b.tags.items ≡ filter (λ (t : List ℕ × Descriptor). follows_one b.members.keys t.0) tags
+    → attachments ≡ b.attachments → IsComplete graph keys tags b
+complete_from graph keys tags attachments b are to follow distinct named tables = record {
   held = λ k h. held_from_kept graph keys (AttachedIn attachments) k ((are k).0 h);
   given = λ k one held. (are k).1 (given one held);
   listed = λ from k member edge held. (are k).1 (needed ((are from).0 member) (inl edge) held);
@@ -86,6 +87,9 @@ complete_from graph keys tags attachments b are to follow distinct named = recor
   attached = λ k h. (are k).1 ((to k).0 h).0;
   distinct = distinct;
   reached = λ k. (λ h. members_reached graph keys b.attached.items (AttachedIn attachments) to k ((are k).0 h), λ p. (are k).1 (member_from_reached graph keys b.attached.items (AttachedIn attachments) to k p.0 p.1));
+  members = subst (λ (a : Attachments). AreMembers graph keys (AttachedIn a) b.members) tables are;
+  by_tables = subst (λ (a : Attachments). AreAttached graph keys (AttachedIn a) b.attached.items) tables to;
+  followers = subst (λ (a : Attachments). AreFollowers tags a.followers) tables follow;
   tags = named;
 }
 

@@ -6,7 +6,7 @@ use Rattle.std.specs.List.Sorted.{IsStrictlySortedBy}
 use Rattle.std.specs.List.{All, slice_get}
 use Rattle.std.specs.Map.{keys_of, values_of}
 use Rattle.std.proofs.lemmas.Bool.{not-true}
-use Rattle.std.proofs.lemmas.List.Elements.{All-append, All-contains, All-contains_itself, All-weaker, Contains-append_left, Contains-get_or}
+use Rattle.std.proofs.lemmas.List.Elements.{All-append, All-contains, All-contains_itself, All-weaker, Contains-append_left, Contains-append_right, Contains-get_or}
 use Rattle.std.proofs.lemmas.List.Kept.{IsStrictlySortedBy-filter}
 use Rattle.std.proofs.lemmas.Map.Views.{btree_set_contains_iff}
 use Rattle.oci_manifest.specs.Descriptor.{Descriptor, key_cmp, is_among}
@@ -18,7 +18,7 @@ use Rattle.oci_layout.specs.Device.{Device}
 use Rattle.oci_store.proofs.KeyOrder.{key_cmp_total, key_cmp_exact}
 use Rattle.oci_store.proofs.Membership.{Contains-from_among, among_from_Contains, among-filter, among_filter_from}
 use Rattle.oci_store.proofs.Lookups.{has_key-from_Contains, Contains-from_has_key, has_key-same_keys}
-use Rattle.oci_layout.specs.Entries.{said}
+use Rattle.oci_layout.specs.Entries.{said, unreadable_places}
 use Rattle.oci_layout.specs.Layout.{LayoutState, OpenedIndex, manifests_of}
 use Rattle.oci_layout.specs.Saved.{first_entries, shadowed_keys}
 use Rattle.oci_layout.proofs.Loose.{HasKeys}
@@ -26,7 +26,7 @@ use Rattle.oci_layout.proofs.SavedEntries.{named_held-held}
 use Rattle.oci_prune.specs.Attached.{AttachedIn, AreAttachments}
 use Rattle.oci_prune.specs.Belongs.{Needs, Belongs, given, needed, IsNeeded, IsUnknown, AreMembers, AllKnown}
 use Rattle.oci_prune.specs.Plan.{AreHeld, AreRemoved, RefersIf, IsSafe, roots_of}
-use Rattle.oci_prune.specs.Refusal.{ChecksWhole, IsKeyFault, IsPlanFault, IsUnknownFault}
+use Rattle.oci_prune.specs.Refusal.{ChecksWhole, IsKeyFault, IsPlanFaultFrom, IsUnknownFault}
 use Rattle.oci_prune.specs.Subjects.{IsSubjectFault}
 use Rattle.oci_prune.specs.declared.attachments.Attachments.{Attachments}
 use Rattle.oci_prune.specs.declared.fault.PruneFault.{PruneFault}
@@ -119,46 +119,63 @@ reached_from_kept graph roots k (given named held) = (start named, held)
 reached_from_kept graph roots k (needed {from} kept (inl edge) held) = (along (reached_from_kept graph roots from kept).0 edge, held)
 reached_from_kept graph roots k (needed {from} kept (inr never) held) = absurd never
 
-pub safe_from_kept : (graph : List Node) (roots : List Descriptor) (R : Descriptor → Descriptor → Type 0) (set : BTreeSet Descriptor) → AreMembers graph roots R set → HasAll graph roots → IsSafe graph roots set
-safe_from_kept graph roots R set are all = record {
+pub safe_from_kept : (graph : List Node) (roots : List Descriptor) (R : Descriptor → Descriptor → Type 0) (set : BTreeSet Descriptor) → AreMembers graph roots R set → IsSafe graph roots set
+safe_from_kept graph roots R set are = record {
   held = λ k h. held_from_kept graph roots R k ((are k).0 h);
-  rooted = λ place d lt. (are (get_or roots place d)).1 (given (Contains-get_or roots place d lt) (all place d lt));
   reached = λ k reaches held. (are k).1 (kept_from_reached graph roots R k reaches held);
   closed = λ from to kept edge held. (are to).1 (needed ((are from).0 kept) (inl edge) held);
 }
 
+-- it is safe for fewer roots too
+pub safe_for_fewer : (graph : List Node) (more roots : List Descriptor) (set : BTreeSet Descriptor) → IsSafe graph (more ++ roots) set → IsSafe graph roots set
+safe_for_fewer graph more roots set safe = record {
+  held = safe.held;
+  reached = λ k reaches held. safe.reached k (reached_from_more k reaches) held;
+  closed = safe.closed;
+}
+  where
+    reached_from_more : (k : Descriptor) → Reaches graph roots k → Reaches graph (more ++ roots) k
+    reached_from_more k (start named) = start (Contains-append_right more roots k named)
+    reached_from_more k (along {from} path edge) = along (reached_from_more from path) edge
+
+-- the roots that are held are kept
+pub roots_kept : (graph : List Node) (roots : List Descriptor) (set : BTreeSet Descriptor) → IsSafe graph roots set → HasAll graph roots → All (λ (k : Descriptor). contains key_cmp set k ≡ true) roots
+roots_kept graph roots set safe all place d lt = safe.reached (get_or roots place d) (start (Contains-get_or roots place d lt)) (all place d lt)
+
 -- ---- the plan
 
-pub tags_fault : {D : Type 0} (dir : Device) (l : LayoutState D) (keeps : Bool) (e : PruneFault) → (e ≡ fault.Memory) ⊎ ((e ≡ fault.NoTags) × (l.tags ≡ [])) → IsPlanFault dir l keeps e
-tags_fault dir l keeps e (inl memory) = rw memory tt
-tags_fault dir l keeps e (inr none) = rw none.0 none.1
+pub tags_fault : {D : Type 0} (dir : Device) (l : LayoutState D) (roots : List Descriptor) (keeps : Bool) (e : PruneFault) → (e ≡ fault.Memory) ⊎ ((e ≡ fault.NoTags) × (l.tags ≡ [])) → IsPlanFaultFrom dir l roots keeps e
+tags_fault dir l roots keeps e (inl memory) = rw memory tt
+tags_fault dir l roots keeps e (inr none) = rw none.0 none.1
 
 -- ---- the check before the plan
 
--- a layout passes whose opened index has no first absent entry, and of whose damaged manifests the
--- first that is not held is none
-pub checks_whole : (graph : List Node) (opened : OpenedIndex) → slice_get opened.absent 0 ≡ None → first_missing graph (manifests_of opened.damaged) ≡ None → ChecksWhole graph opened (Ok tt)
-checks_whole graph opened no_absent none_damaged = record {
-  whole = empty opened.absent no_absent;
+no_first : (keys : List Descriptor) → slice_get keys 0 ≡ None → keys ≡ []
+no_first [] h = refl
+no_first (k ∷ keys) h = cc h
+
+-- a layout passes whose opened index has no first absent entry and no entry that is no descriptor, and
+-- of whose damaged manifests the first that is not held is none
+pub checks_whole : (graph : List Node) (opened : OpenedIndex) → slice_get opened.absent 0 ≡ None → first_missing graph (manifests_of opened.damaged) ≡ None → unreadable_places (said opened.content).entries ≡ [] → ChecksWhole graph opened (Ok tt)
+checks_whole graph opened no_absent none_damaged none_unreadable = record {
+  whole = no_first opened.absent no_absent;
   sound = none_damaged;
-  first = λ some. absurd (some (empty opened.absent no_absent));
+  readable = none_unreadable;
+  first = λ some. absurd (some (no_first opened.absent no_absent));
   second = λ no_entry some. absurd (some none_damaged);
+  third = λ no_entry no_damaged some. absurd (some none_unreadable);
 }
-  where
-    empty : (keys : List Descriptor) → slice_get keys 0 ≡ None → keys ≡ []
-    empty [] h = refl
-    empty (k ∷ keys) h = cc h
 
 -- ---- the roots
 
 pub roots_held : {D : Type 0} (l : LayoutState D) → AreNames l.graph l.tags → HasAll l.graph (roots_of l)
 roots_held l names = All-append (λ (k : Descriptor). has_key l.graph k ≡ true) (values_of l.tags) (shadowed_keys l.opened l.graph l.tags) names.held (named_held-held l.graph (first_entries (is_among l.opened.absent) l.graph l.tags (said l.opened.content).entries))
 
-pub tags_kept : {D : Type 0} (l : LayoutState D) (kept : BTreeSet Descriptor) → IsSafe l.graph (roots_of l) kept → All (λ (k : Descriptor). contains key_cmp kept k ≡ true) (values_of l.tags)
-tags_kept l kept safe =
+pub tags_kept : {D : Type 0} (l : LayoutState D) (kept : BTreeSet Descriptor) → All (λ (k : Descriptor). contains key_cmp kept k ≡ true) (roots_of l) → All (λ (k : Descriptor). contains key_cmp kept k ≡ true) (values_of l.tags)
+tags_kept l kept rooted =
     let hidden = shadowed_keys l.opened l.graph l.tags in
     All-weaker (λ (k : Descriptor). Contains (values_of l.tags) k) (λ (k : Descriptor). contains key_cmp kept k ≡ true)
-    (λ k tagged. All-contains (λ (k : Descriptor). contains key_cmp kept k ≡ true) (values_of l.tags ++ hidden) k safe.rooted (Contains-append_left (values_of l.tags) hidden k tagged))
+    (λ k tagged. All-contains (λ (k : Descriptor). contains key_cmp kept k ≡ true) (values_of l.tags ++ hidden) k rooted (Contains-append_left (values_of l.tags) hidden k tagged))
     (values_of l.tags) (All-contains_itself (values_of l.tags))
 
 pub are_removed : (graph : List Node) (kept : BTreeSet Descriptor) (held removed : List Descriptor) → AreHeld graph held → removed ≡ filter (λ (k : Descriptor). not (contains key_cmp kept k)) held → AreRemoved graph kept removed

@@ -6,7 +6,7 @@ use Rattle.oci_manifest.specs.Descriptor.{Descriptor, key_cmp, same_key}
 use Rattle.oci_store.specs.Graph.{Node, IsEdge, Reaches}
 use Rattle.oci_store.specs.Keyed.{has_key}
 use Rattle.oci_store.specs.Tags.{Tags, by_bytes}
-use Rattle.oci_prune.specs.Attached.{AttachedIn, FollowsTag, follows_one}
+use Rattle.oci_prune.specs.Attached.{AreFollowers, AttachedIn, FollowsTag, follows_one}
 use Rattle.oci_prune.specs.Belongs.{Belongs, AreMembers}
 use Rattle.oci_prune.specs.declared.attachments.Attachments.{Attachments}
 use Rattle.oci_prune.specs.declared.belonging.Belonging.{Belonging}
@@ -44,6 +44,12 @@ pub record IsComplete (graph : List Node) (keys : List Descriptor) (all_tags : T
   pub distinct : IsDistinct same_key b.attached.items
   -- the members are the held keys that the given and the attached keys reach
   pub reached : (k : Descriptor) → (contains key_cmp b.members k ≡ true) ↔ (Reaches graph (keys ++ b.attached.items) k × (has_key graph k ≡ true))
+  -- the members are what belongs to the given keys by the returned tables
+  pub members : AreMembers graph keys (AttachedIn b.attachments) b.members
+  -- the attached keys are the members that are attached to a member by these tables
+  pub by_tables : AreAttached graph keys (AttachedIn b.attachments) b.attached.items
+  -- by these tables exactly the keys of the tags that name a key's digest follow it
+  pub followers : AreFollowers all_tags b.attachments.followers
   -- the tags are those whose names name the digest of a member, in their order
   pub tags : by_bytes b.tags.items ≡ filter (λ tag. follows_one b.members.keys tag.0) all_tags
 

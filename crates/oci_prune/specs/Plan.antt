@@ -9,7 +9,7 @@ use Rattle.std.specs.Ordering.{nat_cmp}
 use Rattle.oci_digest.specs.Digest.{IsDigest}
 use Rattle.oci_manifest.specs.Descriptor.{Descriptor, key_cmp}
 use Rattle.oci_store.specs.Graph.{Node, IsEdge, Reaches}
-use Rattle.oci_store.specs.Keyed.{has_key, HasAll}
+use Rattle.oci_store.specs.Keyed.{has_key}
 use Rattle.oci_store.specs.State.{State}
 use Rattle.oci_layout.specs.Blobs.{blob_path}
 use Rattle.oci_layout.specs.Device.{Device, File}
@@ -30,10 +30,9 @@ pub record AreHeld (graph : List Node) (keys : List Descriptor) : Type 0 where
 abbrev pub roots_of : {D : Type 0} → LayoutState D → List Descriptor
 roots_of layout = values_of layout.tags ++ shadowed_keys layout.opened layout.graph layout.tags
 
--- a graph has roots, and these are its keys
-pub record AreRoots (graph : List Node) (roots held : List Descriptor) : Type 0 where
-  pub rooted : HasAll graph roots
-  pub are_held : AreHeld graph held
+-- the keys that a prune starts from that also keeps these keys
+abbrev pub roots_with : {D : Type 0} → LayoutState D → List Descriptor → List Descriptor
+roots_with layout keys = keys ++ roots_of layout
 
 -- the first key is held and refers to the second; never, if referrers are left out
 abbrev pub RefersIf : Bool → State → Descriptor → Descriptor → Type 0
@@ -44,11 +43,10 @@ RefersIf false store referrer subject = ⊥
 abbrev pub AreKept : List Node → List Descriptor → (Descriptor → Descriptor → Type 0) → BTreeSet Descriptor → Type 0
 AreKept graph roots refers kept = AreMembers graph roots refers kept
 
--- the kept keys are held; each root is kept, and each held key that a root reaches or that a kept
+-- the kept keys are held, and each held key is kept that is a root, that a root reaches or that a kept
 -- key lists
 pub record IsSafe (graph : List Node) (roots : List Descriptor) (kept : BTreeSet Descriptor) : Type 0 where
   pub held : (k : Descriptor) → contains key_cmp kept k ≡ true → has_key graph k ≡ true
-  pub rooted : All (λ k. contains key_cmp kept k ≡ true) roots
   pub reached : (k : Descriptor) → Reaches graph roots k → has_key graph k ≡ true → contains key_cmp kept k ≡ true
   pub closed : (from to : Descriptor) → contains key_cmp kept from ≡ true → IsEdge graph from to → has_key graph to ≡ true → contains key_cmp kept to ≡ true
 
@@ -78,10 +76,11 @@ pub record AreUnneeded (file : File) (graph : List Node) (kept : BTreeSet Descri
   pub each : (f : PrunedFile) → Contains files f ↔ IsUnneeded file graph kept f
   pub order : IsStrictlySortedBy (slice_cmp nat_cmp) (map (λ (f : PrunedFile). f.digest) files)
 
--- a plan for a layout in a directory: it keeps what is reached from the roots, and removes the other
+-- a plan for a layout in a directory: it keeps the roots and what they reach, and removes the other
 -- keys and the files that nothing kept needs
 pub record IsPrunePlan (dir : Device) (graph : List Node) (roots : List Descriptor) (plan : PrunePlan) : Type 0 where
   pub safe : IsSafe graph roots plan.kept
+  pub rooted : All (λ k. contains key_cmp plan.kept k ≡ true) roots
   pub removed : AreRemoved graph plan.kept plan.removed.items
   pub files : dir.is_honest → AreUnneeded dir.file graph plan.kept plan.files.items
   -- no file of the layout is a draft

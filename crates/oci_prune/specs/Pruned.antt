@@ -63,6 +63,7 @@ pub record Removal {D : Type 0} (device : D → Device) (old new : LayoutState D
   pub spared : Spares (device old.dir) (device new.dir) old.graph is_one
   pub fault : after ≡ None → before ≡ None
   pub notes : Notes (device old.dir) is_one before after
+  pub failures : (device new.dir).failures ≡ (device old.dir).failures
 
 -- the path is that of a file or a draft that a plan removes
 abbrev pub IsPlanned : PrunePlan → List ℕ → Type 0
@@ -95,3 +96,4 @@ pub record IsSaved {D : Type 0} (device : D → Device) (old new : LayoutState D
   pub kept : new.graph ≡ kept_of plan.kept old.graph
   pub index : plan.removed.items ≢ [] → (device old.dir).is_honest → HasIndex (device new.dir).file new.graph new.tags new.opened
   pub unwritten : plan.removed.items ≡ [] → new ≡ old
+  pub failures : (device new.dir).failures ≡ (device old.dir).failures

@@ -9,7 +9,9 @@ use Rattle.oci_store.specs.Push.{IsRaised}
 use Rattle.oci_store.specs.State.{State}
 use Rattle.oci_layout.specs.Blobs.{meaning}
 use Rattle.oci_layout.specs.Device.{Device}
+use Rattle.oci_layout.specs.Entries.{IndexEntry, said, unreadable_places}
 use Rattle.oci_layout.specs.Layout.{LayoutState, OpenedIndex, manifests_of}
+use Rattle.oci_layout.specs.Refusal.{IsFirstUnreadable}
 use Rattle.oci_layout.specs.declared.fault.LayoutFault.{LayoutFault}
 use Rattle.oci_layout.specs.declared.fault.LayoutFault.TheVariants as layout
 use Rattle.oci_prune.specs.Belongs.{IsUnknown}
@@ -36,13 +38,22 @@ IsDeviceFault cause (fault.Layout layout.Device) = cause
 IsDeviceFault cause fault.Memory = Unit {0}
 IsDeviceFault cause other = ⊥
 
--- a layout passes if it has no absent entry and holds its damaged manifests; its first absent entry
--- is refused, and if there is none, the first damaged manifest that it does not hold
+-- the first of these entries that is no descriptor is refused, or memory ran out
+abbrev pub IsEntryFault : List IndexEntry → PruneFault → Type 0
+IsEntryFault entries (fault.Layout e) = IsFirstUnreadable entries e
+IsEntryFault entries fault.Memory = Unit {0}
+IsEntryFault entries other = ⊥
+
+-- a layout passes if it has no absent entry, holds its damaged manifests, and each entry of its index
+-- is a descriptor; its first absent entry is refused, and if there is none, the first damaged manifest
+-- that it does not hold, and if there is none either, the first entry that is no descriptor
 pub record ChecksWhole (graph : List Node) (opened : OpenedIndex) (answer : Result Unit PruneFault) : Type 0 where
   pub whole : OnOk answer (opened.absent ≡ [])
   pub sound : OnOk answer (first_missing graph (manifests_of opened.damaged) ≡ None)
+  pub readable : OnOk answer (unreadable_places (said opened.content).entries ≡ [])
   pub first : opened.absent ≢ [] → IfErr answer (IsUnknownFault (λ k. slice_get opened.absent 0 ≡ Some k))
   pub second : opened.absent ≡ [] → first_missing graph (manifests_of opened.damaged) ≢ None → IfErr answer (IsUnknownFault (λ k. first_missing graph (manifests_of opened.damaged) ≡ Some k))
+  pub third : opened.absent ≡ [] → first_missing graph (manifests_of opened.damaged) ≡ None → unreadable_places (said opened.content).entries ≢ [] → IfErr answer (IsEntryFault (said opened.content).entries)
 
 -- the key is the first absent entry of a layout; or there is none, and the key is the first damaged
 -- manifest that is not held
@@ -51,20 +62,26 @@ IsFirstUnheld graph opened k =
     (slice_get opened.absent 0 ≡ Some k) ⊎ ((opened.absent ≡ []) × (first_missing graph (manifests_of opened.damaged) ≡ Some k))
 
 -- why a layout is not pruned before anything is read: its first absent entry, or else its first
--- damaged manifest, a link, or a fault of a read
+-- damaged manifest, or else its first entry that is no descriptor, a link, or a fault of a read
 abbrev pub IsCheckFault : Device → List Node → OpenedIndex → PruneFault → Type 0
 IsCheckFault dir graph opened (fault.Unknown k) = IsFirstUnheld graph opened k
 IsCheckFault dir graph opened (fault.LinkedBlobs path) = Unit {0}
+IsCheckFault dir graph opened (fault.Layout (layout.BadIndex e)) = IsFirstUnreadable (said opened.content).entries (layout.BadIndex e)
 IsCheckFault dir graph opened e = IsDeviceFault (dir.fails_reads ≡ true) e
+
+-- why there is no plan of a prune from these roots for a layout in a directory
+abbrev pub IsPlanFaultFrom : {D : Type 0} → Device → LayoutState D → List Descriptor → Bool → PruneFault → Type 0
+IsPlanFaultFrom dir l roots keeps fault.NoTags = l.tags ≡ []
+IsPlanFaultFrom dir l roots keeps (fault.Unknown k) =
+    IsFirstUnheld l.graph l.opened k ⊎ (dir.is_honest → IsUnknown l.graph roots (RefersIf keeps (meaning dir l.graph l.tags)) k)
+IsPlanFaultFrom dir l roots keeps (fault.LinkedBlobs path) = Unit {0}
+IsPlanFaultFrom dir l roots keeps (fault.Layout layout.Device) = dir.fails_reads ≡ true
+IsPlanFaultFrom dir l roots keeps (fault.Layout (layout.BadIndex e)) = IsFirstUnreadable (said l.opened.content).entries (layout.BadIndex e)
+IsPlanFaultFrom dir l roots keeps e = IsSubjectFault (meaning dir l.graph l.tags) (λ k. (keeps ≡ true) × (has_key l.graph k ≡ true)) e
 
 -- why there is no plan for a layout in a directory
 abbrev pub IsPlanFault : {D : Type 0} → Device → LayoutState D → Bool → PruneFault → Type 0
-IsPlanFault dir l keeps fault.NoTags = l.tags ≡ []
-IsPlanFault dir l keeps (fault.Unknown k) =
-    IsFirstUnheld l.graph l.opened k ⊎ (dir.is_honest → IsUnknown l.graph (roots_of l) (RefersIf keeps (meaning dir l.graph l.tags)) k)
-IsPlanFault dir l keeps (fault.LinkedBlobs path) = Unit {0}
-IsPlanFault dir l keeps (fault.Layout layout.Device) = dir.fails_reads ≡ true
-IsPlanFault dir l keeps e = IsSubjectFault (meaning dir l.graph l.tags) (λ k. (keeps ≡ true) × (has_key l.graph k ≡ true)) e
+IsPlanFault dir l keeps e = IsPlanFaultFrom dir l (roots_of l) keeps e
 
 -- a save may fail: reads may fail, or a put failed
 abbrev pub MayNotSave : Device → Device → Type 0

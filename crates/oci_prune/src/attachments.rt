@@ -138,7 +138,7 @@ fn add_stemmed(
 }
 
 /// Adds copies of keys.
-fn add_copies(found: &[Key], keys: &mut Vec<Key>) -> Result<(), NoMemory>
+pub(crate) fn add_copies(found: &[Key], keys: &mut Vec<Key>) -> Result<(), NoMemory>
     ensures { OnOk result (keys.new.items ≡ keys.old.items ++ found.now) }
 {
     for key in found {

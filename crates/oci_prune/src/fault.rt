@@ -19,7 +19,8 @@ pub enum PruneFault {
     /// The bytes of this held manifest could not be fetched, for this reason.
     #[error("88 Fetch {0} {1}")]
     Fetch(Key, FetchFault),
-    /// The layout could not be read or saved, or a held manifest cannot be read as one (77).
+    /// The layout could not be read or saved, an entry of its index is no descriptor (73), or a held
+    /// manifest cannot be read as one (77).
     #[error("{0}")]
     Layout(LayoutFault),
     /// Out of memory.
@@ -27,7 +28,7 @@ pub enum PruneFault {
     Memory,
     /// This key is not held, so it is not known what it lists: the first entry of the opened index
     /// that was not held, or else the first damaged manifest that is not held, or else a key of a
-    /// manifest kind that a kept key lists.
+    /// manifest kind that is to be kept or that a kept key lists.
     #[error("96 Unknown {0}")]
     Unknown(Key),
     /// The layout has no tag.

@@ -4,8 +4,9 @@ ghost use Rattle.std.specs.Map.{values_of};
 ghost use Rattle.oci_manifest.specs.Descriptor.{key_cmp};
 ghost use Rattle.oci_store.specs.Tags.{by_bytes};
 ghost use Rattle.oci_store.specs.Keyed.{HasAll};
-ghost use Rattle.oci_prune.specs.Plan.{AreHeld, roots_of};
+ghost use Rattle.oci_prune.specs.Plan.{AreHeld, roots_of, roots_with};
 
+use crate::attachments::add_copies;
 use crate::fault::PruneFault;
 use oci_digest::NoMemory;
 use oci_layout::{Dir, Layout};
@@ -29,15 +30,19 @@ pub(crate) fn held_keys<D: Dir>(alloc: Global, layout: &Layout<D>) -> Result<Vec
     Ok(keys)
 }
 
-/// Returns the keys that a prune of a layout starts from: those of the tags, and those of the
-/// entries that a tag hides.
+/// Returns the keys that a prune of a layout starts from: the given ones, those of the tags, and
+/// those of the entries that a tag hides.
 ///
 /// # Errors
 ///
 /// - 97 `NoTags` if there is no tag.
 /// - 89 `Memory` if memory runs out.
-pub(crate) fn root_keys<D: Dir>(alloc: Global, layout: &Layout<D>) -> Result<Vec<Key>, PruneFault>
-    ensures roots { IfOk result (λ keys. keys.items ≡ roots_of layout.now) }
+pub(crate) fn root_keys<D: Dir>(
+    alloc: Global,
+    layout: &Layout<D>,
+    keys: &[Key],
+) -> Result<Vec<Key>, PruneFault>
+    ensures roots { IfOk result (λ roots. roots.items ≡ roots_with layout.now keys.now) }
     ensures held { OnOk result (HasAll layout.now.graph (roots_of layout.now)) }
     ensures tagged { OnOk result (layout.now.tags ≢ []) }
     ensures cause { IfErr result (λ e. (e ≡ PruneFault.Memory)
@@ -47,8 +52,18 @@ pub(crate) fn root_keys<D: Dir>(alloc: Global, layout: &Layout<D>) -> Result<Vec
     if tags.is_empty() {
         return Err(PruneFault::NoTags);
     }
-    let keys = joined(named_keys(alloc, &tags)?, layout.shadowed_keys()?)?;
-    Ok(keys)
+    let tagged = joined(named_keys(alloc, &tags)?, layout.shadowed_keys()?)?;
+    let roots = joined(copies(alloc, keys)?, tagged)?;
+    Ok(roots)
+}
+
+/// Returns copies of keys.
+fn copies(alloc: Global, keys: &[Key]) -> Result<Vec<Key>, NoMemory>
+    ensures { IfOk result (λ all. all.items ≡ keys.now) }
+{
+    let mut all = Vec::new(alloc);
+    add_copies(keys, &mut all)?;
+    Ok(all)
 }
 
 /// Returns the keys of tags.

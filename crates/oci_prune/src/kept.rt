@@ -3,7 +3,7 @@ ghost use Rattle.oci_manifest.specs.Descriptor.{Descriptor};
 ghost use Rattle.oci_store.specs.Keyed.{has_key};
 ghost use Rattle.oci_prune.specs.Attached.{AttachedIn};
 ghost use Rattle.oci_prune.specs.Belongs.{AllKnown};
-ghost use Rattle.oci_prune.specs.Plan.{AreHeld, AreKept, AreRoots, IsSafe, RefersIf};
+ghost use Rattle.oci_prune.specs.Plan.{AreHeld, AreKept, IsSafe, RefersIf};
 ghost use Rattle.oci_prune.specs.Refusal.{IsKeyFault};
 ghost use Rattle.oci_prune.specs.Subjects.{IsSubjectFault};
 
@@ -15,14 +15,14 @@ use oci_store::{GraphSource, Source};
 use std::alloc::Global;
 use std::collections::BTreeSet;
 
-/// Returns the keys that a prune keeps: the roots, with each kept key the held keys that it lists,
+/// Returns the keys that a prune keeps: the roots that are held, with each kept key the held keys that it lists,
 /// and, if `keeps_referrers`, the held keys that refer to it. `held` has the held keys.
 ///
 /// # Errors
 ///
 /// - 77 `BadManifest` if a held manifest cannot be read, and 88 `Fetch` if its bytes cannot be
 ///   fetched; only if `keeps_referrers`.
-/// - 96 `Unknown` if a kept key needs a key of a manifest kind that is not held.
+/// - 96 `Unknown` if a root, or a key that a kept key needs, is of a manifest kind and not held.
 /// - 89 `Memory` if memory runs out.
 pub(crate) fn plan_keys<S: GraphSource>(
     alloc: Global,
@@ -31,12 +31,12 @@ pub(crate) fn plan_keys<S: GraphSource>(
     held: &[Key],
     keeps_referrers: bool,
 ) -> Result<BTreeSet<Key>, PruneFault>
-    requires { AreRoots (S.state source.now).nodes roots.now held.now }
-    ensures kept { IfOk result (λ kept. (S.state source.now).is_honest
+    requires { AreHeld (S.state source.now).nodes held.now }
+    ensures kept { IfOk result (λ kept. (keeps_referrers ≡ true → (S.state source.now).is_honest)
         → AreKept (S.state source.now).nodes roots.now
         (RefersIf keeps_referrers (S.state source.now)) kept) }
     ensures safe { IfOk result (IsSafe (S.state source.now).nodes roots.now) }
-    ensures known { OnOk result ((S.state source.now).is_honest
+    ensures known { OnOk result ((keeps_referrers ≡ true → (S.state source.now).is_honest)
         → AllKnown (S.state source.now).nodes roots.now
         (RefersIf keeps_referrers (S.state source.now))) }
     ensures cause { IfErr result (IsKeyFault (S.state source.now) roots.now keeps_referrers) }
@@ -54,7 +54,8 @@ fn attachments_if<S: Source>(
     keeps_referrers: bool,
 ) -> Result<Attachments, PruneFault>
     requires { AreHeld (S.state source.now).nodes held.now }
-    ensures exact { IfOk result (λ attachments. (S.state source.now).is_honest
+    ensures exact { IfOk result (λ attachments.
+        (keeps_referrers ≡ true → (S.state source.now).is_honest)
         → (referrer subject : Descriptor) → AttachedIn attachments referrer subject
         ↔ RefersIf keeps_referrers (S.state source.now) referrer subject) }
     ensures cause { IfErr result (IsSubjectFault (S.state source.now)

@@ -10,7 +10,9 @@
 //! the tagged keys and those of the entries that a tag hides. All other held keys are removed, and
 //! all files under `blobs` that are named by a digest of neither a kept key nor one that a kept key
 //! lists. So are drafts that killed processes left. A layout without a tag is refused, and so is one
-//! in which a needed manifest is absent or any manifest is damaged, since nobody knows what it lists.
+//! in which a needed manifest is absent or any manifest is damaged, since nobody knows what it lists,
+//! or in which an entry of the index is no descriptor, since nobody knows what it needs.
+//! [`plan_prune_keeping`] keeps given keys too, as if they had tags.
 //!
 //! [`prune`] does what is planned. It saves the index first and then removes files, so whenever it
 //! is stopped, every tag and all that it reaches is there, and the next prune goes on.
@@ -21,7 +23,7 @@
 //! brings exactly what belongs to its keys.
 //!
 //! Each fault has a number: [`PruneFault`] 79, 89 and 96 to 98, 88 with a `FetchFault` inside, and
-//! those of a layout, 74 and 77. Each error leaves every tag and all that it reaches in place.
+//! those of a layout, 73, 74 and 77. Each error leaves every tag and all that it reaches in place.
 //!
 //! [`kept_is_reached`] and [`belonging_is_reached`] do nothing when they run. Their contracts are
 //! laws. Without referrers the kept keys are the held keys that the tags reach. What belongs to keys
@@ -46,5 +48,5 @@ pub use attachments::Attachments;
 pub use belonging::{Belonging, belonging_of};
 pub use fault::PruneFault;
 pub use laws::{belonging_is_reached, kept_is_reached};
-pub use plan::{PrunePlan, PrunedFile, plan_prune};
+pub use plan::{PrunePlan, PrunedFile, plan_prune, plan_prune_keeping};
 pub use run::{Pruned, prune};

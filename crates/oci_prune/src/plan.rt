@@ -1,11 +1,12 @@
-ghost use Rattle.std.specs.Prelude.{◌≡◌, ◌≢◌, ◌⊎◌, [], Some, None, IfOk, IfErr, OnOk, slice_get, string_bytes};
+ghost use Rattle.std.specs.Prelude.{◌≡◌, ◌≢◌, ◌⊎◌, [], true, Some, None, IfOk, IfErr, OnOk, slice_get, string_bytes};
 ghost use Rattle.std.specs.Option.{option_copied};
 ghost use Rattle.oci_store.specs.Keyed.{HasAll, first_missing};
 ghost use Rattle.oci_layout.specs.Blobs.{meaning, blob_path};
+ghost use Rattle.oci_layout.specs.Entries.{said, unreadable_places};
 ghost use Rattle.oci_layout.specs.Layout.{manifests_of};
 ghost use Rattle.oci_prune.specs.Belongs.{AllKnown};
-ghost use Rattle.oci_prune.specs.Plan.{AreKept, IsPrunePlan, RefersIf, roots_of};
-ghost use Rattle.oci_prune.specs.Refusal.{ChecksWhole, IsCheckFault, IsPlanFault, IsUnknownFault};
+ghost use Rattle.oci_prune.specs.Plan.{AreKept, IsPrunePlan, IsSafe, RefersIf, roots_of, roots_with};
+ghost use Rattle.oci_prune.specs.Refusal.{ChecksWhole, IsCheckFault, IsEntryFault, IsPlanFault, IsPlanFaultFrom, IsUnknownFault};
 
 use crate::fault::PruneFault;
 use crate::files::plan_files;
@@ -75,7 +76,8 @@ impl PrunedFile {
 /// - 96 `Unknown` if an entry of the opened index was not held: the first one. Checked second.
 /// - 96 `Unknown` if a manifest was damaged when the layout was opened, and is not held now: the
 ///   first one. It may list what is needed, or refer to a kept key. Checked third.
-/// - 98 `LinkedBlobs` if `blobs`, `blobs/sha256` or `blobs/sha512` is a link. Checked fourth.
+/// - 73 `BadIndex` if an entry of the opened index is no descriptor: the first one. Checked fourth.
+/// - 98 `LinkedBlobs` if `blobs`, `blobs/sha256` or `blobs/sha512` is a link. Checked fifth.
 /// - 77 `BadManifest` if such a manifest cannot be read, and 88 `Fetch` if its bytes cannot be
 ///   fetched; only if `keeps_referrers`.
 /// - 96 `Unknown` if a kept key lists a key of a manifest kind that is not held.
@@ -98,6 +100,8 @@ pub fn plan_prune<D: PrunableDir>(
     ensures whole { OnOk result (layout.now.opened.absent ≡ []) }
     ensures sound { OnOk result (HasAll layout.now.graph
         (manifests_of layout.now.opened.damaged)) }
+    ensures readable { OnOk result
+        (unreadable_places (said layout.now.opened.content).entries ≡ []) }
     ensures first { layout.now.tags ≡ [] → IfErr result (λ e. (e ≡ PruneFault.NoTags)
         ⊎ (e ≡ PruneFault.Memory)) }
     ensures second { layout.now.tags ≢ [] → layout.now.opened.absent ≢ []
@@ -106,9 +110,63 @@ pub fn plan_prune<D: PrunableDir>(
         → first_missing layout.now.graph (manifests_of layout.now.opened.damaged) ≢ None
         → IfErr result (IsUnknownFault (λ k.
         first_missing layout.now.graph (manifests_of layout.now.opened.damaged) ≡ Some k)) }
+    ensures fourth { layout.now.tags ≢ [] → layout.now.opened.absent ≡ []
+        → first_missing layout.now.graph (manifests_of layout.now.opened.damaged) ≡ None
+        → unreadable_places (said layout.now.opened.content).entries ≢ []
+        → IfErr result (IsEntryFault (said layout.now.opened.content).entries) }
     ensures cause { IfErr result (IsPlanFault (D.device layout.now.dir) layout.now keeps_referrers) }
 {
-    let roots = root_keys(alloc, layout)?;
+    plan_prune_keeping(alloc, layout, &[], keeps_referrers)
+}
+
+/// Plans a prune of a layout as [`plan_prune`] does, but keeps these keys too, as if they had tags.
+/// Changes nothing. A key that is not held is passed over if its kind is not that of a manifest.
+///
+/// Without referrers the kept keys are exactly what is held and reached from the tags, the entries
+/// that a tag hides, and these keys, whatever the bytes of the layout are.
+///
+/// # Errors
+///
+/// As [`plan_prune`], and 96 `Unknown` also if one of these keys is of a manifest kind and not held.
+pub fn plan_prune_keeping<D: PrunableDir>(
+    alloc: Global,
+    layout: &Layout<D>,
+    keys: &[Key],
+    keeps_referrers: bool,
+) -> Result<PrunePlan, PruneFault>
+    ensures kept { IfOk result (λ plan.
+        (keeps_referrers ≡ true → (D.device layout.now.dir).is_honest)
+        → AreKept layout.now.graph (roots_with layout.now keys.now) (RefersIf keeps_referrers
+        (meaning (D.device layout.now.dir) layout.now.graph layout.now.tags)) plan.kept) }
+    ensures planned { IfOk result (λ plan. IsPrunePlan (D.device layout.now.dir) layout.now.graph
+        (roots_of layout.now) plan) }
+    ensures safe { IfOk result (λ plan. IsSafe layout.now.graph
+        (roots_with layout.now keys.now) plan.kept) }
+    ensures known { OnOk result ((keeps_referrers ≡ true → (D.device layout.now.dir).is_honest)
+        → AllKnown layout.now.graph (roots_with layout.now keys.now) (RefersIf keeps_referrers
+        (meaning (D.device layout.now.dir) layout.now.graph layout.now.tags))) }
+    ensures tagged { OnOk result (layout.now.tags ≢ []) }
+    ensures whole { OnOk result (layout.now.opened.absent ≡ []) }
+    ensures sound { OnOk result (HasAll layout.now.graph
+        (manifests_of layout.now.opened.damaged)) }
+    ensures readable { OnOk result
+        (unreadable_places (said layout.now.opened.content).entries ≡ []) }
+    ensures first { layout.now.tags ≡ [] → IfErr result (λ e. (e ≡ PruneFault.NoTags)
+        ⊎ (e ≡ PruneFault.Memory)) }
+    ensures second { layout.now.tags ≢ [] → layout.now.opened.absent ≢ []
+        → IfErr result (IsUnknownFault (λ k. slice_get layout.now.opened.absent 0 ≡ Some k)) }
+    ensures third { layout.now.tags ≢ [] → layout.now.opened.absent ≡ []
+        → first_missing layout.now.graph (manifests_of layout.now.opened.damaged) ≢ None
+        → IfErr result (IsUnknownFault (λ k.
+        first_missing layout.now.graph (manifests_of layout.now.opened.damaged) ≡ Some k)) }
+    ensures fourth { layout.now.tags ≢ [] → layout.now.opened.absent ≡ []
+        → first_missing layout.now.graph (manifests_of layout.now.opened.damaged) ≡ None
+        → unreadable_places (said layout.now.opened.content).entries ≢ []
+        → IfErr result (IsEntryFault (said layout.now.opened.content).entries) }
+    ensures cause { IfErr result (IsPlanFaultFrom (D.device layout.now.dir) layout.now
+        (roots_with layout.now keys.now) keeps_referrers) }
+{
+    let roots = root_keys(alloc, layout, keys)?;
     check_whole(layout)?;
     let held = held_keys(alloc, layout)?;
     let kept = plan_keys(alloc, layout, &roots, &held, keeps_referrers)?;
@@ -123,8 +181,8 @@ pub fn plan_prune<D: PrunableDir>(
     })
 }
 
-/// Refuses a layout with an absent entry or a damaged manifest, and one whose folders of blobs are
-/// links.
+/// Refuses a layout with an absent entry, a damaged manifest or an entry that is no descriptor, and
+/// one whose folders of blobs are links.
 fn check_whole<D: PrunableDir>(layout: &Layout<D>) -> Result<(), PruneFault>
     ensures whole { ChecksWhole layout.now.graph layout.now.opened result }
     ensures cause { IfErr result (IsCheckFault (D.device layout.now.dir) layout.now.graph
@@ -135,6 +193,9 @@ fn check_whole<D: PrunableDir>(layout: &Layout<D>) -> Result<(), PruneFault>
     }
     if let Some(key) = first_damaged(layout)? {
         return Err(PruneFault::Unknown(key));
+    }
+    if let Err(fault) = layout.check_entries() {
+        return Err(PruneFault::from(fault));
     }
     match layout.linked()? {
         Some(path) => Err(PruneFault::LinkedBlobs(path)),

@@ -1,10 +1,11 @@
-ghost use Rattle.std.specs.Prelude.{◌≡◌, ◌≢◌, ◌⊎◌, ◌↔◌, [], None, ℕ, List, filter, map, length, IfSome, IfOk, IfErr, OnOk, OnErr};
+ghost use Rattle.std.specs.Prelude.{◌≡◌, ◌≢◌, ◌⊎◌, ◌↔◌, [], true, None, ℕ, List, filter, map, length, IfSome, IfOk, IfErr, OnOk, OnErr};
 ghost use Rattle.std.specs.BTreeSet.{contains};
+ghost use Rattle.std.specs.List.{All};
 ghost use Rattle.oci_manifest.specs.Descriptor.{key_cmp};
 ghost use Rattle.oci_store.specs.Closed.{IsClosed};
 ghost use Rattle.oci_layout.specs.Blobs.{IsSound, stored};
 ghost use Rattle.oci_layout.specs.Index.{index_file, HasIndex};
-ghost use Rattle.oci_prune.specs.Plan.{AreRemoved, IsPrunePlan, IsSafe, roots_of};
+ghost use Rattle.oci_prune.specs.Plan.{AreRemoved, IsPrunePlan, roots_of};
 ghost use Rattle.oci_prune.specs.Pruned.{is_gone, kept_of, HasOnlyNeeded, IsPlanned, IsSaved, IsTouchedBy, KeepsReached, OnlyIndex, Spares, StaysOrDrops};
 ghost use Rattle.oci_prune.specs.Refusal.{IsDeviceFault, IsRemovalFault, MayNotSave};
 
@@ -82,6 +83,8 @@ pub fn prune<D: PrunableDir>(
     ensures unwritten { OnOk result (plan.now.removed.items ≡ []
         → (D.device layout.old.dir).is_honest
         → (D.device layout.new.dir).file index_file ≡ (D.device layout.old.dir).file index_file) }
+    ensures failures { OnOk result ((D.device layout.new.dir).failures
+        ≡ (D.device layout.old.dir).failures) }
 
     // If the index is not saved, no other file changes.
     ensures refused { OnErr result (Spares (D.device layout.old.dir) (D.device layout.new.dir)
@@ -121,7 +124,7 @@ fn flags(alloc: Global, count: usize) -> Result<Vec<bool>, NoMemory>
 /// Drops the keys that are not kept from a layout, and saves its index. Does not write it if all
 /// held keys are kept. The index is on the disk before a blob is removed.
 fn save_kept<D: PrunableDir>(layout: &mut Layout<D>, plan: &PrunePlan) -> Result<(), PruneFault>
-    requires safe { IsSafe layout.old.graph (roots_of layout.old) plan.now.kept }
+    requires rooted { All (λ k. contains key_cmp plan.now.kept k ≡ true) (roots_of layout.old) }
     requires removed { AreRemoved layout.old.graph plan.now.kept plan.now.removed.items }
     ensures stays { StaysOrDrops plan.now.kept layout.old layout.new }
     ensures only { OnlyIndex D.device layout.old layout.new }

@@ -34,17 +34,18 @@ use std::io::Write;
 use std::rt::Files;
 
 /// `untag FOLDER TAG`: removes a tag from the layout in a directory, and saves it. A tag whose last
-/// entry in `index.json` has no file, or a damaged one, is removed too. The directory is the words'
-/// folder, which is locked from before the layout is opened until after it is saved. Prints in this
-/// form the keys of the entries that had the tag; the last one is the key that it named. `F` is
-/// [`ProgramFault`] or another type that is made from one.
+/// entry in `index.json` has no file, or a damaged one, or is no descriptor, is removed too. The
+/// directory is the words' folder, which is locked from before the layout is opened until after it is
+/// saved. Prints in this form the keys of the entries that had the tag; the last one is the key that
+/// it named. An entry that is no descriptor has none. `F` is [`ProgramFault`] or another type that is
+/// made from one.
 ///
 /// # Errors
 ///
 /// With all but 74 and 94 nothing is changed.
 ///
-/// - 70 to 74 if the directory has no layout, or it cannot be read; 74 also if the folder cannot be
-///   locked or `index.json` cannot be written.
+/// - 70 to 74 if the directory has no layout, or it cannot be read, or its index is no object with a
+///   list `manifests`; 74 also if the folder cannot be locked or `index.json` cannot be written.
 /// - 99 `Locked` if another process has the lock, and the words say not to wait.
 /// - 35 `EmptyReference` if the tag is empty, and 36 `UnknownReference` if no entry has it.
 /// - 94 `Output` if `out` cannot be written. The tag is removed.
@@ -67,21 +68,25 @@ pub fn run_untag<
     Ok(print_answer(rt.alloc(), &untagged, form, out)?)
 }
 
-/// The tag that was removed. `Display` prints each key of `descriptors` on a line.
+/// The tag that was removed. `Display` prints each key of `descriptors` on a line, and `-` in the
+/// place of no key.
 #[derive(Drop, Serialize)]
 struct Untagged {
     tag: String,
-    /// The key that the tag named.
-    descriptor: Key,
+    /// The key that the tag named. `None` if its last entry is no descriptor.
+    descriptor: Option<Key>,
     /// The keys of the entries that went with the tag, in the order of the index. The last one is
     /// that of the tag.
-    descriptors: Vec<Key>,
+    descriptors: Vec<Option<Key>>,
 }
 
 impl Display for Untagged {
     fn fmt<W: fmt::Write>(&self, f: &mut fmt::Formatter<W>) -> fmt::Result {
         for key in &self.descriptors {
-            writeln!(f, "untagged {key}")?;
+            match key {
+                Some(key) => writeln!(f, "untagged {key}")?,
+                None => writeln!(f, "untagged -")?,
+            }
         }
         Ok(())
     }
@@ -103,7 +108,7 @@ fn untag_folder<R: Files<File: Lockable> + AllocGlobal, D: Dir + Drop, X: Write>
         Err(ProgramFault::Reference(RefFault::UnknownReference)) => {
             forget_and_save(&mut layout, &named)?
         }
-        untagged => untagged?,
+        untagged => Some(untagged?),
     };
     Ok(Untagged {
         tag,
@@ -132,15 +137,25 @@ fn entries_named<D: Dir>(
     Ok(named)
 }
 
-/// Returns the keys of entries.
-fn keys_of(alloc: Global, entries: &[IndexEntry]) -> Result<Vec<Key>, NoMemory>
+/// Returns the keys of entries. An entry that is no descriptor has none.
+fn keys_of(alloc: Global, entries: &[IndexEntry]) -> Result<Vec<Option<Key>>, NoMemory>
     ensures { IfOk result (λ keys. keys.items ≡ map (λ e. e.key) entries.now) }
 {
     let mut keys = Vec::new(alloc);
     for entry in entries {
-        keys.push(entry.key.try_clone()?)?;
+        keys.push(copy_of(&entry.key)?)?;
     }
     Ok(keys)
+}
+
+/// Returns an equal key, if there is one.
+fn copy_of(key: &Option<Key>) -> Result<Option<Key>, NoMemory>
+    ensures { IfOk result (λ copy. copy ≡ key.now) }
+{
+    match key {
+        Some(key) => Ok(Some(key.try_clone()?)),
+        None => Ok(None),
+    }
 }
 
 /// Returns whether an entry has a name.
@@ -185,8 +200,8 @@ pub fn untag_and_save<D: Dir>(layout: &mut Layout<D>, tag: &str) -> Result<Key, 
 }
 
 /// Forgets the entries that have the name of one of these, and saves the layout. Returns the key of
-/// the last one. It is for a name that is no tag since the key of its last entry is not held. A tag
-/// stays.
+/// the last one, which has none if it is no descriptor. It is for a name that is no tag since the key
+/// of its last entry is not held, or that entry has none. A tag stays.
 ///
 /// # Errors
 ///
@@ -196,7 +211,7 @@ pub fn untag_and_save<D: Dir>(layout: &mut Layout<D>, tag: &str) -> Result<Key, 
 pub fn forget_and_save<D: Dir>(
     layout: &mut Layout<D>,
     named: &[IndexEntry],
-) -> Result<Key, ProgramFault>
+) -> Result<Option<Key>, ProgramFault>
     ensures last { IfOk result (λ key. Some key ≡ option_map (λ e. e.key)
         (slice_get named.now (length named.now - 1))) }
     ensures forgotten { OnOk result (Forgets (map entry_of named.now) layout.old.opened
@@ -212,7 +227,7 @@ pub fn forget_and_save<D: Dir>(
     let Some(last) = named.last() else {
         return Err(ProgramFault::Reference(RefFault::UnknownReference));
     };
-    let key = last.key.try_clone()?;
+    let key = copy_of(&last.key)?;
     layout.forget(named)?;
     if let Err(fault) = layout.save() {
         return Err(ProgramFault::Layout(fault));

@@ -9,16 +9,16 @@ use Rattle.oci_manifest.specs.Descriptor.{Descriptor}
 use Rattle.oci_manifest.specs.MediaTypes.{kind_of}
 use Rattle.oci_store.specs.Graph.{Node}
 use Rattle.oci_store.specs.Tags.{Tags}
-use Rattle.oci_query_commands.specs.Answered.{AreUndamaged, HasWholeManifests}
+use Rattle.oci_query_commands.specs.Answered.{AreUndamaged, IsReadable, LeavesNothingOut}
 
 -- none of these keys passes a test and fails it
 none_both : (test : Descriptor → Bool) (keys : List Descriptor) → All (λ (k : Descriptor). test k ≡ true) keys → All (λ (k : Descriptor). test k ≡ false) keys → keys ≡ []
 none_both test [] passed failed = refl
 none_both test (k ∷ keys) passed failed = cc (All-head (λ (k : Descriptor). test k ≡ true) k keys passed, All-head (λ (k : Descriptor). test k ≡ false) k keys failed)
 
--- the manifests of a layout are whole if the files of those that were passed over are not damaged
-pub HasWholeManifests-undamaged : (dir : Device) (graph : List Node) (tags : Tags) (index : OpenedIndex) → dir.is_honest → IsOpenedAsIs dir.file graph tags index → AreUndamaged dir (manifests_of index.damaged) → HasWholeManifests dir
-HasWholeManifests-undamaged dir graph tags index honest opened undamaged =
+-- a layout is readable if the files of the manifests that were passed over are not damaged
+pub IsReadable-opened : (dir : Device) (graph : List Node) (tags : Tags) (index : OpenedIndex) → dir.is_honest → IsOpenedAsIs dir.file graph tags index → LeavesNothingOut dir index → IsReadable dir
+IsReadable-opened dir graph tags index honest opened nothing =
     let Damaged : Descriptor → Type 0 = λ (k : Descriptor). is_damaged true dir.file k ≡ true in
     let visited = opened.read.walked.visited in
     let damaged : All Damaged index.damaged = subst (All Damaged) (sym opened.read.damaged_is) (filter_passes (is_damaged true dir.file) visited) in
@@ -27,7 +27,8 @@ HasWholeManifests-undamaged dir graph tags index honest opened undamaged =
       tags = tags;
       index = index;
       opened = opened;
-      undamaged = none_both (is_damaged true dir.file) (manifests_of index.damaged) (All-filter (λ (k : Descriptor). is_manifest (kind_of k.media_type)) Damaged index.damaged damaged) (undamaged honest);
+      readable = nothing.readable;
+      undamaged = none_both (is_damaged true dir.file) (manifests_of index.damaged) (All-filter (λ (k : Descriptor). is_manifest (kind_of k.media_type)) Damaged index.damaged damaged) (nothing.undamaged honest);
     }
 
 pub AreUndamaged-none : (dir : Device) (keys : List Descriptor) → AreUndamaged dir (take 0 keys)

@@ -61,6 +61,7 @@ IsVerified-whole dir graph tags index honest opened whole = record {
   tags = tags;
   index = index;
   opened = opened;
+  readable = whole.readable;
   entries = whole.entries;
   undamaged = whole.undamaged;
   matching = all_match dir.file graph

@@ -17,6 +17,7 @@ use Rattle.oci_store.specs.State.{State}
 use Rattle.oci_store.specs.Tags.{Tags}
 use Rattle.oci_program.specs.declared.outcome.Outcome.{Outcome}
 use Rattle.oci_program.specs.declared.outcome.Outcome.TheVariants as outcome
+use Rattle.oci_query_commands.specs.Answered.{AreReadable}
 use Rattle.oci_query_commands.specs.declared.verify.Findings.{Findings}
 
 -- whether the command is `verify`
@@ -28,14 +29,15 @@ is_verify other = false
 abbrev pub IsGoodVerify : Query → Outcome → Type 0
 IsGoodVerify query found = (is_verify query ≡ true) × (found ≡ outcome.Good)
 
--- a layout can be opened in a directory, and nothing is wrong with it: each entry of its index has
--- its file, no manifest is damaged, the file of each held key is there and matches it, and each
--- listed key is held
+-- a layout can be opened in a directory, and nothing is wrong with it: each entry of its index is a
+-- descriptor and has its file, no file is damaged, the file of each held key is there and matches
+-- it, and each listed key is held
 pub record IsVerified (dir : Device) : Type 0 where
   pub graph : List Node
   pub tags : Tags
   pub index : OpenedIndex
   pub opened : IsOpenedAsIs dir.file graph tags index
+  pub readable : AreReadable index
   pub entries : index.absent ≡ []
   pub undamaged : index.damaged ≡ []
   pub matching : HasMatchingFiles dir.file graph
@@ -51,9 +53,10 @@ IsIntact store k = store.is_honest → (bytes : List ℕ) × (value_at store.ent
 abbrev pub AreIntact : Device → List Node → Type 0
 AreIntact dir graph = dir.is_honest → All (λ (n : Node). Matches n.0 (blob_at dir.file n.0.digest)) graph
 
--- nothing is wrong with a layout: no entry of its index is absent, no manifest is damaged, each held
--- key is intact, and each listed key is held
+-- nothing is wrong with a layout: each entry of its index is a descriptor, none is absent, no file is
+-- damaged, each held key is intact, and each listed key is held
 pub record IsWhole (dir : Device) (graph : List Node) (index : OpenedIndex) : Type 0 where
+  pub readable : AreReadable index
   pub entries : index.absent ≡ []
   pub undamaged : index.damaged ≡ []
   pub intact : AreIntact dir graph

@@ -64,8 +64,11 @@ fn add_unnamed<D: Dir>(
 fn unnamed_keys<D: Dir>(alloc: Global, layout: &Layout<D>) -> Result<BTreeSet<Key>, NoMemory> {
     let mut unnamed = BTreeSet::new(alloc);
     for entry in layout.entries() {
-        if name_of(entry).is_none() && layout.exists(&entry.key) {
-            unnamed.insert(entry.key.try_clone()?)?;
+        let Some(key) = &entry.key else {
+            continue;
+        };
+        if name_of(entry).is_none() && layout.exists(key) {
+            unnamed.insert(key.try_clone()?)?;
         }
     }
     Ok(unnamed)

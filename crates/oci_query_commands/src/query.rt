@@ -1,9 +1,8 @@
 ghost use Rattle.std.specs.Prelude.{◌≡◌, true, IfOk, OnOk};
-ghost use Rattle.oci_layout.specs.Layout.{manifests_of};
-ghost use Rattle.oci_query_commands.specs.Answered.{is_of_all, AreUndamaged, HasWholeManifests};
+ghost use Rattle.oci_query_commands.specs.Answered.{is_of_all, IsReadable, LeavesNothingOut};
 ghost use Rattle.oci_query_commands.specs.Verified.{IsGoodVerify, IsVerified, IsWhole};
 
-use crate::damage::print_answer_of_all;
+use crate::left_out::{print_answer_of_all, print_answer_of_files};
 use crate::listing::{Predecessors, Resolved, Tags};
 use crate::tree::{Labels, Tree};
 use crate::verify::verify;
@@ -23,12 +22,16 @@ use std::time::Clock;
 /// # Errors
 ///
 /// If the query is refused, nothing was printed on `out`, with two exceptions. Text that was printed
-/// before the fault of a write stays. And `tags`, `predecessors`, and `tree` with referrers print
-/// their answer, and are then refused for each damaged manifest of the layout: as lines, `err` has
-/// the refusals of all but the last, which is returned; as JSON, the first is returned, and no other
-/// is told.
+/// before the fault of a write stays. And `tags`, `predecessors`, `tree` with referrers, and `verify`
+/// print their answer, and are then refused for each entry of the index that is no descriptor, and
+/// all but `verify`, which has reported them, for each damaged manifest of the layout: as lines,
+/// `err` has the refusals of all but the last, which is returned; as JSON, the first is returned, and
+/// no other is told.
 ///
 /// - 70 to 74, as from [`oci_layout::Layout::open_as_is`].
+/// - 73 `BadIndex` with 14 `BadDescriptor("manifests", place)` for the entry at this place of the
+///   index, which is no descriptor: of `tags`, `predecessors`, `tree` with referrers, and `verify`
+///   after the answer, and if it is the last one of the name that is the reference.
 /// - 35 `EmptyReference` if the reference is empty, and 36 `UnknownReference` if it is unknown.
 /// - 75 `Corrupt` or 77 `BadManifest` if the reference names a damaged blob, or for a damaged
 ///   manifest of the layout after the answer.
@@ -48,9 +51,10 @@ pub fn run_query<
     ensures verified { IfOk result (λ outcome. IsGoodVerify query.entry outcome
         → (D.device dir).is_honest → IsVerified (D.device dir)) }
 
-    // And `tags`, `predecessors`, and `tree` with referrers are done only if no manifest is damaged.
+    // And `tags`, `predecessors`, and `tree` with referrers are done only if each entry of the index
+    // is a descriptor, and no manifest is damaged.
     ensures answered { OnOk result (is_of_all query.entry ≡ true
-        → (D.device dir).is_honest → HasWholeManifests (D.device dir)) }
+        → (D.device dir).is_honest → IsReadable (D.device dir)) }
 {
     let layout = match Layout::open_as_is(rt.alloc(), dir) {
         Ok(layout) => layout,
@@ -71,7 +75,7 @@ fn answer_from<R: AllocGlobal + Clock + Wait, D: Dir, W: Write, X: Write>(
     ensures verified { IfOk result (λ outcome. IsGoodVerify query.entry outcome
         → IsWhole (D.device layout.now.dir) layout.now.graph layout.now.opened) }
     ensures answered { OnOk result (is_of_all query.entry ≡ true
-        → AreUndamaged (D.device layout.now.dir) (manifests_of layout.now.opened.damaged)) }
+        → LeavesNothingOut (D.device layout.now.dir) layout.now.opened) }
 {
     let alloc = rt.alloc();
     match query {
@@ -107,7 +111,7 @@ fn print_tree<D: Dir, W: Write, X: Write>(
     err: &mut X,
 ) -> Result<Outcome, ProgramFault>
     ensures { OnOk result (shows_referrers ≡ true
-        → AreUndamaged (D.device layout.now.dir) (manifests_of layout.now.opened.damaged)) }
+        → LeavesNothingOut (D.device layout.now.dir) layout.now.opened) }
 {
     let labels = Labels::of(alloc, layout)?;
     let tree = Tree::of(alloc, layout, &labels, reference, shows_referrers)?;
@@ -118,7 +122,8 @@ fn print_tree<D: Dir, W: Write, X: Write>(
     }
 }
 
-/// Prints what is wrong with a layout. Returns `Good` only if nothing is.
+/// Prints what is wrong with a layout, and refuses its entries that are no descriptors. Returns
+/// `Good` only if nothing is wrong.
 fn print_findings<R: AllocGlobal + Clock + Wait, D: Dir, W: Write, X: Write>(
     rt: &R,
     layout: &Layout<D>,
@@ -131,6 +136,7 @@ fn print_findings<R: AllocGlobal + Clock + Wait, D: Dir, W: Write, X: Write>(
         → IsWhole (D.device layout.now.dir) layout.now.graph layout.now.opened) }
 {
     let findings = verify(rt, layout, shows_progress, err)?;
-    print_answer(rt.alloc(), &findings, form, out)?;
-    Ok(findings.outcome())
+    let outcome = findings.outcome();
+    print_answer_of_files(rt.alloc(), layout, findings, form, out, err)?;
+    Ok(outcome)
 }

@@ -2,6 +2,7 @@ ghost use Rattle.std.specs.Prelude.{◌≡◌, ◌++◌, ◌∷◌, [], false, n
 ghost use Rattle.std.specs.BTreeSet.{contains};
 ghost use Rattle.oci_manifest.specs.Descriptor.{Descriptor, is_among, key_cmp};
 ghost use Rattle.oci_store.specs.Closed.{IsClosed};
+ghost use Rattle.oci_query_commands.specs.Answered.{AreReadable};
 ghost use Rattle.oci_query_commands.specs.Verified.{AreIntact, FindsNothing, HasNone, IsIntact, IsWhole};
 
 use crate::listing::name_of;
@@ -28,7 +29,8 @@ pub(crate) struct Findings<'l> {
     corrupt: Vec<&'l Key>,
     /// The first key that lists a key without a file, with that key.
     open: Option<Open>,
-    /// The tag and the key of each entry whose tag a later entry has, in the order of the entries.
+    /// The tag and the key of each entry that has both and whose tag a later entry has, in the order
+    /// of the entries.
     shadowed: Vec<Tagged>,
     /// The number of keys that are reached and have a file.
     held: usize,
@@ -81,7 +83,8 @@ fn print_each<T: Display, W: fmt::Write>(
     Ok(())
 }
 
-/// `verify FOLDER`: reads each held blob, and returns what is wrong with the layout. If it
+/// `verify FOLDER`: reads each held blob, and returns what is wrong with the layout, but for the
+/// entries of `index.json` that are no descriptors. If it
 /// `shows_progress`, draws a line on `err` that shows how much was read, and erases it at the end.
 pub(crate) fn verify<'l, R: AllocGlobal + Clock + Wait, D: Dir, X: Write>(
     rt: &R,
@@ -89,7 +92,7 @@ pub(crate) fn verify<'l, R: AllocGlobal + Clock + Wait, D: Dir, X: Write>(
     shows_progress: bool,
     err: &mut X,
 ) -> Result<Findings<'l>, ProgramFault>
-    ensures { IfOk result (λ findings. FindsNothing findings
+    ensures { IfOk result (λ findings. FindsNothing findings → AreReadable layout.now.opened
         → IsWhole (D.device layout.now.dir) layout.now.graph layout.now.opened) }
 {
     let alloc = rt.alloc();
@@ -303,8 +306,8 @@ fn missing_key<D: Dir>(
     Ok(None)
 }
 
-/// Returns the name and the key of each entry whose name a later entry has, in the order of the
-/// entries.
+/// Returns the name and the key of each entry that has a key and whose name a later entry has, in
+/// the order of the entries.
 fn shadowed_entries(alloc: Global, entries: &[IndexEntry]) -> Result<Vec<Tagged>, NoMemory> {
     let last_places = last_places(alloc, entries)?;
     let mut shadowed = Vec::new(alloc);
@@ -312,12 +315,15 @@ fn shadowed_entries(alloc: Global, entries: &[IndexEntry]) -> Result<Vec<Tagged>
         let Some(name) = name_of(entry) else {
             continue;
         };
+        let Some(key) = &entry.key else {
+            continue;
+        };
         if last_places.get(name) == Some(&place) {
             continue;
         }
         shadowed.push(Tagged {
             tag: String::from_str(alloc, name)?,
-            descriptor: entry.key.try_clone()?,
+            descriptor: key.try_clone()?,
         })?;
     }
     Ok(shadowed)

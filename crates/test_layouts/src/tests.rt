@@ -16,6 +16,7 @@ mod large;
 mod layouts;
 mod leftovers;
 mod locks;
+mod no_descriptors;
 mod numbered;
 mod openings;
 mod parts;

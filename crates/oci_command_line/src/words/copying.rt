@@ -45,7 +45,7 @@ pub(crate) fn copy_arguments(most_workers: u32) -> [Argument; 15] {
         all(),
         flag(
             "referrers",
-            "Also copies the indexes that list it, and what is attached to it and to anything it reaches, such as signatures and SBOMs, with everything that these reach. Attached is a manifest by its `subject`, and a tag by its name, such as `sha256-DIGITS.sig`; such tags are set too",
+            "Also copies the indexes that list it, and what is attached to it and to anything it reaches, such as signatures and SBOMs, with everything that these reach. A manifest is attached by its `subject`, and a tag by its name, such as `sha256-DIGITS.sig`; such tags are set too",
         ),
         Argument::new(
             "depth",
@@ -119,8 +119,9 @@ fn workers(most_workers: u32) -> Kind {
 fn all() -> Argument {
     let help =
         "Copies every tag of SRC into DST, in one copy; takes only SRC and DST. Tags that exist in both are \
-         overwritten; other tags in DST are kept, unless --prune is given. Refused if SRC has no tag (97), or if the \
-         blob of an entry of its `index.json` that has a tag is missing or damaged (96)";
+         overwritten; other tags in DST are kept, unless --prune is given. Refused if SRC has no tag (97), if the \
+         blob of an entry of its `index.json` that has a tag is missing or damaged (96), or if such an entry is no \
+         descriptor (73)";
     Argument {
         conflicts: &["destination", "destination-reference"],
         ..flag("all", help)
@@ -133,7 +134,8 @@ fn prune() -> Argument {
     let help =
         "With --all: afterwards removes from DST the tags that SRC does not have, and what no tag then needs, as the command \
          `prune` does. Refused, before anything is copied, if the blob of an entry of SRC's `index.json` is missing or \
-         damaged, or SRC has a damaged manifest (96). Not with --dry-run, since what is removed is known only after the copy";
+         damaged, or SRC has a damaged manifest (96), or an entry is no descriptor (73). Not with --dry-run, since what is \
+         removed is known only after the copy";
     Argument {
         conflicts: &["destination", "dry-run"],
         needs: &["all"],

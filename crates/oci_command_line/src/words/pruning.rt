@@ -15,7 +15,8 @@ pub(crate) const UNTAG: CommandText = CommandText {
         "Removes a tag from a layout. The blob that it names stays, with everything that it reaches; \
          `prune` removes blobs that no tag needs.\n\n\
          Prints `untagged` with the digest, the size and the media type of the blob of each entry of \
-         `index.json` that had the tag. The last one is what the tag named.\n\n\
+         `index.json` that had the tag. The last one is what the tag named. An entry that is no descriptor \
+         has `-` in their place.\n\n\
          A tag whose blob is missing or damaged is removed too. An empty tag (35) and a tag that no entry \
          has (36) are refused, and nothing is changed. FOLDER is not created, and cannot be an archive (95).\n\n\
          `index.json` is written anew, without the entries of the tag. The other entries keep all that \
@@ -59,7 +60,8 @@ pub(crate) const PRUNE: CommandText = CommandText {
          `kept` and `removed`, and all `files` that are removed, with their `bytes`.\n\n\
          Refused, before anything is changed: a layout without tags (97); a damaged manifest, or a \
          missing blob that is an entry of `index.json` or a manifest that a kept manifest lists (96), \
-         since it is not known what it needs; a folder `blobs`, `blobs/sha256` or `blobs/sha512` that is \
+         since it is not known what it needs; an entry of `index.json` that is no descriptor (73); a \
+         folder `blobs`, `blobs/sha256` or `blobs/sha512` that is \
          a symbolic link (98), since another layout may need the blobs there; a manifest whose file cannot be \
          read. FOLDER is not created, and cannot be an archive (95).\n\n\
          `index.json` is saved first. If the prune is then killed, or a file cannot be removed (79), no \

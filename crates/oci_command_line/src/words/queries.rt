@@ -7,10 +7,12 @@ pub(crate) const TAGS: CommandText = CommandText {
     about: "Lists the tags of a layout, each with the digest, size and media type it resolves to",
     details: Some(
         "Lists the tags of a layout in byte order, each with the digest, the size and the media type of \
-         the blob that it resolves to. A tag whose blob is missing or damaged is left out.\n\n\
+         the blob that it resolves to. A tag whose blob is missing or damaged, or whose entry in `index.json` \
+         is no descriptor, is left out.\n\n\
          With `--all` the blobs of the entries of `index.json` that have no tag follow, each with `-` in \
          the place of the tag.\n\n\
-         Then reports each damaged manifest of the layout, as an error (75 or 77).",
+         Then reports each entry of `index.json` that is no descriptor, as an error (73), and each damaged \
+         manifest of the layout (75 or 77).",
     ),
     usage: "ocicp tags [OPTIONS] <FOLDER>",
     examples: "Examples:\n  ocicp tags mirror\n  ocicp tags --all mirror",
@@ -33,8 +35,8 @@ pub(crate) const PREDECESSORS: CommandText = CommandText {
         "Lists the manifests that list the blob of a reference: indexes, and referrers such as \
          signatures. Each line is a digest, a size and a media type. Only direct predecessors are listed; \
          `tree --referrers` shows theirs too.\n\n\
-         Then reports each damaged manifest of the layout, as an error (75 or 77), since it may list the \
-         blob too.",
+         Then reports each entry of `index.json` that is no descriptor, as an error (73), and each damaged \
+         manifest of the layout (75 or 77), since they may lead to the blob too.",
     ),
     usage: "ocicp predecessors [OPTIONS] <FOLDER> <REF>",
     examples: "Example:\n  ocicp predecessors mirror v1",
@@ -53,10 +55,11 @@ pub(crate) const TREE: CommandText = CommandText {
          With `--referrers` the title `referrers:` follows, and below it the manifests that list the \
          blob, each with the manifests that list it in turn. Then the manifests follow that are attached \
          to the blob, and each other blob that `copy --referrers` would bring and to which a manifest is \
-         attached, with these below it. Attached is a manifest by its `subject`, or by a tag such as \
+         attached, with these below it. A manifest is attached by its `subject`, or by a tag such as \
          `sha256-DIGITS.sig`. If a manifest states an artifact type, its line has the type in \
-         parentheses: its `artifactType`, or else the media type of its config. Then each damaged \
-         manifest of the layout is reported, as an error (75 or 77), since it may list the blob too.\n\n\
+         parentheses: its `artifactType`, or else the media type of its config. Then each entry of \
+         `index.json` that is no descriptor is reported, as an error (73), and each damaged manifest of the \
+         layout (75 or 77), since they may lead to the blob too.\n\n\
          Scripts should use `resolve` and `predecessors`, which print whole digests.",
     ),
     usage: "ocicp tree [OPTIONS] <FOLDER> <REF>",
@@ -76,7 +79,8 @@ pub(crate) const VERIFY: CommandText = CommandText {
          is a manifest that cannot be read. If a listed blob has no file, prints `open` with the first \
          manifest that lists one, and with that blob. Then prints `shadowed` with the tag and the blob of \
          each entry whose tag a later entry has too, which is no problem by itself. Then prints `held` and \
-         the number of blobs that have a file. The status is 1 if it finds a problem.",
+         the number of blobs that have a file. Then reports each entry of `index.json` that is no \
+         descriptor, as an error (73). The status is 1 if it finds a problem.",
     ),
     usage: "ocicp verify [OPTIONS] <FOLDER>",
     examples: "Example:\n  ocicp verify mirror",

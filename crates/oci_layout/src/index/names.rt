@@ -79,7 +79,7 @@ impl<'l> Names<'l> {
             ≡ tag_entry (map entry_of self.now) (string_bytes name, key)) }
     {
         if let Some((_place, entry)) = self.last(&name) {
-            if entry.key == key {
+            if entry.has_key(&key) {
                 return entry.try_clone();
             }
         }

@@ -1,69 +1,90 @@
-ghost use Rattle.std.specs.Prelude.{◌≡◌, codes, map, option_map, slice_get, IfOk, IfErr};
-ghost use Rattle.oci_manifest.specs.Fault.{Fails};
+ghost use Rattle.std.specs.Prelude.{◌≡◌, ◌++◌, ◌∷◌, [], codes, map, IfOk, IfErr, OnOk};
+ghost use Rattle.oci_manifest.specs.Fault.{Fails, Gives};
 ghost use Rattle.oci_layout.specs.Entries.{
   elements_of,
+  entries_as_is,
+  entries_in,
   entry_keys,
   entry_of,
-  entry_with,
+  entry_of_value,
+  index_elements,
+  index_entries,
   name_of,
   object_members,
   said,
   text_of,
-  with_elements,
   without_member,
   IsIndex,
   IsIndexFile,
 };
 ghost use Rattle.oci_layout.specs.Faults.{of_index};
 ghost use Rattle.oci_layout.specs.Index.{index_file, HasLayoutFile};
-ghost use Rattle.oci_layout.specs.Refusal.{IsOpenAsIsFault, index_in};
+ghost use Rattle.oci_layout.specs.Refusal.{IsOpenFaultBy, index_in};
 ghost use Rattle.serde_json.specs.View.{view, items_view};
 
 use crate::dir::Dir;
 use crate::fault::LayoutFault;
-use crate::index::{IndexContent, IndexEntry, new_entry};
+use crate::index::{IndexContent, IndexEntry};
 use oci_digest::NoMemory;
-use oci_manifest::{Key, ManifestFault, index_keys, read_json};
+use oci_manifest::{Key, ManifestFault, index_keys, key_of, read_json};
 use serde_json::Value;
 use std::alloc::Global;
 
-/// Reads what `index.json` says. It says nothing if there is no such file.
+/// Reads what `index.json` says. It says nothing if there is no such file. Each entry is a
+/// descriptor, unless the index is read `as_is`.
 #[tactic(auto, unfolding(crate::specs::Index::index_file))]
-pub(crate) fn read_index<D: Dir>(alloc: Global, dir: &D) -> Result<IndexContent, LayoutFault>
+pub(crate) fn read_index<D: Dir>(
+    alloc: Global,
+    dir: &D,
+    as_is: bool,
+) -> Result<IndexContent, LayoutFault>
     ensures read { IfOk result (λ content. (D.device dir.now).is_honest
-        → IsIndexFile ((D.device dir.now).file index_file) (said content)) }
+        → IsIndexFile as_is ((D.device dir.now).file index_file) (said content)) }
     ensures cause { IfErr result (λ fault.
         ((D.device dir.now).is_honest → HasLayoutFile (D.device dir.now).file)
-        → IsOpenAsIsFault (D.device dir.now) fault) }
+        → IsOpenFaultBy as_is (D.device dir.now) fault) }
 {
     let Some(bytes) = dir.read("index.json")? else {
         return Ok(IndexContent::none(alloc));
     };
-    match content(alloc, bytes.as_slice()) {
+    match content(alloc, bytes.as_slice(), as_is) {
         Ok(content) => Ok(content),
         Err(fault) => Err(bad_index(fault)),
     }
 }
 
-/// Returns the keys of entries.
+/// Returns the keys of those of these entries that have one.
 pub(crate) fn keys_of(alloc: Global, entries: &[IndexEntry]) -> Result<Vec<Key>, NoMemory>
     ensures { IfOk result (λ keys. keys.items ≡ entry_keys (map entry_of entries.now)) }
 {
     let mut keys = Vec::new(alloc);
     for entry in entries {
-        keys.push(entry.key.try_clone()?)?;
+        add_key(entry, &mut keys)?;
     }
     Ok(keys)
 }
 
+/// Adds the key of an entry, if it has one.
+pub(crate) fn add_key(entry: &IndexEntry, keys: &mut Vec<Key>) -> Result<(), NoMemory>
+    ensures { OnOk result (keys.new.items
+        ≡ keys.old.items ++ entry_keys (entry_of entry.now ∷ [])) }
+{
+    match &entry.key {
+        Some(key) => {
+            keys.push(key.try_clone()?)?;
+            Ok(())
+        }
+        None => Ok(()),
+    }
+}
+
 /// Returns what the bytes of an index say.
-fn content(alloc: Global, bytes: &[u8]) -> Result<IndexContent, ManifestFault>
-    ensures read { IfOk result (λ content. IsIndex bytes.now (said content)) }
-    ensures cause { IfErr result (λ fault. Fails fault (index_in bytes.now)) }
+fn content(alloc: Global, bytes: &[u8], as_is: bool) -> Result<IndexContent, ManifestFault>
+    ensures read { IfOk result (λ content. IsIndex as_is bytes.now (said content)) }
+    ensures cause { IfErr result (λ fault. Fails fault (index_in as_is bytes.now)) }
 {
     let value = read_json(alloc, bytes)?;
-    let keys = index_keys(alloc, &value)?;
-    let entries = entries_of(alloc, keys, &value)?;
+    let entries = entries_of(alloc, &value, as_is)?;
     Ok(IndexContent::new(entries, own_members(value)))
 }
 
@@ -93,53 +114,69 @@ fn own_members(index: Value) -> Value
     }
 }
 
-/// Returns the keys of an index, each with its element.
-#[tactic(auto, unfolding(crate::specs::Entries::elements_of))]
-fn entries_of(alloc: Global, keys: Vec<Key>, index: &Value) -> Result<Vec<IndexEntry>, NoMemory>
-    ensures { IfOk result (λ entries. map entry_of entries.items
-        ≡ with_elements keys.items (elements_of (view index.now))) }
+/// Returns the entries of an index. Each is a descriptor, unless the index is read `as_is`.
+fn entries_of(alloc: Global, index: &Value, as_is: bool) -> Result<Vec<IndexEntry>, ManifestFault>
+    ensures { Gives (λ entries. map entry_of entries.items) result
+        (index_entries as_is (view index.now)) }
 {
-    match index.get("manifests").and_then(Value::as_array) {
-        Some(elements) => with_elements(alloc, keys, elements),
-        None => with_elements(alloc, keys, &[]),
+    if as_is {
+        return entries_as_is(alloc, index);
+    }
+    index_keys(alloc, index)?;
+    entries_as_is(alloc, index)
+}
+
+/// Returns the entries of an index, also those that are no descriptors.
+fn entries_as_is(alloc: Global, index: &Value) -> Result<Vec<IndexEntry>, ManifestFault>
+    ensures { Gives (λ entries. map entry_of entries.items) result
+        (entries_as_is (view index.now)) }
+{
+    let elements = index_elements(index)?;
+    Ok(entries_in(alloc, elements)?)
+}
+
+/// Returns the elements of an index's `manifests`.
+#[tactic(auto, unfolding(crate::specs::Entries::index_elements, crate::specs::Entries::elements_of))]
+fn index_elements(index: &Value) -> Result<&[Value], ManifestFault>
+    ensures { Gives (λ elements. items_view elements.now) result
+        (index_elements (view index.now)) }
+{
+    if !index.is_object() {
+        return Err(ManifestFault::NotObject);
+    }
+    let Some(list) = index.get("manifests") else {
+        return Ok(&[]);
+    };
+    if list.is_null() {
+        return Ok(&[]);
+    }
+    match list.as_array() {
+        Some(elements) => Ok(elements),
+        None => Err(ManifestFault::BadList("manifests")),
     }
 }
 
-/// Returns each key with its element.
-fn with_elements(
-    alloc: Global,
-    keys: Vec<Key>,
-    elements: &[Value],
-) -> Result<Vec<IndexEntry>, NoMemory>
+/// Returns the entries of these elements.
+fn entries_in(alloc: Global, elements: &[Value]) -> Result<Vec<IndexEntry>, NoMemory>
     ensures { IfOk result (λ entries. map entry_of entries.items
-        ≡ with_elements keys.items (items_view elements.now)) }
+        ≡ entries_in (items_view elements.now)) }
 {
     let mut entries = Vec::new(alloc);
-    for key in keys {
-        let entry = entry_at(alloc, key, elements, entries.len())?;
-        entries.push(entry)?;
+    for element in elements {
+        entries.push(entry_of_value(alloc, element)?)?;
     }
     Ok(entries)
 }
 
-/// Returns the entry of a key with the element at a place, if there is one.
-fn entry_at(
-    alloc: Global,
-    key: Key,
-    elements: &[Value],
-    place: usize,
-) -> Result<IndexEntry, NoMemory>
-    ensures { IfOk result (λ entry. entry_of entry
-        ≡ entry_with key (option_map view (slice_get elements.now place))) }
+/// Returns the entry of an element.
+fn entry_of_value(alloc: Global, element: &Value) -> Result<IndexEntry, NoMemory>
+    ensures { IfOk result (λ entry. entry_of entry ≡ entry_of_value (view element.now)) }
 {
-    match elements.get(place) {
-        Some(element) => Ok(IndexEntry {
-            key,
-            name: name(alloc, element)?,
-            value: element.clone()?,
-        }),
-        None => new_entry(alloc, key, None),
-    }
+    Ok(IndexEntry {
+        key: key_of(alloc, element)?,
+        name: name(alloc, element)?,
+        value: element.clone()?,
+    })
 }
 
 /// Returns the name in an entry, if it has one.

@@ -6,8 +6,8 @@ ghost use Rattle.oci_layout.specs.Entries.{entry_of, text_of};
 ghost use Rattle.oci_layout.specs.Law.{IsWhole};
 ghost use Rattle.oci_layout.specs.Saved.{is_name};
 
-use crate::index::IndexEntry;
 use crate::index::write::{owned_members, put};
+use crate::index::{IndexEntry, copy_of};
 use oci_digest::NoMemory;
 use serde_json::{Map, Value};
 use std::alloc::Global;
@@ -30,7 +30,7 @@ impl IndexEntry {
             return self.try_clone();
         }
         Ok(IndexEntry {
-            key: self.key.try_clone()?,
+            key: copy_of(&self.key)?,
             name: Some(String::from_str(alloc, name)?),
             value: value_with_name(alloc, &self.value, name)?,
         })
@@ -51,7 +51,7 @@ impl IndexEntry {
             return self.try_clone();
         }
         Ok(IndexEntry {
-            key: self.key.try_clone()?,
+            key: copy_of(&self.key)?,
             name: None,
             value: value_without_name(alloc, &self.value)?,
         })

@@ -16,11 +16,12 @@ ghost use Rattle.oci_layout.specs.Saved.{
   named_held,
   saved_entries,
   tag_entry,
+  was_absent,
   AreLoose,
 };
 
 use crate::index::names::Names;
-use crate::index::{IndexEntry, new_entry};
+use crate::index::{IndexEntry, add_key, is_held, new_entry};
 use crate::layout::loose_places;
 use oci_digest::NoMemory;
 use oci_manifest::Key;
@@ -120,8 +121,8 @@ fn add_if_named(graph: &Graph, entry: &IndexEntry, keys: &mut Vec<Key>) -> Resul
     ensures { OnOk result (keys.new.items
         ≡ keys.old.items ++ named_held graph.now (entry_of entry.now ∷ [])) }
 {
-    if entry.has_name() && graph.holds(&entry.key) {
-        keys.push(entry.key.try_clone()?)?;
+    if entry.has_name() && is_held(graph, &entry.key) {
+        return add_key(entry, keys);
     }
     Ok(())
 }
@@ -163,18 +164,28 @@ fn is_first(
     }
 }
 
-/// Returns whether a key was absent, or is held.
-fn is_left(absent: &BTreeSet<Key>, graph: &Graph, key: &Key) -> bool
+/// Returns whether the key of an entry was absent or is held, or the entry has none.
+fn is_left(absent: &BTreeSet<Key>, graph: &Graph, key: &Option<Key>) -> bool
     ensures { result ≡ is_left (contains key_cmp absent.now) graph.now key.now }
 {
-    absent.contains(key) || graph.holds(key)
+    was_absent(absent, key) || is_held(graph, key)
 }
 
-/// Returns whether a key was absent, and is not held.
-fn is_missing(absent: &BTreeSet<Key>, graph: &Graph, key: &Key) -> bool
+/// Returns whether the key of an entry was absent and is not held, or the entry has none.
+fn is_missing(absent: &BTreeSet<Key>, graph: &Graph, key: &Option<Key>) -> bool
     ensures { result ≡ is_missing (contains key_cmp absent.now) graph.now key.now }
 {
-    absent.contains(key) && !graph.holds(key)
+    was_absent(absent, key) && !is_held(graph, key)
+}
+
+/// Returns whether the key of an entry was absent, or the entry has none.
+fn was_absent(absent: &BTreeSet<Key>, key: &Option<Key>) -> bool
+    ensures { result ≡ was_absent (contains key_cmp absent.now) key.now }
+{
+    match key {
+        Some(key) => absent.contains(key),
+        None => true,
+    }
 }
 
 /// Returns whether an entry with a name comes first. `last` is the last entry with this name, with
@@ -193,8 +204,8 @@ fn comes_before(
         return false;
     };
     match tagged {
-        None => absent.contains(&last.key),
-        Some(tagged) => *tagged == last.key && place != last_place,
+        None => was_absent(absent, &last.key),
+        Some(tagged) => last.has_key(tagged) && place != last_place,
     }
 }
 

@@ -85,7 +85,11 @@ pub(crate) fn new_entry(
     ensures { IfOk result (λ entry. entry_of entry ≡ new_entry key (text_of name)) }
 {
     let value = named_value(alloc, &key, &name)?;
-    Ok(IndexEntry { key, name, value })
+    Ok(IndexEntry {
+        key: Some(key),
+        name,
+        value,
+    })
 }
 
 /// Returns the descriptor of a key, with its name if it has one.

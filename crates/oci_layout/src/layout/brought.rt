@@ -4,7 +4,7 @@ ghost use Rattle.std.specs.List.{All};
 ghost use Rattle.std.specs.Map.{values_of};
 ghost use Rattle.oci_manifest.specs.Descriptor.{key_cmp};
 ghost use Rattle.oci_store.specs.Tags.{by_bytes};
-ghost use Rattle.oci_layout.specs.Brought.{Brings, Forgets, ForgetsNames, IsShallowEntry, comes, coming};
+ghost use Rattle.oci_layout.specs.Brought.{Brings, Forgets, ForgetsNames, IsShallowEntry, comes, coming, is_free};
 ghost use Rattle.oci_layout.specs.Entries.{entry_of};
 ghost use Rattle.oci_layout.specs.Layout.{no_index, OnlyIndex};
 
@@ -37,10 +37,10 @@ impl<D: Dir> Layout<D> {
         let _ = self.replace_index(index);
     }
 
-    /// Remembers these entries, so that [`save`](Layout::save) writes them for the tags and the held
-    /// keys that they name. They replace the remembered entries of their names. One without a name is
-    /// remembered only if the key has no tag, and no entry without a name is remembered of it. An
-    /// absent key is no longer absent if each entry that had it was replaced.
+    /// Remembers these entries, so that [`save`](Layout::save) writes them for the tags and the
+    /// held keys that they name. They replace the remembered entries of their names. One without a
+    /// name is remembered only if it has a key, the key has no tag, and no entry without a name is
+    /// remembered of it. An absent key is no longer absent if each entry that had it was replaced.
     ///
     /// # Errors
     ///
@@ -63,8 +63,8 @@ impl<D: Dir> Layout<D> {
         Ok(())
     }
 
-    /// Forgets the entries that have the name of one of these, so that [`save`](Layout::save) does not
-    /// write them. An absent key is no longer absent if only they had it.
+    /// Forgets the entries that have the name of one of these, so that [`save`](Layout::save) does
+    /// not write them. An absent key is no longer absent if only they had it.
     ///
     /// # Errors
     ///
@@ -111,8 +111,8 @@ impl<D: Dir> Layout<D> {
     }
 }
 
-/// Returns copies of those of these entries that come: the ones with a name, and the ones whose key
-/// has no tag and no entry without a name among the old ones.
+/// Returns copies of those of these entries that come: the ones with a name, and the ones with a
+/// key that has no tag and no entry without a name among the old ones.
 fn coming(
     alloc: Global,
     tags: &[(String, Key)],
@@ -139,5 +139,16 @@ fn comes(tagged: &BTreeSet<Key>, unnamed: &BTreeSet<Key>, entry: &IndexEntry) ->
     ensures { result ≡ comes (contains key_cmp tagged.now) (contains key_cmp unnamed.now)
         (entry_of entry.now) }
 {
-    entry.has_name() || !(tagged.contains(&entry.key) || unnamed.contains(&entry.key))
+    entry.has_name() || is_free(tagged, unnamed, &entry.key)
+}
+
+/// Returns whether the key of an entry has no tag and no entry without a name.
+fn is_free(tagged: &BTreeSet<Key>, unnamed: &BTreeSet<Key>, key: &Option<Key>) -> bool
+    ensures { result ≡ is_free (contains key_cmp tagged.now) (contains key_cmp unnamed.now)
+        key.now }
+{
+    match key {
+        Some(key) => !(tagged.contains(key) || unnamed.contains(key)),
+        None => false,
+    }
 }

@@ -74,9 +74,9 @@ impl<D: Dir> Layout<D> {
         }
     }
 
-    /// Refuses a directory with an `index.json` that a creation would replace, such as a layout that
-    /// lost its `oci-layout`. Does not look at that file. The index of an empty layout is allowed,
-    /// since a killed `create` may leave it.
+    /// Refuses a directory with an `index.json` that a creation would replace, such as a layout
+    /// that lost its `oci-layout`. Does not look at that file. The index of an empty layout is
+    /// allowed, since a killed `create` may leave it.
     ///
     /// # Errors
     ///

@@ -219,10 +219,13 @@ impl<'w, 'l, A: GraphSource> Walk<'w, 'l, A> {
         })
     }
 
-    /// Reads the type that a referrer states.
+    /// Reads the type that a referrer states. One that is no manifest states none, and is not read.
     fn stated_type(&self, key: &Key) -> Result<Option<String>, ProgramFault> {
-        let bytes = self.source.fetch(key)?;
         let kind = Kind::of(key.media_type());
+        if kind == Kind::Leaf {
+            return Ok(None);
+        }
+        let bytes = self.source.fetch(key)?;
         Ok(artifact_type(self.alloc, kind, bytes.as_slice())?)
     }
 }

@@ -2,9 +2,9 @@
 
 use crate::tests::files::FileStep::{Blobs, Put, Text};
 use crate::tests::layouts::LayoutStep::{
-    Absent, Bring, Check, Damaged, DamagedManifests, ForgetNames, Held, IsClosed, Lists, Push,
-    Resolve, Save,
+    Ask, Bring, Check, ForgetNames, Held, IsClosed, Lists, Push, Resolve, Save,
 };
+use crate::tests::layouts::Question::{Absent, Damaged, DamagedManifests};
 use crate::tests::steps::Step::{In, Open, OpenAsIs, With};
 use crate::tests::steps::{Ground, Row, assert_run};
 use std::test::Fail;
@@ -52,10 +52,10 @@ const OPENED: &[Row] = &[
     INDEX,
     Row(Open, "75 Corrupt <key Image0>"),
     Row(OpenAsIs, "held 4 all"),
-    Row(With(Damaged), ALL_DAMAGED),
-    Row(With(DamagedManifests), ALL_DAMAGED),
+    Row(With(Ask(Damaged)), ALL_DAMAGED),
+    Row(With(Ask(DamagedManifests)), ALL_DAMAGED),
     Row(
-        With(Absent),
+        With(Ask(Absent)),
         "<key Image0>;<digest Empty> 2 application/vnd.oci.image.manifest.v1+json;",
     ),
     Row(With(Resolve("bad")), "36 UnknownReference"),
@@ -89,15 +89,15 @@ const SAVED: &[Row] = &[
         "{\"manifests\":[{\"annotations\":{\"org.opencontainers.image.ref.name\":\"bad\"},<saved Image0>,\"urls\":[]},{\"digest\":\"<digest Empty>\",\"mediaType\":\"application/vnd.oci.image.manifest.v1+json\",\"size\":2},{\"annotations\":{\"org.opencontainers.image.ref.name\":\"all\"},<saved Index1>},{<saved Image2>}],\"mediaType\":\"application/vnd.oci.image.index.v1+json\",\"schemaVersion\":2}",
     ),
     Row(OpenAsIs, "held 4 all"),
-    Row(With(Damaged), ALL_DAMAGED),
+    Row(With(Ask(Damaged)), ALL_DAMAGED),
     Row(With(Push(Image0)), "place 4"),
-    Row(With(Damaged), ALL_DAMAGED),
+    Row(With(Ask(Damaged)), ALL_DAMAGED),
     Row(With(Held), "held 5 all"),
     Row(With(Check(Image0, IMAGE)), "good"),
     Row(With(Save), "saved"),
     Row(OpenAsIs, "held 5 all bad"),
     Row(
-        With(Damaged),
+        With(Ask(Damaged)),
         "<digest Empty> 2 application/vnd.oci.image.manifest.v1+json;<key Image3>;",
     ),
     Row(
@@ -127,17 +127,17 @@ const REPLACED: &[Row] = &[
         "brought",
     ),
     Row(
-        With(Damaged),
+        With(Ask(Damaged)),
         "<digest Empty> 2 application/vnd.oci.image.manifest.v1+json;<key Image3>;",
     ),
     Row(
-        With(Absent),
+        With(Ask(Absent)),
         "<digest Empty> 2 application/vnd.oci.image.manifest.v1+json;",
     ),
     Row(OpenAsIs, "held 4 all"),
     Row(With(ForgetNames), "forgotten"),
     Row(
-        With(Damaged),
+        With(Ask(Damaged)),
         "<digest Empty> 2 application/vnd.oci.image.manifest.v1+json;<key Image3>;",
     ),
 ];
@@ -166,9 +166,9 @@ const CUT: &[Row] = &[
     Row(In("<blob Foo>", Put("fo")), "put"),
     Row(Open, "held 3 v2"),
     Row(OpenAsIs, "held 2 v2"),
-    Row(With(Damaged), "<key Foo>;"),
-    Row(With(DamagedManifests), ""),
-    Row(With(Absent), "<key Foo>;"),
+    Row(With(Ask(Damaged)), "<key Foo>;"),
+    Row(With(Ask(DamagedManifests)), ""),
+    Row(With(Ask(Absent)), "<key Foo>;"),
     Row(With(IsClosed), "false"),
     Row(With(Check(Foo, LAYER)), "75 Corrupt <key Foo>"),
     Row(With(Push(Foo)), "place 2"),
@@ -177,7 +177,7 @@ const CUT: &[Row] = &[
     Row(OpenAsIs, "held 2 v2"),
     Row(In("<blob Foo>", Put("bar")), "put"),
     Row(OpenAsIs, "held 3 v2"),
-    Row(With(Damaged), ""),
+    Row(With(Ask(Damaged)), ""),
     Row(With(Check(Foo, LAYER)), "good"),
 ];
 

@@ -9,6 +9,23 @@ use std::alloc::Global;
 use std::test::Fail;
 use test_support::{Sample, is_closed};
 
+/// A question about the index of a layout and its entries.
+#[derive(Clone, Copy, Debug)]
+pub(crate) enum Question {
+    /// Result: the absent keys, each followed by `;`.
+    Absent,
+    /// Result: the damaged keys, each followed by `;`.
+    Damaged,
+    /// Result: the damaged keys of manifests, each followed by `;`.
+    DamagedManifests,
+    /// Result: the places of the entries that are no descriptors, each followed by `;`.
+    Unreadable,
+    /// Checks that each entry is a descriptor. Result: `good`, or the fault.
+    CheckEntries,
+    /// Result: the held keys of the entries that are written before the tags, each followed by `;`.
+    Shadowed,
+}
+
 /// A step with a layout.
 #[derive(Clone, Copy, Debug)]
 pub(crate) enum LayoutStep<'a> {
@@ -34,23 +51,33 @@ pub(crate) enum LayoutStep<'a> {
     Holders(Sample),
     /// Result: the keys that a sample's key lists, each followed by `;`, or `not held`.
     Lists(Sample),
-    /// Result: the absent keys, each followed by `;`.
-    Absent,
-    /// Result: the damaged keys, each followed by `;`.
-    Damaged,
-    /// Result: the damaged keys of manifests, each followed by `;`.
-    DamagedManifests,
+    /// Asks about the index and its entries. Result: the answer.
+    Ask(Question),
     /// Checks the file of a sample's bytes under a media type. Result: `good`, or the fault.
     Check(Sample, &'a str),
     /// Result: the remembered entry at a place, under a name or without one, or `no entry`.
     Renamed(usize, Option<&'a str>),
     /// Brings the entries of a layout with this index, which may have marks. Result: `brought`.
     Bring(&'a str),
+    /// Forgets the entries with the names of a layout with this index. Result: `forgotten`.
+    Forget(&'a str),
     /// Forgets the entries with a name. Result: `forgotten`.
     ForgetNames,
     /// Takes out what the layout remembers of its index, and puts it back. Result: the number of
     /// entries that it remembered in between.
     TakeIndexAndPut,
+}
+
+/// Answers a question about a layout.
+fn answered<D: Dir>(alloc: Global, layout: &Layout<D>, question: Question) -> Result<String, Fail> {
+    match question {
+        Question::Absent => listed(alloc, layout.absent()),
+        Question::Damaged => listed(alloc, layout.damaged()),
+        Question::DamagedManifests => listed(alloc, &layout.damaged_manifests()?),
+        Question::Unreadable => unreadable(alloc, layout),
+        Question::CheckEntries => done_or_fault(alloc, layout.check_entries(), "good"),
+        Question::Shadowed => listed(alloc, &layout.shadowed_keys()?),
+    }
 }
 
 /// Takes a step with a layout. Returns its result.
@@ -62,7 +89,7 @@ pub(crate) fn with_layout<D: Dir>(
     match step {
         LayoutStep::Held => summary(alloc, layout),
         LayoutStep::IsClosed => closedness(alloc, layout),
-        LayoutStep::Save => save(alloc, layout),
+        LayoutStep::Save => done_or_fault(alloc, layout.save(), "saved"),
         LayoutStep::Push(sample) => push_sample(alloc, layout, sample),
         LayoutStep::PushAs(sample, media_type) => push_as(alloc, layout, sample, media_type),
         LayoutStep::PushUnder(sample, other) => push_under(alloc, layout, sample, other),
@@ -71,12 +98,11 @@ pub(crate) fn with_layout<D: Dir>(
         LayoutStep::Resolve(reference) => resolve(alloc, layout, reference),
         LayoutStep::Holders(sample) => holders(alloc, layout, sample),
         LayoutStep::Lists(sample) => lists(alloc, layout, sample),
-        LayoutStep::Absent => listed(alloc, layout.absent()),
-        LayoutStep::Damaged => listed(alloc, layout.damaged()),
-        LayoutStep::DamagedManifests => listed(alloc, &layout.damaged_manifests()?),
+        LayoutStep::Ask(question) => answered(alloc, layout, question),
         LayoutStep::Check(sample, media_type) => check(alloc, layout, sample, media_type),
         LayoutStep::Renamed(place, name) => renamed(alloc, layout, place, name),
         LayoutStep::Bring(index) => bring(alloc, layout, index),
+        LayoutStep::Forget(index) => forget(alloc, layout, index),
         LayoutStep::ForgetNames => forget_names(alloc, layout),
         LayoutStep::TakeIndexAndPut => take_index_and_put(alloc, layout),
     }
@@ -154,9 +180,14 @@ fn closedness<D: Dest>(alloc: Global, layout: &D) -> Result<String, Fail> {
     Ok(format!(in alloc; "{is_closed}")?)
 }
 
-fn save<D: Dir>(alloc: Global, layout: &mut Layout<D>) -> Result<String, Fail> {
-    match layout.save() {
-        Ok(()) => Ok(String::from_str(alloc, "saved")?),
+/// Returns the word for a success, or the fault.
+fn done_or_fault(
+    alloc: Global,
+    answer: Result<(), LayoutFault>,
+    done: &str,
+) -> Result<String, Fail> {
+    match answer {
+        Ok(()) => Ok(String::from_str(alloc, done)?),
         Err(fault) => Ok(format!(in alloc; "{fault}")?),
     }
 }
@@ -249,10 +280,15 @@ fn check<D: Dir>(
     media_type: &str,
 ) -> Result<String, Fail> {
     let key = sample.content(alloc)?.key_as(alloc, media_type)?;
-    match layout.check_file(&key) {
-        Ok(()) => Ok(String::from_str(alloc, "good")?),
-        Err(fault) => Ok(format!(in alloc; "{fault}")?),
+    done_or_fault(alloc, layout.check_file(&key), "good")
+}
+
+fn unreadable<D: Dir>(alloc: Global, layout: &Layout<D>) -> Result<String, Fail> {
+    let mut told = String::new(alloc);
+    for place in &layout.unreadable()? {
+        told.push_str(format!(in alloc; "{place};")?.as_str())?;
     }
+    Ok(told)
 }
 
 fn renamed<D: Dir>(
@@ -271,13 +307,22 @@ fn renamed<D: Dir>(
     utf8(alloc, &entry.value.to_vec(alloc)?)
 }
 
-fn bring<D: Dir>(alloc: Global, layout: &mut Layout<D>, index: &str) -> Result<String, Fail> {
+/// Opens a layout with this index as it is.
+fn with_index(alloc: Global, index: &str) -> Result<Layout<MemDir>, Fail> {
     let mut dir = MemDir::new(alloc);
     dir.put("oci-layout", b"{\"imageLayoutVersion\":\"1.0.0\"}")?;
     dir.put("index.json", expanded(alloc, index)?.as_bytes())?;
-    let other = made(Layout::open_as_is(alloc, dir))?;
-    layout.bring(other.entries())?;
+    made(Layout::open_as_is(alloc, dir))
+}
+
+fn bring<D: Dir>(alloc: Global, layout: &mut Layout<D>, index: &str) -> Result<String, Fail> {
+    layout.bring(with_index(alloc, index)?.entries())?;
     Ok(String::from_str(alloc, "brought")?)
+}
+
+fn forget<D: Dir>(alloc: Global, layout: &mut Layout<D>, index: &str) -> Result<String, Fail> {
+    layout.forget(with_index(alloc, index)?.entries())?;
+    Ok(String::from_str(alloc, "forgotten")?)
 }
 
 fn forget_names<D: Dir>(alloc: Global, layout: &mut Layout<D>) -> Result<String, Fail> {

@@ -20,6 +20,7 @@ const CUT_DIGITS: &str = "829463233ab1e876c463df1ad5637b08364e33810330e3ecb292b6
 #[derive(Drop)]
 struct Prepared {
     layout: Layout<MemDir>,
+    /// The tag of the index's digest, one that names no digest, and that of the cut digest.
     tags: Vec<(String, Key)>,
     members: Vec<Key>,
     attached: Vec<Key>,
@@ -155,6 +156,14 @@ fn sorted(alloc: Global, keys: &[Key]) -> Result<Vec<Key>, Fail> {
     Ok(keys_of_set(alloc, &set)?)
 }
 
+/// Returns the name of the tag at a place.
+fn name_at(tags: &[(String, Key)], place: usize) -> Option<&str> {
+    match tags.get(place) {
+        Some((name, _)) => Some(name.as_str()),
+        None => None,
+    }
+}
+
 /// Compares what belongs to a key with what was pushed for it.
 fn assert_belonging<R: AllocGlobal + Abort>(
     rt: &R,
@@ -173,7 +182,8 @@ fn assert_belonging<R: AllocGlobal + Abort>(
     );
     assert_eq!(rt; found.attached.len(), made.attached.len());
     assert_eq!(rt; found.tags.len(), 2);
-    assert!(rt; found.tags.iter().all(|tag| tag.0.as_str() != "other"));
+    assert_eq!(rt; name_at(&found.tags, 0), name_at(&made.tags, 0));
+    assert_eq!(rt; name_at(&found.tags, 1), name_at(&made.tags, 2));
     Ok(())
 }
 

@@ -34,7 +34,7 @@ struct Links {
     subject: Option<Key>,
 }
 
-fn cloned(alloc: Global, keys: &[Key]) -> Result<Vec<Key>, Fail> {
+pub(crate) fn cloned(alloc: Global, keys: &[Key]) -> Result<Vec<Key>, Fail> {
     let mut copies = Vec::new(alloc);
     for key in keys {
         copies.push(key.try_clone()?)?;

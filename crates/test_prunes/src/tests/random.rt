@@ -1,14 +1,15 @@
 //! Prunes of random layouts, compared with the plain program.
 
 use crate::plain::{Held, kept_plainly};
-use crate::tests::layouts::{Made, OCTETS, random_layout};
+use crate::tests::layouts::{Made, OCTETS, cloned, random_layout};
 use oci_digest::NoMemory;
 use oci_manifest::Key;
-use oci_prune::{PrunePlan, plan_prune};
+use oci_prune::{PrunePlan, plan_prune, plan_prune_keeping};
 use oci_store::keys_of_set;
 use std::alloc::Global;
 use std::collections::BTreeSet;
 use std::process::Abort;
+use std::slice;
 use std::test::Fail;
 
 /// Returns the held keys that are not kept, in key order.
@@ -79,6 +80,18 @@ fn counted(count: u32, condition: bool) -> u32 {
     count.saturating_add(u32::from(condition))
 }
 
+/// Plans a prune of a layout that keeps the last held key too, and compares it.
+fn assert_keeping<R: AllocGlobal + Abort>(rt: &R, made: &Made) -> Result<(), Fail> {
+    let Some(last) = made.held.last() else {
+        return Err(Fail::from("nothing is held"));
+    };
+    let mut roots = cloned(rt.alloc(), &made.tagged)?;
+    roots.push(last.key.try_clone()?)?;
+    let plan = plan_prune_keeping(rt.alloc(), &made.layout, slice::from_ref(&last.key), false)?;
+    assert_plan(rt, &plan, &made.without_subjects, &roots)?;
+    Ok(())
+}
+
 /// Plans a prune of a layout without referrers and with them, and compares both.
 fn assert_plans<R: AllocGlobal + Abort>(rt: &R, made: &Made, seen: Seen) -> Result<Seen, Fail> {
     let without = plan_prune(rt.alloc(), &made.layout, false)?;
@@ -113,6 +126,7 @@ fn random_layouts(rt: HostRuntime) -> Result<(), Fail> {
     for _ in 0..60 {
         let made = random_layout(rt.alloc(), &mut state)?;
         seen = assert_plans(&rt, &made, seen)?;
+        assert_keeping(&rt, &made)?;
     }
     assert!(rt; seen.by_referrers > 0, "{seen:?}");
     assert!(rt; seen.chains > 0, "{seen:?}");

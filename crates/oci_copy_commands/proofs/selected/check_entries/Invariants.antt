@@ -3,5 +3,5 @@ use Rattle.oci_copy_commands.specs.Selected.{AreNamedHeld}
 use Rattle.oci_copy_commands.proofs.selected.check_entries.Given as goal
 
 -- as far as the loop has come
-abbrev pub invariant-loop-entry : goal.invariant-loop-entry
-invariant-loop-entry g l = AreNamedHeld l.layout.graph (take l.entry-index l.entries)
+abbrev pub invariant-loop-place : goal.invariant-loop-place
+invariant-loop-place g l = AreNamedHeld l.layout.graph (take l.place l.entries)

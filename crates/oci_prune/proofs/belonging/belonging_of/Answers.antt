@@ -25,4 +25,4 @@ returns-clause-complete g c =
     let to = attached_members graph c.args.keys.now c.in_ok-listed.listed.items c.in_ok-attached.attached.items attachments c.in_ok-members.members c.in_ok-members.ensures.members c.in_ok-listed.ensures.keys
     (subst (λ (ks : List Descriptor). AreAttachedTo attachments c.in_ok-members.members ks c.in_ok-attached.attached.items) c.deref-2.ensures.value c.in_ok-attached.ensures.exact) in
     complete_from graph c.args.keys.now (by_bytes c.args.tags.now) attachments (record { members = c.in_ok-members.members; attached = c.in_ok-attached.attached; tags = c.in_ok-tags.tags; attachments = attachments }) c.in_ok-members.ensures.members to
-    c.in_ok-attachments.ensures.followers c.in_ok-attached.ensures.distinct (rw (c.deref-3.ensures.value, c.in_ok-listed.ensures.keys) at c.in_ok-tags.ensures)
+    c.in_ok-attachments.ensures.followers c.in_ok-attached.ensures.distinct (rw (c.deref-3.ensures.value, c.in_ok-listed.ensures.keys) at c.in_ok-tags.ensures) refl

@@ -11,7 +11,7 @@ returns-then-keeps_referrers-clause-exact g c =
     let store = g.S.Store.state c.args.source.now in
     IfOk-weaker c.of.result _ _ (λ attachments are honest referrer subject.
     subst (λ (keeps : Bool). AttachedIn attachments referrer subject ↔ RefersIf keeps store referrer subject) (sym c.if-keeps_referrers.true)
-    (attached_by_held store c.args.held.now attachments (g.S.Store.same_keys c.args.source.now) c.requires (are honest) referrer subject)) c.of.ensures.exact
+    (attached_by_held store c.args.held.now attachments (g.S.Store.same_keys c.args.source.now) c.requires (are (honest c.if-keeps_referrers.true)) referrer subject)) c.of.ensures.exact
 
 pub returns-else-keeps_referrers-clause-exact : goal.returns-else-keeps_referrers-clause-exact
 returns-else-keeps_referrers-clause-exact g c = λ honest referrer subject.

@@ -14,7 +14,7 @@ returns-clause-kept g c =
 pub returns-clause-safe : goal.returns-clause-safe
 returns-clause-safe g c =
     let store = g.S.Store.state c.args.source.now in
-    IfOk-weaker c.members_of.result _ _ (λ kept are. safe_from_kept store.nodes c.args.roots.now (AttachedIn c.in_ok-attachments.attachments) kept are c.requires.rooted) c.members_of.ensures.members
+    IfOk-weaker c.members_of.result _ _ (λ kept are. safe_from_kept store.nodes c.args.roots.now (AttachedIn c.in_ok-attachments.attachments) kept are) c.members_of.ensures.members
 
 pub returns-clause-known : goal.returns-clause-known
 returns-clause-known g c =
@@ -26,4 +26,4 @@ pub returns-clause-cause : goal.returns-clause-cause
 returns-clause-cause g c =
     let store = g.S.Store.state c.args.source.now in
     IfErr-weaker c.members_of.result _ _
-    (λ e h. walk_key_fault store c.args.roots.now c.args.keeps_referrers (AttachedIn c.in_ok-attachments.attachments) true e c.in_ok-attachments.ensures.exact h) c.members_of.ensures.cause
+    (λ e h. walk_key_fault store c.args.roots.now c.args.keeps_referrers (AttachedIn c.in_ok-attachments.attachments) true e (λ honest. c.in_ok-attachments.ensures.exact (λ _. honest)) h) c.members_of.ensures.cause

@@ -11,4 +11,4 @@ returns-in-None-clause-whole g c =
     let opened = c.args.layout.now.opened in
     let no_absent : slice_get opened.absent 0 ≡ None = cc (c.in_default.ensures.value, c.absent.ensures) in
     let none_damaged : first_missing graph (manifests_of opened.damaged) ≡ None = sym c.in_ok-key.ensures ∙ c.in_default-2.is in
-    checks_whole graph opened no_absent none_damaged
+    checks_whole graph opened no_absent none_damaged c.in_default-check_entries.ensures.readable

@@ -21,6 +21,7 @@ loop-place-preserved g c =
         spared = spares_draft a b d c.args.layout.now.graph c.loop-place.layout.graph c.args.drafts.now c.loop-place.place c.index-drafts-place.result c.loop-place-test.true c.index-drafts-place.is w.removal.spared w.removal.memory.graph spared;
         fault = λ none. w.removal.fault (c.remove_draft.ensures.removal.fault none);
         notes = notes_draft a b c.args.drafts.now c.loop-place.place c.index-drafts-place.result c.args.fault.now c.loop-place.fault c.remove_draft.new.fault c.loop-place-test.true c.index-drafts-place.is w.removal.spared.reads w.removal.notes notes;
+        failures = c.remove_draft.ensures.removal.failures ∙ w.removal.failures;
       };
       files = same_blobs_both a b d w.removal.spared.honest.0 w.files c.remove_draft.ensures.files;
       noted = length-set c.loop-place.gone.items c.loop-place.place c.remove_draft.result ∙ w.noted;

@@ -17,6 +17,7 @@ loop-place-preserved g c =
         spared = spares_file a b d c.args.layout.now.graph c.loop-place.layout.graph c.args.files.now c.loop-place.place c.index-files-place.result c.loop-place-test.true c.index-files-place.is w.removal.spared w.removal.memory.graph c.remove_file.ensures.removal.spared;
         fault = λ none. w.removal.fault (c.remove_file.ensures.removal.fault none);
         notes = notes_file a b c.args.files.now c.loop-place.place c.index-files-place.result c.args.fault.now c.loop-place.fault c.remove_file.new.fault c.loop-place-test.true c.index-files-place.is w.removal.spared.reads w.removal.notes c.remove_file.ensures.removal.notes;
+        failures = c.remove_file.ensures.removal.failures ∙ w.removal.failures;
       };
       removed = λ none honest.
           all_gone b d c.loop-place.layout.graph c.args.files.now c.loop-place.place c.index-files-place.result c.loop-place-test.true c.index-files-place.is (w.removal.spared.honest.0 honest) c.remove_file.ensures.removal.spared

@@ -20,10 +20,11 @@ returns-then-is_empty-clause-saved g c =
       kept = whole_left c.args.layout.now.graph c.args.plan.now.kept removed.items c.requires.removed none;
       index = λ some. absurd (some none);
       unwritten = λ _. refl;
+      failures = refl;
     }
 
 pub retain-requires : goal.retain-requires
-retain-requires g c = record { tagged = tags_kept c.args.layout.now c.args.plan.now.kept c.requires.safe }
+retain-requires g c = record { tagged = tags_kept c.args.layout.now c.args.plan.now.kept c.requires.rooted }
 
 pub returns-clause-only : goal.returns-clause-only
 returns-clause-only g c =

@@ -1,8 +1,7 @@
 use Rattle.std.proofs.Common.{subst}
-use Rattle.oci_layout.specs.Layout.{manifests_of}
-use Rattle.oci_query_commands.specs.Answered.{AreUndamaged}
+use Rattle.oci_query_commands.specs.Answered.{LeavesNothingOut}
 use Rattle.oci_query_commands.specs.Verified.{IsWhole}
-use Rattle.oci_query_commands.proofs.Answered.{HasWholeManifests-undamaged}
+use Rattle.oci_query_commands.proofs.Answered.{IsReadable-opened}
 use Rattle.oci_query_commands.proofs.Verified.{IsVerified-whole}
 use Rattle.oci_query_commands.proofs.query.run_query.Goals as goal
 
@@ -16,6 +15,6 @@ returns g c =
           IsVerified-whole (device c.args.dir) layout.graph layout.tags layout.opened honest (opened.opened honest)
           (subst (λ d. IsWhole (device d) layout.graph layout.opened) opened.same (c.in_ok-answer_from.ensures.verified good));
       answered = λ asks honest.
-          HasWholeManifests-undamaged (device c.args.dir) layout.graph layout.tags layout.opened honest (opened.opened honest)
-          (subst (λ d. AreUndamaged (device d) (manifests_of layout.opened.damaged)) opened.same (c.in_ok-answer_from.ensures.answered asks));
+          IsReadable-opened (device c.args.dir) layout.graph layout.tags layout.opened honest (opened.opened honest)
+          (subst (λ d. LeavesNothingOut (device d) layout.opened) opened.same (c.in_ok-answer_from.ensures.answered asks));
     }

@@ -8,4 +8,4 @@ pub returns-clause-shallow : goal.returns-clause-shallow
 returns-clause-shallow c = λ shallow. rw c.in_ok-value_with_name.ensures (shallow_with (Some c.args.name.now) (view c.args.self.now.value) shallow)
 
 pub returns-clause-whole : goal.returns-clause-whole
-returns-clause-whole c = λ whole. rw (c.in_ok-try_clone.ensures, c.in_ok-from_str.ensures.ok, c.in_ok-value_with_name.ensures) (whole_with (Some c.args.name.now) (entry_of c.args.self.now) whole)
+returns-clause-whole c = λ whole. rw (c.in_ok-copy_of.ensures, c.in_ok-from_str.ensures.ok, c.in_ok-value_with_name.ensures) (whole_with (Some c.args.name.now) (entry_of c.args.self.now) whole)

@@ -8,4 +8,4 @@ pub returns-clause-shallow : goal.returns-clause-shallow
 returns-clause-shallow c = λ shallow. rw c.in_ok-value_without_name.ensures (shallow_with None (view c.args.self.now.value) shallow)
 
 pub returns-clause-whole : goal.returns-clause-whole
-returns-clause-whole c = λ whole. rw (c.in_ok-try_clone.ensures, c.in_ok-value_without_name.ensures) (whole_with None (entry_of c.args.self.now) whole)
+returns-clause-whole c = λ whole. rw (c.in_ok-copy_of.ensures, c.in_ok-value_without_name.ensures) (whole_with None (entry_of c.args.self.now) whole)

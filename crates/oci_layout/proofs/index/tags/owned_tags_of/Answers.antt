@@ -10,8 +10,8 @@ loop-entry-preserved c =
     let entries = c.args.entries.now in
     let i = c.loop-entry.entry-index in
     let e = c.entry-item.result in (
-      c.in_ok-own_one.ensures.set ∙ ap (λ (tags : Tags). tag_owned graph (entry_of e).key (entry_of e).name tags) c.loop-entry.invariant.0
+      c.in_ok-own_entry.ensures.set ∙ ap (λ (tags : Tags). tag_owned graph (entry_of e).key (entry_of e).name tags) c.loop-entry.invariant.0
           ∙ sym (owned-more graph (map entry_of (take i entries)) (entry_of e) [])
           ∙ ap (λ (es : List IndexEntry). owned graph es []) (sym (next_entry entries i e c.loop-entry-test.true c.entry-item.is)),
-      c.in_ok-own_one.ensures.names,
+      c.in_ok-own_entry.ensures.names,
     )

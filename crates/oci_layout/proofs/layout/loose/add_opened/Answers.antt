@@ -1,5 +1,6 @@
 use Rattle.std.proofs.Common.{◌≡◌, ◌+◌, true, sym, ◌∙◌}
 use Rattle.std.proofs.lemmas.Bool.{not-false}
+use Rattle.oci_manifest.specs.Descriptor.{Descriptor}
 use Rattle.oci_store.specs.Keyed.{has_key}
 use Rattle.oci_layout.specs.Entries.{entry_of}
 use Rattle.oci_layout.specs.Saved.{no_name}
@@ -8,6 +9,6 @@ use Rattle.oci_layout.proofs.layout.loose.add_opened.Goals as goal
 
 pub returns : goal.returns
 returns c =
-    let key = c.args.entry.now.key in
-    opened_added c.args.loose.now c.insert.new.self key c.in_ok-try_clone.field-0 (c.args.place + 1) (no_name (entry_of c.args.entry.now).name ≡ true) (has_key c.args.graph.now key ≡ true)
-    c.in_ok-try_clone.ensures c.in_ok-insert.ensures.updates.0 (not-false (no_name (entry_of c.args.entry.now).name) (sym c.has_name.ensures ∙ c.if-has_name.false)) (sym c.holds.ensures ∙ c.if-not-holds.false)
+    opened_added c.args.loose.now c.insert.new.self c.args.entry.now.key c.in-Some.key c.in_ok-try_clone.field-0 (c.args.place + 1) (no_name (entry_of c.args.entry.now).name ≡ true)
+    (λ (k : Descriptor). has_key c.args.graph.now k ≡ true) c.in-Some.is c.in_ok-try_clone.ensures c.in_ok-insert.ensures.updates.0
+    (not-false (no_name (entry_of c.args.entry.now).name) (sym c.has_name.ensures ∙ c.if-has_name.false)) (sym c.holds.ensures ∙ c.if-not-holds.false)

@@ -1,11 +1,13 @@
 use Rattle.std.proofs.Common.{◌≡◌, ◌∙◌, List, false, map, sym, subst, ap}
 use Rattle.std.specs.List.{All, filter}
+use Rattle.std.proofs.lemmas.Result.{err_from_is_err_and}
 use Rattle.oci_manifest.specs.Descriptor.{Descriptor}
 use Rattle.oci_store.specs.Keyed.{has_key}
 use Rattle.oci_layout.specs.Entries.{entry_keys, entry_of}
 use Rattle.oci_layout.specs.Opened.{HasWalked, is_damaged}
 use Rattle.oci_layout.specs.declared.index.IndexEntry.{IndexEntry as CodeEntry}
 use Rattle.oci_layout.proofs.Opened.{absent-unheld}
+use Rattle.oci_layout.proofs.Refusals.{fault_by}
 use Rattle.oci_layout.proofs.layout.open.read_layout.Goals as goal
 
 pub returns-clause-read : goal.returns-clause-read
@@ -29,3 +31,8 @@ pub returns-clause-absent : goal.returns-clause-absent
 returns-clause-absent g c =
     let graph = c.in_ok-graph.graph in
     subst (λ ks. All (λ k. has_key graph k ≡ false) ks) (sym c.in_ok-absent.ensures) (absent-unheld graph _)
+
+pub returns-in_err-check_version-clause-cause : goal.returns-in_err-check_version-clause-cause
+returns-in_err-check_version-clause-cause g c =
+    let p = err_from_is_err_and c.from_residual.result c.from_residual.ensures.1 in
+    rw (p.1, p.2) (fault_by c.args.as_is (g.D.Dir.device c.args.dir.now) c.in_err-check_version.field-0.0 c.in_err-check_version.ensures.cause)
