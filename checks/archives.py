@@ -8,7 +8,7 @@ import tarfile
 
 from support.files import read
 from support.harms import CONTENTS, FROM, PLAIN, PLAIN_TAGS, answers_to, fresh, wrong_copy
-from support.layouts import BAR, E, FOO, I1, LAYER, M2, M3, S, Content, blob, digits, image, index, write_layout
+from support.layouts import BAR, E, FOO, I1, LAYER, M2, M3, S, Content, blob, digits, image, index, key, write_layout
 from support.odd_archives import PLACES, allowed, damaged, each, headers_for_long_names
 from support.program import NOBODY, first, leftovers, run, told, wrong_layout
 from support.tar_files import BLOCK, END, base256, extended, header, member, pack
@@ -34,6 +34,8 @@ ALL = [*LOOKS, *COPIES, "copy --dry-run SRC new DST", "copy --all --referrers --
 # The commands for archives of which there are many. (By one worker, since a refused copy by more may leave one or another blob.)
 FEW = ["verify SRC", "copy --all --workers 1 SRC DST"]
 REFUSED = ["tags SRC", "copy --all SRC DST"]
+# The commands for an empty blob.
+OF_NOTHING = ["verify SRC", "tags SRC", "resolve SRC one", "resolve SRC nothing", "copy SRC one DST", "copy SRC nothing DST"]
 ONTO_FILES = [
     *("copy %s%s DST" % (flags, source) for flags in ("", "--dry-run ", "--referrers ") for source in ("short new", "short lost", "lost new")),
     "copy kept.tar new DST",
@@ -52,6 +54,7 @@ CONTENTS_OF_SHORT = [E, FOO, BAR, LARGE, M2, M3, I1, S, LARGER]
 TAGS_OF_SHORT = {"new": I1, "one": M2, "sig": S, "large": LARGER}
 LONG_LAYER = Content(LAYER, b"long " * 20000, "sha512")
 LONG = image([LONG_LAYER])._replace(algorithm="sha512")
+NOTHING = Content("application/octet-stream", b"")
 OTHER_FILE = b'[{"Config":"of no matter here"}]'
 HUGE = 1 << 40
 
@@ -113,9 +116,9 @@ def wrong_archive(room, archive, folder, commands):
     ])
 
 
-def wrong_by_hand(room, written, folder):
+def wrong_by_hand(room, written, folder, commands=FEW):
     write(room + "/by-hand.tar", written)
-    return wrong_archive(room, "by-hand.tar", folder, FEW)
+    return wrong_archive(room, "by-hand.tar", folder, commands)
 
 
 def wrong_refusal(room, written, line, commands=REFUSED):
@@ -215,6 +218,21 @@ def places(room):
         yield "1 TB in the place of %s" % file, wrong_place(room + "/room", file, huge, "a sparse file of 1 TB", HUGE)
 
 
+def no_empty_blob(room):
+    """Check archives that have no regular file in the place of an empty blob. It is damaged there, as in a folder."""
+    folder = room + "/hollow"
+    write_layout(folder, [E, FOO, M2, NOTHING], {"one": M2, "nothing": NOTHING})
+    path = blob(NOTHING)
+    os.remove("%s/%s" % (folder, path))
+    os.mkdir("%s/%s" % (folder, path))
+    for what, make in PLACES.items():
+        written = make(path.encode()) + each(files_of(folder))
+        yield "%s in the place of an empty blob" % what, wrong_by_hand(room, written, "hollow", OF_NOTHING)
+    ended, _ = answer_of_folder(room, "hollow", "verify SRC")
+    wanted = 1, "corrupt %s\nheld 4\n" % key(NOTHING), ""
+    yield "the folder itself, without an empty blob", None if ended[:3] == wanted else told(ended)
+
+
 def huge(room):
     """Check archives that have a member of 1 TB before all others."""
     files = each(files_of(room + "/short"))
@@ -294,5 +312,5 @@ def checks(room):
     for folder in "short", "long":
         yield "the folder %s itself" % folder, wrong_folder(room, folder)
     # (`places` first, before this process becomes large, since the memory of a run includes the memory of its parent)
-    for group in places, by_archivers, by_hand, huge, refused, onto_files, by_workers:
+    for group in places, no_empty_blob, by_archivers, by_hand, huge, refused, onto_files, by_workers:
         yield from group(room)

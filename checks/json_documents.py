@@ -10,7 +10,7 @@ import tarfile
 import tempfile
 from itertools import accumulate
 
-from support import prune_cases
+from support import indexes, prune_cases
 from support.json_rooms import Rooms
 from support.layouts import BAR, E, FOO, IMAGE, LAYER, M2, M3, S, Content, descriptor, digits, image, write_layout
 from support.program import TOP, first, run, told
@@ -62,9 +62,13 @@ def write_case(case, folder):
 def write_random(seed, folder):
     chance = random.Random(seed)
     prune_cases.write_random(folder + "/layout", chance)
+    if chance.random() < 0.3:
+        indexes.add_unreadable(folder + "/layout", chance)
     write_others(folder)
     if chance.random() < 0.5:
         prune_cases.write_random(folder + "/other", chance)
+    if chance.random() < 0.3:
+        indexes.add_unreadable(folder + "/other", chance)
 
 
 def wrong_layout(room, make):

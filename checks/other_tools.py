@@ -1,23 +1,22 @@
-"""Changes of layouts whose `index.json` is as other tools write it: each entry, and the index, keeps what they wrote."""
+"""Changes of layouts whose `index.json` is as other tools write it, and of random ones with unreadable entries: each entry, and the index,
+keeps what they wrote."""
 import json
+import random
 import shutil
 
-from support.layouts import BAR, E, FOO, I1, INDEX, M2, M3, NAME, S, descriptor, image, write_layout
+from support.indexes import entry, last_places, named, random_entries, saved_entries, saved_text
+from support.layouts import BAR, E, FOO, I1, INDEX, M2, M3, NAME, S, image, key, write_layout
 from support.program import first, run, told
+from support.pruning import Held, is_readable, key_of, name_of, text
 
 CONTENTS = [E, FOO, BAR, M2, M3, I1, S]
 NEW = image([BAR])
 # The tag that is set and removed again. It comes after the others in byte order.
 TAG = "zz"
 CREATED = "2024-05-01T00:00:00Z"
-
-
-def entry(content, **members):
-    return dict(json.loads(descriptor(content)), **members)
-
-
-def named(content, name, annotations=(), **members):
-    return entry(content, annotations={NAME: name, **dict(annotations)}, **members)
+# The number of random indexes, and the names of their entries. The source has a tag of one of them.
+INDEXES = 40
+NAMES = ["a", "b", "v1"]
 
 
 def of_index(*entries, **members):
@@ -131,7 +130,132 @@ def wrong_copy(room, index):
     return complaint or (None if tags(room, "all") == tags(room, "layout") else "the tags differ")
 
 
+def refusal(place):
+    """Return the line for an entry that is no descriptor."""
+    return "ocicp: 73 BadIndex 14 BadDescriptor manifests %d\n" % place
+
+
+class Index:
+    """A layout with these entries in its index, and what the commands are to print and to save."""
+
+    def __init__(self, room, entries):
+        self.room, self.entries, self.last = room, entries, last_places(entries)
+        self.restore()
+        self.held = Held(room + "/layout")
+        self.refusals = "".join(map(refusal, self.held.unreadable))
+
+    def restore(self):
+        fresh(self.room, of_index(*self.entries))
+
+    def named(self, name):
+        return [it for it in self.entries if name_of(it) == name]
+
+    def without(self, name):
+        return [it for it in self.entries if name_of(it) != name]
+
+    def wrong(self, words, status, out, err=""):
+        """Return the problem with a command that is to end like this, or None. One that is refused is to change nothing."""
+        before = index_bytes(self.room)
+        ended = run(words, self.room)
+        if ended[:3] != (status, out, err):
+            return "%s: %s" % (" ".join(words), told(ended))
+        return "%s: the index has changed" % words if err and index_bytes(self.room) != before else None
+
+    def wrong_index(self, entries, *new):
+        """Return the problem with the saved index, or None. These contents are new."""
+        keys = self.held.keys.union(key_of(entry(it)) for it in new)
+        listed = set().union(*map(Held(self.room + "/layout").listed, keys))
+        wanted = saved_text(saved_entries(entries, keys, listed))
+        found = index_bytes(self.room).decode()
+        return None if found == wanted else "the index is %.500s, and not %.500s" % (found, wanted)
+
+    def wrong_copies(self):
+        """Return the problem with copies of a tag into the layout and with its removal, or None."""
+        count = len({key_of(entry(it)) for it in (NEW, E, BAR)} - self.held.keys)
+        copied = "copied %s\nplanned %d pushed %d skipped 0\n" % (key(NEW), count, count)
+        self.restore()
+        complaint = first([
+            self.wrong(["copy", "--all", "source", "layout"], 0, copied),
+            self.wrong_index([*self.without("v1"), named(NEW, "v1")], NEW, E, BAR),
+        ])
+        self.restore()
+        return complaint or first([
+            self.wrong(["copy", "source", "v1", "layout", TAG], 0, copied),
+            self.wrong_index([*self.entries, named(NEW, TAG)], NEW, E, BAR),
+            self.wrong(["untag", "layout", TAG], 0, "untagged %s\n" % key(NEW)),
+            self.wrong_index(self.entries, NEW, E, BAR),
+        ])
+
+    def wrong_name(self, name):
+        """Return the problem with a name, or None."""
+        self.restore()
+        entries = self.named(name)
+        if not entries:
+            return first(self.wrong([it, "layout", name], 1, "", "ocicp: 36 UnknownReference\n") for it in ("resolve", "untag"))
+        if name in self.held.tags:
+            ended = 0, text(self.held.tags[name]) + "\n", ""
+        else:
+            ended = 1, "", refusal(self.last[name]) if not is_readable(entries[-1]) else "ocicp: 36 UnknownReference\n"
+        lines = ["untagged %s\n" % (text(key_of(it)) if is_readable(it) else "-") for it in entries]
+        return first([
+            self.wrong(["resolve", "layout", name], *ended),
+            self.wrong(["untag", "layout", name], 0, "".join(lines)),
+            self.wrong_index(self.without(name)),
+        ])
+
+    def wrong_lists(self):
+        """Return the problem with the tags and the findings, or None."""
+        self.restore()
+        held, status = self.held, 1 if self.refusals else 0
+        shadowed = [it for place, it in enumerate(self.entries) if self.last.get(name_of(it), place) != place and is_readable(it)]
+        lists = ["%s %s\n" % (name, text(it)) for name, it in sorted(held.tags.items())]
+        findings = [
+            *("absent %s\n" % text(it) for it in held.absent),
+            *("shadowed %s %s\n" % (name_of(it), text(key_of(it))) for it in shadowed),
+            "held %d\n" % len(held.keys),
+        ]
+        return first([
+            self.wrong(["tags", "layout"], status, "".join(lists), self.refusals),
+            self.wrong(["verify", "layout"], 1 if held.absent else status, "".join(findings), self.refusals),
+        ])
+
+    def wrong_refused(self):
+        """Return the problem with the commands that may be refused for an entry, or None."""
+        self.restore()
+        no_tags = [] if self.held.tags else ["ocicp: 97 NoTags\n"]
+        absent = ["ocicp: 96 Unknown %s\n" % text(it) for it in self.held.absent]
+        unreadable = [refusal(it) for it in self.held.unreadable]
+        of_all = [it for place, entry in enumerate(self.entries) if name_of(entry) for it in self.lack_of(place, entry)]
+        return first([
+            self.wrong_answer(["prune", "--dry-run", "layout"], (no_tags + absent + unreadable)[:1]),
+            self.wrong_answer(["copy", "--all", "layout", "all"], (of_all + no_tags)[:1]),
+            self.wrong_answer(["copy", "--all", "--referrers", "--dry-run", "layout", "all"], (unreadable + of_all + no_tags)[:1]),
+        ])
+
+    def lack_of(self, place, entry):
+        """Return the line for an entry that a copy would leave out, in a list, or an empty one."""
+        if not is_readable(entry):
+            return [refusal(place)]
+        key = key_of(entry)
+        return ["ocicp: 96 Unknown %s\n" % text(key)] if key in self.held.absent else []
+
+    def wrong_answer(self, words, lines):
+        """Return the problem with a command that is to be refused with one of these lines, or to succeed if there is none, or None."""
+        ended = run(words, self.room)
+        right = ended[:2] == (1, "") and ended.err in lines if lines else (ended.status, ended.err) == (0, "")
+        return None if right else "%s: %s, and not %s" % (" ".join(words), told(ended), lines)
+
+
+def wrong_at_random(room, chance):
+    """Return the problem with a random index, or None."""
+    index = Index(room, random_entries(chance, CONTENTS, NAMES))
+    return index.wrong_lists() or index.wrong_copies() or index.wrong_refused() or first(map(index.wrong_name, NAMES))
+
+
 def checks(room):
+    chance = random.Random(1)
+    for number in range(INDEXES):
+        yield "random index %d" % number, wrong_at_random(room, chance)
     for tool, index in TOOLS.items():
         yield "%s: a tag is set and removed" % tool, wrong_change(room, index, UNLISTED.get(tool, []))
         if tool != "cosign save":

@@ -17,14 +17,16 @@ def entry(content, **members):
     return dict(json.loads(descriptor(content)), **members)
 
 
-# Two entries of one tag, one without a file, one without a tag, and one of a tag that stays, with members of their own.
+# Two entries of one tag, one without a file, one without a tag, one of a tag that stays, with members of their own, and two that are no
+# descriptors, of which one has a name.
 INDEX = {
     "schemaVersion": 2, "artifactType": "application/vnd.example", "annotations": {"k": "v"},
     "manifests": [
         entry(M2, annotations={NAME: "latest", "io.containerd.image.name": "docker.io/library/alpine:latest"}),
         entry(BAR, annotations={NAME: "gone"}, urls=["https://example.com/bar"]),
         entry(M3, annotations={NAME: "latest"}, platform={"architecture": "amd64", "os": "linux"}),
-        entry(S, artifactType="application/vnd.example.signature"),
+        entry(S, artifactType="application/vnd.example.signature"), "no descriptor",
+        {"digest": "sha384:00", "annotations": {NAME: "latest"}}, entry(M3, annotations={NAME: "latest"}),
         entry(M2, annotations={NAME: "v1", "a": "b"}, other={"x": [1, None, True]}),
     ],
 }

@@ -27,8 +27,13 @@ CARRIED = {
 # What a refusal that a file or folder causes says of it, in this order. The first is left out for a file of `mem`, and the last if the system
 # did not fail there.
 AT = {"side": str, "path": str, "os": str}
-# The commands whose documents may have damaged manifests. A document is then followed by the refusal of the first one.
+# The commands whose documents may have damaged manifests, and those whose documents may have unreadable entries. A document is then followed
+# by the first refusal.
 WHOLE = ["tags", "predecessors", "tree"]
+REPORTING = [*WHOLE, "verify"]
+# The line of an unreadable entry, without its place, and the lines of a damaged manifest, without its key.
+UNREADABLE = "ocicp: 73 BadIndex 14 BadDescriptor manifests "
+DAMAGED = ["ocicp: 75 Corrupt ", "ocicp: 77 BadManifest "]
 MEMORY = '{"error":[{"name":"Memory"}]}\n'
 
 
@@ -78,15 +83,24 @@ def tagged(value):
     return tag, key(descriptor)
 
 
-def take_damaged(value, words):
-    """Take the keys of the damaged manifests out of the document of a command that speaks of the whole layout."""
-    if "damaged" not in value:
+def take_list(value, name, words, commands):
+    """Take a member out of the document of a command that speaks of the whole layout: a list that is not empty, or nothing."""
+    if name not in value:
         return []
-    speaks = words[0] in WHOLE and (words[0] != "tree" or "--referrers" in words)
-    damaged = value.pop("damaged")
-    if not speaks or type(damaged) is not list or not damaged:
-        raise ValueError("damaged is %.200r" % damaged)
-    return [key(it) for it in damaged]
+    speaks = words[0] in commands and (words[0] != "tree" or "--referrers" in words)
+    taken_out = value.pop(name)
+    if not speaks or type(taken_out) is not list or not taken_out:
+        raise ValueError("%s is %.200r" % (name, taken_out))
+    return taken_out
+
+
+def take_reported(value, words):
+    """Take the unreadable entries and the damaged manifests out of a document, and return how the line of each may begin, in their order."""
+    places = take_list(value, "unreadable", words, REPORTING)
+    if any(type(it) is not int for it in places) or places != sorted(set(places)):
+        raise ValueError("unreadable is %.200r" % places)
+    damaged = [key(it) for it in take_list(value, "damaged", words, WHOLE)]
+    return [("%s%d\n" % (UNREADABLE, it),) for it in places] + [tuple(line + it for line in DAMAGED) for it in damaged]
 
 
 def of_tags(value, words):
@@ -122,12 +136,12 @@ def of_explain(value, words):
 
 
 def of_untag(value, words):
-    tag, descriptor, descriptors = taken(value, {"tag": str, "descriptor": dict, "descriptors": list})
+    tag, descriptor, descriptors = taken(value, {"tag": str, "descriptor": (dict, type(None)), "descriptors": list})
     if tag != words[-1]:
         raise ValueError("the tag is %r" % tag)
     if descriptors[-1] != descriptor:
-        raise ValueError("the last entry has %s" % key(descriptors[-1]))
-    return ["untagged " + key(it) for it in descriptors]
+        raise ValueError("the last entry has %s" % descriptors[-1])
+    return ["untagged " + ("-" if it is None else key(it)) for it in descriptors]
 
 
 def of_mem(value, words):

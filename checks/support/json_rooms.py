@@ -26,40 +26,37 @@ def with_json(words):
 
 
 def lines_of(words, ended, folder):
-    """Return the lines for the output and the error output of a run with `--json`, and the damaged manifests."""
-    out, damaged = ended.out, []
-    # (a refusal has no document on stdout, but for those of a prune which could not remove a file, and of damaged manifests)
+    """Return the lines for the output and the error output of a run with `--json`, and how the line of each refusal after the output begins."""
+    out, reported = ended.out, []
+    # (a refusal has no document on stdout, but for those of a prune which could not remove a file, of unreadable entries, and of damaged
+    # manifests)
     if ended.status == 0 or out:
         labels = [json_lines.Labels(folder + "/" + words[-2].removesuffix(".tar"))] if words[0] == "tree" else []
         value = json_lines.read_document(out)
-        damaged = json_lines.take_damaged(value, words)
+        reported = json_lines.take_reported(value, words)
         lines = json_lines.LINES[words[0]](value, words, *labels)
         out = "".join(line + "\n" for line in lines)
-    return out, json_lines.of_error(ended.err), damaged
+    return out, json_lines.of_error(ended.err), reported
 
 
-def is_damage(line, key):
-    """Return whether a line is the refusal of a damaged manifest."""
-    return line.startswith(("ocicp: 75 Corrupt " + key, "ocicp: 77 BadManifest " + key))
-
-
-def first_damage(err, damaged):
-    """Return the first line of the error output. There is to be one for each damaged manifest."""
+def first_reported(err, reported):
+    """Return the first line of the error output. There is to be one for each refusal that is reported."""
     lines = err.splitlines(keepends=True)
-    if len(lines) != len(damaged) or not all(map(is_damage, lines, damaged)):
-        raise ValueError("it has %s, and the lines are %.300r" % (damaged, err))
+    if len(lines) != len(reported) or not all(map(str.startswith, lines, reported)):
+        raise ValueError("it has %s, and the lines are %.300r" % (reported, err))
     return lines[0]
 
 
 def wrong_document(words, plain, ended, folder):
     """Return the problem with a run with `--json`, compared with the other run, or None."""
-    # (that of a layout with damaged manifests may have no line)
-    is_listed = bool(plain.out or plain.status == 0) or bool(ended.out) and words[0] in json_lines.WHOLE and is_damage(plain.err, "")
+    # (that of a layout with unreadable entries or damaged manifests may have no line)
+    reports = plain.err.startswith((json_lines.UNREADABLE, *json_lines.DAMAGED))
+    is_listed = bool(plain.out or plain.status == 0) or bool(ended.out) and words[0] in json_lines.WHOLE and reports
     if ended.status != plain.status or bool(ended.out) != is_listed:
         return "%s; and without --json: %s" % (told(ended), told(plain))
     try:
-        out, err, damaged = lines_of(words, ended, folder)
-        wanted = first_damage(plain.err, damaged) if damaged else plain.err
+        out, err, reported = lines_of(words, ended, folder)
+        wanted = first_reported(plain.err, reported) if reported else plain.err
     except (ValueError, TypeError, KeyError) as error:
         return "%s: %s" % (error, told(ended))
     for made, line in (out, plain.out), (err, wanted):

@@ -21,6 +21,7 @@ FOREIGN = re.compile(
     r"application/vnd\.oci\.image\.layer\.nondistributable\.v1\.tar(\+gzip|\+zstd)?"
     r"|application/vnd\.docker\.image\.rootfs\.foreign\.diff\.tar\.gzip"
 )
+DIGEST = re.compile(r"sha256:[0-9a-f]{64}|sha512:[0-9a-f]{128}")
 # Names of blobs, and of drafts.
 BLOB = re.compile(r"blobs/(sha256/[0-9a-f]{64}|sha512/[0-9a-f]{128})")
 DRAFT = re.compile(r"(%s|index\.json|oci-layout)\.[0-9a-f]{16}\.new" % BLOB.pattern)
@@ -43,20 +44,36 @@ def key_of(value):
     return Key(value["mediaType"], value["digest"], value["size"])
 
 
+def is_readable(value):
+    """Return whether a value of `index.json` is a descriptor."""
+    kinds = {"mediaType": str, "digest": str, "size": int}
+    if type(value) is not dict or any(type(value.get(name)) is not kind for name, kind in kinds.items()):
+        return False
+    return bool(DIGEST.fullmatch(value["digest"])) and 0 <= value["size"] < 1 << 63
+
+
+def name_of(value):
+    """Return the name of an entry of `index.json`, or None. The empty text is none."""
+    annotations = value.get("annotations") if type(value) is dict else None
+    name = annotations.get(NAME) if type(annotations) is dict else None
+    return name if type(name) is str and name else None
+
+
 class Held:
     """The keys that a layout holds, and the references between them."""
 
     def __init__(self, folder):
         self.folder = folder
         entries = json.loads(read(folder + "/index.json"))["manifests"]
-        self.entries = [key_of(it) for it in entries]
+        self.unreadable = [place for place, it in enumerate(entries) if not is_readable(it)]
+        self.entries = [key_of(it) for it in entries if is_readable(it)]
         self.absent = [it for it in self.entries if not self.has(it)]
         self.keys = set(self.entries) - set(self.absent)
         while more := {it for key in self.keys for it in self.listed(key) if self.has(it)} - self.keys:
             self.keys |= more
-        # (of two entries with one name the last counts)
-        names = [it.get("annotations", {}).get(NAME) for it in entries]
-        self.tags = {name: key for name, key in zip(names, self.entries) if name and key in self.keys}
+        # (of two entries with one name the last counts, held or not)
+        last = {name_of(it): is_readable(it) and key_of(it) for it in entries}
+        self.tags = {name: key for name, key in last.items() if name and key in self.keys}
 
     def has(self, key):
         """Return whether there is a file of a key, which for a layer or a config has the right size."""
@@ -119,6 +136,7 @@ class Prune:
         self.refusals = [
             *(["97 NoTags"] if not held.tags else []),
             *("96 Unknown " + text(it) for it in held.absent),
+            *("73 BadIndex 14 BadDescriptor manifests %d" % it for it in held.unreadable[:1]),
             *("96 Unknown " + text(it) for it in self.lacking()),
             *["98 LinkedBlobs " + it for it in LINKS if os.path.islink("%s/%s" % (folder, it))][:1],
         ]
