@@ -1,10 +1,10 @@
 -- The members of an object: one is removed, and how deep those that are left nest.
-use Rattle.std.proofs.Common.{◌≡◌, ◌≤◌, ℕ, suc, inl, inr, Bool, true, false, cond, List, [], ◌∷◌, Option, Some, None, String, Global, Ordering, Less, Equal, Greater, string_bytes, string_cmp, nat_cmp, bytes_eq, refl, sym, ap, subst, ◌∙◌, arith}
+use Rattle.std.proofs.Common.{◌≡◌, ◌≤◌, ℕ, suc, inl, inr, Bool, true, false, cond, List, [], ◌∷◌, Option, Some, None, option_map, codes, String, Global, BTreeMap, Ordering, Less, Equal, Greater, string_bytes, string_cmp, nat_cmp, bytes_eq, refl, sym, ap, subst, ◌∙◌, arith}
 use Rattle.std.specs.Prelude.{⊤}
 use Rattle.std.proofs.lemmas.Bool.{cases_Bool}
 use Rattle.std.proofs.lemmas.Map.Text.{is_eq-slice_cmp}
 use Rattle.std.proofs.lemmas.Slice.Eq.{bytes_eq-Decides}
-use Rattle.std.specs.BTreeMap.{is_at}
+use Rattle.std.specs.BTreeMap.{get_by, is_at}
 use Rattle.std.specs.Cmp.Lexicographic.{slice_cmp}
 use Rattle.std.specs.List.{AllByRecursion}
 use Rattle.std.specs.List.Sorted.{IsStrictlySortedBy}
@@ -13,8 +13,10 @@ use Rattle.std.specs.Ordering.{is_eq, match_ordering}
 use Rattle.serde_json.specs.Data.{Data, null, boolean, number, string, array, object, Members, no_members, member, put, depth, members_depth}
 use Rattle.serde_json.specs.Find.{get, get_member}
 use Rattle.serde_json.specs.View.{view, members_view}
-use Rattle.serde_json.specs.declared.value.Value.{Value}
-use Rattle.oci_layout.specs.Entries.{object_members, without_member}
+use Rattle.serde_json.specs.declared.value.Value.{Value, Object}
+use Rattle.serde_json.proofs.Views.{view-Object, view-lookup}
+use Rattle.oci_manifest.specs.Manifest.{present}
+use Rattle.oci_layout.specs.Entries.{elements_of, index_elements, object_members, without_member}
 
 abbrev Entry : Type 0
 Entry = String Global × Value
@@ -46,6 +48,13 @@ members_view-removed (e ∷ es) name h =
       | inr apart ↦
           members_view-cond (is_named name e.0) es _ ∙ rw (is_eq-slice_cmp name (string_bytes e.0), apart) (ap (member (string_bytes e.0) (view e.1)) (members_view-removed es name h.1))
     ]
+
+-- the elements of an object's `manifests`, from the value that is removed
+pub elements-removed : (m : BTreeMap (String Global) Value) (list : Option Value) → list ≡ get_by (λ (s : String Global). slice_cmp nat_cmp (codes "manifests") (string_bytes s)) m
+    → index_elements (view (Object m)) ≡ elements_of (present (option_map view list))
+unfolding index_elements
+elements-removed m list is =
+    ap index_elements (view-Object m) ∙ ap (λ (found : Option Data). elements_of (present found)) (sym (ap (option_map view) is ∙ view-lookup (codes "manifests") m.entries))
 
 -- ---- how deep they nest
 

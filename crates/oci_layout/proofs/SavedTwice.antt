@@ -23,7 +23,7 @@ use Rattle.oci_store.specs.Graph.{IsEdge, Node}
 use Rattle.oci_store.specs.Keyed.{has_key}
 use Rattle.oci_store.specs.Tags.{AreNames, Tags, tag_at}
 use Rattle.oci_layout.specs.Entries.{IndexEntry, absent_in, entry_keys, is_held, is_this_key, new_entry}
-use Rattle.oci_layout.specs.Saved.{AreLoose, HasLooseEntry, IsLoose, IsTop, comes_before, entry_or_new, first_from, is_first, is_left, is_missing, is_name, is_place, last_entry, last_place, later_place, loose_entry, no_name, place_cmp, saved_entries, tag_entry, unnamed_keys, was_absent}
+use Rattle.oci_layout.specs.Saved.{AreLoose, HasLooseEntry, IsLoose, IsTop, comes_before, entry_or_new, first_from, is_first, is_left, is_missing, is_name, is_place, last_entry, last_place, later_place, loose_entry, no_name, place_cmp, saved_entries, tag_entry, was_absent}
 use Rattle.oci_layout.proofs.EntryKeys.{first_key, key_or_none, no_first_key, same_held, this_key_from}
 use Rattle.oci_layout.proofs.Law.{both_true, loose_there, one_is}
 use Rattle.oci_layout.proofs.Loose.{no_element, place_cmp_exact, place_cmp_total}

@@ -50,6 +50,23 @@ pub(crate) fn part_of_file<R: Files + AllocGlobal>(
     Ok(bytes)
 }
 
+/// Reads a regular file, or the one that a link leads to, if it has this length. Opens nothing else.
+pub(crate) fn file_of_length<R: Files + AllocGlobal>(
+    rt: &R,
+    place: &str,
+    length: u64,
+) -> io::Result<Option<Vec<u8>>> {
+    let metadata = fs::metadata(rt, place)?;
+    if !metadata.is_file() || metadata.len() != length {
+        return Ok(None);
+    }
+    let mut bytes = room(rt, length)?;
+    fs::File::open(rt, place)?
+        .take(length)
+        .read_to_end(&mut bytes)?;
+    Ok(Some(bytes))
+}
+
 /// Returns an empty list with room for `bytes` bytes.
 fn room<R: AllocGlobal>(rt: &R, bytes: u64) -> io::Result<Vec<u8>> {
     let bytes = usize::try_from(bytes).unwrap_or(usize::MAX);

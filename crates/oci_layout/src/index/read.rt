@@ -1,5 +1,6 @@
-ghost use Rattle.std.specs.Prelude.{◌≡◌, ◌++◌, ◌∷◌, [], codes, map, IfOk, IfErr, OnOk};
+ghost use Rattle.std.specs.Prelude.{◌≡◌, ◌++◌, ◌∷◌, [], codes, map, option_map, IfOk, IfErr, OnOk};
 ghost use Rattle.oci_manifest.specs.Fault.{Fails, Gives};
+ghost use Rattle.oci_manifest.specs.Manifest.{present};
 ghost use Rattle.oci_layout.specs.Entries.{
   elements_of,
   entries_as_is,
@@ -84,8 +85,8 @@ fn content(alloc: Global, bytes: &[u8], as_is: bool) -> Result<IndexContent, Man
     ensures cause { IfErr result (λ fault. Fails fault (index_in as_is bytes.now)) }
 {
     let value = read_json(alloc, bytes)?;
-    let entries = entries_of(alloc, &value, as_is)?;
-    Ok(IndexContent::new(entries, own_members(value)))
+    let (entries, members) = parts(alloc, value, as_is)?;
+    Ok(IndexContent::new(entries, members))
 }
 
 /// Returns the fault of `open` for an index that cannot be read.
@@ -98,68 +99,70 @@ fn bad_index(fault: ManifestFault) -> LayoutFault
     }
 }
 
-/// Returns the members of an index without `manifests`.
-fn own_members(index: Value) -> Value
-    ensures { object_members (view result)
-        ≡ without_member (codes "manifests") (object_members (view index)) }
-{
-    match index {
-        Value::Object(mut members) => {
-            // The contract of `len` states that the names are in order.
-            let _ = members.len();
-            members.remove("manifests");
-            Value::Object(members)
-        }
-        _ => Value::Null,
-    }
-}
-
-/// Returns the entries of an index. Each is a descriptor, unless the index is read `as_is`.
-fn entries_of(alloc: Global, index: &Value, as_is: bool) -> Result<Vec<IndexEntry>, ManifestFault>
-    ensures { Gives (λ entries. map entry_of entries.items) result
-        (index_entries as_is (view index.now)) }
+/// Returns the entries of an index and its other members. Each entry is a descriptor, unless the
+/// index is read `as_is`.
+fn parts(
+    alloc: Global,
+    index: Value,
+    as_is: bool,
+) -> Result<(Vec<IndexEntry>, Value), ManifestFault>
+    ensures entries { Gives (λ p. map entry_of p.0.items) result
+        (index_entries as_is (view index)) }
+    ensures members { IfOk result (λ p. object_members (view p.1)
+        ≡ without_member (codes "manifests") (object_members (view index))) }
 {
     if as_is {
-        return entries_as_is(alloc, index);
+        return parts_as_is(alloc, index);
     }
-    index_keys(alloc, index)?;
-    entries_as_is(alloc, index)
+    index_keys(alloc, &index)?;
+    parts_as_is(alloc, index)
 }
 
-/// Returns the entries of an index, also those that are no descriptors.
-fn entries_as_is(alloc: Global, index: &Value) -> Result<Vec<IndexEntry>, ManifestFault>
-    ensures { Gives (λ entries. map entry_of entries.items) result
-        (entries_as_is (view index.now)) }
+/// Returns the entries of an index, also those that are no descriptors, and its other members.
+fn parts_as_is(alloc: Global, index: Value) -> Result<(Vec<IndexEntry>, Value), ManifestFault>
+    ensures entries { Gives (λ p. map entry_of p.0.items) result (entries_as_is (view index)) }
+    ensures members { IfOk result (λ p. object_members (view p.1)
+        ≡ without_member (codes "manifests") (object_members (view index))) }
 {
-    let elements = index_elements(index)?;
-    Ok(entries_in(alloc, elements)?)
+    let (elements, members) = split(alloc, index)?;
+    Ok((entries_in(alloc, elements)?, members))
 }
 
-/// Returns the elements of an index's `manifests`.
-#[tactic(auto, unfolding(crate::specs::Entries::index_elements, crate::specs::Entries::elements_of))]
-fn index_elements(index: &Value) -> Result<&[Value], ManifestFault>
-    ensures { Gives (λ elements. items_view elements.now) result
-        (index_elements (view index.now)) }
+/// Returns the elements of an index's `manifests`, and its other members.
+#[tactic(auto, unfolding(crate::specs::Entries::index_elements))]
+fn split(alloc: Global, index: Value) -> Result<(Vec<Value>, Value), ManifestFault>
+    ensures elements { Gives (λ p. items_view p.0.items) result (index_elements (view index)) }
+    ensures members { IfOk result (λ p. object_members (view p.1)
+        ≡ without_member (codes "manifests") (object_members (view index))) }
 {
-    if !index.is_object() {
+    let Value::Object(mut members) = index else {
         return Err(ManifestFault::NotObject);
-    }
-    let Some(list) = index.get("manifests") else {
-        return Ok(&[]);
     };
-    if list.is_null() {
-        return Ok(&[]);
+    // The contract of `len` states that the names are in order.
+    let _ = members.len();
+    match elements_of(alloc, members.remove("manifests")) {
+        Ok(elements) => Ok((elements, Value::Object(members))),
+        Err(fault) => Err(fault),
     }
-    match list.as_array() {
-        Some(elements) => Ok(elements),
-        None => Err(ManifestFault::BadList("manifests")),
+}
+
+/// Returns the elements of an index's `manifests`, if it has them.
+#[tactic(auto, unfolding(crate::specs::Entries::elements_of))]
+fn elements_of(alloc: Global, list: Option<Value>) -> Result<Vec<Value>, ManifestFault>
+    ensures { Gives (λ elements. items_view elements.items) result
+        (elements_of (present (option_map view list))) }
+{
+    match list {
+        None | Some(Value::Null) => Ok(Vec::new(alloc)),
+        Some(Value::Array(elements)) => Ok(elements),
+        Some(_) => Err(ManifestFault::BadList("manifests")),
     }
 }
 
 /// Returns the entries of these elements.
-fn entries_in(alloc: Global, elements: &[Value]) -> Result<Vec<IndexEntry>, NoMemory>
+fn entries_in(alloc: Global, elements: Vec<Value>) -> Result<Vec<IndexEntry>, NoMemory>
     ensures { IfOk result (λ entries. map entry_of entries.items
-        ≡ entries_in (items_view elements.now)) }
+        ≡ entries_in (items_view elements.items)) }
 {
     let mut entries = Vec::new(alloc);
     for element in elements {
@@ -169,13 +172,13 @@ fn entries_in(alloc: Global, elements: &[Value]) -> Result<Vec<IndexEntry>, NoMe
 }
 
 /// Returns the entry of an element.
-fn entry_of_value(alloc: Global, element: &Value) -> Result<IndexEntry, NoMemory>
-    ensures { IfOk result (λ entry. entry_of entry ≡ entry_of_value (view element.now)) }
+fn entry_of_value(alloc: Global, element: Value) -> Result<IndexEntry, NoMemory>
+    ensures { IfOk result (λ entry. entry_of entry ≡ entry_of_value (view element)) }
 {
     Ok(IndexEntry {
-        key: key_of(alloc, element)?,
-        name: name(alloc, element)?,
-        value: element.clone()?,
+        key: key_of(alloc, &element)?,
+        name: name(alloc, &element)?,
+        value: element,
     })
 }
 

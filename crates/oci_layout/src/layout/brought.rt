@@ -44,7 +44,7 @@ impl<D: Dir> Layout<D> {
     ///
     /// # Errors
     ///
-    /// `NoMemory` if memory runs out. The layout then remembers nothing of its index.
+    /// `NoMemory` if memory runs out. The layout may then remember nothing of its index.
     pub fn bring(&mut self, entries: &[IndexEntry]) -> Result<(), NoMemory>
         requires { All IsShallowEntry (map entry_of entries.now) }
         ensures brought { OnOk result (Brings (map entry_of entries.now) self.old.tags
@@ -68,7 +68,7 @@ impl<D: Dir> Layout<D> {
     ///
     /// # Errors
     ///
-    /// `NoMemory` if memory runs out. The layout then remembers nothing of its index.
+    /// `NoMemory` if memory runs out. The layout may then remember nothing of its index.
     pub fn forget(&mut self, entries: &[IndexEntry]) -> Result<(), NoMemory>
         ensures forgotten { OnOk result (Forgets (map entry_of entries.now) self.old.opened
             self.new.opened) }
@@ -85,7 +85,7 @@ impl<D: Dir> Layout<D> {
     ///
     /// # Errors
     ///
-    /// `NoMemory` if memory runs out. The layout then remembers nothing of its index.
+    /// `NoMemory` if memory runs out. The layout may then remember nothing of its index.
     pub fn forget_names(&mut self) -> Result<(), NoMemory>
         ensures forgotten { OnOk result (ForgetsNames self.old.opened self.new.opened) }
         ensures lost { OnErr result (self.new.opened ≡ no_index) }

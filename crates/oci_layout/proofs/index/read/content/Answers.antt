@@ -10,5 +10,5 @@ pub new-requires : goal.new-requires
 new-requires c =
     let bytes = c.args.bytes.now in
     let value = view c.in_ok-value.value in
-    shallow-parts c.args.as_is bytes value (map entry_of c.in_ok-entries.entries.items) (object_members (view c.own_members.result))
-    (or_fault-Ok not_json (reading bytes) value c.in_ok-value.ensures) c.in_ok-entries.ensures c.own_members.ensures
+    shallow-parts c.args.as_is bytes value (map entry_of c.in_ok-entries.entries.items) (object_members (view c.in_ok-entries.members))
+    (or_fault-Ok not_json (reading bytes) value c.in_ok-value.ensures) c.in_ok-entries.ensures.entries c.in_ok-entries.ensures.members

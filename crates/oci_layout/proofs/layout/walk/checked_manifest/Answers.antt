@@ -1,24 +1,26 @@
-use Rattle.std.proofs.Common.{Option, Some, None, Result, Ok, Err}
-use Rattle.std.specs.Prelude.{IfErr, IfOk, MatchOption}
-use Rattle.oci_layout.proofs.Walk.{manifest_damage, manifest_whole}
+use Rattle.std.proofs.Common.{◌≡◌, Some, inl, refl, sym}
+use Rattle.oci_layout.specs.Blobs.{blob_path}
+use Rattle.oci_layout.specs.Device.{IsSizedRead, of_length}
+use Rattle.oci_layout.proofs.Refusals.{read_fault}
+use Rattle.oci_layout.proofs.Walk.{manifest_damage, of_length_is, read_whole}
 use Rattle.oci_layout.proofs.layout.walk.checked_manifest.Goals as goal
 
-both_ok : {X E : Type 0} (r : Result X E) (P Q R : X → Type 0) → ((x : X) → P x → Q x → R x) → IfOk r P → IfOk r Q → IfOk r R
-both_ok (Ok x) P Q R f p q = f x p q
-both_ok (Err e) P Q R f p q = tt
-
-some_more : {X : Type 0} (o : Option X) (N : Type 0) (P Q : X → Type 0) → ((x : X) → P x → Q x) → MatchOption o N P → MatchOption o N Q
-some_more None N P Q f h = h
-some_more (Some x) N P Q f h = f x h
-
-each_err : {X E : Type 0} (r : Result X E) (P Q : E → Type 0) → ((e : E) → P e → Q e) → IfErr r P → IfErr r Q
-each_err (Ok x) P Q f h = tt
-each_err (Err e) P Q f h = f e h
-
-pub returns-clause-found : goal.returns-clause-found
-returns-clause-found g c =
+pub returns-in-Ok-clause-found : goal.returns-in-Ok-clause-found
+returns-in-Ok-clause-found g c = λ honest.
     let file = (g.D.Dir.device c.args.dir.now).file in
-    both_ok c.listed.result _ _ _ (λ o found good honest. some_more o _ _ _ (λ keys h. (manifest_whole file c.args.key.now c.requires.manifest h.0 (good honest), h.1)) (found honest)) c.listed.ensures.found c.listed.ensures.read.found
+    let k = c.args.key.now in
+    let bytes = c.as_slice.result.now in
+    let found : of_length k.size (file (blob_path k.digest)) ≡ Some bytes =
+    sym (rw (c.deref.ensures, c.in_ok-path.ensures, c.digest.ensures, c.size.ensures.size, c.in-Some.is, sym c.as_slice.ensures) at c.in_ok-bytes.ensures.found honest) in
+    read_whole file k bytes c.in-Ok.keys.items c.requires.manifest (of_length_is k.size (file (blob_path k.digest)) bytes found) c.in-Ok.ensures.matching c.in-Ok.ensures.listed
 
 pub returns-clause-cause : goal.returns-clause-cause
-returns-clause-cause g c = each_err c.listed.result _ _ (manifest_damage (g.D.Dir.device c.args.dir.now) c.args.key.now) c.listed.ensures.read.cause
+returns-clause-cause g c =
+    let dir = g.D.Dir.device c.args.dir.now in
+    let k = c.args.key.now in
+    let bytes = c.as_slice.result.now in
+    let read : dir.is_honest → IsSizedRead (dir.file (blob_path k.digest)) k.size (Some bytes) = λ honest.
+    (let found : of_length k.size (dir.file (blob_path k.digest)) ≡ Some bytes =
+    sym (rw (c.deref.ensures, c.in_ok-path.ensures, c.digest.ensures, c.size.ensures.size, c.in-Some.is, sym c.as_slice.ensures) at c.in_ok-bytes.ensures.found honest) in
+    (bytes, of_length_is k.size (dir.file (blob_path k.digest)) bytes found, inl refl)) in
+    manifest_damage dir k c.in-Err.fault (read_fault dir k bytes c.in-Err.fault c.requires.manifest read c.in-Err.ensures.cause)
