@@ -41,7 +41,7 @@ Build the manifest again with a tool that follows the OCI image specification.
 
 14 BadDescriptor
 The named member has an invalid descriptor at this position, counted from 0. Its `mediaType`, `digest` or `size` is missing or malformed.
-Build the manifest again with a tool that follows the OCI image specification. After 73, see there.
+Build the manifest again with a tool that follows the OCI image specification. After 73, run `ocicp explain 73`.
 
 15 Memory
 Memory ran out while a manifest was read.
@@ -204,8 +204,8 @@ The layout has another version than 1.0.0.
 Create the layout again with a tool that writes version 1.0.0.
 
 73 BadIndex
-The file `index.json` is not an image index. The next error says why. If it is 14, only the entry at that position is no descriptor: commands answer for the other entries, and are refused if they need this one.
-Look up the next number, and fetch `index.json` again from the layout's origin. If an entry that is no descriptor is no longer needed, run `ocicp untag` for its tag, or delete it from `index.json` if it has none.
+The file `index.json` is not an image index. The next error says why. If it is 14, only the entry at that position is no descriptor: most commands answer for the other entries, and some are refused.
+If the next number is 14, run `ocicp untag` for the tag of that entry, or correct it in `index.json`, or delete it there if it has no tag. Otherwise look up the next number, and fetch `index.json` again from the layout's origin.
 
 74 Device
 A file or the folder of the layout could not be read or written, or is not of the right kind.

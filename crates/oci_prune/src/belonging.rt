@@ -37,7 +37,7 @@ pub struct Belonging {
 
 /// Returns what belongs to some keys of a layout: the given keys that are held, and with each member
 /// the held keys that it lists, the held manifests whose `subject` has its digest, and the held keys
-/// of the tags that name its digest, if it is of a manifest kind, on and on. A tag names a digest if
+/// of the tags that name its digest, if it is of a manifest kind. A tag names a digest if
 /// its name, up to the first `.`, is the digest's text with `-` in place of `:`, as in
 /// `sha256-DIGITS.sig`, or the first 71 bytes of that. Only these `tags` are considered.
 ///

@@ -15,8 +15,9 @@ use oci_store::{GraphSource, Source};
 use std::alloc::Global;
 use std::collections::BTreeSet;
 
-/// Returns the keys that a prune keeps: the roots that are held, with each kept key the held keys that it lists,
-/// and, if `keeps_referrers`, the held keys that refer to it. `held` has the held keys.
+/// Returns the keys that a prune keeps: the roots that are held, with each kept key the held keys
+/// that it lists, and, if `keeps_referrers`, the held keys that refer to it. `held` has the held
+/// keys.
 ///
 /// # Errors
 ///

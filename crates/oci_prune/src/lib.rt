@@ -12,7 +12,7 @@
 //! lists. So are drafts that killed processes left. A layout without a tag is refused, and so is one
 //! in which a needed manifest is absent or any manifest is damaged, since nobody knows what it lists,
 //! or in which an entry of the index is no descriptor, since nobody knows what it needs.
-//! [`plan_prune_keeping`] keeps given keys too, as if they had tags.
+//! [`plan_prune_keeping`] keeps given keys too, with what belongs to them.
 //!
 //! [`prune`] does what is planned. It saves the index first and then removes files, so whenever it
 //! is stopped, every tag and all that it reaches is there, and the next prune goes on.

@@ -119,8 +119,9 @@ pub fn plan_prune<D: PrunableDir>(
     plan_prune_keeping(alloc, layout, &[], keeps_referrers)
 }
 
-/// Plans a prune of a layout as [`plan_prune`] does, but keeps these keys too, as if they had tags.
-/// Changes nothing. A key that is not held is passed over if its kind is not that of a manifest.
+/// Plans a prune of a layout as [`plan_prune`] does, but keeps these keys too, with what belongs to
+/// them. Changes nothing. A key that is not held is passed over if its kind is not that of a
+/// manifest.
 ///
 /// Without referrers the kept keys are exactly what is held and reached from the tags, the entries
 /// that a tag hides, and these keys, whatever the bytes of the layout are.

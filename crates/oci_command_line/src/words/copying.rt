@@ -45,13 +45,9 @@ pub(crate) fn copy_arguments(most_workers: u32) -> [Argument; 15] {
         all(),
         flag(
             "referrers",
-            "Also copies the indexes that list it, and what is attached to it and to anything it reaches, such as signatures and SBOMs, with everything that these reach. A manifest is attached by its `subject`, and a tag by its name, such as `sha256-DIGITS.sig`; such tags are set too",
+            "Also copies the indexes that list it, and what is attached to it and to anything it reaches, such as signatures and SBOMs, with everything that these reach. A manifest is attached by its `subject`, and a tag by its name, such as `sha256-DIGITS.sig`; such tags are set too. Refused if SRC has a damaged manifest (75, 77), or an entry of its `index.json` that is no descriptor (73)",
         ),
-        Argument::new(
-            "depth",
-            DEPTH,
-            "With --referrers: looks at most D levels up for what lists it or refers to it; 0 means no limit. What is attached to the blobs found comes at any depth",
-        ),
+        depth(),
         flag(
             "descend",
             "Also looks below the blobs that DST has, and copies those that are missing, damaged manifests, and layers and configs of another size; without it, a DST in which a manifest lists one of these is an error",
@@ -128,14 +124,26 @@ fn all() -> Argument {
     }
 }
 
+/// `--depth`
+fn depth() -> Argument {
+    let help =
+        "With --referrers: looks at most D levels up for what lists it or refers to it; 0 means no limit. What is attached \
+         to the blobs found comes at any depth. Not with --prune, which looks at no level up";
+    Argument {
+        conflicts: &["prune"],
+        ..Argument::new("depth", DEPTH, help)
+    }
+}
+
 /// `--prune`. It conflicts with the destination's own word, as `--all` does: `clap` does not ask for a
 /// required argument that conflicts with a given one.
 fn prune() -> Argument {
     let help =
         "With --all: afterwards removes from DST the tags that SRC does not have, and what no tag then needs, as the command \
-         `prune` does. Refused, before anything is copied, if the blob of an entry of SRC's `index.json` is missing or \
-         damaged, or SRC has a damaged manifest (96), or an entry is no descriptor (73). Not with --dry-run, since what is \
-         removed is known only after the copy";
+         `prune` does. With --referrers removes also what is attached only in DST, and does not bring the indexes that \
+         list an image. Refused, before anything is copied, if the blob of an entry of SRC's `index.json` is missing or \
+         damaged, or SRC has a damaged manifest (96), or an entry is no descriptor (73); with --referrers also if a manifest \
+         of SRC lists one that is missing (96). Not with --dry-run, since what is removed is known only after the copy";
     Argument {
         conflicts: &["destination", "dry-run"],
         needs: &["all"],

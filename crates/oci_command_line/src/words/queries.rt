@@ -78,7 +78,7 @@ pub(crate) const VERIFY: CommandText = CommandText {
          own blob has no file. Then prints `corrupt` with those of each blob whose file does not match, or \
          is a manifest that cannot be read. If a listed blob has no file, prints `open` with the first \
          manifest that lists one, and with that blob. Then prints `shadowed` with the tag and the blob of \
-         each entry whose tag a later entry has too, which is no problem by itself. Then prints `held` and \
+         each readable entry whose tag a later entry has too, which is no problem by itself. Then prints `held` and \
          the number of blobs that have a file. Then reports each entry of `index.json` that is no \
          descriptor, as an error (73). The status is 1 if it finds a problem.",
     ),
