@@ -64,7 +64,7 @@ pub(crate) fn print_answer_of_all<D: Dir, T: Display + Serialize + Drop, W: Writ
 /// # Errors
 ///
 /// As of [`print_answer_of_all`], but for damaged manifests.
-pub(crate) fn print_answer_of_files<D: Dir, T: Display + Serialize + Drop, W: Write, X: Write>(
+pub(crate) fn print_findings_of_all<D: Dir, T: Display + Serialize + Drop, W: Write, X: Write>(
     alloc: Global,
     layout: &Layout<D>,
     answer: T,
@@ -125,9 +125,9 @@ fn fault_of_entries<X: Write>(places: &[usize], form: Form, err: &mut X) -> Opti
     last
 }
 
-/// Returns the last one of this fault, if there is one, and of those that these manifests of a layout
-/// still have, and prints those before it. As JSON the first fault is the last one, and a fault that
-/// is not one of an entry or a manifest always is.
+/// Returns the last fault of these: the one before, if there is one, and those that these manifests
+/// of a layout still have. Prints the others. As JSON only the first is returned and none is printed.
+/// A fault other than those of an entry or a manifest ends the list.
 fn fault_of_manifests<D: Dir, X: Write>(
     layout: &Layout<D>,
     manifests: &[Key],

@@ -2,7 +2,7 @@ ghost use Rattle.std.specs.Prelude.{◌≡◌, true, IfOk, OnOk};
 ghost use Rattle.oci_query_commands.specs.Answered.{is_of_all, IsReadable, LeavesNothingOut};
 ghost use Rattle.oci_query_commands.specs.Verified.{IsGoodVerify, IsVerified, IsWhole};
 
-use crate::left_out::{print_answer_of_all, print_answer_of_files};
+use crate::left_out::{print_answer_of_all, print_findings_of_all};
 use crate::listing::{Predecessors, Resolved, Tags};
 use crate::tree::{Labels, Tree};
 use crate::verify::verify;
@@ -137,6 +137,6 @@ fn print_findings<R: AllocGlobal + Clock + Wait, D: Dir, W: Write, X: Write>(
 {
     let findings = verify(rt, layout, shows_progress, err)?;
     let outcome = findings.outcome();
-    print_answer_of_files(rt.alloc(), layout, findings, form, out, err)?;
+    print_findings_of_all(rt.alloc(), layout, findings, form, out, err)?;
     Ok(outcome)
 }

@@ -84,8 +84,8 @@ fn print_each<T: Display, W: fmt::Write>(
 }
 
 /// `verify FOLDER`: reads each held blob, and returns what is wrong with the layout, but for the
-/// entries of `index.json` that are no descriptors. If it
-/// `shows_progress`, draws a line on `err` that shows how much was read, and erases it at the end.
+/// entries of `index.json` that are no descriptors. If it `shows_progress`, draws a line on `err`
+/// that shows how much was read, and erases it at the end.
 pub(crate) fn verify<'l, R: AllocGlobal + Clock + Wait, D: Dir, X: Write>(
     rt: &R,
     layout: &'l Layout<D>,
