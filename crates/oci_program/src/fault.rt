@@ -11,8 +11,22 @@ use oci_manifest::KeyFault;
 use oci_prune::PruneFault;
 use oci_store::{FetchFault, PushFault, RefFault};
 use std::alloc::{AllocError, AllocFailed};
-use std::io;
+use std::fmt::Display;
+use std::{fmt, io};
 use thiserror::Error;
+
+/// Texts that are printed with a space before each.
+#[derive(Drop)]
+struct SpaceSeparated<'a>(&'a [String]);
+
+impl Display for SpaceSeparated<'_> {
+    fn fmt<W: fmt::Write>(&self, f: &mut fmt::Formatter<W>) -> fmt::Result {
+        for text in self.0 {
+            write!(f, " {text}")?;
+        }
+        Ok(())
+    }
+}
 
 /// Why a command is refused. `Display` is the text after `ocicp: ` on stderr.
 #[derive(Debug, Drop, Error)]
@@ -32,6 +46,10 @@ pub enum ProgramFault {
     /// Another process has the lock of the folder, and the command does not wait.
     #[error("99 Locked {0}")]
     Locked(String),
+    /// No descriptor of an index states the platform, or what the reference names is no index. The
+    /// platforms that the index states follow.
+    #[error("107 NoPlatform {}{}", .0, SpaceSeparated(.1))]
+    NoPlatform(String, Vec<String>),
     /// The file that a command reads is no archive, or could not be read.
     #[error("{0}")]
     Archive(#[from] ArchiveFault),
@@ -53,7 +71,7 @@ pub enum ProgramFault {
     /// The prune was refused, or a file could not be removed.
     #[error("{0}")]
     Prune(#[from] PruneFault),
-    /// The layout that a copy reads has no tag, or it is not known what it has.
+    /// The layout that a command reads has no tag, or it is not known what it has.
     #[error("{0}")]
     Source(PruneFault),
     /// The layout does not have the reference.
@@ -135,6 +153,7 @@ impl ProgramFault {
             ProgramFault::Output => Some(94),
             ProgramFault::NotWritable(_) => Some(95),
             ProgramFault::Locked(_) => Some(99),
+            ProgramFault::NoPlatform(_, _) => Some(107),
             ProgramFault::Archive(fault) => Some(fault.number()),
             ProgramFault::Key(fault) => Some(fault.number()),
             ProgramFault::Push(fault) => Some(fault.number()),

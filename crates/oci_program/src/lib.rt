@@ -3,7 +3,7 @@
 //!
 //! | Type | What it is |
 //! |---|---|
-//! | [`ProgramFault`] | why a command is refused, by a fault from below or one of 92 to 95 and 99 |
+//! | [`ProgramFault`] | why a command is refused, by a fault from below or one of 92 to 95, 99 and 107 |
 //! | [`Outcome`] | the result of a command that was not refused |
 //! | [`Form`] | lines or JSON, the form in which a command prints |
 //! | [`Ending`] | why a run ended early: an invalid command line, or a refused command |
@@ -11,12 +11,14 @@
 //! | [`Sides`], [`RefusedPath`] | the folders of a command line, and the cause of a refusal |
 //! | [`PruneAnswer`] | the answer of a prune: what it removed |
 //! | [`Tagged`], [`Sum`] | parts of answers: a tag with its key, and a sum |
+//! | [`Picked`] | the descriptor that an index has for a platform |
 //! | [`ProgressLine`] | a line on a terminal: how much of an [`Amount`] has arrived, and how fast |
 //! | [`Readable`], [`TimeLeft`] | a size, and a time, as people read them |
 //!
 //! A command returns an [`Outcome`] or a [`ProgramFault`]. [`print_answer`] prints its answer, or
 //! [`print_answer_with_fault`] if it pruned. [`finish_run`] ends its run, and [`end_early`] a run
-//! that did not come to a command. [`resolve`] finds the key of a reference in a layout.
+//! that did not come to a command. [`resolve`] finds the key of a reference in a layout,
+//! and [`pick_platform`] the manifest of an index for a platform.
 //! [`lock_folder`] and [`make_and_lock_folder`] lock the folder that a command writes into;
 //! [`check_is_layout`] looks before whether it has a layout.
 #![tactic(auto)]
@@ -27,6 +29,7 @@ mod fault;
 mod finish;
 mod locking;
 mod outcome;
+mod platform;
 mod progress_line;
 mod prune_answer;
 mod readable;
@@ -44,6 +47,7 @@ pub use fault::ProgramFault;
 pub use finish::{Ended, end_early, finish_run};
 pub use locking::{check_is_layout, lock_folder, make_and_lock_folder};
 pub use outcome::Outcome;
+pub use platform::{Picked, pick_platform};
 pub use progress_line::{Amount, ProgressLine};
 pub use prune_answer::{PruneAnswer, print_answer_with_fault};
 pub use readable::{Readable, TimeLeft};

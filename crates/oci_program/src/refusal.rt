@@ -39,7 +39,10 @@ impl ProgramFault {
 
     /// Returns what the fault is about. That is not known if memory runs out.
     fn subject<'w>(&self, alloc: Global, sides: &Sides<'w>) -> Subject<'w> {
-        if matches!(self, ProgramFault::Reference(_)) {
+        if matches!(
+            self,
+            ProgramFault::Reference(_) | ProgramFault::NoPlatform(_, _)
+        ) {
             return Subject::Reference;
         }
         match self.refused_path(alloc, sides) {

@@ -91,6 +91,10 @@ pub(crate) enum Carried<'f> {
     Item {
         item: &'f str,
     },
+    Platforms {
+        platform: &'f str,
+        platforms: &'f Vec<String>,
+    },
     Form {
         #[serde(serialize_with = "write_printed")]
         form: Compression,

@@ -101,6 +101,10 @@ impl ProgramFault {
             ProgramFault::File(path) => Carried::Path { path },
             ProgramFault::NotWritable(path) => Carried::Path { path },
             ProgramFault::Locked(path) => Carried::Path { path },
+            ProgramFault::NoPlatform(platform, platforms) => Carried::Platforms {
+                platform,
+                platforms,
+            },
             _ => Carried::Nothing,
         };
         match self.number() {
