@@ -46,14 +46,21 @@ pub enum Query<'w> {
         /// Whether the blobs of entries without a tag are listed too.
         lists_all: bool,
     },
-    /// `resolve`, with the reference.
-    Resolve(&'w str),
+    /// `resolve`.
+    Resolve {
+        /// The reference.
+        reference: &'w str,
+        /// The platform whose manifest is picked from the index that the reference names.
+        platform: Option<&'w str>,
+    },
     /// `predecessors`, with the reference.
     Predecessors(&'w str),
     /// `tree`.
     Tree {
         /// The reference.
         reference: &'w str,
+        /// The platform whose manifest is picked from the index that the reference names.
+        platform: Option<&'w str>,
         /// Whether the referrers are shown too.
         shows_referrers: bool,
     },
@@ -147,7 +154,7 @@ fn request_of<'w>(
                 lists_all: matches.get_flag("all"),
             },
         )),
-        "resolve" => Ok(of_folder(matches, Query::Resolve(word(matches, "reference")))),
+        "resolve" => Ok(of_folder(matches, resolve_of(matches))),
         "predecessors" => Ok(of_folder(matches, Query::Predecessors(word(matches, "reference")))),
         "tree" => Ok(of_folder(matches, tree_of(matches))),
         "verify" => Ok(of_folder(
@@ -175,10 +182,19 @@ fn of_folder<'w>(matches: &ArgMatches<'w>, query: Query<'w>) -> Request<'w> {
     Request::Query(word(matches, "folder"), query)
 }
 
+/// The query for the key of the named reference.
+fn resolve_of<'w>(matches: &ArgMatches<'w>) -> Query<'w> {
+    Query::Resolve {
+        reference: word(matches, "reference"),
+        platform: matches.get_str("platform"),
+    }
+}
+
 /// The query for the tree of the named reference.
 fn tree_of<'w>(matches: &ArgMatches<'w>) -> Query<'w> {
     Query::Tree {
         reference: word(matches, "reference"),
+        platform: matches.get_str("platform"),
         shows_referrers: matches.get_flag("referrers"),
     }
 }

@@ -10,8 +10,8 @@ use crate::words::copying::{COPY, copy_arguments};
 use crate::words::memory::{MEM, mem_arguments};
 use crate::words::pruning::{PRUNE, UNTAG, prune_arguments, untag_arguments};
 use crate::words::queries::{
-    EXPLAIN, PREDECESSORS, RESOLVE, TAGS, TREE, VERIFY, error_number, folder, reference, tags_all,
-    tree_referrers,
+    EXPLAIN, PREDECESSORS, RESOLVE, TAGS, TREE, VERIFY, error_number, folder, platform, reference,
+    tags_all, tree_referrers,
 };
 use crate::words::text::CommandText;
 use clap::Command;
@@ -27,11 +27,21 @@ pub(crate) fn command<'w>(alloc: Global, most_workers: u32) -> Result<Command<'w
         (UNTAG, &untag_arguments()),
         (PRUNE, &prune_arguments()),
         (TAGS, &[tags_all(), hint(), json(), folder()]),
-        (RESOLVE, &[hint(), json(), folder(), reference()]),
+        (
+            RESOLVE,
+            &[platform(), hint(), json(), folder(), reference()],
+        ),
         (PREDECESSORS, &[hint(), json(), folder(), reference()]),
         (
             TREE,
-            &[tree_referrers(), hint(), json(), folder(), reference()],
+            &[
+                tree_referrers(),
+                platform(),
+                hint(),
+                json(),
+                folder(),
+                reference(),
+            ],
         ),
         (VERIFY, &[hint(), json(), folder()]),
         (MEM, &mem_arguments(most_workers)),

@@ -15,7 +15,7 @@ use Rattle.oci_manifest.specs.Descriptor.{Descriptor}
 abbrev pub is_of_all : Query → Bool
 is_of_all (query.Tags lists_all) = true
 is_of_all (query.Predecessors reference) = true
-is_of_all (query.Tree reference shows_referrers) = shows_referrers
+is_of_all (query.Tree reference platform shows_referrers) = shows_referrers
 is_of_all other = false
 
 -- each entry that a layout remembers is a descriptor

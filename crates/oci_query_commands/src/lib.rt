@@ -10,6 +10,7 @@
 
 mod left_out;
 mod listing;
+mod named;
 mod query;
 mod tree;
 mod verify;

@@ -1,3 +1,7 @@
+ghost use Rattle.std.specs.Prelude.{option_copied, IfOk};
+ghost use Rattle.oci_query_commands.specs.Named.{IsNamed};
+
+use crate::named::named_key;
 use oci_digest::NoMemory;
 use oci_layout::{Dir, IndexEntry, Layout};
 use oci_manifest::Key;
@@ -94,20 +98,24 @@ impl fmt::Display for Tags {
     }
 }
 
-/// The key that a reference resolves to. `Display` prints it on a line.
+/// The key that a reference names, perhaps for a platform. `Display` prints it on a line.
 #[derive(Drop, Serialize)]
 pub(crate) struct Resolved {
     descriptor: Key,
 }
 
 impl Resolved {
-    /// Resolves a reference.
+    /// Resolves a reference. With a platform it is the manifest that an index lists for it.
     pub(crate) fn of<D: Dir>(
         layout: &Layout<D>,
         reference: &str,
-    ) -> Result<Resolved, ProgramFault> {
+        platform: Option<&str>,
+    ) -> Result<Resolved, ProgramFault>
+        ensures { IfOk result (λ resolved. IsNamed (D.device layout.now.dir) layout.now.graph
+            layout.now.tags reference.now (option_copied platform.entry) resolved.descriptor) }
+    {
         Ok(Resolved {
-            descriptor: resolve(layout, reference)?,
+            descriptor: named_key(layout, reference, platform)?,
         })
     }
 }

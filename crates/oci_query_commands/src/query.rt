@@ -4,10 +4,12 @@ ghost use Rattle.oci_query_commands.specs.Verified.{IsGoodVerify, IsVerified, Is
 
 use crate::left_out::{print_answer_of_all, print_findings_of_all};
 use crate::listing::{Predecessors, Resolved, Tags};
+use crate::named::named_key;
 use crate::tree::{Labels, Tree};
 use crate::verify::verify;
 use oci_command_line::Query;
 use oci_layout::{Dir, Layout};
+use oci_manifest::Key;
 use oci_program::{Form, Outcome, ProgramFault, print_answer};
 use std::alloc::Global;
 use std::io::Write;
@@ -35,8 +37,12 @@ use std::time::Clock;
 /// - 35 `EmptyReference` if the reference is empty, and 36 `UnknownReference` if it is unknown.
 /// - 75 `Corrupt` or 77 `BadManifest` if the reference names a damaged blob, or for a damaged
 ///   manifest of the layout after the answer.
-/// - 21 `Corrupt` if `tree` reads a referrer whose file does not match its key.
-/// - 22 `Device` if a blob cannot be read by `tree` or `verify`.
+/// - 107 `NoPlatform` if a platform is asked for, and the reference names no index that lists a
+///   manifest for it. 96 `Unknown`, 75 `Corrupt` or 77 `BadManifest` if that manifest is missing or
+///   damaged.
+/// - 21 `Corrupt` if `tree` reads a referrer whose file does not match its key, or if the file of an
+///   index that is asked for a platform does not.
+/// - 22 `Device` if a blob cannot be read by `resolve`, `tree` or `verify`.
 /// - 94 `Output` if `out` cannot be written.
 /// - Out of memory, at any point.
 pub fn run_query<
@@ -83,28 +89,38 @@ fn answer_from<R: AllocGlobal + Clock + Wait, D: Dir, W: Write, X: Write>(
             let tags = Tags::of(alloc, layout, lists_all)?;
             print_answer_of_all(alloc, layout, tags, form, out, err)
         }
-        Query::Resolve(reference) => {
-            print_answer(alloc, &Resolved::of(layout, reference)?, form, out)
-        }
+        Query::Resolve {
+            reference,
+            platform,
+        } => print_answer(
+            alloc,
+            &Resolved::of(layout, reference, platform)?,
+            form,
+            out,
+        ),
         Query::Predecessors(reference) => {
             let predecessors = Predecessors::of(layout, reference)?;
             print_answer_of_all(alloc, layout, predecessors, form, out, err)
         }
         Query::Tree {
             reference,
+            platform,
             shows_referrers,
-        } => print_tree(alloc, layout, reference, shows_referrers, form, out, err),
+        } => {
+            let root = named_key(layout, reference, platform)?;
+            print_tree(alloc, layout, &root, shows_referrers, form, out, err)
+        }
         Query::Verify { shows_progress } => {
             print_findings(rt, layout, shows_progress, form, out, err)
         }
     }
 }
 
-/// Prints the tree of a reference. Its referrers may be any manifests of the layout.
+/// Prints the tree of a key. Its referrers may be any manifests of the layout.
 fn print_tree<D: Dir, W: Write, X: Write>(
     alloc: Global,
     layout: &Layout<D>,
-    reference: &str,
+    root: &Key,
     shows_referrers: bool,
     form: Form,
     out: &mut W,
@@ -114,7 +130,7 @@ fn print_tree<D: Dir, W: Write, X: Write>(
         → LeavesNothingOut (D.device layout.now.dir) layout.now.opened) }
 {
     let labels = Labels::of(alloc, layout)?;
-    let tree = Tree::of(alloc, layout, &labels, reference, shows_referrers)?;
+    let tree = Tree::of(alloc, layout, &labels, root, shows_referrers)?;
     if shows_referrers {
         print_answer_of_all(alloc, layout, tree, form, out, err)
     } else {

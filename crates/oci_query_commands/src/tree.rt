@@ -1,7 +1,7 @@
 use oci_layout::{Dir, Layout};
 use oci_manifest::Key;
 use oci_plan::climb;
-use oci_program::{ProgramFault, Readable, resolve};
+use oci_program::{ProgramFault, Readable};
 use oci_prune::belonging_of;
 use serde::Serialize;
 use std::alloc::Global;
@@ -13,7 +13,7 @@ mod walk;
 pub(crate) use labels::Labels;
 use walk::Walk;
 
-/// The blobs that a reference reaches and its referrers, each as a list of nodes with depths. Of the
+/// The blobs that a key reaches and its referrers, each as a list of nodes with depths. Of the
 /// referrers, those that list the blob come first, and then each blob to which something more is
 /// attached, with that below it. `Display` prints a node a line, and a title above the referrers if
 /// they were asked for.
@@ -26,7 +26,7 @@ pub(crate) struct Tree<'l> {
 }
 
 impl<'l> Tree<'l> {
-    /// Returns the blobs that a reference reaches, and its referrers if they are asked for.
+    /// Returns the blobs that a key reaches, and its referrers if they are asked for.
     ///
     /// The time and the memory grow with the nodes, and with the digests and tags of the layout.
     /// With referrers each manifest of the layout is read for its subject, one at a time, and those
@@ -36,16 +36,15 @@ impl<'l> Tree<'l> {
         alloc: Global,
         layout: &Layout<D>,
         labels: &'l Labels,
-        reference: &str,
+        root: &Key,
         shows_referrers: bool,
     ) -> Result<Tree<'l>, ProgramFault> {
-        let root = resolve(layout, reference)?;
         let mut walk = Walk::new(alloc, layout, labels);
-        let blobs = walk.blobs(&root)?;
+        let blobs = walk.blobs(root)?;
         let referrers = if shows_referrers {
-            let climbed = climb(alloc, layout, &root, 0)?;
+            let climbed = climb(alloc, layout, root, 0)?;
             let belonging = belonging_of(alloc, layout, &climbed, &layout.tags()?)?;
-            walk.referrers(&root, &belonging)?
+            walk.referrers(root, &belonging)?
         } else {
             Vec::new(alloc)
         };
@@ -82,7 +81,7 @@ fn print_nodes<W: fmt::Write>(nodes: &[Node<'_>], f: &mut fmt::Formatter<W>) -> 
 /// A blob of a tree. The blobs below it follow it, with a greater depth.
 #[derive(Drop, Serialize)]
 struct Node<'l> {
-    /// The number of steps from the blob of the reference.
+    /// The number of steps from the blob of the tree.
     depth: usize,
     descriptor: Key,
     /// The tags of the blob, in byte order.

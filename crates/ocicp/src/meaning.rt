@@ -62,7 +62,7 @@ fn reference_of<'w>(request: &Request<'w>) -> &'w str {
 /// The reference of a query.
 fn reference_in<'w>(query: Query<'w>) -> &'w str {
     match query {
-        Query::Resolve(reference) => reference,
+        Query::Resolve { reference, .. } => reference,
         Query::Predecessors(reference) => reference,
         Query::Tree { reference, .. } => reference,
         Query::Tags { .. } => "",

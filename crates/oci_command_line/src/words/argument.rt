@@ -28,6 +28,8 @@ pub(crate) enum Kind {
         most: u32,
         default: Option<&'static str>,
     },
+    /// A flag with a text.
+    Text(&'static str),
     /// A word without which the command line is invalid.
     Word(&'static str),
     /// A word that can be left out.
@@ -73,6 +75,7 @@ impl Kind {
                 most,
                 default,
             } => Ok(with_number(argument.long(id).value_name(name), most, default)),
+            Kind::Text(name) => Ok(argument.long(id).value_name(name)),
             Kind::Word(name) => Ok(argument.value_name(name).required(true)),
             Kind::OptionalWord(name) => Ok(argument.value_name(name)),
             Kind::WordUnless { name, flag } => argument

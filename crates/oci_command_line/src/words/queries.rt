@@ -24,7 +24,7 @@ pub(crate) const RESOLVE: CommandText = CommandText {
     about: "Prints the digest, size and media type that a reference resolves to",
     details: None,
     usage: "ocicp resolve [OPTIONS] <FOLDER> <REF>",
-    examples: "Example:\n  ocicp resolve mirror v1",
+    examples: "Examples:\n  ocicp resolve mirror v1\n  ocicp resolve --platform linux/arm64 mirror v1",
 };
 
 /// `predecessors [--json] FOLDER REF`
@@ -63,7 +63,7 @@ pub(crate) const TREE: CommandText = CommandText {
          Scripts should use `resolve` and `predecessors`, which print whole digests.",
     ),
     usage: "ocicp tree [OPTIONS] <FOLDER> <REF>",
-    examples: "Examples:\n  ocicp tree mirror v1\n  ocicp tree --referrers mirror v1",
+    examples: "Examples:\n  ocicp tree mirror v1\n  ocicp tree --referrers mirror v1\n  ocicp tree --platform linux/arm64 mirror v1",
 };
 
 /// `verify [--json] FOLDER`
@@ -109,6 +109,15 @@ pub(crate) fn tree_referrers() -> Argument {
         "referrers",
         "Then shows the manifests that list it, such as signatures, those that list these, and what is attached to any blob that it reaches",
     )
+}
+
+/// `--platform`
+pub(crate) fn platform() -> Argument {
+    let help =
+        "Takes in place of the index that REF names the first manifest that it lists for this platform, which is written \
+         OS/ARCH, for any variant, or OS/ARCH/VARIANT. Refused if the index lists none for it, or REF names no index (107), and \
+         if the manifest is missing (96) or damaged (75, 77)";
+    Argument::new("platform", Kind::Text("PLATFORM"), help)
 }
 
 /// `FOLDER`
