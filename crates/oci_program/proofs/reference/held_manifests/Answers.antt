@@ -1,9 +1,5 @@
-use Rattle.std.proofs.Common.{◌≡◌, List, sym, ap, subst, ◌∙◌, arith}
-use Rattle.std.specs.Map.{keys_of}
+use Rattle.std.proofs.Common.{sym, ap, ◌∙◌, arith}
 use Rattle.std.specs.Option.{option_copied}
-use Rattle.std.proofs.lemmas.List.{take_all}
-use Rattle.oci_store.specs.Graph.{Node}
-use Rattle.oci_layout.specs.Layout.{manifests_of}
 use Rattle.oci_program.proofs.Preferred.{manifests_more}
 use Rattle.oci_program.proofs.reference.held_manifests.Goals as goal
 

@@ -1,4 +1,4 @@
-use Rattle.std.proofs.Common.{◌≡◌, is_some, sym, ap, ◌∙◌}
+use Rattle.std.proofs.Common.{is_some, ap, ◌∙◌}
 use Rattle.oci_store.specs.Tags.{Tags, tag_at}
 use Rattle.oci_program.proofs.Preferred.{any_tag}
 use Rattle.oci_program.proofs.reference.is_tag.Goals as goal

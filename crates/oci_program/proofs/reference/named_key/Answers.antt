@@ -1,4 +1,4 @@
-use Rattle.std.proofs.Common.{◌≡◌, true, false, Option, is_some, sym, ap, subst, ◌∙◌}
+use Rattle.std.proofs.Common.{◌≡◌, true, false, sym, ap, subst, ◌∙◌}
 use Rattle.std.specs.Map.{keys_of}
 use Rattle.std.specs.Option.{option_copied}
 use Rattle.std.proofs.lemmas.Result.{IfOk-weaker}
@@ -7,7 +7,7 @@ use Rattle.oci_store.specs.Keyed.{has_key}
 use Rattle.oci_store.specs.Tags.{tag_at, IsLeastOf, IsLeastWith}
 use Rattle.oci_layout.specs.Layout.{manifests_of}
 use Rattle.oci_program.specs.Reference.{Names}
-use Rattle.oci_program.proofs.Preferred.{manifest_held, names_leaf, names_least, names_manifest}
+use Rattle.oci_program.proofs.Preferred.{manifest_held, names_least, names_manifest}
 use Rattle.oci_program.proofs.reference.named_key.Goals as goal
 
 pub returns-then-is_manifest-clause-found : goal.returns-then-is_manifest-clause-found
