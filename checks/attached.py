@@ -1,11 +1,13 @@
-"""`copy --referrers` of layouts made by hand and at random, against what belongs to the image by the rules of README, worked out from the files."""
+"""`copy --referrers` of layouts made by hand and at random, also into mirrors, against what belongs to the image by the rules of README, worked
+out from the files."""
 import json
+import os
 import random
 import shutil
 
 from support.layouts import BAR, E, FOO, I1, M2, M3, S, digits, image, index, write_layout
 from support.program import first, run, told
-from support.pruning import MEMBERS, Held, text
+from support.pruning import BLOB, MEMBERS, Held, files_of, path, text
 
 OCTETS = "application/octet-stream"
 # The number of random layouts.
@@ -127,9 +129,64 @@ def wrong_layout(room, layout):
             return "%s: %s" % (tag, problem)
 
 
+class Mirror:
+    """A mirror with referrers of a layout into another one, and what it is to print and to leave. Nothing is climbed to."""
+
+    def __init__(self, room, layout, other):
+        self.room = room
+        for name, made in ("source", layout), ("mirror", other):
+            shutil.rmtree("%s/%s" % (room, name), ignore_errors=True)
+            write_layout("%s/%s" % (room, name), *made)
+        self.source, self.before = Source(room + "/source"), Held(room + "/mirror")
+        tagged = set(self.source.tags.values())
+        self.members = self.source.belonging(tagged)
+        self.roots = tagged | self.source.attached(self.members)
+        self.files = {path(it) for key in self.members for it in [key, *self.source.listed(key)]}
+
+    def blobs(self):
+        return {it for it in files_of(self.room + "/mirror") if BLOB.fullmatch(it)}
+
+    def out(self):
+        """Return the lines of a mirror into the layout as it is."""
+        tags, new = self.source.tags, self.members - self.before.keys
+        removed, gone = self.before.keys - self.members, self.blobs() - self.files
+        lengths = {it: os.path.getsize("%s/mirror/%s" % (self.room, it)) for it in gone}
+        return "".join(it + "\n" for it in [
+            *("copied " + text(tags[it]) for it in sorted(tags)),
+            "planned %d pushed %d skipped %d" % (len(new), len(new), len(self.roots & self.before.keys)),
+            *("untagged %s %s" % (it, text(self.before.tags[it])) for it in sorted(set(self.before.tags) - set(tags))),
+            *("removed " + text(it) for it in sorted(removed)),
+            *("removed-file %s %d" % (it, lengths[it]) for it in sorted(gone - set(map(path, self.before.keys)))),
+            "kept %d removed %d files %d bytes %d" % (len(self.members), len(removed), len(gone), sum(lengths.values())),
+        ])
+
+    def wrong(self):
+        """Return the problem with a mirror into the layout as it is, or None."""
+        out = self.out()
+        ended = run(["copy", "--all", "--prune", "--referrers", "source", "mirror"], self.room)
+        if ended[:3] != (0, out, ""):
+            return "a mirror: %s, and not %r" % (told(ended), out)
+        self.before = Held(self.room + "/mirror")
+        return first([
+            None if self.before.keys == self.members else "the mirror holds %s" % sorted(map(text, self.before.keys)),
+            None if self.before.tags == self.source.tags else "the tags of the mirror are %s" % self.before.tags,
+            None if self.blobs() == self.files else "the files of the mirror are %s" % sorted(self.blobs()),
+        ])
+
+
+def wrong_mirror(room, layout, other):
+    """Return the problem with a mirror of a layout into another one, and again, or None."""
+    mirror = Mirror(room, layout, other)
+    return mirror.wrong() or mirror.wrong()
+
+
 def checks(room):
     for name, layout in CASES.items():
         yield name, wrong_layout(room, layout)
     chance = random.Random(1)
     for number in range(LAYOUTS):
         yield "random layout %d" % number, wrong_layout(room, random_layout(chance))
+    for name, layout in CASES.items():
+        yield "a mirror of %s" % name, wrong_mirror(room, layout, random_layout(chance))
+    for number in range(LAYOUTS):
+        yield "mirror %d of a random layout" % number, wrong_mirror(room, random_layout(chance), random_layout(chance))

@@ -23,8 +23,8 @@ use Rattle.oci_prune.specs.Attached.{follows, follows_one}
 use Rattle.oci_prune.specs.Belonging.{IsComplete}
 use Rattle.oci_prune.specs.declared.belonging.Belonging.{Belonging}
 use Rattle.oci_prune.proofs.Elements.{Contains-cons, Contains-head, Contains-tail, in_map_filter, no_element}
-use Rattle.oci_copy_commands.specs.Selected.{each_once, AddsAttached, AreAllRoots, AreClimbedOfKeys, AreOfRoots, AreReferenceRoots}
-use Rattle.oci_copy_commands.proofs.Selections.{root_there, roots_by, tagged_there}
+use Rattle.oci_copy_commands.specs.Selected.{climb_depth, each_once, AddsAttached, AreAllRoots, AreClimbedOfKeys, AreOfRoots, AreReferenceRoots}
+use Rattle.oci_copy_commands.proofs.Selections.{root_there, roots_by, some_there}
 
 -- ---- each key once
 
@@ -109,21 +109,21 @@ reference_there store (Some depth) k name roots others are =
     subst (λ (keys : Keys). Contains keys k) (sym are.2.2) (once_there (climbed ++ attached) k (Contains-append_left climbed attached k (root_there store.nodes (Some depth) k climbed are.1)))
 
 -- the roots of a copy of all tags are those of any list with the same keys
-pub all_roots_by : (store : State) (referrers : Option ℕ) (keys other roots : Keys) → ((k : Descriptor) → Contains keys k ↔ Contains other k) → AreAllRoots store referrers keys roots → AreAllRoots store referrers other roots
-all_roots_by store None keys other roots same are = roots_by store.nodes None keys other roots same are
-all_roots_by store (Some depth) keys other roots same are = (are.0, roots_by store.nodes (Some depth) keys other are.0 same are.1, are.2)
+pub all_roots_by : (store : State) (climbs : Bool) (referrers : Option ℕ) (keys other roots : Keys) → ((k : Descriptor) → Contains keys k ↔ Contains other k) → AreAllRoots store climbs referrers keys roots → AreAllRoots store climbs referrers other roots
+all_roots_by store climbs None keys other roots same are = roots_by store.nodes None keys other roots same are
+all_roots_by store climbs (Some depth) keys other roots same are = (are.0, roots_by store.nodes (climb_depth climbs depth) keys other are.0 same are.1, are.2)
 
--- the key of each tag is among the roots of a copy of all tags
-pub all_tagged_there : (store : State) (referrers : Option ℕ) (tags : Tags) (keys roots : Keys) → ((k : Descriptor) → Contains (values_of tags) k → Contains keys k) → AreAllRoots store referrers keys roots
-    → All (λ (k : Descriptor). Contains roots k) (values_of tags)
-all_tagged_there store None tags keys roots among are = tagged_there store.nodes None tags keys roots among are
-all_tagged_there store (Some depth) tags keys roots among are =
+-- each of the keys that a copy of all tags starts from is among its roots
+pub all_there : (store : State) (climbs : Bool) (referrers : Option ℕ) (some keys roots : Keys) → ((k : Descriptor) → Contains some k → Contains keys k) → AreAllRoots store climbs referrers keys roots
+    → All (λ (k : Descriptor). Contains roots k) some
+all_there store climbs None some keys roots among are = some_there store.nodes None some keys roots among are
+all_there store climbs (Some depth) some keys roots among are =
     let climbed = are.0 in
     let attached = are.2.0.attached.items in
     All-weaker (λ (k : Descriptor). Contains climbed k) (λ (k : Descriptor). Contains roots k)
     (λ k there. subst (λ (ks : Keys). Contains ks k) (sym are.2.2) (once_there (climbed ++ attached) k (Contains-append_left climbed attached k there)))
-    (values_of tags) (tagged_there store.nodes (Some depth) tags keys climbed among are.1)
+    some (some_there store.nodes (climb_depth climbs depth) some keys climbed among are.1)
 
 -- what is attached is added to the keys that a copy of all tags climbs to
-pub adds_all : (store : State) (depth : ℕ) (keys climbed roots : Keys) → AreClimbedOfKeys store.nodes (Some depth) keys climbed → AddsAttached store climbed roots → AreAllRoots store (Some depth) keys roots
-adds_all store depth keys climbed roots are adds = (climbed, are, adds)
+pub adds_all : (store : State) (climbs : Bool) (depth : ℕ) (keys climbed roots : Keys) → AreClimbedOfKeys store.nodes (climb_depth climbs depth) keys climbed → AddsAttached store climbed roots → AreAllRoots store climbs (Some depth) keys roots
+adds_all store climbs depth keys climbed roots are adds = (climbed, are, adds)

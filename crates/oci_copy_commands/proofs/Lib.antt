@@ -1,6 +1,9 @@
 mod AttachedRoots
 mod BroughtEntries
+mod Exact
+mod Listed
 mod Mirrored
+mod NamedRoots
 mod Refusals
 mod Retagged
 mod Saved

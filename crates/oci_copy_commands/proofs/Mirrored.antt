@@ -1,9 +1,8 @@
 -- What a copy and a prune after it leave.
 use Rattle.std.proofs.Common.{◌≡◌, true, inr, List, ◌++◌, is_some, sym, ap, subst, ◌∙◌}
 use Rattle.std.specs.Prelude.{⊤, Contains, Result, Ok, Err, IfOk, OnOk, OnErr}
-use Rattle.std.specs.List.{All}
 use Rattle.std.specs.Map.{values_of}
-use Rattle.std.proofs.lemmas.List.Elements.{All-contains, Contains-append_left}
+use Rattle.std.proofs.lemmas.List.Elements.{Contains-append_left}
 use Rattle.std.proofs.lemmas.Result.{IfOk-at_ok}
 use Rattle.oci_manifest.specs.Descriptor.{Descriptor}
 use Rattle.oci_store.specs.Copied.{Agree, IsCopied}
@@ -67,24 +66,18 @@ held_stay old copied new keys begins keeps k reached held =
 
 -- ---- what the source reaches
 
--- what an agreeing source reaches from some of the roots of a copy, the copy reaches from them too
-copied_path : (source old copied : List Node) (roots keys : List Descriptor) → IsCopied source source roots old copied → ((k : Descriptor) → Contains keys k → Contains roots k) → (k : Descriptor) → Reaches source keys k → Reaches copied keys k
-copied_path source old copied roots keys is among k (start named) = start named
-copied_path source old copied roots keys is among k (along {from} path edge) =
-    along (copied_path source old copied roots keys is among from path) (edge.0, (is from edge.0).1 (inr (edge.1, reached_from_more source keys roots among from path)), edge.2)
+-- what an agreeing source reaches from the roots of a copy, the copy reaches from them too
+copied_path : (source old copied : List Node) (roots : List Descriptor) → IsCopied source source roots old copied → (k : Descriptor) → Reaches source roots k → Reaches copied roots k
+copied_path source old copied roots is k (start named) = start named
+copied_path source old copied roots is k (along {from} path edge) =
+    along (copied_path source old copied roots is from path) (edge.0, (is from edge.0).1 (inr (edge.1, path)), edge.2)
 
--- so a prune that keeps what these keys reach holds all that the source reaches from them
-pub reached_after_prune : (source old copied new : List Node) (roots keys : List Descriptor) → IsCopied source source roots old copied → ((k : Descriptor) → Reaches source roots k → has_key copied k ≡ true) → KeepsReached copied new keys
-    → ((k : Descriptor) → Contains keys k → Contains roots k) → (k : Descriptor) → Reaches source keys k → has_key new k ≡ true
-reached_after_prune source old copied new roots keys is all keeps among k reached =
-    ap is_some (keeps k (copied_path source old copied roots keys is among k reached)) ∙ all k (reached_from_more source keys roots among k reached)
-
--- so a copy that was cleaned up holds all that an honest source reaches from the tags, which are of
--- its roots
-pub reached_kept : {options : Options} {report : Report} (source old copied : State) (roots : List Descriptor) (new : List Node) (tags : Tags) → IsCopy ⊤ options source old roots copied report → KeepsReached copied.nodes new (values_of tags)
-    → All (λ (k : Descriptor). Contains roots k) (values_of tags) → source.is_honest → Agree (graph_of source) old.nodes → (k : Descriptor) → Reaches (graph_of source) (values_of tags) k → has_key new k ≡ true
-reached_kept source old copied roots new tags copy keeps rooted honest agree =
-    reached_after_prune (graph_of source) old.nodes copied.nodes new roots (values_of tags) (copy.graph honest agree) (copy.reached honest agree) keeps (λ k named. All-contains (λ (other : Descriptor). Contains roots other) (values_of tags) k rooted named)
+-- so a copy that was cleaned up holds all that an honest source reaches from its roots, if the prune
+-- kept what they reach
+pub reached_kept : {options : Options} {report : Report} (source old copied : State) (roots : List Descriptor) (new : List Node) → IsCopy ⊤ options source old roots copied report → KeepsReached copied.nodes new roots
+    → source.is_honest → Agree (graph_of source) old.nodes → (k : Descriptor) → Reaches (graph_of source) roots k → has_key new k ≡ true
+reached_kept source old copied roots new copy keeps honest agree k reached =
+    ap is_some (keeps k (copied_path (graph_of source) old.nodes copied.nodes roots (copy.graph honest agree) k reached)) ∙ copy.reached honest agree k reached
 
 -- a refused copy keeps the bytes of what was held, if the bytes are known
 pub contents_after : (source old copied : State) (roots : List Descriptor) → SameByDigest source.entries source.entries → OnlyGrows ⊤ source old roots copied → IsTrusted source old copied → BeginsWith old.entries copied.entries
@@ -94,15 +87,16 @@ contents_after source old copied roots alike grows trusted =
 
 -- ---- results
 
--- a consequence of a success
-pub ok_gives : {X E : Type 0} {P Q : X → Type 0} (r : Result X E) → ((x : X) → P x → Q x) → IfOk r P → IfOk r Q
-ok_gives (Ok x) gives p = gives x p
-ok_gives (Err e) gives p = p
-
 -- a consequence of a refusal
 pub err_gives : {X E : Type 0} {P Q : Type 0} (r : Result X E) → (P → Q) → OnErr r P → OnErr r Q
 err_gives (Ok x) gives p = p
 err_gives (Err e) gives p = gives p
+
+-- a consequence of the success of a copy and of its clean-up
+pub report_gives : {X Y E F : Type 0} (R : X → Type 0) {S T : Y → Type 0} (copied : Result X E) (done : Result Y F) (report_of : Y → X) → ((y : Y) → R (report_of y) → S y → T y)
+    → IfOk done (λ it. copied ≡ Ok (report_of it)) → IfOk copied R → IfOk done S → IfOk done T
+report_gives R copied (Ok y) report_of gives same holds also = gives y (IfOk-at_ok R same holds) also
+report_gives R copied (Err e) report_of gives same holds also = also
 
 -- a consequence of the success of a copy and of its clean-up
 pub both_give : {X Y E F : Type 0} {R : X → Type 0} {S T : Type 0} (copied : Result X E) (done : Result Y F) (report_of : Y → X) → ((x : X) → R x → S → T) → IfOk done (λ it. copied ≡ Ok (report_of it)) → IfOk copied R → OnOk done S → OnOk done T

@@ -1,6 +1,7 @@
 -- Why a mirror is refused.
-use Rattle.std.proofs.Common.{◌≡◌, ◌⊎◌, inl, inr, ℕ, true, Result, Ok, Err, sym, subst, ◌∙◌}
+use Rattle.std.proofs.Common.{◌≡◌, ◌⊎◌, inl, inr, ℕ, Bool, not, List, Result, Ok, Err, sym, subst, ◌∙◌}
 use Rattle.std.specs.Prelude.{IsOk, IfErr, OnErr}
+use Rattle.oci_manifest.specs.Descriptor.{Descriptor}
 use Rattle.oci_copy.specs.Cause.{IsAnswerByWorkers, RefusedByWorkers}
 use Rattle.oci_copy.specs.declared.fault.CopyFault.{CopyFault}
 use Rattle.oci_copy.specs.declared.fault.CopyFault.TheVariants as copy
@@ -10,16 +11,17 @@ use Rattle.oci_layout.specs.declared.fault.LayoutFault.{LayoutFault}
 use Rattle.oci_layout.specs.declared.fault.LayoutFault.TheVariants as layout
 use Rattle.oci_program.specs.declared.fault.ProgramFault.{ProgramFault}
 use Rattle.oci_program.specs.declared.fault.ProgramFault.TheVariants as program
-use Rattle.oci_prune.specs.Refusal.{IsDeviceFault, IsPlanFault, MayNotSave}
+use Rattle.oci_prune.specs.Plan.{roots_with}
+use Rattle.oci_prune.specs.Refusal.{IsDeviceFault, IsPlanFaultFrom, MayNotSave}
 use Rattle.oci_prune.specs.declared.fault.PruneFault.{PruneFault}
 use Rattle.oci_prune.specs.declared.fault.PruneFault.TheVariants as prune
 use Rattle.oci_copy_commands.specs.Mirror.{of_prune, IsRefusedMirror}
 use Rattle.oci_copy_commands.specs.Refusal.{AfterRefusedCopy}
 use Rattle.oci_copy_commands.proofs.Saved.{refused_with}
 
-module _ {D : Type 0} (cause : CopyFault → Type 0) where
+module _ {D : Type 0} (cause : CopyFault → Type 0) (is_exact : Bool) (roots : List Descriptor) where
   -- a plan that is refused is a cause
-  pub plan_refused : (dir : Device) (l : LayoutState D) (e : PruneFault) → IsPlanFault dir l true e → IsRefusedMirror cause dir l (of_prune e)
+  pub plan_refused : (dir : Device) (l : LayoutState D) (e : PruneFault) → IsPlanFaultFrom dir l (roots_with l roots) (not is_exact) e → IsRefusedMirror cause is_exact roots dir l (of_prune e)
   plan_refused dir l (prune.NotRemoved path) h = h
   plan_refused dir l (prune.Fetch k e) h = h
   plan_refused dir l (prune.Layout e) h = inr h
@@ -28,7 +30,7 @@ module _ {D : Type 0} (cause : CopyFault → Type 0) where
   plan_refused dir l prune.NoTags h = h
   plan_refused dir l (prune.LinkedBlobs path) h = h
 
-  device_refused : (old dir : Device) (l : LayoutState D) → dir.fails_reads ≡ old.fails_reads → (e : LayoutFault) → IsDeviceFault (MayNotSave old dir) (prune.Layout e) → IsRefusedMirror cause dir l (program.Destination e)
+  device_refused : (old dir : Device) (l : LayoutState D) → dir.fails_reads ≡ old.fails_reads → (e : LayoutFault) → IsDeviceFault (MayNotSave old dir) (prune.Layout e) → IsRefusedMirror cause is_exact roots dir l (program.Destination e)
   device_refused old dir l reads layout.Device (inl may) = inr (reads ∙ may)
   device_refused old dir l reads layout.Device (inr raised) = inl (old.failures, raised)
   device_refused old dir l reads layout.NoLayoutFile h = absurd h
@@ -41,7 +43,7 @@ module _ {D : Type 0} (cause : CopyFault → Type 0) where
   device_refused old dir l reads layout.AlreadyLayout h = absurd h
 
   -- a prune that is refused is a cause
-  pub prune_refused : (old dir : Device) (l : LayoutState D) → dir.fails_reads ≡ old.fails_reads → (e : PruneFault) → IsDeviceFault (MayNotSave old dir) e → IsRefusedMirror cause dir l (of_prune e)
+  pub prune_refused : (old dir : Device) (l : LayoutState D) → dir.fails_reads ≡ old.fails_reads → (e : PruneFault) → IsDeviceFault (MayNotSave old dir) e → IsRefusedMirror cause is_exact roots dir l (of_prune e)
   prune_refused old dir l reads (prune.NotRemoved path) h = absurd h
   prune_refused old dir l reads (prune.Fetch k e) h = absurd h
   prune_refused old dir l reads (prune.Layout e) h = device_refused old dir l reads e h
@@ -51,7 +53,7 @@ module _ {D : Type 0} (cause : CopyFault → Type 0) where
   prune_refused old dir l reads (prune.LinkedBlobs path) h = absurd h
 
   -- a cause of the clean-up is one of the mirror
-  pub cleaned_refused : (other : CopyFault → Type 0) → ((e : CopyFault) → cause e → other e) → (dir : Device) (l : LayoutState D) (e : ProgramFault) → IsRefusedMirror cause dir l e → IsRefusedMirror other dir l e
+  pub cleaned_refused : (other : CopyFault → Type 0) → ((e : CopyFault) → cause e → other e) → (dir : Device) (l : LayoutState D) (e : ProgramFault) → IsRefusedMirror cause is_exact roots dir l e → IsRefusedMirror other is_exact roots dir l e
   cleaned_refused other gives dir l (program.Copy e) h = gives e h
   cleaned_refused other gives dir l (program.Destination e) h = h
   cleaned_refused other gives dir l (program.Prune e) h = h
@@ -60,11 +62,11 @@ module _ {D : Type 0} (cause : CopyFault → Type 0) where
 
 -- a copy by workers and its clean-up are refused for a cause of the copy, or for one of the clean-up
 pub mirror_refused : {D X Y : Type 0} (workers : ℕ) (cause : CopyFault → Type 0) → cause copy.Memory → (copied : Result X CopyFault) → IsAnswerByWorkers workers cause copied
-    → (dir : Device) (l : LayoutState D) (answer : Result Y ProgramFault) → IfErr answer (IsRefusedMirror (λ e. (copied ≡ Err e) ⊎ (IsOk copied × (e ≡ copy.Memory))) dir l)
-    → IfErr answer (IsRefusedMirror (RefusedByWorkers workers cause) dir l)
-mirror_refused workers cause memory copied answers dir l (Ok y) is = is
-mirror_refused workers cause memory copied answers dir l (Err e) is =
-    cleaned_refused (λ e. (copied ≡ Err e) ⊎ (IsOk copied × (e ≡ copy.Memory))) (RefusedByWorkers workers cause) (refused_with workers cause memory copied answers) dir l e is
+    → (is_exact : Bool) (roots : List Descriptor) (dir : Device) (l : LayoutState D) (answer : Result Y ProgramFault) → IfErr answer (IsRefusedMirror (λ e. (copied ≡ Err e) ⊎ (IsOk copied × (e ≡ copy.Memory))) is_exact roots dir l)
+    → IfErr answer (IsRefusedMirror (RefusedByWorkers workers cause) is_exact roots dir l)
+mirror_refused workers cause memory copied answers is_exact roots dir l (Ok y) is = is
+mirror_refused workers cause memory copied answers is_exact roots dir l (Err e) is =
+    cleaned_refused (λ e. (copied ≡ Err e) ⊎ (IsOk copied × (e ≡ copy.Memory))) is_exact roots (RefusedByWorkers workers cause) (refused_with workers cause memory copied answers) dir l e is
 
 -- what holds after a refused copy holds unless memory ran out
 after_copy : (holds : Type 0) (e : CopyFault) → holds → AfterRefusedCopy holds (program.Copy e)
@@ -76,8 +78,8 @@ refused_there holds copied e (inl same) there = after_copy holds e (subst (λ r.
 refused_there holds copied e (inr it) there = subst (λ (x : CopyFault). AfterRefusedCopy holds (program.Copy x)) (sym it.1) tt
 
 -- what a refused copy leaves is left after a mirror whose copy was refused
-pub after_refused : {D X Y : Type 0} (holds : Type 0) (copied : Result X CopyFault) (dir : Device) (l : LayoutState D) (answer : Result Y ProgramFault)
-    → IfErr answer (IsRefusedMirror (λ e. (copied ≡ Err e) ⊎ (IsOk copied × (e ≡ copy.Memory))) dir l) → OnErr copied holds → IfErr answer (AfterRefusedCopy holds)
-after_refused holds copied dir l (Ok y) is there = is
-after_refused holds copied dir l (Err (program.Copy e)) is there = refused_there holds copied e is there
-after_refused holds copied dir l (Err e) is there = tt
+pub after_refused : {D X Y : Type 0} (holds : Type 0) (copied : Result X CopyFault) (is_exact : Bool) (roots : List Descriptor) (dir : Device) (l : LayoutState D) (answer : Result Y ProgramFault)
+    → IfErr answer (IsRefusedMirror (λ e. (copied ≡ Err e) ⊎ (IsOk copied × (e ≡ copy.Memory))) is_exact roots dir l) → OnErr copied holds → IfErr answer (AfterRefusedCopy holds)
+after_refused holds copied is_exact roots dir l (Ok y) is there = is
+after_refused holds copied is_exact roots dir l (Err (program.Copy e)) is there = refused_there holds copied e is there
+after_refused holds copied is_exact roots dir l (Err e) is there = tt

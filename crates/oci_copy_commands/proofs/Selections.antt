@@ -10,7 +10,7 @@ use Rattle.std.proofs.lemmas.List.Elements.{All-contains, All-contains_itself, A
 use Rattle.oci_manifest.specs.Descriptor.{Descriptor}
 use Rattle.oci_store.specs.Graph.{Node}
 use Rattle.oci_store.specs.Keyed.{has_key, HasAll}
-use Rattle.oci_store.specs.Tags.{Tags, by_bytes, AnswersTag}
+use Rattle.oci_store.specs.Tags.{by_bytes, AnswersTag}
 use Rattle.oci_store.specs.Visiting.{with_keys}
 use Rattle.oci_store.specs.declared.fault.RefFault.{RefFault}
 use Rattle.oci_store.specs.declared.fault.RefFault.TheVariants as fault
@@ -85,11 +85,11 @@ roots_more graph referrers keys k old new grown before root = (λ h. joined ((gr
           | inr last ↦ inr (subst (λ (key : Descriptor). IsClimbed graph referrers key root) (sym last) of.2)
         ]
 
--- the key of each tag is among the roots of a copy of its keys
-pub tagged_there : (graph : List Node) (referrers : Option ℕ) (tags : Tags) (keys roots : Keys) → ((k : Descriptor) → Contains (values_of tags) k → Contains keys k) → AreClimbedOfKeys graph referrers keys roots
-    → All (λ (k : Descriptor). Contains roots k) (values_of tags)
-tagged_there graph referrers tags keys roots among are =
-    All-weaker (λ (k : Descriptor). Contains (values_of tags) k) (λ (k : Descriptor). Contains roots k) (λ k tagged. (are.each k).1 (k, among k tagged, starts_there graph referrers k)) (values_of tags) (All-contains_itself (values_of tags))
+-- each of these keys is among the roots of a copy of keys among which they are
+pub some_there : (graph : List Node) (referrers : Option ℕ) (some keys roots : Keys) → ((k : Descriptor) → Contains some k → Contains keys k) → AreClimbedOfKeys graph referrers keys roots
+    → All (λ (k : Descriptor). Contains roots k) some
+some_there graph referrers some keys roots among are =
+    All-weaker (λ (k : Descriptor). Contains some k) (λ (k : Descriptor). Contains roots k) (λ k there. (are.each k).1 (k, among k there, starts_there graph referrers k)) some (All-contains_itself some)
 
 -- the roots of a copy of keys are those of a copy of any list with the same keys
 pub roots_by : (graph : List Node) (referrers : Option ℕ) (keys other roots : Keys) → ((k : Descriptor) → Contains keys k ↔ Contains other k) → AreClimbedOfKeys graph referrers keys roots → AreClimbedOfKeys graph referrers other roots

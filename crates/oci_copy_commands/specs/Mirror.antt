@@ -1,36 +1,71 @@
 -- What a copy that removes what no tag needs leaves of its destination, and why it is refused.
-use Rattle.std.specs.Prelude.{◌≡◌, ◌≢◌, ◌⊎◌, ℕ, true, List, [], filter, Some}
+use Rattle.std.specs.Prelude.{◌≡◌, ◌≢◌, ◌⊎◌, ℕ, Bool, true, not, List, [], filter, is_some, Some}
 use Rattle.std.specs.BTreeSet.{BTreeSet, contains}
+use Rattle.oci_command_line.specs.declared.changing.CopyWords.{CopyWords}
 use Rattle.oci_manifest.specs.Descriptor.{Descriptor, key_cmp}
 use Rattle.oci_store.specs.Content.{Entry}
-use Rattle.oci_store.specs.Graph.{Node, Reaches}
+use Rattle.oci_manifest.specs.MediaTypes.{kind_of}
+use Rattle.oci_manifest.specs.declared.kind.Kind.TheVariants.{Leaf}
+use Rattle.oci_store.specs.Graph.{Node, IsEdge, Reaches}
 use Rattle.oci_store.specs.Keyed.{has_key, value_at}
 use Rattle.oci_store.specs.State.{State}
+use Rattle.oci_store.specs.Tags.{Tags, by_bytes}
+use Rattle.oci_plan.specs.declared.gathering.Existing.{Existing}
 use Rattle.oci_copy.specs.Grown.{BeginsWith}
+use Rattle.oci_copy.specs.Report.{IsReport}
 use Rattle.oci_copy.specs.declared.fault.CopyFault.{CopyFault}
 use Rattle.oci_layout.specs.Blobs.{meaning, stored}
 use Rattle.oci_layout.specs.Device.{Device}
-use Rattle.oci_layout.specs.Entries.{said, unreadable_places}
+use Rattle.oci_layout.specs.Entries.{said, text_of, unreadable_places}
 use Rattle.oci_layout.specs.Layout.{LayoutState, manifests_of}
 use Rattle.oci_layout.specs.Refusal.{IsPutFault}
+use Rattle.oci_layout.specs.Saved.{no_name}
+use Rattle.oci_layout.specs.declared.index.IndexEntry.{IndexEntry as CodeEntry}
 use Rattle.oci_program.specs.declared.fault.ProgramFault.{ProgramFault}
 use Rattle.oci_program.specs.declared.fault.ProgramFault.TheVariants as program
-use Rattle.oci_prune.specs.Plan.{AreKept, RefersIf, roots_of}
+use Rattle.oci_prune.specs.Plan.{AreKept, RefersIf, roots_with}
 use Rattle.oci_prune.specs.Pruned.{kept_of}
-use Rattle.oci_prune.specs.Refusal.{IsPlanFault}
+use Rattle.oci_prune.specs.Refusal.{IsPlanFaultFrom}
 use Rattle.oci_prune.specs.declared.fault.PruneFault.{PruneFault}
 use Rattle.oci_prune.specs.declared.fault.PruneFault.TheVariants as prune
 use Rattle.oci_copy_commands.specs.Between.{BringsOnlyMet, IsTrusted}
+use Rattle.oci_copy_commands.specs.Selected.{other_tags}
 use Rattle.oci_copy_commands.specs.declared.copy.Copied.{Copied}
 use Rattle.oci_copy_commands.specs.declared.mirror.CleanUp.{CleanUp}
 
+-- ---- the source
+
+-- a key is held if it is of a manifest kind
+abbrev pub IsHeldManifest : List Node → Descriptor → Type 0
+IsHeldManifest graph k = kind_of k.media_type ≢ Leaf → has_key graph k ≡ true
+
+-- the manifests that a key lists are held
+abbrev pub ListsHeldManifests : List Node → Descriptor → Type 0
+ListsHeldManifests graph from = (k : Descriptor) → IsEdge graph from k → IsHeldManifest graph k
+
+-- no manifest that a held key lists is missing
+abbrev pub HoldsListedManifests : List Node → Type 0
+HoldsListedManifests graph = (from : Descriptor) → ListsHeldManifests graph from
+
+-- whether a mirror holds only what the tags of the source need, and what is attached to it there
+abbrev pub is_exact : CopyWords → Bool
+is_exact words = is_some words.referrers
+
 -- a source that a mirror may follow: it has a tag, the key of each entry of its index was held when
--- it was opened, none of its manifests was damaged, and each entry is a descriptor
-pub record IsWholeSource {D : Type 0} (source : LayoutState D) : Type 0 where
+-- it was opened, none of its manifests was damaged, and each entry is a descriptor; one that an exact
+-- mirror may follow also misses no manifest that a held one lists, which may be a signature
+pub record IsWholeSource {D : Type 0} (is_exact : Bool) (source : LayoutState D) : Type 0 where
   pub tagged : source.tags ≢ []
   pub known : source.opened.absent ≡ []
   pub undamaged : manifests_of source.opened.damaged ≡ []
   pub readable : unreadable_places (said source.opened.content).entries ≡ []
+  pub listed : is_exact ≡ true → HoldsListedManifests source.graph
+
+-- ---- the destination
+
+-- an entry is a descriptor, if it has no name
+abbrev pub IsReadableIfUnnamed : CodeEntry → Type 0
+IsReadableIfUnnamed e = no_name (text_of e.name) ≡ true → is_some e.key ≡ true
 
 -- ---- what is left
 
@@ -38,25 +73,35 @@ pub record IsWholeSource {D : Type 0} (source : LayoutState D) : Type 0 where
 abbrev pub relabeled : {D : Type 0} → LayoutState D → LayoutState D → LayoutState D
 relabeled held named = record { dir = held.dir; graph = held.graph; tags = named.tags; opened = named.opened }
 
--- A layout was pruned, and these keys were kept: those that its tags need, and what refers to
--- them, such as signatures. Each stays with its bytes, and nothing else stays.
-pub record IsPruned {D : Type 0} (device : D → Device) (old new : LayoutState D) (kept : BTreeSet Descriptor) : Type 0 where
-  pub needed : (device old.dir).is_honest → AreKept old.graph (roots_of old) (RefersIf true (meaning (device old.dir) old.graph old.tags)) kept
+-- A layout was pruned, and these keys were kept: those that its tags and these roots need, and, unless
+-- the mirror is exact, what refers to them, such as signatures. Each stays with its bytes, and nothing
+-- else stays.
+pub record IsPruned {D : Type 0} (device : D → Device) (is_exact : Bool) (roots : List Descriptor) (old new : LayoutState D) (kept : BTreeSet Descriptor) : Type 0 where
+  pub needed : (not is_exact ≡ true → (device old.dir).is_honest) → AreKept old.graph (roots_with old roots) (RefersIf (not is_exact) (meaning (device old.dir) old.graph old.tags)) kept
   pub graph : new.graph ≡ kept_of kept old.graph
   pub contents : (device old.dir).is_honest → stored (device new.dir).file new.graph ≡ filter (λ (e : Entry). contains key_cmp kept e.0) (stored (device old.dir).file old.graph)
 
--- the layout with the new tags was pruned by the plan that is returned
-abbrev pub IsCleaned : {D : Type 0} → (D → Device) → LayoutState D → LayoutState D → CleanUp → Type 0
-IsCleaned device old new removed = IsPruned device (relabeled old new) new removed.plan.kept
+-- the layout with the new tags was pruned by the plan that is returned, and the returned tags went
+pub record IsCleaned {D : Type 0} (device : D → Device) (is_exact : Bool) (roots : List Descriptor) (tags : Tags) (old new : LayoutState D) (removed : CleanUp) : Type 0 where
+  pub pruned : IsPruned device is_exact roots (relabeled old new) new removed.plan.kept
+  pub untagged : by_bytes removed.untagged.items ≡ other_tags old.tags tags
 
 -- a copy was cleaned up by the plan that is returned
-abbrev pub IsCleanedCopy : {D : Type 0} → (D → Device) → LayoutState D → LayoutState D → Copied → Type 0
-IsCleanedCopy device old new done = (removed : CleanUp) × (done.removed ≡ Some removed) × IsCleaned device old new removed
+abbrev pub IsCleanedCopy : {D : Type 0} → (D → Device) → Bool → List Descriptor → Tags → LayoutState D → LayoutState D → Copied → Type 0
+IsCleanedCopy device is_exact roots tags old new done = (removed : CleanUp) × (done.removed ≡ Some removed) × IsCleaned device is_exact roots tags old new removed
 
--- keys came into a layout that were met on the way from the roots, and then it was cleaned up
-abbrev pub IsMirrored : {D : Type 0} → (D → Device) → State → List Descriptor → LayoutState D → LayoutState D → Copied → Type 0
-IsMirrored {D} device source roots old new done =
-    (copied : LayoutState D) × BringsOnlyMet source old.graph roots copied.graph × IsCleanedCopy device copied new done
+-- A mirror was made, with the layout between the copy and the clean-up: keys came into it that were
+-- met on the way from the roots, as many as the report says.
+pub record IsMirrored {D : Type 0} (device : D → Device) (existing : Existing) (is_exact : Bool) (source : State) (roots : List Descriptor) (tags : Tags) (old new : LayoutState D) (done : Copied) : Type 0 where
+  pub copied : LayoutState D
+  pub same_tags : copied.tags ≡ old.tags
+  pub met : BringsOnlyMet source old.graph roots copied.graph
+  pub reported : IsReport existing source (meaning (device old.dir) old.graph old.tags) roots (meaning (device copied.dir) copied.graph copied.tags) done.report
+  pub cleaned : IsCleanedCopy device is_exact roots tags copied new done
+
+-- each held key is reached from these keys
+abbrev pub HoldsOnlyReached : List Node → List Descriptor → Type 0
+HoldsOnlyReached graph keys = (k : Descriptor) → has_key graph k ≡ true → Reaches graph keys k
 
 -- what was held and is reached from these keys is held, and lists what it listed
 abbrev pub KeepsHeld : List Node → List Node → List Descriptor → Type 0
@@ -75,9 +120,9 @@ of_prune e = program.Prune e
 
 -- a mirror is refused for a cause of the copy, or for a cause of the save, the plan or the prune
 -- after it, of the layout and the directory that are left
-abbrev pub IsRefusedMirror : {D : Type 0} → (CopyFault → Type 0) → Device → LayoutState D → ProgramFault → Type 0
-IsRefusedMirror copy dir l (program.Copy e) = copy e
-IsRefusedMirror copy dir l (program.Destination e) = ((before : ℕ) × IsPutFault before dir.failures e) ⊎ IsPlanFault dir l true (prune.Layout e)
-IsRefusedMirror copy dir l (program.Prune e) = IsPlanFault dir l true e
-IsRefusedMirror copy dir l program.Memory = Unit {0}
-IsRefusedMirror copy dir l e = ⊥
+abbrev pub IsRefusedMirror : {D : Type 0} → (CopyFault → Type 0) → Bool → List Descriptor → Device → LayoutState D → ProgramFault → Type 0
+IsRefusedMirror copy is_exact roots dir l (program.Copy e) = copy e
+IsRefusedMirror copy is_exact roots dir l (program.Destination e) = ((before : ℕ) × IsPutFault before dir.failures e) ⊎ IsPlanFaultFrom dir l (roots_with l roots) (not is_exact) (prune.Layout e)
+IsRefusedMirror copy is_exact roots dir l (program.Prune e) = IsPlanFaultFrom dir l (roots_with l roots) (not is_exact) e
+IsRefusedMirror copy is_exact roots dir l program.Memory = Unit {0}
+IsRefusedMirror copy is_exact roots dir l e = ⊥

@@ -1,5 +1,5 @@
 -- The roots of a copy, the tags that it sets, and the entries that it brings.
-use Rattle.std.specs.Prelude.{◌≡◌, ◌≢◌, ◌↔◌, ℕ, true, not, List, [], ◌∷◌, ◌++◌, map, filter, Option, None, Some, is_some, Contains}
+use Rattle.std.specs.Prelude.{◌≡◌, ◌≢◌, ◌↔◌, ℕ, Bool, true, false, not, List, [], ◌∷◌, ◌++◌, map, filter, Option, None, Some, is_some, Contains}
 use Rattle.std.specs.List.{All, IsDistinct}
 use Rattle.std.specs.Map.{keys_of, values_of}
 use Rattle.oci_command_line.specs.declared.changing.CopyWords.{CopyWords}
@@ -30,9 +30,15 @@ pub record AreOfRoots (roots : List Descriptor) (tags : Tags) : Type 0 where
   pub named : All (λ (name : List ℕ). name ≢ []) (keys_of tags)
   pub rooted : All (λ (k : Descriptor). Contains roots k) (values_of tags)
 
--- the tags are of roots, and no entry is nested too deeply to be written into an index
+-- the key of an entry is a root, if the entry has a name
+abbrev pub IsOfRoot : List Descriptor → IndexEntry → Type 0
+IsOfRoot roots e = not (no_name e.name) ≡ true → (k : Descriptor) → e.key ≡ Some k → Contains roots k
+
+-- the tags and the entries with a name are of roots, and no entry is nested too deeply to be written
+-- into an index
 pub record IsSelected (roots : List Descriptor) (tags : Tags) (entries : List IndexEntry) : Type 0 where
   pub of_roots : AreOfRoots roots tags
+  pub named : All (IsOfRoot roots) entries
   pub shallow : All IsShallowEntry entries
 
 -- ---- the roots
@@ -83,11 +89,16 @@ abbrev pub AreReferenceRoots : State → Option ℕ → Descriptor → List ℕ 
 AreReferenceRoots store None k name roots others = (roots ≡ k ∷ []) × (others ≡ [])
 AreReferenceRoots store (Some depth) k name roots others = (climbed : List Descriptor) × IsUp store.nodes k depth climbed × AreWithAttached store climbed name roots others
 
--- the roots of a copy of all tags: the keys that it climbs to, and with referrers also what is attached
--- to the keys that belong to them
-abbrev pub AreAllRoots : State → Option ℕ → List Descriptor → List Descriptor → Type 0
-AreAllRoots store None keys roots = AreClimbedOfKeys store.nodes None keys roots
-AreAllRoots store (Some depth) keys roots = (climbed : List Descriptor) × AreClimbedOfKeys store.nodes (Some depth) keys climbed × AddsAttached store climbed roots
+-- the depth to which a copy climbs; nothing, if it does not climb
+abbrev pub climb_depth : Bool → ℕ → Option ℕ
+climb_depth true depth = Some depth
+climb_depth false depth = None
+
+-- the roots of a copy of all tags: without referrers the keys that it starts from, each once; with
+-- them the keys that it climbs to, and what is attached to the keys that belong to these
+abbrev pub AreAllRoots : State → Bool → Option ℕ → List Descriptor → List Descriptor → Type 0
+AreAllRoots store climbs None keys roots = AreClimbedOfKeys store.nodes None keys roots
+AreAllRoots store climbs (Some depth) keys roots = (climbed : List Descriptor) × AreClimbedOfKeys store.nodes (climb_depth climbs depth) keys climbed × AddsAttached store climbed roots
 
 -- the keys that a copy of all tags starts from: the tagged ones, and those of the entries with a name
 abbrev pub named_keys : Tags → List IndexEntry → List Descriptor
@@ -121,7 +132,7 @@ other_tags tags kept = filter (λ t. not (is_some (tag_at (set_tags [] kept) t.0
 
 -- everything in a layout can be read: no manifest is damaged, and each entry of its index is a
 -- descriptor
-pub record IsReadable {D : Type 0} (layout : LayoutState D) : Type 0 where
+pub record HasAllReadable {D : Type 0} (layout : LayoutState D) : Type 0 where
   pub manifests : manifests_of layout.opened.damaged ≡ []
   pub entries : unreadable_places (said layout.opened.content).entries ≡ []
 
@@ -138,18 +149,19 @@ SelectsReference device source from to referrers s =
     × (s.1 ≡ (name_of from to, k) ∷ others)
     × (map entry_of s.2 ≡ with_roots (said source.opened.content).entries (reference_entry (said source.opened.content).entries from (name_of from to) k ++ tag_entries (said source.opened.content).entries others) s.0)
 
--- a copy of all tags selects what each entry with a name names
-pub record SelectsAllTags {D : Type 0} (device : D → Device) (source : LayoutState D) (referrers : Option ℕ) (s : Selected) : Type 0 where
+-- a copy of all tags selects what each entry with a name names; with referrers it climbs, unless it
+-- is a mirror
+pub record SelectsAllTags {D : Type 0} (device : D → Device) (source : LayoutState D) (climbs : Bool) (referrers : Option ℕ) (s : Selected) : Type 0 where
   pub named : AreNamedHeld source.graph source.opened.content.entries
   pub tagged : source.tags ≢ []
   pub tags : s.1 ≡ source.tags
-  pub roots : AreAllRoots (meaning (device source.dir) source.graph source.tags) referrers (named_keys source.tags (said source.opened.content).entries) s.0
+  pub roots : AreAllRoots (meaning (device source.dir) source.graph source.tags) climbs referrers (named_keys source.tags (said source.opened.content).entries) s.0
   pub entries : map entry_of s.2 ≡ with_roots (said source.opened.content).entries (named_entries (said source.opened.content).entries) s.0
 
 -- a copy selects what its words name: a reference, or all tags
-abbrev pub SelectsBy : {D : Type 0} → (D → Device) → LayoutState D → Option ℕ → Selection → Selected → Type 0
-SelectsBy device source referrers (selection.Reference from to) s = SelectsReference device source from.now to.now referrers s
-SelectsBy device source referrers selection.AllTags s = SelectsAllTags device source referrers s
+abbrev pub SelectsBy : {D : Type 0} → (D → Device) → LayoutState D → Bool → Option ℕ → Selection → Selected → Type 0
+SelectsBy device source climbs referrers (selection.Reference from to) s = SelectsReference device source from.now to.now referrers s
+SelectsBy device source climbs referrers selection.AllTags s = SelectsAllTags device source climbs referrers s
 
 abbrev pub Selects : {D : Type 0} → (D → Device) → LayoutState D → CopyWords → Selected → Type 0
-Selects device source words s = SelectsBy device source words.referrers words.selection s
+Selects device source words s = SelectsBy device source (not words.prunes) words.referrers words.selection s

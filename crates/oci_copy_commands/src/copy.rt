@@ -1,14 +1,15 @@
 ghost use Rattle.std.specs.Prelude.{◌≡◌, true, OnOk};
-ghost use Rattle.oci_copy_commands.specs.Mirror.{IsWholeSource};
+ghost use Rattle.oci_copy_commands.specs.Mirror.{is_exact, IsWholeSource};
 
 use crate::Host;
 use crate::answer::CopyAnswer;
 use crate::between::copy_between;
 use crate::destination::{make_blobs_folder, open_or_create, remove_leftovers};
 use crate::dry_run::show_plan;
-use crate::mirror::{CleanUp, check_destination, check_source, check_unnamed, mirror};
+use crate::mirror::{CleanUp, check_destination, check_unnamed, mirror};
 use crate::progress::Progress;
 use crate::selected::Selected;
+use crate::whole::check_source;
 use oci_command_line::CopyWords;
 use oci_copy::{Options, Report, plan_copy};
 use oci_layout::{Dir, FolderLock, Layout, PrunableDir};
@@ -22,8 +23,9 @@ use std::io::Write;
 /// each tag and the report. With `--progress` each blob is printed on `err` when it arrives.
 /// Without it, on a terminal, one line shows how much has arrived. With `--dry-run` only the plan
 /// is printed. With `--all --prune` the tags that the source does not have are removed too, and
-/// what no tag then needs; the tags and what was removed are printed. `F` is [`ProgramFault`] or
-/// another type that is made from one.
+/// what no tag then needs; the tags and what was removed are printed. What is attached to an image in
+/// DST stays then, but with `--referrers` only if SRC has it too. `F` is [`ProgramFault`] or another
+/// type that is made from one.
 ///
 /// Otherwise a destination without `oci-layout` becomes a layout, once the source is open and its
 /// reference is resolved. The destination's folder is locked from before the destination is opened
@@ -46,7 +48,8 @@ use std::io::Write;
 /// - 97 `NoTags` with `--all`, if SRC has no tag, and 96 `Unknown` if the blob of an entry of its
 ///   index that has a tag is missing or damaged.
 /// - 96 `Unknown` with `--prune`, if the blob of any entry of SRC's index is missing or damaged, or
-///   any manifest of SRC is damaged; or if in DST the blob of an entry without a tag is missing or
+///   any manifest of SRC is damaged; with `--referrers` also if a manifest that one of SRC's lists is
+///   missing; or if in DST the blob of an entry without a tag is missing or
 ///   damaged, or a manifest that a kept one lists is missing, or one that has no tag is damaged.
 /// - 98 `LinkedBlobs` with `--prune`, if DST has a link to a folder of blobs. 88 `Fetch` and 77
 ///   `BadManifest` if one of its held manifests cannot be read.
@@ -108,16 +111,32 @@ where
 {
     let source = Layout::open_as_is(rt.alloc(), source)?;
     let selected = Selected::of(rt.alloc(), &source, words)?;
-    check_source_if(words.prunes, &source)?;
+    check_source_if(words.prunes, is_exact(words), &source)?;
     let copied = copy_selected(rt, &source, destination, &selected, words, err)?;
     Ok(CopyAnswer::of(rt.alloc(), selected, copied)?)
 }
 
 /// Refuses a source that a mirror must not follow, if the copy prunes.
-fn check_source_if<S: Dir>(prunes: bool, source: &Layout<S>) -> Result<(), ProgramFault>
-    ensures { OnOk result (prunes ≡ true → IsWholeSource source.now) }
+fn check_source_if<S: Dir>(
+    prunes: bool,
+    is_exact: bool,
+    source: &Layout<S>,
+) -> Result<(), ProgramFault>
+    ensures { OnOk result (prunes ≡ true → IsWholeSource is_exact source.now) }
 {
-    if prunes { check_source(source) } else { Ok(()) }
+    if prunes {
+        check_source(source, is_exact)
+    } else {
+        Ok(())
+    }
+}
+
+/// Returns whether a mirror holds only what the tags of the source need, and what is attached to it
+/// there.
+fn is_exact(words: &CopyWords<'_>) -> bool
+    ensures { result ≡ is_exact words.now }
+{
+    words.referrers.is_some()
 }
 
 /// Copies the selected blobs of an open layout into a folder. The folder is locked from before it
@@ -133,7 +152,7 @@ fn copy_selected<R: Host, S: Dir + Sync, D: PrunableDir + Drop + Send, X: Write 
 where
     S::Draft: Send,
     D::Draft: Send,
-    requires whole { words.now.prunes ≡ true → IsWholeSource source.now }
+    requires whole { words.now.prunes ≡ true → IsWholeSource (is_exact words.now) source.now }
 {
     let lock = make_and_lock_folder(
         rt,
@@ -160,13 +179,13 @@ fn copy_under_lock<R: Host, S: Dir + Sync, D: PrunableDir + Drop + Send, X: Writ
 where
     S::Draft: Send,
     D::Draft: Send,
-    requires whole { words.now.prunes ≡ true → IsWholeSource source.now }
+    requires whole { words.now.prunes ≡ true → IsWholeSource (is_exact words.now) source.now }
 {
     let options = options_of(words);
     if words.prunes {
-        check_unnamed(&destination)?;
+        check_unnamed(destination.entries())?;
         destination.forget_names()?;
-        check_destination(rt.alloc(), &destination)?;
+        check_destination(rt.alloc(), &destination, is_exact(words))?;
     }
     let plan = plan_copy(rt.alloc(), source, &destination, selected.roots(), &options)?;
     remove_leftovers(rt, lock)?;
@@ -178,6 +197,7 @@ where
             destination,
             &plan,
             selected,
+            is_exact(words),
             &options,
             &progress,
         );

@@ -18,6 +18,7 @@ mod progress;
 mod retag;
 mod roots;
 mod selected;
+mod whole;
 
 pub use between::copy_between;
 pub use copy::run_copy;

@@ -1,4 +1,4 @@
-ghost use Rattle.std.specs.Prelude.{◌≡◌, ◌≢◌, ◌⊎◌, [], Ok, Err, Some, map, Contains, IsOk, IfOk, IfErr, OnOk, OnErr};
+ghost use Rattle.std.specs.Prelude.{◌≡◌, ◌≢◌, ◌⊎◌, [], true, Ok, Err, Some, map, Contains, IsOk, IfOk, IfErr, OnOk, OnErr};
 ghost use Rattle.std.specs.List.{All};
 ghost use Rattle.std.specs.Map.{values_of};
 ghost use Rattle.oci_store.specs.Closed.{IsClosed};
@@ -10,10 +10,11 @@ ghost use Rattle.oci_layout.specs.Brought.{Brings};
 ghost use Rattle.oci_layout.specs.Entries.{entry_of, said, unreadable_places};
 ghost use Rattle.oci_layout.specs.Index.{HasIndex};
 ghost use Rattle.oci_layout.specs.Layout.{manifests_of, OnlyIndex};
-ghost use Rattle.oci_prune.specs.Plan.{roots_of};
+ghost use Rattle.oci_prune.specs.Plan.{roots_of, roots_with};
 ghost use Rattle.oci_prune.specs.Pruned.{KeepsReached};
 ghost use Rattle.oci_copy_commands.specs.Between.{HasReached};
-ghost use Rattle.oci_copy_commands.specs.Mirror.{of_prune, IsCleaned, IsCleanedCopy, IsMirrored, IsPruned, IsRefusedMirror, IsWholeSource, KeepsContents, KeepsHeld};
+ghost use Rattle.oci_copy_commands.specs.Brought.{named_entries};
+ghost use Rattle.oci_copy_commands.specs.Mirror.{of_prune, HoldsOnlyReached, IsCleaned, IsCleanedCopy, IsMirrored, IsPruned, IsReadableIfUnnamed, IsRefusedMirror, IsWholeSource, KeepsContents, KeepsHeld};
 ghost use Rattle.oci_copy_commands.specs.Refusal.{AfterRefusedCopy};
 ghost use Rattle.oci_copy_commands.specs.Selected.{set_tags};
 
@@ -22,12 +23,12 @@ use crate::copy::Copied;
 use crate::retag::retag;
 use crate::selected::Selected;
 use oci_copy::{CopyFault, Options, Report, copy_plan};
-use oci_layout::{Dir, Layout, OpenedIndex, PrunableDir, unreadable_entry};
+use oci_layout::{Dir, IndexEntry, Layout, OpenedIndex, PrunableDir, unreadable_entry};
 use oci_manifest::Key;
 use oci_plan::Plan;
 use oci_pool::Hooks;
 use oci_program::ProgramFault;
-use oci_prune::{PruneFault, PrunePlan, Pruned, plan_prune, prune};
+use oci_prune::{PruneFault, PrunePlan, Pruned, plan_prune, plan_prune_keeping, prune};
 use oci_store::Store;
 use std::alloc::Global;
 
@@ -42,70 +43,51 @@ pub(crate) struct CleanUp {
     pub(crate) pruned: Pruned,
 }
 
-/// Refuses a source that a mirror must not follow: a prune of the mirror would remove what the
-/// source is not seen to have.
-///
-/// # Errors
-///
-/// - 97 `NoTags` if it has no tag.
-/// - 96 `Unknown` if the blob of an entry of its index is missing or damaged: the first one. Or else
-///   if any other manifest is damaged: the first one.
-/// - 73 `BadIndex` if an entry of its index is no descriptor: for the first one.
-/// - Out of memory.
-pub(crate) fn check_source<S: Dir>(source: &Layout<S>) -> Result<(), ProgramFault>
-    ensures { OnOk result (IsWholeSource source.now) }
-{
-    if source.tags()?.is_empty() {
-        return Err(ProgramFault::Source(PruneFault::NoTags));
-    }
-    check_all_known(source.absent())?;
-    check_all_known(&source.damaged_manifests()?)?;
-    match source.check_entries() {
-        Ok(()) => Ok(()),
-        Err(fault) => Err(ProgramFault::Layout(fault)),
-    }
-}
-
-/// Refuses a source for the first of these keys if there is one, since it is not known what it
-/// lists.
-fn check_all_known(unknown: &[Key]) -> Result<(), ProgramFault>
-    ensures { OnOk result (unknown.now ≡ []) }
-{
-    match unknown.first() {
-        Some(key) => Err(ProgramFault::Source(PruneFault::Unknown(key.try_clone()?))),
-        None => Ok(()),
-    }
-}
-
-/// Refuses a destination for the first entry of its index that has no name and is no descriptor. The
-/// fault has its place in the index, so this is called before entries are forgotten.
+/// Refuses the first of the entries of a destination's index that has no name and is no descriptor.
+/// The fault has its place in the index, so this is called before entries are forgotten.
 ///
 /// # Errors
 ///
 /// 73 `BadIndex`.
-pub(crate) fn check_unnamed<D: Dir>(destination: &Layout<D>) -> Result<(), ProgramFault> {
-    for (place, entry) in destination.entries().iter().enumerate() {
-        if entry.key.is_none() && !entry.has_name() {
-            return Err(ProgramFault::Destination(unreadable_entry(place)));
-        }
+pub(crate) fn check_unnamed(entries: &[IndexEntry]) -> Result<(), ProgramFault>
+    ensures { OnOk result (All IsReadableIfUnnamed entries.now) }
+{
+    for (place, entry) in entries.iter().enumerate() {
+        check_if_unnamed(place, entry)?;
     }
     Ok(())
+}
+
+/// Refuses the entry at this place if it has no name and is no descriptor.
+fn check_if_unnamed(place: usize, entry: &IndexEntry) -> Result<(), ProgramFault>
+    ensures { OnOk result (IsReadableIfUnnamed entry.now) }
+{
+    if entry.has_name() {
+        return Ok(());
+    }
+    match &entry.key {
+        Some(_) => Ok(()),
+        None => Err(ProgramFault::Destination(unreadable_entry(place))),
+    }
 }
 
 /// Refuses a destination that cannot be pruned as it is. One without tags can.
 ///
 /// # Errors
 ///
-/// - 96 `Unknown` if the blob of a remembered entry of its index is missing or damaged; or if it has
-///   tags, and any other manifest is damaged, or a kept manifest lists a missing one.
+/// - 96 `Unknown` if the blob of a remembered entry of its index is missing or damaged: the first one.
 /// - 73 `BadIndex` if a remembered entry of its index is no descriptor: for the first one.
 /// - 98 `LinkedBlobs` if a folder of blobs is a link.
-/// - 88 `Fetch` and 77 `BadManifest` if a held manifest cannot be read.
+/// - 96 `Unknown` if it has tags, and any other manifest is damaged: the first one.
+/// - 77 `BadManifest` and 88 `Fetch` if it has tags, and a held manifest cannot be read, unless the
+///   mirror is exact.
+/// - 96 `Unknown` if it has tags, and a kept manifest lists a missing one.
 /// - 74 `Device` if the directory cannot be read.
 /// - Out of memory, at any point.
 pub(crate) fn check_destination<D: PrunableDir>(
     alloc: Global,
     destination: &Layout<D>,
+    is_exact: bool,
 ) -> Result<(), ProgramFault>
     ensures readable { OnOk result
         (unreadable_places (said destination.now.opened.content).entries ≡ []) }
@@ -117,22 +99,37 @@ pub(crate) fn check_destination<D: PrunableDir>(
         return Err(ProgramFault::Prune(PruneFault::Unknown(key.try_clone()?)));
     }
     match destination.check_entries() {
-        Ok(()) => {}
-        Err(fault) => return Err(ProgramFault::Destination(fault)),
+        Ok(()) => check_folders(alloc, destination, is_exact),
+        Err(fault) => Err(ProgramFault::Destination(fault)),
     }
-    match destination.linked() {
+}
+
+/// Refuses a layout with a link to a folder of blobs, and one whose prune is refused.
+fn check_folders<D: PrunableDir>(
+    alloc: Global,
+    layout: &Layout<D>,
+    is_exact: bool,
+) -> Result<(), ProgramFault>
+    ensures damaged { OnOk result (layout.now.tags ≢ []
+        → HasAll layout.now.graph (manifests_of layout.now.opened.damaged)) }
+{
+    match layout.linked() {
         Ok(Some(folder)) => Err(ProgramFault::Prune(PruneFault::LinkedBlobs(folder))),
-        Ok(None) => check_plan(alloc, destination),
+        Ok(None) => check_plan(alloc, layout, is_exact),
         Err(fault) => Err(ProgramFault::Destination(fault)),
     }
 }
 
 /// Refuses a layout whose prune is refused, unless that is because it has no tags.
-fn check_plan<D: PrunableDir>(alloc: Global, layout: &Layout<D>) -> Result<(), ProgramFault>
+fn check_plan<D: PrunableDir>(
+    alloc: Global,
+    layout: &Layout<D>,
+    is_exact: bool,
+) -> Result<(), ProgramFault>
     ensures damaged { OnOk result (layout.now.tags ≢ []
         → HasAll layout.now.graph (manifests_of layout.now.opened.damaged)) }
 {
-    match plan_prune(alloc, layout, true) {
+    match plan_prune(alloc, layout, !is_exact) {
         Ok(_) => Ok(()),
         Err(PruneFault::NoTags) => Ok(()),
         Err(fault) => Err(fault_of(fault)),
@@ -143,6 +140,9 @@ fn check_plan<D: PrunableDir>(alloc: Global, layout: &Layout<D>) -> Result<(), P
 /// brings the selected entries, saves it, and removes what no tag needs. The layout is saved once,
 /// before a file is removed that the old index needs.
 ///
+/// What refers to what a tag needs, such as a signature, stays. If the mirror is exact, it stays only
+/// if it is among the selected roots, or they reach it.
+///
 /// The plan is one that `plan_copy` made of these two layouts, the selected roots and these
 /// options. The destination is always returned. If the copy is refused, no tag, no entry and no
 /// file is removed, and the index is not written.
@@ -151,8 +151,8 @@ fn check_plan<D: PrunableDir>(alloc: Global, layout: &Layout<D>) -> Result<(), P
 ///
 /// - 82 `Push` if the destination refuses a blob, and 88 `Fetch` if the source does.
 /// - 85 `BadWorkers` if there are more than 64 workers. Nothing is copied.
-/// - 96 `Unknown`, 88 `Fetch` and 77 `BadManifest` if the destination cannot be pruned after all.
-///   The copied blobs stay, and the index is not written.
+/// - 96 `Unknown`, 73 `BadIndex`, 88 `Fetch` and 77 `BadManifest` if the destination cannot be pruned
+///   after all. The copied blobs stay, and the index is not written.
 /// - 74 `Device` if `index.json` could not be written.
 /// - Out of memory, at any point.
 pub(crate) fn mirror<R: Host, S: Dir + Sync, D: PrunableDir + Drop + Send, H: Hooks + Sync>(
@@ -161,6 +161,7 @@ pub(crate) fn mirror<R: Host, S: Dir + Sync, D: PrunableDir + Drop + Send, H: Ho
     destination: Layout<D>,
     plan: &Plan,
     selected: &Selected,
+    is_exact: bool,
     options: &Options,
     hooks: &H,
 ) -> (Layout<D>, Result<Copied, ProgramFault>)
@@ -169,7 +170,7 @@ where
     D::Draft: Send,
     requires planned { IsPlanOf (⟦<Layout<S> as Store>⟧.state source.now) options.now
         (⟦<Layout<D> as Store>⟧.state destination) selected.now.0 plan.now }
-    requires whole { IsWholeSource source.now }
+    requires whole { IsWholeSource is_exact source.now }
 
     // After a mirror the destination has exactly the selected tags, and what they need.
     ensures tags { OnOk result.1 (result.0.tags ≡ set_tags [] selected.now.1) }
@@ -177,11 +178,19 @@ where
         destination.opened result.0.opened) }
     ensures saved { OnOk result.1 ((D.device result.0.dir).is_honest
         → HasIndex (D.device result.0.dir).file result.0.graph result.0.tags result.0.opened) }
-    ensures pruned { IfOk result.1 (IsMirrored D.device (⟦<Layout<S> as Store>⟧.state source.now)
-        selected.now.0 destination result.0) }
+    ensures pruned { IfOk result.1 (IsMirrored D.device options.now.existing is_exact
+        (⟦<Layout<S> as Store>⟧.state source.now) selected.now.0 selected.now.1 destination
+        result.0) }
     ensures reached { OnOk result.1 (HasReached (⟦<Layout<S> as Store>⟧.state source.now)
-        (⟦<Layout<D> as Store>⟧.state destination) (values_of result.0.tags)
+        (⟦<Layout<D> as Store>⟧.state destination) selected.now.0
         (⟦<Layout<D> as Store>⟧.state result.0)) }
+
+    // All that was selected is held. An exact mirror holds only what is reached from it, if the
+    // destination remembered no entry with a name.
+    ensures held { OnOk result.1 (HasAll result.0.graph selected.now.0) }
+    ensures only { OnOk result.1 (is_exact ≡ true
+        → named_entries (said destination.opened.content).entries ≡ []
+        → HoldsOnlyReached result.0.graph selected.now.0) }
 
     // What its tags need stays, whatever the result.
     ensures stays { KeepsHeld destination.graph result.0.graph (values_of result.0.tags) }
@@ -200,7 +209,7 @@ where
         (RefusedAt (Contains plan.now.keys) (IsStepCause
         (CanFail ⟦<Layout<D> as Store>⟧.state (⟦<Layout<D> as Store>⟧.state destination))
         (⟦<Layout<S> as Store>⟧.state source.now) (⟦<Layout<D> as Store>⟧.state destination))))
-        (D.device result.0.dir) result.0) }
+        is_exact selected.now.0 (D.device result.0.dir) result.0) }
 {
     // A copy may change what the destination remembers of its index, as far as its contract says.
     let mut destination = destination;
@@ -216,7 +225,7 @@ where
         options,
         hooks,
     );
-    finish(rt.alloc(), destination, index, copied, selected)
+    finish(rt.alloc(), destination, index, copied, selected, is_exact)
 }
 
 /// Gives the destination of a copy back what it remembered of its index, and cleans it up, unless
@@ -227,16 +236,21 @@ fn finish<D: PrunableDir>(
     index: OpenedIndex,
     copied: Result<Report, CopyFault>,
     selected: &Selected,
+    is_exact: bool,
 ) -> (Layout<D>, Result<Copied, ProgramFault>)
     requires held { OnOk copied (HasAll destination.graph selected.now.0) }
     ensures tags { OnOk result.1 (result.0.tags ≡ set_tags [] selected.now.1) }
-    ensures rooted { OnOk result.1 (All (λ k. Contains selected.now.0 k)
-        (values_of result.0.tags)) }
     ensures brought { OnOk result.1 (Brings (map entry_of selected.now.2) result.0.tags index
         result.0.opened) }
     ensures saved { OnOk result.1 ((D.device result.0.dir).is_honest
         → HasIndex (D.device result.0.dir).file result.0.graph result.0.tags result.0.opened) }
-    ensures pruned { IfOk result.1 (IsCleanedCopy D.device destination result.0) }
+    ensures pruned { IfOk result.1 (IsCleanedCopy D.device is_exact selected.now.0 selected.now.1
+        destination result.0) }
+    ensures stays { OnOk result.1 (KeepsReached destination.graph result.0.graph selected.now.0) }
+    ensures held { OnOk result.1 (HasAll result.0.graph selected.now.0) }
+    ensures only { OnOk result.1 (is_exact ≡ true
+        → named_entries (said index.content).entries ≡ []
+        → HoldsOnlyReached result.0.graph selected.now.0) }
     ensures report { IfOk result.1 (λ done. copied ≡ Ok done.report) }
     ensures reached { KeepsReached destination.graph result.0.graph (values_of result.0.tags) }
     ensures closed { IsClosed destination.graph → IsClosed result.0.graph }
@@ -244,12 +258,12 @@ fn finish<D: PrunableDir>(
     ensures remembered { OnErr copied (result.0.opened ≡ index) }
     ensures refused { IfErr result.1 (IsRefusedMirror
         (λ fault. (copied ≡ Err fault) ⊎ (IsOk copied × (fault ≡ CopyFault.Memory)))
-        (D.device result.0.dir) result.0) }
+        is_exact selected.now.0 (D.device result.0.dir) result.0) }
 {
     let mut destination = destination;
     destination.put_index(index);
     match copied {
-        Ok(report) => match clean_up(alloc, &mut destination, selected) {
+        Ok(report) => match clean_up(alloc, &mut destination, selected, is_exact) {
             Ok(removed) => (destination, Ok(copied_of(report, removed))),
             Err(fault) => (destination, Err(fault)),
         },
@@ -278,26 +292,32 @@ fn clean_up<D: PrunableDir>(
     alloc: Global,
     destination: &mut Layout<D>,
     selected: &Selected,
+    is_exact: bool,
 ) -> Result<CleanUp, ProgramFault>
     requires held { HasAll destination.old.graph selected.now.0 }
     ensures tags { OnOk result (destination.new.tags ≡ set_tags [] selected.now.1) }
-    ensures rooted { OnOk result (All (λ k. Contains selected.now.0 k)
-        (values_of destination.new.tags)) }
     ensures brought { OnOk result (Brings (map entry_of selected.now.2) destination.new.tags
         destination.old.opened destination.new.opened) }
     ensures saved { OnOk result ((D.device destination.new.dir).is_honest
         → HasIndex (D.device destination.new.dir).file destination.new.graph
         destination.new.tags destination.new.opened) }
-    ensures pruned { IfOk result (IsCleaned D.device destination.old destination.new) }
+    ensures pruned { IfOk result (IsCleaned D.device is_exact selected.now.0 selected.now.1
+        destination.old destination.new) }
+    ensures stays { OnOk result (KeepsReached destination.old.graph destination.new.graph
+        selected.now.0) }
+    ensures held { OnOk result (HasAll destination.new.graph selected.now.0) }
+    ensures only { OnOk result (is_exact ≡ true
+        → named_entries (said destination.old.opened.content).entries ≡ []
+        → HoldsOnlyReached destination.new.graph selected.now.0) }
     ensures reached { KeepsReached destination.old.graph destination.new.graph
         (values_of destination.new.tags) }
     ensures closed { IsClosed destination.old.graph → IsClosed destination.new.graph }
     ensures refused { IfErr result (IsRefusedMirror (λ fault. fault ≡ CopyFault.Memory)
-        (D.device destination.new.dir) destination.new) }
+        is_exact selected.now.0 (D.device destination.new.dir) destination.new) }
 {
     let untagged = retag(alloc, destination, selected)?;
     destination.bring(selected.entries())?;
-    match prune_and_save(alloc, destination) {
+    match prune_and_save(alloc, destination, selected.roots(), is_exact) {
         Ok((plan, pruned)) => Ok(CleanUp {
             untagged,
             plan,
@@ -307,15 +327,22 @@ fn clean_up<D: PrunableDir>(
     }
 }
 
-/// Removes what no tag of a layout needs, and saves it. Returns the plan, and what was removed.
+/// Removes what no tag of a layout needs, and saves it; if the mirror is exact, what neither a tag nor
+/// one of these roots reaches. Returns the plan, and what was removed.
 fn prune_and_save<D: PrunableDir>(
     alloc: Global,
     destination: &mut Layout<D>,
+    roots: &[Key],
+    is_exact: bool,
 ) -> Result<(PrunePlan, Pruned), ProgramFault>
     ensures tags { destination.new.tags ≡ destination.old.tags }
     ensures opened { destination.new.opened ≡ destination.old.opened }
-    ensures pruned { IfOk result (λ done. IsPruned D.device destination.old destination.new
-        done.0.kept) }
+    ensures pruned { IfOk result (λ done. IsPruned D.device is_exact roots.now destination.old
+        destination.new done.0.kept) }
+    ensures stays { OnOk result (KeepsReached destination.old.graph destination.new.graph
+        (roots_with destination.old roots.now)) }
+    ensures only { OnOk result (is_exact ≡ true → HoldsOnlyReached destination.new.graph
+        (roots_with destination.old roots.now)) }
     ensures saved { OnOk result ((D.device destination.new.dir).is_honest
         → HasIndex (D.device destination.new.dir).file destination.new.graph
         destination.new.tags destination.new.opened) }
@@ -323,9 +350,9 @@ fn prune_and_save<D: PrunableDir>(
         (roots_of destination.old) }
     ensures closed { IsClosed destination.old.graph → IsClosed destination.new.graph }
     ensures refused { IfErr result (IsRefusedMirror (λ fault. fault ≡ CopyFault.Memory)
-        (D.device destination.new.dir) destination.new) }
+        is_exact roots.now (D.device destination.new.dir) destination.new) }
 {
-    let plan = match plan_prune(alloc, destination, true) {
+    let plan = match plan_prune_keeping(alloc, destination, roots, !is_exact) {
         Ok(plan) => plan,
         Err(fault) => return Err(fault_of(fault)),
     };

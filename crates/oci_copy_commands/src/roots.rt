@@ -8,6 +8,7 @@ ghost use Rattle.oci_layout.specs.Blobs.{meaning};
 ghost use Rattle.oci_layout.specs.Entries.{entry_keys, entry_of};
 ghost use Rattle.oci_copy_commands.specs.Brought.{named_entries};
 ghost use Rattle.oci_copy_commands.specs.Selected.{
+  climb_depth,
   each_once,
   named_keys,
   AddsAttached,
@@ -101,8 +102,9 @@ fn with_attached<D: Dir>(
     Ok(ReferenceRoots { keys, tags })
 }
 
-/// Returns the roots of a copy of these keys, each once. With referrers, what is attached to what
-/// belongs to the keys comes after them.
+/// Returns the roots of a copy of these keys, each once. With referrers, the keys from which a path
+/// within the depth leads to one of them are among them if the copy climbs, and what is attached to
+/// what belongs to them comes after them.
 ///
 /// # Errors
 ///
@@ -112,17 +114,27 @@ pub(crate) fn roots_of_keys<D: Dir>(
     alloc: Global,
     source: &Layout<D>,
     keys: &[Key],
+    climbs: bool,
     referrers: Option<u32>,
 ) -> Result<Vec<Key>, ProgramFault>
     ensures { IfOk result (λ roots. AreAllRoots
-        (meaning (D.device source.now.dir) source.now.graph source.now.tags) referrers keys.now
-        roots.items) }
+        (meaning (D.device source.now.dir) source.now.graph source.now.tags) climbs referrers
+        keys.now roots.items) }
 {
-    let climbed = climb_from_all(alloc, source, keys, referrers)?;
     match referrers {
-        Some(_) => add_attached(alloc, source, &climbed),
-        None => Ok(climbed),
+        Some(depth) => {
+            let climbed = climb_from_all(alloc, source, keys, climb_depth(climbs, depth))?;
+            add_attached(alloc, source, &climbed)
+        }
+        None => climb_from_all(alloc, source, keys, None),
     }
+}
+
+/// Returns the depth to which a copy climbs, if it does.
+fn climb_depth(climbs: bool, depth: u32) -> Option<u32>
+    ensures { result ≡ climb_depth climbs depth }
+{
+    if climbs { Some(depth) } else { None }
 }
 
 /// Returns the keys, and after them what is attached to what belongs to them, each once.

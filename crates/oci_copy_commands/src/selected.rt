@@ -1,6 +1,5 @@
 ghost use Rattle.std.specs.Prelude.{◌≡◌, ◌≢◌, ◌++◌, [], ◌∷◌, true, is_some, map, string_bytes, Contains, IfOk, OnOk};
 ghost use Rattle.std.specs.List.{All};
-ghost use Rattle.std.specs.Map.{keys_of};
 ghost use Rattle.oci_copy.specs.Tagged.{name_of};
 ghost use Rattle.oci_store.specs.Tags.{by_bytes};
 ghost use Rattle.oci_store.specs.Keyed.{has_key};
@@ -14,8 +13,9 @@ ghost use Rattle.oci_copy_commands.specs.Selected.{
   AreAllRoots,
   AreNamedHeld,
   AreOfRoots,
+  HasAllReadable,
   IsNamedHeld,
-  IsReadable,
+  IsOfRoot,
   Selects,
   SelectsReference,
 };
@@ -62,7 +62,7 @@ impl Model for Selected {
 
 impl Selected {
     /// Selects the roots and tags that the words of a copy name in an open layout: one reference,
-    /// or every tag.
+    /// or every tag. A copy that prunes does not climb.
     ///
     /// # Errors
     ///
@@ -83,7 +83,7 @@ impl Selected {
         words: &CopyWords<'_>,
     ) -> Result<Selected, ProgramFault>
         ensures sound { OnOk result (is_some words.now.referrers ≡ true
-            → IsReadable source.now) }
+            → HasAllReadable source.now) }
         ensures selects { IfOk result (Selects D.device source.now words.now) }
     {
         if words.referrers.is_some() {
@@ -94,7 +94,9 @@ impl Selected {
                 source: from,
                 destination: to,
             } => Selected::reference(alloc, source, from, to, words.referrers),
-            Selection::AllTags => Selected::all_tags(alloc, source, words.referrers),
+            Selection::AllTags => {
+                Selected::all_tags(alloc, source, !words.prunes, words.referrers)
+            }
         }
     }
 
@@ -179,9 +181,10 @@ impl Selected {
     }
 
     /// Selects the blob of each tag of the source, and that of each entry with a name, also if a
-    /// later entry has the name too. With `referrers`, the keys that list them or refer to them are
-    /// selected too, and what is attached to what these reach, as from [`Selected::reference`]. The
-    /// copy sets the same tags, brings all entries with a name, and those of the other roots.
+    /// later entry has the name too. With `referrers`, what is attached to what these reach is
+    /// selected too, and if the copy climbs, the keys that list them or refer to them, as from
+    /// [`Selected::reference`]. The copy sets the same tags, brings all entries with a name, and those
+    /// of the other roots.
     ///
     /// # Errors
     ///
@@ -193,6 +196,7 @@ impl Selected {
     pub fn all_tags<D: Dir>(
         alloc: Global,
         source: &Layout<D>,
+        climbs: bool,
         referrers: Option<u32>,
     ) -> Result<Selected, ProgramFault>
         ensures named { OnOk result (AreNamedHeld source.now.graph
@@ -200,7 +204,7 @@ impl Selected {
         ensures tagged { OnOk result (source.now.tags ≢ []) }
         ensures tags { IfOk result (λ selected. selected.1 ≡ source.now.tags) }
         ensures roots { IfOk result (λ selected. AreAllRoots
-            (meaning (D.device source.now.dir) source.now.graph source.now.tags) referrers
+            (meaning (D.device source.now.dir) source.now.graph source.now.tags) climbs referrers
             (named_keys source.now.tags (said source.now.opened.content).entries) selected.0) }
         ensures entries { IfOk result (λ selected. map entry_of selected.2
             ≡ with_roots (said source.now.opened.content).entries
@@ -212,7 +216,7 @@ impl Selected {
             return Err(ProgramFault::Source(PruneFault::NoTags));
         }
         let keys = named_keys(alloc, &tags, source.entries())?;
-        let roots = roots_of_keys(alloc, source, &keys, referrers)?;
+        let roots = roots_of_keys(alloc, source, &keys, climbs, referrers)?;
         let entries = entries_of_tags(alloc, source.entries(), &roots)?;
         Ok(Selected {
             roots,
@@ -239,6 +243,7 @@ impl Selected {
     /// Returns the entries that the copy brings.
     pub fn entries(&self) -> &[IndexEntry]
         ensures entries { result.now ≡ self.now.2 }
+        ensures named { All (IsOfRoot self.now.0) (map entry_of self.now.2) }
         ensures shallow { All IsShallowEntry (map entry_of self.now.2) }
     {
         &self.entries
@@ -283,7 +288,7 @@ fn check_entry<D: Dir>(
 /// Refuses a layout for its first damaged manifest, or else for its first entry that is no
 /// descriptor.
 fn check_readable<D: Dir>(layout: &Layout<D>) -> Result<(), ProgramFault>
-    ensures { OnOk result (IsReadable layout.now) }
+    ensures { OnOk result (HasAllReadable layout.now) }
 {
     check_undamaged(layout)?;
     match layout.check_entries() {

@@ -1,14 +1,18 @@
-use Rattle.std.proofs.Common.{List, sym, subst, ◌∙◌}
+use Rattle.std.proofs.Common.{List, map, sym, subst, ◌∙◌}
 use Rattle.std.specs.Prelude.{Contains}
 use Rattle.std.specs.List.{All}
 use Rattle.std.specs.Map.{values_of}
-use Rattle.oci_manifest.specs.Descriptor.{Descriptor}
 use Rattle.oci_store.specs.Graph.{Node}
 use Rattle.oci_store.specs.Tags.{Tags}
+use Rattle.oci_layout.specs.Brought.{Brings}
+use Rattle.oci_layout.specs.Entries.{entry_of}
 use Rattle.oci_layout.specs.Layout.{LayoutState}
+use Rattle.oci_prune.specs.Plan.{roots_of, roots_with}
 use Rattle.oci_prune.specs.Pruned.{KeepsReached}
-use Rattle.oci_copy_commands.specs.Mirror.{relabeled, IsPruned}
+use Rattle.oci_copy_commands.specs.Mirror.{relabeled, HoldsOnlyReached, IsPruned}
+use Rattle.oci_copy_commands.proofs.Exact.{fewer_stay, only_roots, roots_stay}
 use Rattle.oci_copy_commands.proofs.Mirrored.{same_layout, tagged_stay}
+use Rattle.oci_copy_commands.proofs.NamedRoots.{brought_named}
 use Rattle.oci_copy_commands.proofs.mirror.clean_up.Goals as goal
 
 pub returns-in-Ok-clause-pruned : goal.returns-in-Ok-clause-pruned
@@ -17,8 +21,26 @@ returns-in-Ok-clause-pruned g c =
     let new = c.prune_and_save.new.destination in
     let brought = c.bring.ensures.only in
     let retagged = c.retag.ensures.only in
-    subst (λ (l : LayoutState g.row.D.Denot). IsPruned g.D.Dir.device l new c.in-Ok.plan.kept)
-    (same_layout old (relabeled c.args.destination.now new) (brought.dir ∙ retagged.dir) (brought.graph ∙ retagged.graph) (sym c.prune_and_save.ensures.tags) (sym c.prune_and_save.ensures.opened)) c.in-Ok.ensures.pruned
+    let pruned = rw c.roots.ensures at c.in-Ok.ensures.pruned in
+    record {
+      pruned =
+          subst (λ (l : LayoutState g.row.D.Denot). IsPruned g.D.Dir.device c.args.is_exact c.args.selected.now.0 l new c.in-Ok.plan.kept)
+          (same_layout old (relabeled c.args.destination.now new) (brought.dir ∙ retagged.dir) (brought.graph ∙ retagged.graph) (sym c.prune_and_save.ensures.tags) (sym c.prune_and_save.ensures.opened)) pruned;
+      untagged = c.in_ok-untagged.ensures.removed;
+    }
+
+pub returns-in-Ok-clause-only : goal.returns-in-Ok-clause-only
+returns-in-Ok-clause-only g c exact none =
+    let old = c.bring.new.self in
+    let new = c.prune_and_save.new.destination in
+    let roots = c.args.selected.now.0 in
+    let holds : HoldsOnlyReached new.graph (roots_with old roots) = rw c.roots.ensures at c.in-Ok.ensures.only exact in
+    let tagged : All (Contains roots) (values_of old.tags) = subst (λ (tags : Tags). All (Contains roots) (values_of tags)) (sym c.bring.ensures.only.tags) c.in_ok-untagged.ensures.rooted in
+    let brought = map entry_of c.args.selected.now.2 in
+    let before = c.args.destination.now.opened in
+    let came : Brings brought c.retag.new.layout.tags before old.opened = rw (c.entries.ensures.entries, c.retag.ensures.only.opened) at c.in_ok-bring.ensures.brought in
+    let brings : Brings brought old.tags before old.opened = subst (λ (tags : Tags). Brings brought tags before old.opened) (sym c.bring.ensures.only.tags) came in
+    only_roots old roots new.graph tagged (brought_named roots brought old.tags before old.opened brings none c.entries.ensures.named) holds
 
 pub returns-in-Ok-clause-reached : goal.returns-in-Ok-clause-reached
 returns-in-Ok-clause-reached g c =
@@ -34,6 +56,14 @@ returns-in-Err-clause-reached g c =
     subst (λ (graph : List Node). KeepsReached graph new.graph (values_of new.tags)) (c.bring.ensures.only.graph ∙ c.retag.ensures.only.graph)
     (subst (λ (tags : Tags). KeepsReached old.graph new.graph (values_of tags)) (sym c.prune_and_save.ensures.tags) (tagged_stay old new.graph c.prune_and_save.ensures.reached))
 
-pub returns-in-Ok-clause-rooted : goal.returns-in-Ok-clause-rooted
-returns-in-Ok-clause-rooted g c =
-    subst (λ (tags : Tags). All (λ (k : Descriptor). Contains c.args.selected.now.0 k) (values_of tags)) (sym (c.prune_and_save.ensures.tags ∙ c.bring.ensures.only.tags)) c.in_ok-untagged.ensures.rooted
+pub returns-in-Ok-clause-stays : goal.returns-in-Ok-clause-stays
+returns-in-Ok-clause-stays g c =
+    let old = c.bring.new.self in
+    let new = c.prune_and_save.new.destination in
+    let roots = c.args.selected.now.0 in
+    subst (λ (graph : List Node). KeepsReached graph new.graph roots) (c.bring.ensures.only.graph ∙ c.retag.ensures.only.graph)
+    (fewer_stay old.graph new.graph roots (roots_of old) (rw c.roots.ensures at c.in-Ok.ensures.stays))
+
+pub returns-in-Ok-clause-held : goal.returns-in-Ok-clause-held
+unfolding returns-in-Ok-clause-stays
+returns-in-Ok-clause-held g c = roots_stay c.args.destination.now.graph c.prune_and_save.new.destination.graph c.args.selected.now.0 (returns-in-Ok-clause-stays g c) c.requires.held

@@ -8,8 +8,14 @@ pub returns-in-Ok-clean_up-clause-pruned : goal.returns-in-Ok-clean_up-clause-pr
 returns-in-Ok-clean_up-clause-pruned g c =
     let only = c.put_index.ensures.only in
     let new = c.clean_up.new.destination in
-    let removed = c.in-Ok-clean_up.removed in (
+    let removed = c.in-Ok-clean_up.removed in
+    let cleaned = c.in-Ok-clean_up.ensures.pruned in (
       removed,
       c.copied_of.ensures.removed,
-      subst (λ (l : LayoutState g.row.D.Denot). IsPruned g.D.Dir.device l new removed.plan.kept) (same_layout (relabeled c.put_index.new.self new) (relabeled c.args.destination new) only.dir only.graph refl refl) c.in-Ok-clean_up.ensures.pruned,
+      record {
+        pruned =
+            subst (λ (l : LayoutState g.row.D.Denot). IsPruned g.D.Dir.device c.args.is_exact c.args.selected.now.0 l new removed.plan.kept)
+            (same_layout (relabeled c.put_index.new.self new) (relabeled c.args.destination new) only.dir only.graph refl refl) cleaned.pruned;
+        untagged = rw only.tags at cleaned.untagged;
+      },
     )

@@ -1,8 +1,7 @@
-use Rattle.std.proofs.Common.{List, [], ◌∷◌, take, sym, subst, arith}
+use Rattle.std.proofs.Common.{[], ◌∷◌, take, sym, subst, arith}
 use Rattle.std.specs.List.{All}
 use Rattle.std.proofs.lemmas.List.{take_all}
 use Rattle.std.proofs.lemmas.List.Elements.{All-append, All-cons, All-nil}
-use Rattle.oci_layout.specs.declared.index.IndexEntry.{IndexEntry}
 use Rattle.oci_prune.proofs.Elements.{next_element}
 use Rattle.oci_copy_commands.specs.Selected.{IsNamedHeld}
 use Rattle.oci_copy_commands.proofs.selected.check_entries.Goals as goal
