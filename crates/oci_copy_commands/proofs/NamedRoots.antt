@@ -10,7 +10,7 @@ use Rattle.oci_manifest.specs.Descriptor.{Descriptor, is_among}
 use Rattle.oci_store.specs.Graph.{Node}
 use Rattle.oci_store.specs.Tags.{Tags}
 use Rattle.oci_store.proofs.Membership.{Keys}
-use Rattle.oci_layout.specs.Brought.{annotations_of, comes, gives_way, renamed, same_name, with_annotations, with_name, Brings}
+use Rattle.oci_layout.specs.Brought.{annotations_of, comes, gives_way, renamed, same_name, staying, with_annotations, with_name, Brings}
 use Rattle.oci_layout.specs.Entries.{IndexEntry, entry_keys, is_held, is_this_key, said}
 use Rattle.oci_layout.specs.Layout.{OpenedIndex}
 use Rattle.oci_layout.specs.Saved.{first_entries, first_from, is_first, is_name, later_place, no_name, shadowed_keys, unnamed_keys}
@@ -177,3 +177,17 @@ module _ (roots : Keys) where
       (All-weaker (Contains (filter test first)) Q
       (λ e there. All-contains (IsOfRoot roots) (filter test first) e named there (and_first (not (no_name e.name)) (is_held graph e.key) (All-contains (λ (x : IndexEntry). test x ≡ true) (filter test first) e passes there)))
       (filter test first) (All-contains_itself (filter test first)))
+
+-- the entries that stay when all names are forgotten have none
+unnamed_stay : (name : Option (List ℕ)) → not (gives_way true [] name) ≡ true → not (no_name name) ≡ false
+unnamed_stay None h = refl
+unnamed_stay (Some []) h = refl
+unnamed_stay (Some (c ∷ cs)) h = cc h
+
+pub none_stay : (es : List IndexEntry) → named_entries (staying true [] es) ≡ []
+none_stay [] = refl
+none_stay (e ∷ es) =
+    elim (cases_Bool (not (gives_way true [] e.name))) [
+      | inl stays ↦ rw stays (rw (unnamed_stay e.name stays) (none_stay es))
+      | inr goes ↦ rw goes (none_stay es)
+    ]

@@ -1,4 +1,6 @@
-ghost use Rattle.std.specs.Prelude.{◌≡◌, true, OnOk};
+ghost use Rattle.std.specs.Prelude.{◌≡◌, [], true, OnOk};
+ghost use Rattle.oci_layout.specs.Entries.{said};
+ghost use Rattle.oci_copy_commands.specs.Brought.{named_entries};
 ghost use Rattle.oci_copy_commands.specs.Mirror.{is_exact, IsWholeSource};
 
 use crate::Host;
@@ -6,7 +8,7 @@ use crate::answer::CopyAnswer;
 use crate::between::copy_between;
 use crate::destination::{make_blobs_folder, open_or_create, remove_leftovers};
 use crate::dry_run::show_plan;
-use crate::mirror::{CleanUp, check_destination, check_unnamed, mirror};
+use crate::mirror::{CleanUp, mirror, prepare_destination};
 use crate::progress::Progress;
 use crate::selected::Selected;
 use crate::whole::check_source;
@@ -16,6 +18,7 @@ use oci_layout::{Dir, FolderLock, Layout, PrunableDir};
 use oci_plan::Existing;
 use oci_program::{Form, Outcome, ProgramFault, make_and_lock_folder, print_answer_with_fault};
 use oci_prune::PruneFault;
+use std::alloc::Global;
 use std::io::Write;
 
 /// `copy SRC SRCREF DST [DSTREF]` and `copy --all SRC DST`: copies the selected blobs, tags them in
@@ -182,11 +185,7 @@ where
     requires whole { words.now.prunes ≡ true → IsWholeSource (is_exact words.now) source.now }
 {
     let options = options_of(words);
-    if words.prunes {
-        check_unnamed(destination.entries())?;
-        destination.forget_names()?;
-        check_destination(rt.alloc(), &destination, is_exact(words))?;
-    }
+    prepare_if(rt.alloc(), &mut destination, words)?;
     let plan = plan_copy(rt.alloc(), source, &destination, selected.roots(), &options)?;
     remove_leftovers(rt, lock)?;
     let progress = Progress::new(rt, err, words.shown, &plan);
@@ -219,6 +218,22 @@ where
     };
     progress.end();
     copied
+}
+
+/// Prepares the destination of a copy for a mirror, if the copy prunes.
+fn prepare_if<D: PrunableDir>(
+    alloc: Global,
+    destination: &mut Layout<D>,
+    words: &CopyWords<'_>,
+) -> Result<(), ProgramFault>
+    ensures { OnOk result (words.now.prunes ≡ true
+        → named_entries (said destination.new.opened.content).entries ≡ []) }
+{
+    if words.prunes {
+        prepare_destination(alloc, destination, is_exact(words))
+    } else {
+        Ok(())
+    }
 }
 
 /// The options of a copy that its words name.

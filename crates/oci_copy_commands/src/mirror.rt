@@ -49,7 +49,7 @@ pub(crate) struct CleanUp {
 /// # Errors
 ///
 /// 73 `BadIndex`.
-pub(crate) fn check_unnamed(entries: &[IndexEntry]) -> Result<(), ProgramFault>
+fn check_unnamed(entries: &[IndexEntry]) -> Result<(), ProgramFault>
     ensures { OnOk result (All IsReadableIfUnnamed entries.now) }
 {
     for (place, entry) in entries.iter().enumerate() {
@@ -71,6 +71,30 @@ fn check_if_unnamed(place: usize, entry: &IndexEntry) -> Result<(), ProgramFault
     }
 }
 
+/// Makes a destination forget the entries of its index that have a name, since a mirror brings its
+/// own. Refuses one that cannot be pruned then.
+///
+/// # Errors
+///
+/// As of [`check_unnamed`], and then as of [`check_destination`].
+pub(crate) fn prepare_destination<D: PrunableDir>(
+    alloc: Global,
+    destination: &mut Layout<D>,
+    is_exact: bool,
+) -> Result<(), ProgramFault>
+    ensures unnamed { OnOk result
+        (named_entries (said destination.new.opened.content).entries ≡ []) }
+    ensures readable { OnOk result
+        (unreadable_places (said destination.new.opened.content).entries ≡ []) }
+    ensures damaged { OnOk result (destination.new.tags ≢ []
+        → HasAll destination.new.graph (manifests_of destination.new.opened.damaged)) }
+    ensures only { OnlyIndex destination.old destination.new }
+{
+    check_unnamed(destination.entries())?;
+    destination.forget_names()?;
+    check_destination(alloc, destination, is_exact)
+}
+
 /// Refuses a destination that cannot be pruned as it is. One without tags can.
 ///
 /// # Errors
@@ -84,7 +108,7 @@ fn check_if_unnamed(place: usize, entry: &IndexEntry) -> Result<(), ProgramFault
 /// - 96 `Unknown` if it has tags, and a kept manifest lists a missing one.
 /// - 74 `Device` if the directory cannot be read.
 /// - Out of memory, at any point.
-pub(crate) fn check_destination<D: PrunableDir>(
+fn check_destination<D: PrunableDir>(
     alloc: Global,
     destination: &Layout<D>,
     is_exact: bool,
@@ -144,7 +168,7 @@ fn check_plan<D: PrunableDir>(
 /// if it is among the selected roots, or they reach it.
 ///
 /// The plan is one that `plan_copy` made of these two layouts, the selected roots and these
-/// options. The destination is always returned. If the copy is refused, no tag, no entry and no
+/// options. The destination has forgotten the entries with a name. It is always returned. If the copy is refused, no tag, no entry and no
 /// file is removed, and the index is not written.
 ///
 /// # Errors
@@ -171,6 +195,7 @@ where
     requires planned { IsPlanOf (⟦<Layout<S> as Store>⟧.state source.now) options.now
         (⟦<Layout<D> as Store>⟧.state destination) selected.now.0 plan.now }
     requires whole { IsWholeSource is_exact source.now }
+    requires unnamed { named_entries (said destination.opened.content).entries ≡ [] }
 
     // After a mirror the destination has exactly the selected tags, and what they need.
     ensures tags { OnOk result.1 (result.0.tags ≡ set_tags [] selected.now.1) }
@@ -185,11 +210,9 @@ where
         (⟦<Layout<D> as Store>⟧.state destination) selected.now.0
         (⟦<Layout<D> as Store>⟧.state result.0)) }
 
-    // All that was selected is held. An exact mirror holds only what is reached from it, if the
-    // destination remembered no entry with a name.
+    // All that was selected is held. An exact mirror holds only what is reached from it.
     ensures held { OnOk result.1 (HasAll result.0.graph selected.now.0) }
     ensures only { OnOk result.1 (is_exact ≡ true
-        → named_entries (said destination.opened.content).entries ≡ []
         → HoldsOnlyReached result.0.graph selected.now.0) }
 
     // What its tags need stays, whatever the result.

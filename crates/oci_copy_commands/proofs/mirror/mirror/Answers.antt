@@ -2,6 +2,7 @@ use denote.Exit.{no}
 use denote.Param.{param}
 use denote.Param.Send.{param_send, param_sync, arg_send, arg_sync}
 use Rattle.std.proofs.Common.{inl, refl}
+use Rattle.std.proofs.lemmas.Result.{on_ok_weaker}
 use Rattle.std.specs.Map.{values_of}
 use Rattle.oci_copy.specs.Grown.{BeginsWith}
 use Rattle.oci_layout.specs.Blobs.{meaning}
@@ -32,7 +33,7 @@ returns-clause-pruned g c =
     c.finish.ensures.report (rw (c.roots-roots.ensures, only.dir, only.graph, only.tags) at left.ensures.copied) c.finish.ensures.pruned
 
 pub returns-clause-only : goal.returns-clause-only
-returns-clause-only g c = rw c.take_index-index.ensures.taken at c.finish.ensures.only
+returns-clause-only g c = on_ok_weaker c.finish.result.1 (λ only exact. only exact (rw c.take_index-index.ensures.taken c.requires.unnamed)) c.finish.ensures.only
 
 pub returns-clause-reached : goal.returns-clause-reached
 returns-clause-reached g c =

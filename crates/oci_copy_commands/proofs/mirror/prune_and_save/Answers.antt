@@ -1,4 +1,4 @@
-use Rattle.std.proofs.Common.{◌≡◌, not, false, List, inl, sym, ap, subst, ◌∙◌}
+use Rattle.std.proofs.Common.{◌≡◌, false, List, inl, sym, ap, subst, ◌∙◌}
 use Rattle.oci_store.specs.Graph.{Node}
 use Rattle.oci_copy.specs.declared.fault.CopyFault.{CopyFault}
 use Rattle.oci_copy.specs.declared.fault.CopyFault.TheVariants as copy
