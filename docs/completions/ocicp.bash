@@ -21,13 +21,13 @@ _ocicp() {
       flags='--all --hint --json --help' kinds=(folder)
       ;;
     resolve)
-      flags='--hint --json --help' kinds=(folder tag)
+      flags='--platform --hint --json --help' valued='--platform' kinds=(folder tag)
       ;;
     predecessors)
       flags='--hint --json --help' kinds=(folder tag)
       ;;
     tree)
-      flags='--referrers --hint --json --help' kinds=(folder tag)
+      flags='--referrers --platform --hint --json --help' valued='--platform' kinds=(folder tag)
       ;;
     verify)
       flags='--hint --json --help' kinds=(folder)

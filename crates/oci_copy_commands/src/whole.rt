@@ -15,10 +15,11 @@ use oci_store::{Dest, GraphSource};
 /// # Errors
 ///
 /// - 97 `NoTags` if it has no tag.
-/// - 73 `BadIndex` if an entry of its index is no descriptor: for the first one.
 /// - 96 `Unknown` if the blob of an entry of its index is missing or damaged: the first one. Or else
-///   if any other manifest is damaged: the first one. Or else, if the mirror is exact, if a manifest
-///   that a held one lists is missing: the first one.
+///   if any other manifest is damaged: the first one.
+/// - 73 `BadIndex` if an entry of its index is no descriptor: for the first one.
+/// - 96 `Unknown` if the mirror is exact, and a manifest that a held one lists is missing: the first
+///   one.
 /// - Out of memory.
 pub(crate) fn check_source<S: Dir>(source: &Layout<S>, is_exact: bool) -> Result<(), ProgramFault>
     ensures { OnOk result (IsWholeSource is_exact source.now) }
@@ -26,12 +27,12 @@ pub(crate) fn check_source<S: Dir>(source: &Layout<S>, is_exact: bool) -> Result
     if source.tags()?.is_empty() {
         return Err(ProgramFault::Source(PruneFault::NoTags));
     }
-    if let Err(fault) = source.check_entries() {
-        return Err(ProgramFault::Layout(fault));
-    }
     check_all_known(source.absent())?;
     check_all_known(&source.damaged_manifests()?)?;
-    check_listed_if(is_exact, source)
+    match source.check_entries() {
+        Ok(()) => check_listed_if(is_exact, source),
+        Err(fault) => Err(ProgramFault::Layout(fault)),
+    }
 }
 
 /// Refuses a source for the first of these keys if there is one, since it is not known what it
