@@ -10,7 +10,7 @@ import subprocess
 from support import refused_malloc, shim
 from support.json_lines import CARRIED, MEMORY
 from support.json_rooms import CHANGES, Rooms, run_long, with_json
-from support.layouts import BAR, E, FOO, I1, IMAGE, LAYER, M2, M3, S, Content, blob, descriptor, image, write_layout
+from support.layouts import BAR, E, FOO, I1, IMAGE, INDEX, LAYER, M2, M3, S, Content, blob, descriptor, image, write_layout
 from support.odd_archives import damaged
 from support.program import PROGRAM, SECONDS, Ended, run, told
 from support.refused_malloc import refused_in_turn
@@ -39,9 +39,12 @@ OF_BAD = [
 REFERENCES = ["resolve good REF", "predecessors good REF", "tree good REF", "copy good REF other", "copy --dry-run good REF other",
               "untag good REF"]
 ONTO_FILES = ["copy good one file", "copy --all good file", "untag file one", "prune file"]
+# Commands for a platform that the index does not have, and for one whose manifest is missing.
+OF_PLATFORMS = ["resolve --platform linux/s390x good all", "tree --platform linux/arm64/v7 good all", "tree --platform linux/arm64 good one",
+                "resolve --platform linux/amd64 good all", "tree --referrers --platform linux/amd64 good all"]
 ITEMS = ["type", "type=nothing", "a=good/oci-layout a=good/oci-layout", "%s=good/%s" % (IMAGE, blob(M2))]
 # The numbers that the refusals here have.
-NUMBERS = {*range(10, 15), 21, 30, 33, 35, 36, 43, 53, 54, *range(70, 76), 77, *range(79, 83), 88, *range(92, 105)}
+NUMBERS = {*range(10, 15), 21, 30, 33, 35, 36, 43, 53, 54, *range(70, 76), 77, *range(79, 83), 88, *range(92, 105), 107}
 
 
 def write_good(folder):
@@ -135,6 +138,7 @@ def others(refused):
     for reference in "", "nope", "sha256:" + "0" * 64:
         commands = [[reference if it == "REF" else it for it in command.split()] for command in REFERENCES]
         yield "the reference %r" % reference, refused.wrong(write_good, commands)
+    yield "platforms", refused.wrong(write_platforms, [it.split() for it in OF_PLATFORMS])
     yield "items", refused.wrong(write_good, [["mem", *it.split()] for it in ITEMS])
     yield "files", refused.wrong(write_good, [it.split() for it in ONTO_FILES])
     commands = [["mem", "%s=bad/%s" % (IMAGE, blob(LARGE))], *(it.split() for it in OF_BAD)]
@@ -142,6 +146,14 @@ def others(refused):
     yield "no tags", refused.wrong(lambda folder: write_layout(folder + "/good", ALL, {}), [["prune", "good"]])
     yield "a link in the place of a folder", refused.wrong(write_link, [["prune", "good"], ["prune", "--dry-run", "good"]])
     yield "a folder in the place of a new layer", refused.wrong(write_occupied, ["copy --workers 1 --progress good one other".split()])
+
+
+def write_platforms(folder):
+    """Write a layout with an index of two platforms. It does not have the manifest of the second one."""
+    of_platform = '%s,"platform":{"os":"linux","architecture":"%s"%s}}'
+    listed = of_platform % (descriptor(M2)[:-1], "arm64", ',"variant":"v8"'), of_platform % (descriptor(M3)[:-1], "amd64", "")
+    both = Content(INDEX, ('{"schemaVersion":2,"manifests":[%s]}' % ",".join(listed)).encode())
+    write_layout(folder + "/good", [E, FOO, M2, both], {"all": both, "one": M2})
 
 
 def write_link(folder):

@@ -23,6 +23,7 @@ CARRIED = {
     92: {"item": str},
     101: {"form": str},
     **dict.fromkeys([102, 103, 104], {"offset": int}),
+    107: {"platform": str, "platforms": list},
 }
 # What a refusal that a file or folder causes says of it, in this order. The first is left out for a file of `mem`, and the last if the system
 # did not fail there.
