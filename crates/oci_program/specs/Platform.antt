@@ -97,6 +97,24 @@ platforms_after found (item d ds) = platforms_after (with_platform found (platfo
 abbrev pub platforms_in : Items → List (List ℕ)
 platforms_in elements = platforms_after [] elements
 
+-- the platform that an element states and its key, if it is a descriptor and states one
+abbrev pub stated_by : Data → Option (List ℕ × Descriptor)
+stated_by d = option_and_then (λ platform. option_map (λ k. (platform, k)) (descriptor_of d)) (platform_of d)
+
+-- the platforms found so far, and one more if there is one
+abbrev pub add_stated : List (List ℕ × Descriptor) → Option (List ℕ × Descriptor) → List (List ℕ × Descriptor)
+add_stated found None = found
+add_stated found (Some stated) = found ++ stated ∷ []
+
+-- the platforms found so far, and those that these elements state
+abbrev pub stated_after : List (List ℕ × Descriptor) → Items → List (List ℕ × Descriptor)
+stated_after found no_items = found
+stated_after found (item d ds) = stated_after (add_stated found (stated_by d)) ds
+
+-- the platforms that these elements state, in their order, each with the key of its element
+abbrev pub all_stated : Items → List (List ℕ × Descriptor)
+all_stated elements = stated_after [] elements
+
 -- what an index of a layout lists, by the bytes that the layout has for its key
 abbrev pub listed_by : File → List Node → Descriptor → Items
 listed_by file graph k = listed_in (kind_of k.media_type) (unwrap_or (value_at (stored file graph) k) [])

@@ -18,7 +18,8 @@
 //! A command returns an [`Outcome`] or a [`ProgramFault`]. [`print_answer`] prints its answer, or
 //! [`print_answer_with_fault`] if it pruned. [`finish_run`] ends its run, and [`end_early`] a run
 //! that did not come to a command. [`resolve`] finds the key of a reference in a layout,
-//! and [`pick_platform`] the manifest of an index for a platform.
+//! and [`pick_platform`] the manifest of an index for a platform; [`listed_platforms`] says which
+//! platforms an index lists.
 //! [`lock_folder`] and [`make_and_lock_folder`] lock the folder that a command writes into;
 //! [`check_is_layout`] looks before whether it has a layout.
 #![tactic(auto)]
@@ -47,7 +48,7 @@ pub use fault::ProgramFault;
 pub use finish::{Ended, end_early, finish_run};
 pub use locking::{check_is_layout, lock_folder, make_and_lock_folder};
 pub use outcome::Outcome;
-pub use platform::{Picked, pick_platform};
+pub use platform::{Picked, listed_platforms, pick_platform};
 pub use progress_line::{Amount, ProgressLine};
 pub use prune_answer::{PruneAnswer, print_answer_with_fault};
 pub use readable::{Readable, TimeLeft};

@@ -37,6 +37,10 @@ use oci_store::Source;
 use serde_json::Value;
 use std::alloc::Global;
 
+mod listed;
+
+pub use listed::listed_platforms;
+
 /// The descriptor that was picked from an index.
 pub struct Picked {
     /// The key of the descriptor.
@@ -109,14 +113,14 @@ fn index_of<D: Dir>(layout: &Layout<D>, key: &Key) -> Result<Value, ProgramFault
 }
 
 /// Returns whether a key is of an index.
-fn is_index(key: &Key) -> bool
+pub(crate) fn is_index(key: &Key) -> bool
     ensures { result ≡ is_index (kind_of key.now.media_type) }
 {
     matches!(Kind::of(key.media_type()), Kind::Index | Kind::DockerList)
 }
 
 /// Returns the JSON in the bytes of a key.
-fn json_of(key: &Key, bytes: &[u8]) -> Result<Value, ProgramFault>
+pub(crate) fn json_of(key: &Key, bytes: &[u8]) -> Result<Value, ProgramFault>
     ensures read { IfOk result (λ value. reading bytes.now ≡ Some (view value)) }
     ensures refused { IfErr result (IsNoJson key.now bytes.now) }
 {
@@ -169,7 +173,7 @@ fn no_platform(alloc: Global, listed: &[Value], platform: &str) -> Result<Progra
 
 /// Returns the elements of an index's `manifests`.
 #[tactic(auto, unfolding(crate::specs::Platform::manifests_in))]
-fn manifests_in(index: &Value) -> &[Value]
+pub(crate) fn manifests_in(index: &Value) -> &[Value]
     ensures { items_view result.now ≡ manifests_in (view index.now) }
 {
     match index.get("manifests").and_then(Value::as_array) {
@@ -259,7 +263,7 @@ fn has_text(texts: &[String], text: &str) -> bool
 
 /// Returns the platform that a descriptor states: OS/ARCH/VARIANT, or OS/ARCH if it has no variant.
 #[tactic(auto, unfolding(crate::specs::Platform::platform_of))]
-fn platform_of(alloc: Global, descriptor: &Value) -> Result<Option<String>, NoMemory>
+pub(crate) fn platform_of(alloc: Global, descriptor: &Value) -> Result<Option<String>, NoMemory>
     ensures { IfOk result (λ found. option_map string_bytes found
         ≡ platform_of (view descriptor.now)) }
 {

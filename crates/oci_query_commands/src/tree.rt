@@ -5,12 +5,15 @@ use oci_program::{ProgramFault, Readable};
 use oci_prune::belonging_of;
 use serde::Serialize;
 use std::alloc::Global;
+use std::collections::BTreeSet;
 use std::fmt;
 
 mod labels;
+mod platforms;
 mod walk;
 
 pub(crate) use labels::Labels;
+use platforms::Platforms;
 use walk::Walk;
 
 /// The blobs that a key reaches and its referrers, each as a list of nodes with depths. Of the
@@ -29,9 +32,9 @@ impl<'l> Tree<'l> {
     /// Returns the blobs that a key reaches, and its referrers if they are asked for.
     ///
     /// The time and the memory grow with the nodes, and with the digests and tags of the layout.
-    /// With referrers each manifest of the layout is read for its subject, one at a time, and those
-    /// in their nodes once more for their type. No other content is read. A deep graph needs no
-    /// stack, since the blobs to visit are in a list.
+    /// Each index is read for the platforms that it states. With referrers each manifest of the layout
+    /// is read for its subject, one at a time, and those in their nodes once more for their type. No
+    /// other content is read. A deep graph needs no stack, since the blobs to visit are in a list.
     pub(crate) fn of<D: Dir>(
         alloc: Global,
         layout: &Layout<D>,
@@ -84,6 +87,9 @@ struct Node<'l> {
     /// The number of steps from the blob of the tree.
     depth: usize,
     descriptor: Key,
+    /// The platforms that the index above it states of the blob.
+    #[serde(skip_serializing_if = "BTreeSet::is_empty")]
+    platforms: BTreeSet<String>,
     /// The tags of the blob, in byte order.
     tags: &'l [String],
     /// Whether an earlier node has the blob. The blobs below it follow only that one.
@@ -99,7 +105,7 @@ struct Node<'l> {
 }
 
 /// Prints the line of a node without a line feed: the indents, the beginning of the digest, the
-/// size, the types, the tags, and a mark.
+/// size, the types, the platforms, the tags, and a mark.
 impl fmt::Display for Node<'_> {
     fn fmt<W: fmt::Write>(&self, f: &mut fmt::Formatter<W>) -> fmt::Result {
         for _ in 0..self.depth {
@@ -111,6 +117,7 @@ impl fmt::Display for Node<'_> {
         if let Some(artifact_type) = &self.artifact_type {
             write!(f, " ({artifact_type})")?;
         }
+        print_platforms(&self.platforms, f)?;
         print_tags(self.tags, f)?;
         write!(f, "{}", self.mark())
     }
@@ -127,6 +134,17 @@ impl Node<'_> {
             ""
         }
     }
+}
+
+/// Prints each platform after a space.
+fn print_platforms<W: fmt::Write>(
+    platforms: &BTreeSet<String>,
+    f: &mut fmt::Formatter<W>,
+) -> fmt::Result {
+    for platform in platforms {
+        write!(f, " {platform}")?;
+    }
+    Ok(())
 }
 
 /// Prints each tag in brackets after a space.

@@ -49,9 +49,10 @@ pub(crate) const TREE: CommandText = CommandText {
     details: Some(
         "Shows the blobs that a reference reaches as a tree, for people to read. Each line is the \
          beginning of a digest, a size, a media type, and the tags of that blob in brackets. The blobs \
-         that a manifest lists are below it, indented by two spaces. A blob that was shown before is \
-         marked `(shown above)`, and its list is not shown again. A blob that the layout does not have, \
-         or whose file is damaged, is marked `(absent)`.\n\n\
+         that a manifest lists are below it, indented by two spaces. Below an index each image has the \
+         platforms that the index states of it before its tags, such as `linux/arm64`. A blob that was \
+         shown before is marked `(shown above)`, and its list is not shown again. A blob that the layout \
+         does not have, or whose file is damaged, is marked `(absent)`.\n\n\
          With `--referrers` the title `referrers:` follows, and below it the manifests that list the \
          blob, each with the manifests that list it in turn. Then the manifests follow that are attached \
          to the blob, and each other blob that `copy --referrers` would bring and to which a manifest is \

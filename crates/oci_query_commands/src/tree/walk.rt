@@ -1,7 +1,7 @@
-use crate::tree::{Labels, Node};
+use crate::tree::{Labels, Node, Platforms};
 use oci_digest::NoMemory;
 use oci_manifest::{Key, Kind, artifact_type};
-use oci_program::ProgramFault;
+use oci_program::{ProgramFault, listed_platforms};
 use oci_prune::Belonging;
 use oci_store::{GraphSource, keys_of_set};
 use std::alloc::Global;
@@ -12,6 +12,8 @@ use std::collections::BTreeSet;
 struct Visit {
     key: Key,
     depth: usize,
+    /// The platforms that the index above it states of it.
+    platforms: BTreeSet<String>,
 }
 
 /// Where a walk goes from a blob.
@@ -52,6 +54,7 @@ impl<'w, 'l, A: GraphSource> Walk<'w, 'l, A> {
         pending.push(Visit {
             key: root.try_clone()?,
             depth: 0,
+            platforms: BTreeSet::new(self.alloc),
         })?;
         let mut nodes = Vec::new(self.alloc);
         self.add_nodes(pending, Way::Down, &mut nodes)?;
@@ -68,7 +71,7 @@ impl<'w, 'l, A: GraphSource> Walk<'w, 'l, A> {
     ) -> Result<Vec<Node<'l>>, ProgramFault> {
         let mut nodes = Vec::new(self.alloc);
         let mut pending = Vec::new(self.alloc);
-        add_all(&mut pending, self.source.predecessors(root)?, 1)?;
+        self.add_all(&mut pending, self.source.predecessors(root)?, 1)?;
         self.add_nodes(pending, Way::Up, &mut nodes)?;
         self.add_attached(root, 1, belonging, &mut nodes)?;
         self.add_members(belonging, &mut nodes)?;
@@ -107,6 +110,7 @@ impl<'w, 'l, A: GraphSource> Walk<'w, 'l, A> {
         let visit = Visit {
             key: key.try_clone()?,
             depth: 1,
+            platforms: BTreeSet::new(self.alloc),
         };
         nodes.push(self.node(visit)?)?;
         self.add_attached(key, 2, belonging, nodes)
@@ -122,7 +126,7 @@ impl<'w, 'l, A: GraphSource> Walk<'w, 'l, A> {
         nodes: &mut Vec<Node<'l>>,
     ) -> Result<(), ProgramFault> {
         let mut pending = Vec::new(self.alloc);
-        add_all(&mut pending, self.fresh_attached(key, belonging)?, depth)?;
+        self.add_all(&mut pending, self.fresh_attached(key, belonging)?, depth)?;
         self.add_nodes(pending, Way::Attached(belonging), nodes)
     }
 
@@ -175,11 +179,45 @@ impl<'w, 'l, A: GraphSource> Walk<'w, 'l, A> {
             return Ok(node);
         };
         if self.shown.insert(node.descriptor.try_clone()?)? {
-            add_all(pending, listed, depth.saturating_add(1))?;
+            let platforms = self.platforms_below(&node.descriptor)?;
+            self.add_listed(pending, listed, depth.saturating_add(1), platforms)?;
         } else {
             node.repeated = true;
         }
         Ok(node)
+    }
+
+    /// Adds the blobs that a blob lists to those to visit, each with its platforms. They are visited
+    /// before all others, in their order.
+    fn add_listed(
+        &self,
+        pending: &mut Vec<Visit>,
+        listed: Vec<Key>,
+        depth: usize,
+        platforms: Platforms,
+    ) -> Result<(), NoMemory> {
+        let mut platforms = platforms;
+        for key in listed.into_iter().rev() {
+            let platforms = platforms.take(self.alloc, &key);
+            pending.push(Visit {
+                key,
+                depth,
+                platforms,
+            })?;
+        }
+        Ok(())
+    }
+
+    /// Reads the platforms that an index states of what it lists. A blob that is no index is not read.
+    fn platforms_below(&self, key: &Key) -> Result<Platforms, ProgramFault> {
+        match Kind::of(key.media_type()) {
+            Kind::Index | Kind::DockerList => {
+                let bytes = self.source.fetch(key)?;
+                let listed = listed_platforms(self.alloc, key, bytes.as_slice())?;
+                Ok(Platforms::of(self.alloc, listed)?)
+            }
+            _ => Ok(Platforms::none(self.alloc)),
+        }
     }
 
     /// Returns the node of a referrer, and adds those above it to those to visit: the manifests that
@@ -198,18 +236,33 @@ impl<'w, 'l, A: GraphSource> Walk<'w, 'l, A> {
                 Some(belonging) => self.fresh_attached(&node.descriptor, belonging)?,
                 None => self.source.predecessors(&node.descriptor)?,
             };
-            add_all(pending, above, depth.saturating_add(1))?;
+            self.add_all(pending, above, depth.saturating_add(1))?;
         } else {
             node.repeated = true;
         }
         Ok(node)
     }
 
+    /// Adds these blobs to those to visit. They are visited before all others, in their order.
+    fn add_all(
+        &self,
+        pending: &mut Vec<Visit>,
+        keys: Vec<Key>,
+        depth: usize,
+    ) -> Result<(), NoMemory> {
+        self.add_listed(pending, keys, depth, Platforms::none(self.alloc))
+    }
+
     /// Returns the node of a blob without an artifact type and a mark.
     fn node(&self, visit: Visit) -> Result<Node<'l>, NoMemory> {
-        let Visit { key, depth } = visit;
+        let Visit {
+            key,
+            depth,
+            platforms,
+        } = visit;
         Ok(Node {
             depth,
+            platforms,
             tags: self.labels.tags(&key),
             repeated: false,
             absent: false,
@@ -237,12 +290,4 @@ fn set_of(alloc: Global, keys: &[Key]) -> Result<BTreeSet<Key>, NoMemory> {
         set.insert(key.try_clone()?)?;
     }
     Ok(set)
-}
-
-/// Adds these blobs to those to visit. They are visited before all others, in their order.
-fn add_all(pending: &mut Vec<Visit>, keys: Vec<Key>, depth: usize) -> Result<(), NoMemory> {
-    for key in keys.into_iter().rev() {
-        pending.push(Visit { key, depth })?;
-    }
-    Ok(())
 }
