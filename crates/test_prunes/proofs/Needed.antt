@@ -8,17 +8,19 @@ use Rattle.std.specs.Str.{bytes_eq}
 use Rattle.std.proofs.lemmas.Bool.{cases_Bool, and_parts, and_from, and_cases, not-true, not-false, not_from_true, not_from_false, or_cases, or_left, or_right, both_ways}
 use Rattle.std.proofs.lemmas.Slice.Eq.{bytes_eq-Decides}
 use Rattle.oci_manifest.specs.Descriptor.{Descriptor, key_cmp, same_key, is_among}
+use Rattle.oci_manifest.specs.MediaTypes.{kind_of}
 use Rattle.oci_manifest.proofs.Keys.{Decides-same_key}
 use Rattle.oci_store.specs.Keyed.{value_at, has_key}
 use Rattle.oci_store.specs.Predecessors.{lists_key}
 use Rattle.oci_store.proofs.Membership.{Contains-from_among, among_from_Contains}
 use Rattle.oci_store.proofs.Predecessors.{lists_key-edge}
+use Rattle.oci_layout.specs.Layout.{is_manifest}
 use Rattle.oci_prune.proofs.Elements.{no_element, Contains-head, Contains-tail, Contains-cons}
 use Rattle.oci_prune.proofs.Keeping.{held_from_kept}
 use Rattle.oci_prune.specs.Belongs.{Belongs, given, needed, AreMembers}
 use Rattle.oci_prune.specs.Walk.{HasOneMore}
 use Rattle.test_prunes.specs.declared.plain.Held.{Held}
-use Rattle.test_prunes.specs.Plain.{graph_of, RefersIn, has_kept_digest, is_listed, states_kept, is_needed, is_next, next_in}
+use Rattle.test_prunes.specs.Plain.{graph_of, AttachedIn, follows_kept, has_kept_digest, has_kept_manifest, is_listed, states_kept, is_needed, is_next, next_in}
 
 -- ---- lists of entries
 
@@ -139,28 +141,42 @@ entry_from_held (x ∷ held) k h =
 
 -- all keys of the set are kept
 abbrev pub AllKept : List Held → List Descriptor → BTreeSet Descriptor → Type 0
-AllKept held roots set = (k : Descriptor) → contains key_cmp set k ≡ true → Belongs (graph_of held) roots (RefersIn held) k
+AllKept held roots set = (k : Descriptor) → contains key_cmp set k ≡ true → Belongs (graph_of held) roots (AttachedIn held) k
 
 stated : (held : List Held) (roots : List Descriptor) (set : BTreeSet Descriptor) (h : Held) (subject : Option Descriptor) → h.subject ≡ subject → AllKept held roots set → Contains held h
-    → option_map_or (has_kept_digest held set) subject false ≡ true → Belongs (graph_of held) roots (RefersIn held) h.key
+    → option_map_or (has_kept_digest held set) subject false ≡ true → Belongs (graph_of held) roots (AttachedIn held) h.key
 stated held roots set h None is kept there states = cc states
 stated held roots set h (Some subject) is kept there states =
     let r = any_one (λ (other : Held). contains key_cmp set other.key && bytes_eq other.key.digest subject.digest) held states in
     let both = and_parts (contains key_cmp set r.0.key) (bytes_eq r.0.key.digest subject.digest) r.2 in
     let digest : subject.digest ≡ r.0.key.digest = sym ((bytes_eq-Decides r.0.key.digest subject.digest).0 both.1) in
-    needed (kept r.0.key both.0) (inr (h, subject, there, refl, is, digest)) (held_from_entry held h there)
+    needed (kept r.0.key both.0) (inr (inl (h, subject, there, refl, is, digest))) (held_from_entry held h there)
 
-needed_kept : (held : List Held) (roots : List Descriptor) (set : BTreeSet Descriptor) (h : Held) → AllKept held roots set → Contains held h → is_needed held roots set h ≡ true → Belongs (graph_of held) roots (RefersIn held) h.key
+followed : (held : List Held) (roots : List Descriptor) (set : BTreeSet Descriptor) (h : Held) (follows : Option Descriptor) → h.follows ≡ follows → AllKept held roots set → Contains held h
+    → option_map_or (has_kept_manifest held set) follows false ≡ true → Belongs (graph_of held) roots (AttachedIn held) h.key
+followed held roots set h None is kept there follows = cc follows
+followed held roots set h (Some named) is kept there follows =
+    let r = any_one (λ (other : Held). contains key_cmp set other.key && is_manifest (kind_of other.key.media_type) && bytes_eq other.key.digest named.digest) held follows in
+    let both = and_parts (contains key_cmp set r.0.key && is_manifest (kind_of r.0.key.media_type)) (bytes_eq r.0.key.digest named.digest) r.2 in
+    let first = and_parts (contains key_cmp set r.0.key) (is_manifest (kind_of r.0.key.media_type)) both.0 in
+    let digest : named.digest ≡ r.0.key.digest = sym ((bytes_eq-Decides r.0.key.digest named.digest).0 both.1) in
+    needed (kept r.0.key first.0) (inr (inr (h, named, there, refl, is, first.1, digest))) (held_from_entry held h there)
+
+needed_kept : (held : List Held) (roots : List Descriptor) (set : BTreeSet Descriptor) (h : Held) → AllKept held roots set → Contains held h → is_needed held roots set h ≡ true → Belongs (graph_of held) roots (AttachedIn held) h.key
 needed_kept held roots set h kept there needs =
-    elim (or_cases (is_among roots h.key || is_listed held set h.key) (states_kept held set h) needs) [
-      | inr states ↦ stated held roots set h h.subject refl kept there states
-      | inl above ↦
-          elim (or_cases (is_among roots h.key) (is_listed held set h.key) above) [
-            | inl named ↦ given (Contains-from_among roots h.key named) (held_from_entry held h there)
-            | inr listed ↦
-                let r = any_one (λ (other : Held). contains key_cmp set other.key && lists_key (graph_of held) other.key h.key) held listed in
-                let both = and_parts (contains key_cmp set r.0.key) (lists_key (graph_of held) r.0.key h.key) r.2 in
-                needed (kept r.0.key both.0) (inl ((lists_key-edge (graph_of held) r.0.key h.key).0 both.1)) (held_from_entry held h there)
+    elim (or_cases (is_among roots h.key || is_listed held set h.key || states_kept held set h) (follows_kept held set h) needs) [
+      | inr follows ↦ followed held roots set h h.follows refl kept there follows
+      | inl fewer ↦
+          elim (or_cases (is_among roots h.key || is_listed held set h.key) (states_kept held set h) fewer) [
+            | inr states ↦ stated held roots set h h.subject refl kept there states
+            | inl above ↦
+                elim (or_cases (is_among roots h.key) (is_listed held set h.key) above) [
+                  | inl named ↦ given (Contains-from_among roots h.key named) (held_from_entry held h there)
+                  | inr listed ↦
+                      let r = any_one (λ (other : Held). contains key_cmp set other.key && lists_key (graph_of held) other.key h.key) held listed in
+                      let both = and_parts (contains key_cmp set r.0.key) (lists_key (graph_of held) r.0.key h.key) r.2 in
+                      needed (kept r.0.key both.0) (inl ((lists_key-edge (graph_of held) r.0.key h.key).0 both.1)) (held_from_entry held h there)
+                ]
           ]
     ]
 
@@ -172,7 +188,7 @@ grown_kept held roots old new h kept found grown k there =
     let both = and_parts (not (contains key_cmp old h.key)) (is_needed held roots old h) is.1 in
     elim ((grown k).0 there) [
       | inl was ↦ kept k was
-      | inr same ↦ subst (λ (x : Descriptor). Belongs (graph_of held) roots (RefersIn held) x) (sym same) (needed_kept held roots old h kept is.0 both.1)
+      | inr same ↦ subst (λ (x : Descriptor). Belongs (graph_of held) roots (AttachedIn held) x) (sym same) (needed_kept held roots old h kept is.0 both.1)
     ]
 
 -- the number of entries whose keys are not in the set
@@ -200,32 +216,44 @@ there_if_needed held roots set h none there needs =
       | inr never ↦ absurd (both_ways (is_needed held roots set h) never needs)
     ]
 
-all_there : (held : List Held) (roots : List Descriptor) (set : BTreeSet Descriptor) → next_in held roots set ≡ None → (k : Descriptor) → Belongs (graph_of held) roots (RefersIn held) k → contains key_cmp set k ≡ true
+all_there : (held : List Held) (roots : List Descriptor) (set : BTreeSet Descriptor) → next_in held roots set ≡ None → (k : Descriptor) → Belongs (graph_of held) roots (AttachedIn held) k → contains key_cmp set k ≡ true
 all_there held roots set none k (given named holds) =
     let e = entry_from_held held k holds in
     let named_e = among_from_Contains roots e.0.key (subst (λ (x : Descriptor). Contains roots x) (sym e.2) named) in
     subst (λ (x : Descriptor). contains key_cmp set x ≡ true) e.2 (there_if_needed held roots set e.0 none e.1
-    (or_left (is_among roots e.0.key || is_listed held set e.0.key) (states_kept held set e.0) (or_left (is_among roots e.0.key) (is_listed held set e.0.key) named_e)))
+    (or_left (is_among roots e.0.key || is_listed held set e.0.key || states_kept held set e.0) (follows_kept held set e.0) (or_left (is_among roots e.0.key || is_listed held set e.0.key) (states_kept held set e.0) (or_left (is_among roots e.0.key) (is_listed held set e.0.key) named_e))))
 all_there held roots set none k (needed {from} kept (inl edge) holds) =
     let before = all_there held roots set none from kept in
-    let f = entry_from_held held from (held_from_kept (graph_of held) roots (RefersIn held) from kept) in
+    let f = entry_from_held held from (held_from_kept (graph_of held) roots (AttachedIn held) from kept) in
     let e = entry_from_held held k holds in
     let lists : lists_key (graph_of held) f.0.key e.0.key ≡ true =
     subst (λ (x : Descriptor). lists_key (graph_of held) x e.0.key ≡ true) (sym f.2) (subst (λ (x : Descriptor). lists_key (graph_of held) from x ≡ true) (sym e.2) ((lists_key-edge (graph_of held) from k).1 edge)) in
     let inside = subst (λ (x : Descriptor). contains key_cmp set x ≡ true) (sym f.2) before in
     let listed = any_there (λ (other : Held). contains key_cmp set other.key && lists_key (graph_of held) other.key e.0.key) held f.0 f.1 (and_from (contains key_cmp set f.0.key) (lists_key (graph_of held) f.0.key e.0.key) inside lists) in
     subst (λ (x : Descriptor). contains key_cmp set x ≡ true) e.2 (there_if_needed held roots set e.0 none e.1
-    (or_left (is_among roots e.0.key || is_listed held set e.0.key) (states_kept held set e.0) (or_right (is_among roots e.0.key) (is_listed held set e.0.key) listed)))
-all_there held roots set none k (needed {from} kept (inr refers) holds) =
+    (or_left (is_among roots e.0.key || is_listed held set e.0.key || states_kept held set e.0) (follows_kept held set e.0) (or_left (is_among roots e.0.key || is_listed held set e.0.key) (states_kept held set e.0) (or_right (is_among roots e.0.key) (is_listed held set e.0.key) listed))))
+all_there held roots set none k (needed {from} kept (inr (inl refers)) holds) =
     let before = all_there held roots set none from kept in
-    let f = entry_from_held held from (held_from_kept (graph_of held) roots (RefersIn held) from kept) in
+    let f = entry_from_held held from (held_from_kept (graph_of held) roots (AttachedIn held) from kept) in
     let subject = refers.1 in
     let inside = subst (λ (x : Descriptor). contains key_cmp set x ≡ true) (sym f.2) before in
     let digest : bytes_eq f.0.key.digest subject.digest ≡ true = (bytes_eq-Decides f.0.key.digest subject.digest).1 (ap (λ (x : Descriptor). x.digest) f.2 ∙ sym refers.5) in
     let one = any_there (λ (other : Held). contains key_cmp set other.key && bytes_eq other.key.digest subject.digest) held f.0 f.1 (and_from (contains key_cmp set f.0.key) (bytes_eq f.0.key.digest subject.digest) inside digest) in
     let states : states_kept held set refers.0 ≡ true = ap (λ (o : Option Descriptor). option_map_or (has_kept_digest held set) o false) refers.4 ∙ one in
     subst (λ (x : Descriptor). contains key_cmp set x ≡ true) refers.3 (there_if_needed held roots set refers.0 none refers.2
-    (or_right (is_among roots refers.0.key || is_listed held set refers.0.key) (states_kept held set refers.0) states))
+    (or_left (is_among roots refers.0.key || is_listed held set refers.0.key || states_kept held set refers.0) (follows_kept held set refers.0) (or_right (is_among roots refers.0.key || is_listed held set refers.0.key) (states_kept held set refers.0) states)))
+all_there held roots set none k (needed {from} kept (inr (inr follows)) holds) =
+    let before = all_there held roots set none from kept in
+    let f = entry_from_held held from (held_from_kept (graph_of held) roots (AttachedIn held) from kept) in
+    let named = follows.1 in
+    let inside = subst (λ (x : Descriptor). contains key_cmp set x ≡ true) (sym f.2) before in
+    let kind : is_manifest (kind_of f.0.key.media_type) ≡ true = ap (λ (x : Descriptor). is_manifest (kind_of x.media_type)) f.2 ∙ follows.5 in
+    let digest : bytes_eq f.0.key.digest named.digest ≡ true = (bytes_eq-Decides f.0.key.digest named.digest).1 (ap (λ (x : Descriptor). x.digest) f.2 ∙ sym follows.6) in
+    let both = and_from (contains key_cmp set f.0.key) (is_manifest (kind_of f.0.key.media_type)) inside kind in
+    let one = any_there (λ (other : Held). contains key_cmp set other.key && is_manifest (kind_of other.key.media_type) && bytes_eq other.key.digest named.digest) held f.0 f.1 (and_from (contains key_cmp set f.0.key && is_manifest (kind_of f.0.key.media_type)) (bytes_eq f.0.key.digest named.digest) both digest) in
+    let names : follows_kept held set follows.0 ≡ true = ap (λ (o : Option Descriptor). option_map_or (has_kept_manifest held set) o false) follows.4 ∙ one in
+    subst (λ (x : Descriptor). contains key_cmp set x ≡ true) follows.3 (there_if_needed held roots set follows.0 none follows.2
+    (or_right (is_among roots follows.0.key || is_listed held set follows.0.key || states_kept held set follows.0) (follows_kept held set follows.0) names))
 
-pub kept_at_end : (held : List Held) (roots : List Descriptor) (set : BTreeSet Descriptor) → AllKept held roots set → next_in held roots set ≡ None → AreMembers (graph_of held) roots (RefersIn held) set
+pub kept_at_end : (held : List Held) (roots : List Descriptor) (set : BTreeSet Descriptor) → AllKept held roots set → next_in held roots set ≡ None → AreMembers (graph_of held) roots (AttachedIn held) set
 kept_at_end held roots set kept none k = (kept k, all_there held roots set none k)

@@ -1,7 +1,8 @@
 //! Tests of prunes, run through the public calls of `oci_prune`.
 //!
-//! [`kept_plainly`] computes what a prune keeps without a walk and without an index. Its contract
-//! is the definition of the kept keys. `tests` plans prunes of random layouts and compares.
+//! [`kept_plainly`] computes what belongs to keys, as a prune keeps it and a copy brings it, without a
+//! walk and without an index. Its contract is the definition of that. `tests` compares the plans of
+//! prunes of random layouts with it, and what [`belonging_of`](oci_prune::belonging_of) returns.
 #![tactic(auto)]
 
 mod plain;

@@ -1,3 +1,4 @@
 mod belonging;
+mod by_tag;
 mod layouts;
 mod random;

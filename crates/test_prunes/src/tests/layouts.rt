@@ -56,12 +56,14 @@ fn note(alloc: Global, made: &mut Made, key: Key, links: Links) -> Result<(), Fa
         key: key.try_clone()?,
         lists: cloned(alloc, &lists)?,
         subject: None,
+        follows: None,
     };
     made.without_subjects.push(without_subjects)?;
     made.held.push(Held {
         key,
         lists,
         subject,
+        follows: None,
     })?;
     Ok(())
 }
@@ -93,7 +95,7 @@ fn push_layer(alloc: Global, made: &mut Made, number: u32) -> Result<(), Fail> {
 }
 
 /// Returns a random held key.
-fn random_key(state: &mut u64, held: &[Held]) -> Result<Key, Fail> {
+pub(crate) fn random_key(state: &mut u64, held: &[Held]) -> Result<Key, Fail> {
     let place = below(state, u32::try_from(held.len()).unwrap_or(0));
     match held.get(place as usize) {
         Some(entry) => Ok(entry.key.try_clone()?),
