@@ -1,5 +1,5 @@
 -- Lemmas about the roots of a copy with what is attached to them, and about the tags that come along.
-use Rattle.std.proofs.Common.{◌≡◌, ◌≢◌, ℕ, ◌<◌, Bool, true, not, List, [], ◌∷◌, ◌++◌, length, get_or, filter, Option, Some, None, inl, inr, refl, sym, ap, subst, ◌∙◌}
+use Rattle.std.proofs.Common.{◌≡◌, ◌≢◌, ℕ, ◌<◌, Bool, true, not, List, [], ◌∷◌, ◌++◌, length, get_or, filter, Some, None, inl, inr, refl, sym, ap, subst, ◌∙◌}
 use Rattle.std.specs.Prelude.{◌↔◌, Contains}
 use Rattle.std.specs.BTreeMap.{is_at}
 use Rattle.std.specs.BTreeSet.{BTreeSet, contains}
@@ -23,7 +23,9 @@ use Rattle.oci_prune.specs.Attached.{follows, follows_one}
 use Rattle.oci_prune.specs.Belonging.{IsComplete}
 use Rattle.oci_prune.specs.declared.belonging.Belonging.{Belonging}
 use Rattle.oci_prune.proofs.Elements.{Contains-cons, Contains-head, Contains-tail, in_map_filter, no_element}
-use Rattle.oci_copy_commands.specs.Selected.{climb_depth, each_once, AddsAttached, AreAllRoots, AreClimbedOfKeys, AreOfRoots, AreReferenceRoots}
+use Rattle.oci_copy_commands.specs.Selected.{each_once, AddsAttached, AreAllRoots, AreOfRoots, AreReferenceRoots}
+use Rattle.oci_copy_commands.specs.declared.referrers.Referrers.{Referrers}
+use Rattle.oci_copy_commands.specs.declared.referrers.Referrers.TheVariants.{LeftOut, Climbed, Attached}
 use Rattle.oci_copy_commands.proofs.Selections.{root_there, roots_by, some_there}
 
 -- ---- each key once
@@ -100,30 +102,28 @@ first_of_roots roots name k others named there of = record {
 
 -- ---- the roots
 
+-- the climbed keys are roots
+climbed_there : (climbed attached roots : Keys) (k : Descriptor) → roots ≡ each_once (climbed ++ attached) → Contains climbed k → Contains roots k
+climbed_there climbed attached roots k are there = subst (λ (keys : Keys). Contains keys k) (sym are) (once_there (climbed ++ attached) k (Contains-append_left climbed attached k there))
+
 -- the key of a reference is a root
-pub reference_there : (store : State) (referrers : Option ℕ) (k : Descriptor) (name : List ℕ) (roots : Keys) (others : Tags) → AreReferenceRoots store referrers k name roots others → Contains roots k
-reference_there store None k name roots others are = subst (λ (keys : Keys). Contains keys k) (sym are.0) (Contains-push [] k)
-reference_there store (Some depth) k name roots others are =
-    let climbed = are.0 in
-    let attached = are.2.0.attached.items in
-    subst (λ (keys : Keys). Contains keys k) (sym are.2.2) (once_there (climbed ++ attached) k (Contains-append_left climbed attached k (root_there store.nodes (Some depth) k climbed are.1)))
+pub reference_there : (store : State) (referrers : Referrers) (k : Descriptor) (name : List ℕ) (roots : Keys) (others : Tags) → AreReferenceRoots store referrers k name roots others → Contains roots k
+reference_there store LeftOut k name roots others are = subst (λ (keys : Keys). Contains keys k) (sym are.0) (Contains-push [] k)
+reference_there store (Climbed depth) k name roots others are = climbed_there are.0 are.2.0.attached.items roots k are.2.2 (root_there store.nodes (Some depth) k are.0 are.1)
+reference_there store Attached k name roots others are = climbed_there (k ∷ []) are.0.attached.items roots k are.2 (Contains-push [] k)
 
 -- the roots of a copy of all tags are those of any list with the same keys
-pub all_roots_by : (store : State) (climbs : Bool) (referrers : Option ℕ) (keys other roots : Keys) → ((k : Descriptor) → Contains keys k ↔ Contains other k) → AreAllRoots store climbs referrers keys roots → AreAllRoots store climbs referrers other roots
-all_roots_by store climbs None keys other roots same are = roots_by store.nodes None keys other roots same are
-all_roots_by store climbs (Some depth) keys other roots same are = (are.0, roots_by store.nodes (climb_depth climbs depth) keys other are.0 same are.1, are.2)
+pub all_roots_by : (store : State) (referrers : Referrers) (keys other roots : Keys) → ((k : Descriptor) → Contains keys k ↔ Contains other k) → AreAllRoots store referrers keys roots → AreAllRoots store referrers other roots
+all_roots_by store LeftOut keys other roots same are = roots_by store.nodes None keys other roots same are
+all_roots_by store (Climbed depth) keys other roots same are = (are.0, roots_by store.nodes (Some depth) keys other are.0 same are.1, are.2)
+all_roots_by store Attached keys other roots same are = (are.0, roots_by store.nodes None keys other are.0 same are.1, are.2)
+
+all_climbed_there : (store : State) (some climbed roots : Keys) → AddsAttached store climbed roots → All (λ (k : Descriptor). Contains climbed k) some → All (λ (k : Descriptor). Contains roots k) some
+all_climbed_there store some climbed roots adds = All-weaker (λ (k : Descriptor). Contains climbed k) (λ (k : Descriptor). Contains roots k) (λ k there. climbed_there climbed adds.0.attached.items roots k adds.2 there) some
 
 -- each of the keys that a copy of all tags starts from is among its roots
-pub all_there : (store : State) (climbs : Bool) (referrers : Option ℕ) (some keys roots : Keys) → ((k : Descriptor) → Contains some k → Contains keys k) → AreAllRoots store climbs referrers keys roots
+pub all_there : (store : State) (referrers : Referrers) (some keys roots : Keys) → ((k : Descriptor) → Contains some k → Contains keys k) → AreAllRoots store referrers keys roots
     → All (λ (k : Descriptor). Contains roots k) some
-all_there store climbs None some keys roots among are = some_there store.nodes None some keys roots among are
-all_there store climbs (Some depth) some keys roots among are =
-    let climbed = are.0 in
-    let attached = are.2.0.attached.items in
-    All-weaker (λ (k : Descriptor). Contains climbed k) (λ (k : Descriptor). Contains roots k)
-    (λ k there. subst (λ (ks : Keys). Contains ks k) (sym are.2.2) (once_there (climbed ++ attached) k (Contains-append_left climbed attached k there)))
-    some (some_there store.nodes (climb_depth climbs depth) some keys climbed among are.1)
-
--- what is attached is added to the keys that a copy of all tags climbs to
-pub adds_all : (store : State) (climbs : Bool) (depth : ℕ) (keys climbed roots : Keys) → AreClimbedOfKeys store.nodes (climb_depth climbs depth) keys climbed → AddsAttached store climbed roots → AreAllRoots store climbs (Some depth) keys roots
-adds_all store climbs depth keys climbed roots are adds = (climbed, are, adds)
+all_there store LeftOut some keys roots among are = some_there store.nodes None some keys roots among are
+all_there store (Climbed depth) some keys roots among are = all_climbed_there store some are.0 roots are.2 (some_there store.nodes (Some depth) some keys are.0 among are.1)
+all_there store Attached some keys roots among are = all_climbed_there store some are.0 roots are.2 (some_there store.nodes None some keys are.0 among are.1)

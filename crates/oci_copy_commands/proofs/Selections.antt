@@ -6,7 +6,7 @@ use Rattle.std.specs.Map.{keys_of, values_of}
 use Rattle.std.specs.declared.alloc.Global.{Global}
 use Rattle.std.proofs.lemmas.List.{take_all, take_more}
 use Rattle.std.proofs.lemmas.Option.{slice_get-get_or, slice_get-map}
-use Rattle.std.proofs.lemmas.List.Elements.{All-contains, All-contains_itself, All-cons, All-nil, All-weaker, Contains-append_left, Contains-append_right, Contains-push, Contains-push_cases, filter-append}
+use Rattle.std.proofs.lemmas.List.Elements.{All-append, All-contains, All-contains_itself, All-cons, All-nil, All-weaker, Contains-append_left, Contains-append_right, Contains-push, Contains-push_cases, filter-append}
 use Rattle.oci_manifest.specs.Descriptor.{Descriptor}
 use Rattle.oci_store.specs.Graph.{Node}
 use Rattle.oci_store.specs.Keyed.{has_key, HasAll}
@@ -21,8 +21,13 @@ use Rattle.oci_layout.specs.Saved.{no_name}
 use Rattle.oci_layout.specs.declared.index.IndexEntry.{IndexEntry as CodeEntry}
 use Rattle.oci_layout.proofs.EntryKeys.{entry_keys-append}
 use Rattle.oci_layout.proofs.LastNames.{entries-more}
+use Rattle.oci_prune.proofs.Elements.{next_element}
 use Rattle.oci_copy_commands.specs.Brought.{named_entries}
 use Rattle.oci_copy_commands.specs.Selected.{AreClimbed, AreClimbedOfKeys, IsClimbed, IsClimbedOfKeys}
+
+-- what is true of the elements so far, and of the next one
+pub all_more : {X : Type 0} (P : X → Type 0) (xs : List X) (i : ℕ) (x : X) → i < length xs → x ≡ get_or xs i x → P x → All P (take i xs) → All P (take (i + 1) xs)
+all_more P xs i x within is holds before = subst (All P) (sym (next_element xs i x within is)) (All-append P (take i xs) (x ∷ []) before (All-cons P x [] holds (All-nil P)))
 
 -- keys that are among held keys are held
 pub among_held : (graph : List Node) (roots keys : List Descriptor) → HasAll graph roots → All (λ (k : Descriptor). Contains roots k) keys → HasAll graph keys

@@ -19,6 +19,8 @@ use Rattle.oci_layout.specs.Layout.{LayoutState, manifests_of}
 use Rattle.oci_layout.specs.Saved.{no_name}
 use Rattle.oci_layout.specs.declared.index.IndexEntry.{IndexEntry as CodeEntry}
 use Rattle.oci_copy_commands.specs.Brought.{named_entries, reference_entry, tag_entries, with_roots}
+use Rattle.oci_copy_commands.specs.declared.referrers.Referrers.{Referrers}
+use Rattle.oci_copy_commands.specs.declared.referrers.Referrers.TheVariants.{LeftOut, Climbed, Attached}
 use Rattle.oci_plan.specs.Up.{HasPath, IsUp, IsWithinDepth}
 use Rattle.oci_program.specs.Reference.{Names}
 use Rattle.oci_prune.specs.Attached.{AttachedBy}
@@ -85,20 +87,17 @@ AreWithAttached store climbed name roots others =
     (b : Belonging) × IsSourceBelonging store climbed b × (roots ≡ each_once (climbed ++ b.attached.items)) × (others ≡ without_tag (by_bytes b.tags.items) name)
 
 -- the roots of a copy of a reference, and the tags that come with its own
-abbrev pub AreReferenceRoots : State → Option ℕ → Descriptor → List ℕ → List Descriptor → Tags → Type 0
-AreReferenceRoots store None k name roots others = (roots ≡ k ∷ []) × (others ≡ [])
-AreReferenceRoots store (Some depth) k name roots others = (climbed : List Descriptor) × IsUp store.nodes k depth climbed × AreWithAttached store climbed name roots others
-
--- the depth to which a copy climbs; nothing, if it does not climb
-abbrev pub climb_depth : Bool → ℕ → Option ℕ
-climb_depth true depth = Some depth
-climb_depth false depth = None
+abbrev pub AreReferenceRoots : State → Referrers → Descriptor → List ℕ → List Descriptor → Tags → Type 0
+AreReferenceRoots store LeftOut k name roots others = (roots ≡ k ∷ []) × (others ≡ [])
+AreReferenceRoots store (Climbed depth) k name roots others = (climbed : List Descriptor) × IsUp store.nodes k depth climbed × AreWithAttached store climbed name roots others
+AreReferenceRoots store Attached k name roots others = AreWithAttached store (k ∷ []) name roots others
 
 -- the roots of a copy of all tags: without referrers the keys that it starts from, each once; with
 -- them the keys that it climbs to, and what is attached to the keys that belong to these
-abbrev pub AreAllRoots : State → Bool → Option ℕ → List Descriptor → List Descriptor → Type 0
-AreAllRoots store climbs None keys roots = AreClimbedOfKeys store.nodes None keys roots
-AreAllRoots store climbs (Some depth) keys roots = (climbed : List Descriptor) × AreClimbedOfKeys store.nodes (climb_depth climbs depth) keys climbed × AddsAttached store climbed roots
+abbrev pub AreAllRoots : State → Referrers → List Descriptor → List Descriptor → Type 0
+AreAllRoots store LeftOut keys roots = AreClimbedOfKeys store.nodes None keys roots
+AreAllRoots store (Climbed depth) keys roots = (climbed : List Descriptor) × AreClimbedOfKeys store.nodes (Some depth) keys climbed × AddsAttached store climbed roots
+AreAllRoots store Attached keys roots = (climbed : List Descriptor) × AreClimbedOfKeys store.nodes None keys climbed × AddsAttached store climbed roots
 
 -- the keys that a copy of all tags starts from: the tagged ones, and those of the entries with a name
 abbrev pub named_keys : Tags → List IndexEntry → List Descriptor
@@ -140,28 +139,37 @@ pub record HasAllReadable {D : Type 0} (layout : LayoutState D) : Type 0 where
 abbrev pub Selected : Type 0
 Selected = List Descriptor × Tags × List CodeEntry
 
+-- what a copy brings beside the blobs that it starts from: nothing without the depth of referrers,
+-- and with it what is attached; one that does not prune climbs
+abbrev pub referrers_unless : Bool → Option ℕ → Referrers
+referrers_unless prunes None = LeftOut
+referrers_unless true (Some depth) = Attached
+referrers_unless false (Some depth) = Climbed depth
+
+abbrev pub referrers_of : CopyWords → Referrers
+referrers_of words = referrers_unless words.prunes words.referrers
+
 -- a copy of a reference, which is tagged with its second name if that is not empty, selects the key
 -- that it names
-abbrev pub SelectsReference : {D : Type 0} → (D → Device) → LayoutState D → List ℕ → List ℕ → Option ℕ → Selected → Type 0
+abbrev pub SelectsReference : {D : Type 0} → (D → Device) → LayoutState D → List ℕ → List ℕ → Referrers → Selected → Type 0
 SelectsReference device source from to referrers s =
     (k : Descriptor) × (others : Tags) × Names (keys_of source.graph) source.tags from k
     × AreReferenceRoots (meaning (device source.dir) source.graph source.tags) referrers k (name_of from to) s.0 others
     × (s.1 ≡ (name_of from to, k) ∷ others)
     × (map entry_of s.2 ≡ with_roots (said source.opened.content).entries (reference_entry (said source.opened.content).entries from (name_of from to) k ++ tag_entries (said source.opened.content).entries others) s.0)
 
--- a copy of all tags selects what each entry with a name names; with referrers it climbs, unless it
--- is a mirror
-pub record SelectsAllTags {D : Type 0} (device : D → Device) (source : LayoutState D) (climbs : Bool) (referrers : Option ℕ) (s : Selected) : Type 0 where
+-- a copy of all tags selects what each entry with a name names
+pub record SelectsAllTags {D : Type 0} (device : D → Device) (source : LayoutState D) (referrers : Referrers) (s : Selected) : Type 0 where
   pub named : AreNamedHeld source.graph source.opened.content.entries
   pub tagged : source.tags ≢ []
   pub tags : s.1 ≡ source.tags
-  pub roots : AreAllRoots (meaning (device source.dir) source.graph source.tags) climbs referrers (named_keys source.tags (said source.opened.content).entries) s.0
+  pub roots : AreAllRoots (meaning (device source.dir) source.graph source.tags) referrers (named_keys source.tags (said source.opened.content).entries) s.0
   pub entries : map entry_of s.2 ≡ with_roots (said source.opened.content).entries (named_entries (said source.opened.content).entries) s.0
 
 -- a copy selects what its words name: a reference, or all tags
-abbrev pub SelectsBy : {D : Type 0} → (D → Device) → LayoutState D → Bool → Option ℕ → Selection → Selected → Type 0
-SelectsBy device source climbs referrers (selection.Reference from to) s = SelectsReference device source from.now to.now referrers s
-SelectsBy device source climbs referrers selection.AllTags s = SelectsAllTags device source climbs referrers s
+abbrev pub SelectsBy : {D : Type 0} → (D → Device) → LayoutState D → Referrers → Selection → Selected → Type 0
+SelectsBy device source referrers (selection.Reference from to) s = SelectsReference device source from.now to.now referrers s
+SelectsBy device source referrers selection.AllTags s = SelectsAllTags device source referrers s
 
 abbrev pub Selects : {D : Type 0} → (D → Device) → LayoutState D → CopyWords → Selected → Type 0
-Selects device source words s = SelectsBy device source (not words.prunes) words.referrers words.selection s
+Selects device source words s = SelectsBy device source (referrers_of words) words.selection s

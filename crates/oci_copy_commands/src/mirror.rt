@@ -123,23 +123,19 @@ fn check_destination<D: PrunableDir>(
         return Err(ProgramFault::Prune(PruneFault::Unknown(key.try_clone()?)));
     }
     match destination.check_entries() {
-        Ok(()) => check_folders(alloc, destination, is_exact),
+        Ok(()) => {
+            check_unlinked(destination)?;
+            check_plan(alloc, destination, is_exact)
+        }
         Err(fault) => Err(ProgramFault::Destination(fault)),
     }
 }
 
-/// Refuses a layout with a link to a folder of blobs, and one whose prune is refused.
-fn check_folders<D: PrunableDir>(
-    alloc: Global,
-    layout: &Layout<D>,
-    is_exact: bool,
-) -> Result<(), ProgramFault>
-    ensures damaged { OnOk result (layout.now.tags ≢ []
-        → HasAll layout.now.graph (manifests_of layout.now.opened.damaged)) }
-{
+/// Refuses a layout with a link to a folder of blobs.
+fn check_unlinked<D: PrunableDir>(layout: &Layout<D>) -> Result<(), ProgramFault> {
     match layout.linked() {
+        Ok(None) => Ok(()),
         Ok(Some(folder)) => Err(ProgramFault::Prune(PruneFault::LinkedBlobs(folder))),
-        Ok(None) => check_plan(alloc, layout, is_exact),
         Err(fault) => Err(ProgramFault::Destination(fault)),
     }
 }

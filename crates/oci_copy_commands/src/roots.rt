@@ -8,7 +8,6 @@ ghost use Rattle.oci_layout.specs.Blobs.{meaning};
 ghost use Rattle.oci_layout.specs.Entries.{entry_keys, entry_of};
 ghost use Rattle.oci_copy_commands.specs.Brought.{named_entries};
 ghost use Rattle.oci_copy_commands.specs.Selected.{
-  climb_depth,
   each_once,
   named_keys,
   AddsAttached,
@@ -22,6 +21,7 @@ ghost use Rattle.oci_copy_commands.specs.Selected.{
   IsSourceBelonging,
 };
 
+use crate::referrers::Referrers;
 use oci_digest::NoMemory;
 use oci_layout::{Dir, IndexEntry, Layout};
 use oci_manifest::Key;
@@ -30,6 +30,7 @@ use oci_program::ProgramFault;
 use oci_prune::{Belonging, belonging_of};
 use oci_store::{GraphSource, KeyList};
 use std::alloc::Global;
+use std::slice;
 
 /// The roots of a copy of a reference.
 #[derive(Drop)]
@@ -43,9 +44,10 @@ pub(crate) struct ReferenceRoots {
 /// Returns the roots of a copy of the key that a reference resolves to, whose tag has this name.
 /// Without referrers it is the only root, and no other tag comes with it.
 ///
-/// With referrers, the keys from which a path within the depth leads to the key come first, in key
-/// order, and then what is attached to what belongs to these keys. The tags are those of the source
-/// that name what belongs to them by its digest, but for one of the same name.
+/// With referrers, the key comes first; if the copy climbs, these are the keys from which a path
+/// within the depth leads to it, in key order. Then comes what is attached to what belongs to these
+/// keys. The tags are those of the source that name what belongs to them by its digest, but for one
+/// of the same name.
 ///
 /// # Errors
 ///
@@ -56,7 +58,7 @@ pub(crate) fn roots_of_reference<D: Dir>(
     source: &Layout<D>,
     key: &Key,
     name: &str,
-    referrers: Option<u32>,
+    referrers: Referrers,
 ) -> Result<ReferenceRoots, ProgramFault>
     ensures exact { IfOk result (λ roots. AreReferenceRoots
         (meaning (D.device source.now.dir) source.now.graph source.now.tags) referrers key.now
@@ -65,8 +67,11 @@ pub(crate) fn roots_of_reference<D: Dir>(
         AreOfRoots roots.keys.items (by_bytes roots.tags.items)) }
 {
     match referrers {
-        Some(depth) => with_attached(alloc, source, &climb(alloc, source, key, depth)?, name),
-        None => only(alloc, key),
+        Referrers::LeftOut => only(alloc, key),
+        Referrers::Climbed(depth) => {
+            with_attached(alloc, source, &climb(alloc, source, key, depth)?, name)
+        }
+        Referrers::Attached => with_attached(alloc, source, slice::from_ref(key), name),
     }
 }
 
@@ -114,27 +119,23 @@ pub(crate) fn roots_of_keys<D: Dir>(
     alloc: Global,
     source: &Layout<D>,
     keys: &[Key],
-    climbs: bool,
-    referrers: Option<u32>,
+    referrers: Referrers,
 ) -> Result<Vec<Key>, ProgramFault>
     ensures { IfOk result (λ roots. AreAllRoots
-        (meaning (D.device source.now.dir) source.now.graph source.now.tags) climbs referrers
-        keys.now roots.items) }
+        (meaning (D.device source.now.dir) source.now.graph source.now.tags) referrers keys.now
+        roots.items) }
 {
     match referrers {
-        Some(depth) => {
-            let climbed = climb_from_all(alloc, source, keys, climb_depth(climbs, depth))?;
+        Referrers::LeftOut => climb_from_all(alloc, source, keys, None),
+        Referrers::Climbed(depth) => {
+            let climbed = climb_from_all(alloc, source, keys, Some(depth))?;
             add_attached(alloc, source, &climbed)
         }
-        None => climb_from_all(alloc, source, keys, None),
+        Referrers::Attached => {
+            let climbed = climb_from_all(alloc, source, keys, None)?;
+            add_attached(alloc, source, &climbed)
+        }
     }
-}
-
-/// Returns the depth to which a copy climbs, if it does.
-fn climb_depth(climbs: bool, depth: u32) -> Option<u32>
-    ensures { result ≡ climb_depth climbs depth }
-{
-    if climbs { Some(depth) } else { None }
 }
 
 /// Returns the keys, and after them what is attached to what belongs to them, each once.

@@ -21,6 +21,7 @@ ghost use Rattle.oci_copy_commands.specs.Selected.{
 };
 
 use crate::brought::{entries_of_reference, entries_of_tags};
+use crate::referrers::{Referrers, referrers_of};
 use crate::roots::{ReferenceRoots, named_keys, roots_of_keys, roots_of_reference};
 use oci_command_line::{CopyWords, Selection};
 use oci_digest::NoMemory;
@@ -89,23 +90,22 @@ impl Selected {
         if words.referrers.is_some() {
             check_readable(source)?;
         }
+        let referrers = referrers_of(words);
         match words.selection {
             Selection::Reference {
                 source: from,
                 destination: to,
-            } => Selected::reference(alloc, source, from, to, words.referrers),
-            Selection::AllTags => {
-                Selected::all_tags(alloc, source, !words.prunes, words.referrers)
-            }
+            } => Selected::reference(alloc, source, from, to, referrers),
+            Selection::AllTags => Selected::all_tags(alloc, source, referrers),
         }
     }
 
     /// Selects the blob that a reference of the source resolves to. It is tagged `to`, or `from` if
     /// `to` is empty.
     ///
-    /// With `referrers`, the keys that list it or refer to it are selected too, at most that number
-    /// of levels up; 0 means no limit. So is all that is attached to what these reach: the manifests
-    /// whose `subject` has its digest, and the blobs of the source's tags that are named for its
+    /// If the copy climbs, the keys that list it or refer to it are selected too, at most that number
+    /// of levels up. With any referrers, so is all that is attached to what these reach: the
+    /// manifests whose `subject` has its digest, and the blobs of the source's tags that are named for its
     /// digest, as [`belonging_of`](oci_prune::belonging_of) says. Those tags are set too, each under
     /// its own name, in byte order after the tag of the reference. One that has the name of that tag
     /// is left out.
@@ -126,7 +126,7 @@ impl Selected {
         source: &Layout<D>,
         from: &str,
         to: &str,
-        referrers: Option<u32>,
+        referrers: Referrers,
     ) -> Result<Selected, ProgramFault>
         ensures { IfOk result (SelectsReference D.device source.now from.now to.now referrers) }
     {
@@ -181,7 +181,7 @@ impl Selected {
     }
 
     /// Selects the blob of each tag of the source, and that of each entry with a name, also if a
-    /// later entry has the name too. With `referrers`, what is attached to what these reach is
+    /// later entry has the name too. With referrers, what is attached to what these reach is
     /// selected too, and if the copy climbs, the keys that list them or refer to them, as from
     /// [`Selected::reference`]. The copy sets the same tags, brings all entries with a name, and those
     /// of the other roots.
@@ -196,15 +196,14 @@ impl Selected {
     pub fn all_tags<D: Dir>(
         alloc: Global,
         source: &Layout<D>,
-        climbs: bool,
-        referrers: Option<u32>,
+        referrers: Referrers,
     ) -> Result<Selected, ProgramFault>
         ensures named { OnOk result (AreNamedHeld source.now.graph
             source.now.opened.content.entries) }
         ensures tagged { OnOk result (source.now.tags ≢ []) }
         ensures tags { IfOk result (λ selected. selected.1 ≡ source.now.tags) }
         ensures roots { IfOk result (λ selected. AreAllRoots
-            (meaning (D.device source.now.dir) source.now.graph source.now.tags) climbs referrers
+            (meaning (D.device source.now.dir) source.now.graph source.now.tags) referrers
             (named_keys source.now.tags (said source.now.opened.content).entries) selected.0) }
         ensures entries { IfOk result (λ selected. map entry_of selected.2
             ≡ with_roots (said source.now.opened.content).entries
@@ -216,7 +215,7 @@ impl Selected {
             return Err(ProgramFault::Source(PruneFault::NoTags));
         }
         let keys = named_keys(alloc, &tags, source.entries())?;
-        let roots = roots_of_keys(alloc, source, &keys, climbs, referrers)?;
+        let roots = roots_of_keys(alloc, source, &keys, referrers)?;
         let entries = entries_of_tags(alloc, source.entries(), &roots)?;
         Ok(Selected {
             roots,

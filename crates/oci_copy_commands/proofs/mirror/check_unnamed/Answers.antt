@@ -1,19 +1,13 @@
-use Rattle.std.proofs.Common.{[], ◌∷◌, take, sym, subst, arith}
+use Rattle.std.proofs.Common.{subst, arith}
 use Rattle.std.specs.List.{All}
 use Rattle.std.proofs.lemmas.List.{take_all}
-use Rattle.std.proofs.lemmas.List.Elements.{All-append, All-cons, All-nil}
-use Rattle.oci_prune.proofs.Elements.{next_element}
 use Rattle.oci_copy_commands.specs.Mirror.{IsReadableIfUnnamed}
+use Rattle.oci_copy_commands.proofs.Selections.{all_more}
 use Rattle.oci_copy_commands.proofs.mirror.check_unnamed.Goals as goal
 
 pub loop-place-preserved : goal.loop-place-preserved
 loop-place-preserved c =
-    let P = IsReadableIfUnnamed in
-    let es = c.args.entries.now in
-    let place = c.loop-place.place in
-    let e = c.index-entries-place.result in
-    subst (All P) (sym (next_element es place e c.loop-place-test.true c.index-entries-place.is))
-    (All-append P (take place es) (e ∷ []) c.loop-place.invariant (All-cons P e [] c.in_ok-check_if_unnamed.ensures (All-nil P)))
+    all_more IsReadableIfUnnamed c.args.entries.now c.loop-place.place c.index-entries-place.result c.loop-place-test.true c.index-entries-place.is c.in_ok-check_if_unnamed.ensures c.loop-place.invariant
 
 pub returns : goal.returns
 returns c = subst (All IsReadableIfUnnamed) (take_all c.loop-place.place c.args.entries.now (omega (arith, c.loop-place-test.false))) c.loop-place.invariant

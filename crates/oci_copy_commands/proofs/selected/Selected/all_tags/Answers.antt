@@ -26,20 +26,20 @@ invariant_of-result g c =
     let again : entries ≡ first = ap (map entry_of) (c.entries-3.ensures.entries ∙ sym c.entries-2.ensures.entries) in
     let same : (k : Descriptor) → Contains keys k ↔ Contains (named_keys tags (map entry_of c.entries-2.result.now)) k = rw c.deref.ensures.value at c.in_ok-keys.ensures in
     let store = meaning (g.D.Dir.device c.args.source.now.dir) c.args.source.now.graph c.args.source.now.tags in
-    let of : AreAllRoots store c.args.climbs c.args.referrers keys c.in_ok-roots.roots.items = rw c.deref-2.ensures.value at c.in_ok-roots.ensures in
+    let of : AreAllRoots store c.args.referrers keys c.in_ok-roots.roots.items = rw c.deref-2.ensures.value at c.in_ok-roots.ensures in
     let shallow : All IsShallowEntry entries = subst (All IsShallowEntry) (sym (ap (map entry_of) c.entries-3.ensures.entries)) c.entries-3.ensures.shallow in
     record {
       of_roots = record {
         named = rw c.in_ok-tags.ensures.exact c.tags.ensures.names.named;
         rooted =
-            all_there store c.args.climbs c.args.referrers (values_of tags) keys roots
+            all_there store c.args.referrers (values_of tags) keys roots
             (λ k tagged. (same k).1 (Contains-append_left (values_of tags) (entry_keys (named_entries first)) k tagged)) of;
       };
       named =
           subst (All (IsOfRoot roots)) (sym c.in_ok-entries.ensures)
           (with_roots_named roots entries (named_entries entries) c.deref-3.result.now
           (keys_named roots (named_entries entries)
-          (all_there store c.args.climbs c.args.referrers (entry_keys (named_entries entries)) keys roots
+          (all_there store c.args.referrers (entry_keys (named_entries entries)) keys roots
           (λ k there. (same k).1 (Contains-append_right (values_of tags) (entry_keys (named_entries first)) k (subst (λ (es : List IndexEntry). Contains (entry_keys (named_entries es)) k) again there))) of)));
       shallow =
           subst (All IsShallowEntry) (sym c.in_ok-entries.ensures)
@@ -55,8 +55,8 @@ returns-clause-roots g c =
     let is_entries : map entry_of c.entries-2.result.now ≡ entries = ap (map entry_of) c.entries-2.ensures.entries in
     let same : (k : Descriptor) → Contains keys k ↔ Contains (named_keys tags entries) k = rw (is_tags, is_entries) at c.in_ok-keys.ensures in
     let store = meaning (g.D.Dir.device c.args.source.now.dir) c.args.source.now.graph c.args.source.now.tags in
-    let of : AreAllRoots store c.args.climbs c.args.referrers keys c.in_ok-roots.roots.items = rw c.deref-2.ensures.value at c.in_ok-roots.ensures in
-    all_roots_by store c.args.climbs c.args.referrers keys (named_keys tags entries) c.in_ok-roots.roots.items same of
+    let of : AreAllRoots store c.args.referrers keys c.in_ok-roots.roots.items = rw c.deref-2.ensures.value at c.in_ok-roots.ensures in
+    all_roots_by store c.args.referrers keys (named_keys tags entries) c.in_ok-roots.roots.items same of
 
 pub returns-clause-entries : goal.returns-clause-entries
 returns-clause-entries g c =
