@@ -296,8 +296,8 @@ The named path is a file, or is new and has the name of an archive, and `ocicp` 
 Copy into a folder, without `oci:` before its path. To change an archive, unpack it into a folder, and change the layout there. `tar -cf FILE -C FOLDER .` makes an archive of a folder.
 
 96 Unknown
-The layout does not have the named blob, or has a damaged manifest there, so it is not known what that blob needs. It is an entry of `index.json`, a damaged manifest, a manifest that a kept manifest lists, or the manifest of a platform that an index lists. A folder in a file's place counts as damage too. Nothing was removed, and no tag was set. Nothing was copied either, unless it turned out only after the copy of a mirror that its destination cannot be pruned; then the copied blobs are there.
-Remove a folder in the file's place, and restore the blob with `ocicp copy --descend` from a layout that has it. If it is no longer needed, run `ocicp untag` for each of its tags, and delete an entry that has no tag from `index.json`. A damaged manifest that only an index lists can be deleted from `blobs` once no tag needs that index.
+The layout does not have the named blob, or its manifest there is damaged, so it is not known what that blob needs. It is an entry of `index.json`, a damaged manifest, the manifest for a platform, or a manifest that another one lists: one that is kept, or in SRC of a mirror with `--referrers` any one. A folder in a file's place counts as damage too. Nothing was removed, and no tag was set. Nothing was copied either, unless it turned out only after the copy of a mirror that its destination cannot be pruned; then the copied blobs are there.
+Remove a folder in the file's place, and restore the blob with `ocicp copy --descend` from a layout that has it. If it is no longer needed, run `ocicp untag` for each of its tags, and delete an entry that has no tag from `index.json`. A damaged manifest that only an index lists can be deleted from `blobs` once no tag needs that index. If a manifest lists a missing one, `ocicp verify` shows it, and `ocicp prune` removes it once no tag needs it.
 
 97 NoTags
 The layout has no tag, so no blob would be kept or copied. Nothing was copied or removed.
@@ -340,7 +340,7 @@ Memory ran out while an archive was opened.
 Give the process more memory. `ocicp` itself prints `ocicp: memory` and ends with status 3.
 
 107 NoPlatform
-The reference names no index that lists a manifest for the named platform. The platforms for which it lists one follow; there are none if the reference names no index.
+The reference names no index that lists a manifest for the named platform. The platforms for which the index lists one follow. If none follows, the reference may name no index.
 Write one of these platforms, as OS/ARCH or OS/ARCH/VARIANT. If none follows, run the command without `--platform`, or look with `ocicp tree` at what the reference names.";
 
 /// What `explain` prints about an error number.

@@ -140,10 +140,11 @@ fn depth() -> Argument {
 fn prune() -> Argument {
     let help =
         "With --all: afterwards removes from DST the tags that SRC does not have, and what no tag then needs, as the command \
-         `prune` does. With --referrers removes also what is attached only in DST, and does not bring the indexes that \
-         list an image. Refused, before anything is copied, if the blob of an entry of SRC's `index.json` is missing or \
-         damaged, or SRC has a damaged manifest (96), or an entry is no descriptor (73); with --referrers also if a manifest \
-         of SRC lists one that is missing (96). Not with --dry-run, since what is removed is known only after the copy";
+         `prune` does. With --referrers it also removes what is attached only in DST, and brings and keeps no index only because \
+         that lists an image. Refused, before anything is copied, if the blob of an entry of SRC's `index.json` is missing or \
+         damaged (96), SRC has a damaged manifest (96; with --referrers 75, 77), or an entry is no descriptor (73); with \
+         --referrers also if a manifest of SRC lists one that is missing (96). Not with --dry-run, since what is removed is known \
+         only after the copy";
     Argument {
         conflicts: &["destination", "dry-run"],
         needs: &["all"],

@@ -115,9 +115,9 @@ pub(crate) fn tree_referrers() -> Argument {
 /// `--platform`
 pub(crate) fn platform() -> Argument {
     let help =
-        "Takes in place of the index that REF names the first manifest that it lists for this platform, which is written \
-         OS/ARCH, for any variant, or OS/ARCH/VARIANT. Refused if the index lists none for it, or REF names no index (107), and \
-         if the manifest is missing (96) or damaged (75, 77)";
+        "Takes the first manifest for this platform from the list of REF's index, in place of the index. PLATFORM is OS/ARCH, \
+         such as linux/arm64, which fits any variant, or OS/ARCH/VARIANT. Refused if the list has none for it, or REF names no \
+         index (107), and if the manifest is missing (96) or damaged (75, 77)";
     Argument::new("platform", Kind::Text("PLATFORM"), help)
 }
 
