@@ -11,3 +11,4 @@ pub mod Reaching
 pub mod Following
 pub mod Stems
 pub mod Bringing
+pub mod Arriving

@@ -6,6 +6,7 @@ pub mod Attached
 pub mod Belonging
 pub mod Walk
 pub mod Plan
+pub mod After
 pub mod Files
 pub mod Refusal
 pub mod Pruned

@@ -1,5 +1,5 @@
 -- What a prune keeps and removes.
-use Rattle.std.specs.Prelude.{◌≡◌, ◌↔◌, ◌⊎◌, ℕ, Bool, true, false, List, ◌++◌, map, None, Contains, IsTrue}
+use Rattle.std.specs.Prelude.{◌≡◌, ◌↔◌, ◌⊎◌, ℕ, Bool, true, false, List, [], ◌++◌, map, None, Contains, IsTrue}
 use Rattle.std.specs.BTreeSet.{BTreeSet, contains}
 use Rattle.std.specs.Cmp.Lexicographic.{slice_cmp}
 use Rattle.std.specs.List.{All}
@@ -16,7 +16,7 @@ use Rattle.oci_layout.specs.Device.{Device, File}
 use Rattle.oci_layout.specs.Layout.{LayoutState}
 use Rattle.oci_layout.specs.Prunable.{HasLength, by_name}
 use Rattle.oci_layout.specs.Saved.{shadowed_keys}
-use Rattle.oci_prune.specs.Belongs.{AreMembers}
+use Rattle.oci_prune.specs.Belongs.{AllKnown, AreMembers}
 use Rattle.oci_prune.specs.Subjects.{Refers}
 use Rattle.oci_prune.specs.declared.plan.PrunedFile.{PrunedFile}
 use Rattle.oci_prune.specs.declared.plan.PrunePlan.{PrunePlan}
@@ -85,3 +85,13 @@ pub record IsPrunePlan (dir : Device) (graph : List Node) (roots : List Descript
   pub files : dir.is_honest → AreUnneeded dir.file graph plan.kept plan.files.items
   -- no file of the layout is a draft
   pub drafts : dir.is_honest → All (λ (draft : List ℕ × ℕ). dir.file draft.0 ≡ None) (by_name plan.drafts.items)
+
+-- a plan of a prune of what a store will be, whose files are in a directory: the kept keys belong to
+-- the roots, and the other keys and the files that nothing kept needs are removed
+pub record IsPlanAfter (dir : Device) (after : State) (roots : List Descriptor) (keeps : Bool) (plan : PrunePlan) : Type 0 where
+  pub kept : (keeps ≡ true → after.is_honest) → AreKept after.nodes roots (RefersIf keeps after) plan.kept
+  pub known : (keeps ≡ true → after.is_honest) → AllKnown after.nodes roots (RefersIf keeps after)
+  pub safe : IsSafe after.nodes roots plan.kept
+  pub removed : AreRemoved after.nodes plan.kept plan.removed.items
+  pub files : dir.is_honest → AreUnneeded dir.file after.nodes plan.kept plan.files.items
+  pub drafts : plan.drafts.items ≡ []

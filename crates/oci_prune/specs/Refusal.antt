@@ -69,15 +69,21 @@ IsCheckFault dir graph opened (fault.LinkedBlobs path) = Unit {0}
 IsCheckFault dir graph opened (fault.Layout (layout.BadIndex e)) = IsFirstUnreadable (said opened.content).entries (layout.BadIndex e)
 IsCheckFault dir graph opened e = IsDeviceFault (dir.fails_reads ≡ true) e
 
+-- why there is no plan of a prune from these roots for a store, which a layout is or will be that was
+-- opened from this index; its files are in a directory
+abbrev pub IsFaultAfter : Device → OpenedIndex → State → List Descriptor → Bool → PruneFault → Type 0
+IsFaultAfter dir opened after roots keeps fault.NoTags = ⊥
+IsFaultAfter dir opened after roots keeps (fault.Unknown k) =
+    IsFirstUnheld after.nodes opened k ⊎ (after.is_honest → IsUnknown after.nodes roots (RefersIf keeps after) k)
+IsFaultAfter dir opened after roots keeps (fault.LinkedBlobs path) = Unit {0}
+IsFaultAfter dir opened after roots keeps (fault.Layout layout.Device) = dir.fails_reads ≡ true
+IsFaultAfter dir opened after roots keeps (fault.Layout (layout.BadIndex e)) = IsFirstUnreadable (said opened.content).entries (layout.BadIndex e)
+IsFaultAfter dir opened after roots keeps e = IsSubjectFault after (λ k. (keeps ≡ true) × (has_key after.nodes k ≡ true)) e
+
 -- why there is no plan of a prune from these roots for a layout in a directory
 abbrev pub IsPlanFaultFrom : {D : Type 0} → Device → LayoutState D → List Descriptor → Bool → PruneFault → Type 0
 IsPlanFaultFrom dir l roots keeps fault.NoTags = l.tags ≡ []
-IsPlanFaultFrom dir l roots keeps (fault.Unknown k) =
-    IsFirstUnheld l.graph l.opened k ⊎ (dir.is_honest → IsUnknown l.graph roots (RefersIf keeps (meaning dir l.graph l.tags)) k)
-IsPlanFaultFrom dir l roots keeps (fault.LinkedBlobs path) = Unit {0}
-IsPlanFaultFrom dir l roots keeps (fault.Layout layout.Device) = dir.fails_reads ≡ true
-IsPlanFaultFrom dir l roots keeps (fault.Layout (layout.BadIndex e)) = IsFirstUnreadable (said l.opened.content).entries (layout.BadIndex e)
-IsPlanFaultFrom dir l roots keeps e = IsSubjectFault (meaning dir l.graph l.tags) (λ k. (keeps ≡ true) × (has_key l.graph k ≡ true)) e
+IsPlanFaultFrom dir l roots keeps e = IsFaultAfter dir l.opened (meaning dir l.graph l.tags) roots keeps e
 
 -- why there is no plan for a layout in a directory
 abbrev pub IsPlanFault : {D : Type 0} → Device → LayoutState D → Bool → PruneFault → Type 0

@@ -14,28 +14,29 @@ use oci_store::{GraphSource, keys_of_set};
 use std::alloc::Global;
 use std::collections::BTreeSet;
 
-/// Returns the files of a layout that no kept key needs. A kept key needs its file, and those of the
-/// keys that it lists, also if they are not held: the file of a layer that was cut stays. `held` has
-/// the held keys.
+/// Returns the files of a layout that no kept key of a store needs. A kept key needs its file, and
+/// those of the keys that it lists, also if they are not held: the file of a layer that was cut
+/// stays. The store is the layout itself, or what a copy would leave of it; `held` has its keys.
 ///
 /// # Errors
 ///
 /// - 74 `Device` if a folder of blobs cannot be read.
 /// - 89 `Memory` if memory runs out.
-pub(crate) fn plan_files<D: PrunableDir>(
+pub(crate) fn plan_files<S: GraphSource, D: PrunableDir>(
     alloc: Global,
+    store: &S,
     layout: &Layout<D>,
     held: &[Key],
     kept: &BTreeSet<Key>,
 ) -> Result<Vec<PrunedFile>, PruneFault>
-    requires { AreHeld layout.now.graph held.now }
-    ensures files { IfOk result (λ files. (D.device layout.now.dir).is_honest
-        → AreUnneeded (D.device layout.now.dir).file layout.now.graph kept.now files.items) }
+    requires { AreHeld (S.state store.now).nodes held.now }
+    ensures files { IfOk result (λ files. (D.device layout.now.dir).is_honest → AreUnneeded
+        (D.device layout.now.dir).file (S.state store.now).nodes kept.now files.items) }
     ensures cause { IfErr result (IsDeviceFault ((D.device layout.now.dir).fails_reads ≡ true)) }
 {
     let blobs = layout.blobs()?;
     let kept = keys_of_set(alloc, kept)?;
-    let needed = digests_of(alloc, &needed_keys(alloc, layout, &kept)?)?;
+    let needed = digests_of(alloc, &needed_keys(alloc, store, &kept)?)?;
     let held = digests_of(alloc, held)?;
     let files = unneeded_files(alloc, &blobs, &needed, &held)?;
     Ok(files)

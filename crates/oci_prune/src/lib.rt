@@ -12,7 +12,8 @@
 //! lists. So are drafts that killed processes left. A layout without a tag is refused, and so is one
 //! in which a needed manifest is absent or any manifest is damaged, since nobody knows what it lists,
 //! or in which an entry of the index is no descriptor, since nobody knows what it needs.
-//! [`plan_prune_keeping`] keeps given keys too, with what belongs to them.
+//! [`plan_prune_keeping`] keeps given keys too, with what belongs to them. [`plan_prune_after`] plans
+//! the prune of what a copy would leave, before there is one.
 //!
 //! [`prune`] does what is planned. It saves the index first and then removes files, so whenever it
 //! is stopped, every tag and all that it reaches is there, and the next prune goes on.
@@ -30,6 +31,7 @@
 //! is what is held and reached from them and from the attached keys that belong to them.
 #![tactic(auto)]
 
+mod after;
 mod attachments;
 mod belonging;
 mod fault;
@@ -43,10 +45,11 @@ mod plan;
 mod referrers;
 mod removal;
 mod run;
+mod whole;
 
 pub use attachments::Attachments;
 pub use belonging::{Belonging, belonging_of};
 pub use fault::PruneFault;
 pub use laws::{belonging_is_reached, kept_is_reached};
-pub use plan::{PrunePlan, PrunedFile, plan_prune, plan_prune_keeping};
+pub use plan::{PrunePlan, PrunedFile, plan_prune, plan_prune_after, plan_prune_keeping};
 pub use run::{Pruned, prune};

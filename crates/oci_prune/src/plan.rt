@@ -1,21 +1,23 @@
 ghost use Rattle.std.specs.Prelude.{◌≡◌, ◌≢◌, ◌⊎◌, [], true, Some, None, IfOk, IfErr, OnOk, slice_get, string_bytes};
-ghost use Rattle.std.specs.Option.{option_copied};
 ghost use Rattle.oci_store.specs.Keyed.{HasAll, first_missing};
 ghost use Rattle.oci_layout.specs.Blobs.{meaning, blob_path};
 ghost use Rattle.oci_layout.specs.Entries.{said, unreadable_places};
 ghost use Rattle.oci_layout.specs.Layout.{manifests_of};
+ghost use Rattle.oci_prune.specs.After.{after_copy};
 ghost use Rattle.oci_prune.specs.Belongs.{AllKnown};
-ghost use Rattle.oci_prune.specs.Plan.{AreKept, IsPrunePlan, IsSafe, RefersIf, roots_of, roots_with};
-ghost use Rattle.oci_prune.specs.Refusal.{ChecksWhole, IsCheckFault, IsEntryFault, IsPlanFault, IsPlanFaultFrom, IsUnknownFault};
+ghost use Rattle.oci_prune.specs.Plan.{AreKept, IsPlanAfter, IsPrunePlan, IsSafe, RefersIf, roots_of, roots_with};
+ghost use Rattle.oci_prune.specs.Refusal.{IsEntryFault, IsFaultAfter, IsPlanFault, IsPlanFaultFrom, IsUnknownFault};
 
+use crate::after::{AfterCopy, held_after};
 use crate::fault::PruneFault;
 use crate::files::plan_files;
 use crate::held::{held_keys, keys_without, root_keys};
 use crate::kept::plan_keys;
+use crate::whole::check_whole;
 use oci_digest::{Digest, NoMemory};
 use oci_layout::{Dir, Layout, PrunableDir};
 use oci_manifest::Key;
-use oci_store::Dest;
+use oci_store::Store;
 use std::alloc::Global;
 use std::collections::BTreeSet;
 
@@ -168,11 +170,11 @@ pub fn plan_prune_keeping<D: PrunableDir>(
         (roots_with layout.now keys.now) keeps_referrers) }
 {
     let roots = root_keys(alloc, layout, keys)?;
-    check_whole(layout)?;
+    check_whole(layout, layout)?;
     let held = held_keys(alloc, layout)?;
     let kept = plan_keys(alloc, layout, &roots, &held, keeps_referrers)?;
     let removed = keys_without(alloc, &held, &kept)?;
-    let files = plan_files(alloc, layout, &held, &kept)?;
+    let files = plan_files(alloc, layout, layout, &held, &kept)?;
     let drafts = layout.leftovers()?;
     Ok(PrunePlan {
         kept,
@@ -182,43 +184,56 @@ pub fn plan_prune_keeping<D: PrunableDir>(
     })
 }
 
-/// Refuses a layout with an absent entry, a damaged manifest or an entry that is no descriptor, and
-/// one whose folders of blobs are links.
-fn check_whole<D: PrunableDir>(layout: &Layout<D>) -> Result<(), PruneFault>
-    ensures whole { ChecksWhole layout.now.graph layout.now.opened result }
-    ensures cause { IfErr result (IsCheckFault (D.device layout.now.dir) layout.now.graph
-        layout.now.opened) }
+/// Plans the prune of the layout that a copy of these keys from a source would leave, if it is to
+/// keep what belongs to these roots. Changes nothing, and copies nothing.
+///
+/// After the copy the layout holds its own keys, and those of the arriving ones that the source
+/// holds. The kept keys are the roots that are then held, with each kept key the held keys that it
+/// lists, and, if `keeps_referrers`, the held manifests whose `subject` has its digest. The tags of
+/// the layout are no roots: a mirror replaces them, and gives the new ones here. The plan has no
+/// drafts: a copy removes what killed ones left.
+///
+/// # Errors
+///
+/// Those of [`plan_prune_keeping`] but 97 `NoTags`, in the same order, of the layout after the copy:
+/// a damaged manifest that arrives is held then, and one that a root needs is looked for in both.
+pub fn plan_prune_after<S: Dir, D: PrunableDir>(
+    alloc: Global,
+    source: &Layout<S>,
+    layout: &Layout<D>,
+    arriving: &BTreeSet<Key>,
+    roots: &[Key],
+    keeps_referrers: bool,
+) -> Result<PrunePlan, PruneFault>
+    ensures planned { IfOk result (IsPlanAfter (D.device layout.now.dir) (after_copy
+        (⟦<Layout<S> as Store>⟧.state source.now) arriving.now
+        (⟦<Layout<D> as Store>⟧.state layout.now)) roots.now keeps_referrers) }
+    ensures whole { OnOk result (layout.now.opened.absent ≡ []) }
+    ensures sound { OnOk result (HasAll (after_copy
+        (⟦<Layout<S> as Store>⟧.state source.now) arriving.now
+        (⟦<Layout<D> as Store>⟧.state layout.now)).nodes
+        (manifests_of layout.now.opened.damaged)) }
+    ensures readable { OnOk result
+        (unreadable_places (said layout.now.opened.content).entries ≡ []) }
+    ensures cause { IfErr result (IsFaultAfter (D.device layout.now.dir) layout.now.opened
+        (after_copy (⟦<Layout<S> as Store>⟧.state source.now) arriving.now
+        (⟦<Layout<D> as Store>⟧.state layout.now)) roots.now keeps_referrers) }
 {
-    if let Some(key) = layout.absent().first() {
-        return Err(PruneFault::Unknown(key.try_clone()?));
-    }
-    if let Some(key) = first_damaged(layout)? {
-        return Err(PruneFault::Unknown(key));
-    }
-    if let Err(fault) = layout.check_entries() {
-        return Err(PruneFault::from(fault));
-    }
-    match layout.linked()? {
-        Some(path) => Err(PruneFault::LinkedBlobs(path)),
-        None => Ok(()),
-    }
-}
-
-/// Returns the first of the manifests that were damaged when a layout was opened which is not held.
-fn first_damaged<D: Dir>(layout: &Layout<D>) -> Result<Option<Key>, NoMemory>
-    ensures { IfOk result (λ found. found
-        ≡ first_missing layout.now.graph (manifests_of layout.now.opened.damaged)) }
-{
-    let damaged = layout.damaged_manifests()?;
-    match first_unheld(layout, &damaged) {
-        Some(key) => Ok(Some(key.try_clone()?)),
-        None => Ok(None),
-    }
-}
-
-/// Returns the first of these keys that a layout does not hold.
-fn first_unheld<'k, D: Dir>(layout: &Layout<D>, keys: &'k [Key]) -> Option<&'k Key>
-    ensures { option_copied result ≡ first_missing layout.now.graph keys.now }
-{
-    keys.iter().find(|key| !layout.has(*key))
+    let after = AfterCopy {
+        alloc,
+        source,
+        destination: layout,
+        arriving,
+    };
+    check_whole(&after, layout)?;
+    let held = held_after(&after)?;
+    let kept = plan_keys(alloc, &after, roots, &held, keeps_referrers)?;
+    let removed = keys_without(alloc, &held, &kept)?;
+    let files = plan_files(alloc, &after, layout, &held, &kept)?;
+    Ok(PrunePlan {
+        kept,
+        removed,
+        files,
+        drafts: Vec::new(alloc),
+    })
 }
