@@ -67,6 +67,20 @@ impl PruneAnswer {
         })
     }
 
+    /// Returns what the prune of a plan would remove: all that is planned.
+    ///
+    /// # Errors
+    ///
+    /// Returns [`NoMemory`] if an allocation fails.
+    pub fn planned(alloc: Global, plan: PrunePlan) -> Result<PruneAnswer, NoMemory> {
+        let pruned = Pruned {
+            files: vec![in alloc; true; plan.files.len()]?,
+            drafts: vec![in alloc; true; plan.drafts.len()]?,
+            fault: None,
+        };
+        PruneAnswer::of(alloc, plan, &pruned)
+    }
+
     /// Prints a line for each draft, and for each file that no held key had.
     fn fmt_files<W: fmt::Write>(&self, f: &mut fmt::Formatter<W>) -> fmt::Result {
         for file in &self.files {

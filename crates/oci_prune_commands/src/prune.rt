@@ -1,10 +1,9 @@
 use oci_command_line::PruneWords;
-use oci_digest::NoMemory;
 use oci_layout::{Layout, Lockable, PrunableDir};
 use oci_program::{
     Form, Outcome, ProgramFault, PruneAnswer, check_is_layout, lock_folder, print_answer_with_fault,
 };
-use oci_prune::{PruneFault, PrunePlan, Pruned, plan_prune, prune};
+use oci_prune::{PruneFault, plan_prune, prune};
 use std::alloc::Global;
 use std::io::Write;
 use std::rt::Files;
@@ -58,17 +57,7 @@ fn plan_folder<D: PrunableDir + Drop>(
 ) -> Result<PruneAnswer, ProgramFault> {
     let layout = Layout::open_as_is(alloc, dir)?;
     let plan = plan_prune(alloc, &layout, words.keeps_referrers)?;
-    let pruned = all_of(alloc, &plan)?;
-    Ok(PruneAnswer::of(alloc, plan, &pruned)?)
-}
-
-/// Returns a prune that removed all that is planned.
-fn all_of(alloc: Global, plan: &PrunePlan) -> Result<Pruned, NoMemory> {
-    Ok(Pruned {
-        files: vec![in alloc; true; plan.files.len()]?,
-        drafts: vec![in alloc; true; plan.drafts.len()]?,
-        fault: None,
-    })
+    Ok(PruneAnswer::planned(alloc, plan)?)
 }
 
 /// Locks the folder of a layout, and prunes the layout. Returns what was removed, and the fault of
