@@ -24,7 +24,7 @@ pub enum Shown {
 }
 
 /// The words of `copy`.
-#[derive(Clone, Copy)]
+#[derive(Drop)]
 pub struct CopyWords<'w> {
     /// The folder to copy from.
     pub source: &'w str,
@@ -37,6 +37,9 @@ pub struct CopyWords<'w> {
     /// The number of levels up to which referrers are copied too, 0 for no limit. `None`: they are
     /// not copied.
     pub referrers: Option<u32>,
+    /// The artifact types of the referrers that are copied. Empty: those of every type are. Only
+    /// with `referrers`, and then without a limit of levels.
+    pub types: Vec<&'w str>,
     /// The progress to show.
     pub shown: Shown,
     /// Whether the copy is only planned and printed.

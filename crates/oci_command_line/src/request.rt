@@ -39,7 +39,7 @@ pub enum Request<'w> {
 }
 
 /// A command that reads one layout and does not change it.
-#[derive(Clone, Copy)]
+#[derive(Drop)]
 pub enum Query<'w> {
     /// `tags`.
     Tags {
@@ -53,8 +53,13 @@ pub enum Query<'w> {
         /// The platform whose manifest is picked from the index that the reference names.
         platform: Option<&'w str>,
     },
-    /// `predecessors`, with the reference.
-    Predecessors(&'w str),
+    /// `predecessors`.
+    Predecessors {
+        /// The reference.
+        reference: &'w str,
+        /// The artifact types of the referrers that are listed. Empty: every predecessor is listed.
+        types: Vec<&'w str>,
+    },
     /// `tree`.
     Tree {
         /// The reference.
@@ -145,7 +150,7 @@ fn request_of<'w>(
 ) -> Result<Request<'w>, CommandLineFault> {
     match name {
         "explain" => explanation_of(alloc, word(matches, "number"), most_workers),
-        "copy" => Ok(Request::Copy(copy_words(matches, on_terminal))),
+        "copy" => Ok(Request::Copy(copy_words(alloc, matches, on_terminal)?)),
         "untag" => Ok(Request::Untag(untag_words(matches))),
         "prune" => Ok(Request::Prune(prune_words(matches))),
         "tags" => Ok(of_folder(
@@ -155,7 +160,7 @@ fn request_of<'w>(
             },
         )),
         "resolve" => Ok(of_folder(matches, resolve_of(matches))),
-        "predecessors" => Ok(of_folder(matches, Query::Predecessors(word(matches, "reference")))),
+        "predecessors" => Ok(of_folder(matches, predecessors_of(alloc, matches)?)),
         "tree" => Ok(of_folder(matches, tree_of(matches))),
         "verify" => Ok(of_folder(
             matches,
@@ -177,6 +182,17 @@ fn word<'w>(matches: &ArgMatches<'w>, id: &str) -> &'w str {
     matches.get_str(id).unwrap_or("")
 }
 
+/// The texts for an argument, in their order.
+fn texts<'w>(
+    alloc: Global,
+    matches: &ArgMatches<'w>,
+    id: &str,
+) -> Result<Vec<&'w str>, AllocError> {
+    let mut texts = Vec::new(alloc);
+    texts.extend_from_slice(matches.get_strs(id).unwrap_or(&[]))?;
+    Ok(texts)
+}
+
 /// The request for a query of the layout in the named folder.
 fn of_folder<'w>(matches: &ArgMatches<'w>, query: Query<'w>) -> Request<'w> {
     Request::Query(word(matches, "folder"), query)
@@ -188,6 +204,17 @@ fn resolve_of<'w>(matches: &ArgMatches<'w>) -> Query<'w> {
         reference: word(matches, "reference"),
         platform: matches.get_str("platform"),
     }
+}
+
+/// The query for the predecessors of the named reference.
+fn predecessors_of<'w>(
+    alloc: Global,
+    matches: &ArgMatches<'w>,
+) -> Result<Query<'w>, CommandLineFault> {
+    Ok(Query::Predecessors {
+        reference: word(matches, "reference"),
+        types: texts(alloc, matches, "artifact-type")?,
+    })
 }
 
 /// The query for the tree of the named reference.
@@ -224,10 +251,8 @@ fn mem_words<'w>(
     alloc: Global,
     matches: &ArgMatches<'w>,
 ) -> Result<MemWords<'w>, CommandLineFault> {
-    let mut items = Vec::new(alloc);
-    items.extend_from_slice(matches.get_strs("item").unwrap_or(&[]))?;
     Ok(MemWords {
-        items,
+        items: texts(alloc, matches, "item")?,
         workers: matches.get_one("workers"),
         algorithm: algorithm(matches),
     })
@@ -242,20 +267,25 @@ fn algorithm(matches: &ArgMatches<'_>) -> Algorithm {
     }
 }
 
-fn copy_words<'w>(matches: &ArgMatches<'w>, on_terminal: bool) -> CopyWords<'w> {
+fn copy_words<'w>(
+    alloc: Global,
+    matches: &ArgMatches<'w>,
+    on_terminal: bool,
+) -> Result<CopyWords<'w>, CommandLineFault> {
     let (selection, destination) = selection_and_destination(matches);
-    CopyWords {
+    Ok(CopyWords {
         source: word(matches, "source"),
         selection,
         destination,
         workers: matches.get_one("workers").unwrap_or(0),
         referrers: referrers(matches),
+        types: texts(alloc, matches, "artifact-type")?,
         shown: shown(matches, on_terminal),
         is_dry: matches.get_flag("dry-run"),
         descends: matches.get_flag("descend"),
         prunes: matches.get_flag("prune"),
         waits: waits(matches),
-    }
+    })
 }
 
 fn untag_words<'w>(matches: &ArgMatches<'w>) -> UntagWords<'w> {

@@ -10,8 +10,8 @@ use crate::words::copying::{COPY, copy_arguments};
 use crate::words::memory::{MEM, mem_arguments};
 use crate::words::pruning::{PRUNE, UNTAG, prune_arguments, untag_arguments};
 use crate::words::queries::{
-    EXPLAIN, PREDECESSORS, RESOLVE, TAGS, TREE, VERIFY, error_number, folder, platform, reference,
-    tags_all, tree_referrers,
+    EXPLAIN, PREDECESSORS, RESOLVE, TAGS, TREE, VERIFY, error_number, folder, platform,
+    predecessors_type, reference, tags_all, tree_referrers,
 };
 use crate::words::text::CommandText;
 use clap::Command;
@@ -31,7 +31,10 @@ pub(crate) fn command<'w>(alloc: Global, most_workers: u32) -> Result<Command<'w
             RESOLVE,
             &[platform(), hint(), json(), folder(), reference()],
         ),
-        (PREDECESSORS, &[hint(), json(), folder(), reference()]),
+        (
+            PREDECESSORS,
+            &[predecessors_type(), hint(), json(), folder(), reference()],
+        ),
         (
             TREE,
             &[

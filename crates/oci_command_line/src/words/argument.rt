@@ -30,6 +30,8 @@ pub(crate) enum Kind {
     },
     /// A flag with a text.
     Text(&'static str),
+    /// A flag with a text that can be given several times.
+    Texts(&'static str),
     /// A word without which the command line is invalid.
     Word(&'static str),
     /// A word that can be left out.
@@ -76,6 +78,7 @@ impl Kind {
                 default,
             } => Ok(with_number(argument.long(id).value_name(name), most, default)),
             Kind::Text(name) => Ok(argument.long(id).value_name(name)),
+            Kind::Texts(name) => Ok(argument.long(id).value_name(name).action(ArgAction::Append)),
             Kind::Word(name) => Ok(argument.value_name(name).required(true)),
             Kind::OptionalWord(name) => Ok(argument.value_name(name)),
             Kind::WordUnless { name, flag } => argument

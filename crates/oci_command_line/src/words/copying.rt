@@ -7,6 +7,7 @@ Examples:
   ocicp copy build v1 mirror stable        copies it too, and tags it `stable`
   ocicp copy --referrers build v1 mirror   copies also its signatures and SBOMs, and the indexes that list it
   ocicp copy --all --referrers build mirror    copies every tag, with the referrers of each
+  ocicp copy --referrers --artifact-type application/spdx+json build v1 mirror    copies the image and its SBOMs of this type
   ocicp copy --all --prune build mirror    makes the tags of `mirror` those of `build`, and frees the space
   ocicp copy --all --dry-run build mirror  prints the blobs that a copy of every tag would copy
   ocicp copy --descend build v1 mirror     also restores blobs that `mirror` has lost
@@ -40,7 +41,7 @@ pub(crate) const COPY: CommandText = CommandText {
 
 /// The arguments of `copy`; `most_workers` bounds `--workers`. With `--all` the second word is the
 /// destination's folder, and there is no third one.
-pub(crate) fn copy_arguments(most_workers: u32) -> [Argument; 15] {
+pub(crate) fn copy_arguments(most_workers: u32) -> [Argument; 16] {
     [
         all(),
         flag(
@@ -48,6 +49,7 @@ pub(crate) fn copy_arguments(most_workers: u32) -> [Argument; 15] {
             "Also copies the indexes that list it, and what is attached to it and to anything it reaches, such as signatures and SBOMs, with everything that these reach. A manifest is attached by its `subject`, and a tag by its name, such as `sha256-DIGITS.sig`; such tags are set too. Refused if SRC has a damaged manifest (75, 77), or an entry of its `index.json` that is no descriptor (73)",
         ),
         depth(),
+        artifact_type(),
         flag(
             "descend",
             "Also looks below the blobs that DST has, and copies those that are missing, damaged manifests, and layers and configs of another size; without it, a DST in which a manifest lists one of these is an error",
@@ -132,6 +134,20 @@ fn depth() -> Argument {
     Argument {
         conflicts: &["prune"],
         ..Argument::new("depth", DEPTH, help)
+    }
+}
+
+/// `--artifact-type`
+fn artifact_type() -> Argument {
+    let help =
+        "With --referrers: of what is attached to the image, or to anything it reaches, copies only the referrers of this type, \
+         with everything that belongs to these, such as their signatures. Can be given several times, for several types. The \
+         type is the `artifactType` of a manifest, or else the media type of its config. What is attached by a tag, and the \
+         indexes that list the image, are not copied then. Not with --depth or --prune";
+    Argument {
+        conflicts: &["depth", "prune"],
+        needs: &["referrers"],
+        ..Argument::new("artifact-type", Kind::Texts("TYPE"), help)
     }
 }
 

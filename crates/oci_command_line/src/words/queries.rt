@@ -35,11 +35,13 @@ pub(crate) const PREDECESSORS: CommandText = CommandText {
         "Lists the manifests that list the blob of a reference: indexes, and referrers such as \
          signatures. Each line is a digest, a size and a media type. Only direct predecessors are listed; \
          `tree --referrers` shows theirs too.\n\n\
+         With `--artifact-type` only the referrers of this type are listed: the manifests that state the digest \
+         of the blob in their `subject`.\n\n\
          Then reports each entry of `index.json` that is no descriptor, as an error (73), and each damaged \
          manifest of the layout (75 or 77), since they may lead to the blob too.",
     ),
     usage: "ocicp predecessors [OPTIONS] <FOLDER> <REF>",
-    examples: "Example:\n  ocicp predecessors mirror v1",
+    examples: "Examples:\n  ocicp predecessors mirror v1\n  ocicp predecessors --artifact-type application/spdx+json mirror v1",
 };
 
 /// `tree [--referrers] FOLDER REF`
@@ -110,6 +112,14 @@ pub(crate) fn tree_referrers() -> Argument {
         "referrers",
         "Then shows the manifests that list it, such as signatures, those that list these, and what is attached to any blob that it reaches",
     )
+}
+
+/// `--artifact-type` of `predecessors`
+pub(crate) fn predecessors_type() -> Argument {
+    let help =
+        "Lists only the manifests that state the digest of the blob in their `subject` and are of this type: their `artifactType`, or \
+         else the media type of their config. Can be given several times, for several types";
+    Argument::new("artifact-type", Kind::Texts("TYPE"), help)
 }
 
 /// `--platform`
