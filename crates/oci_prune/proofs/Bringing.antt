@@ -1,11 +1,12 @@
 -- What belongs to keys, from its parts.
-use Rattle.std.proofs.Common.{◌≡◌, ℕ, ◌+◌, ◌<◌, true, inl, inr, List, [], ◌∷◌, ◌++◌, filter, length, get_or, take, is_some, sym, ap, subst}
-use Rattle.std.specs.Prelude.{Contains}
+use Rattle.std.proofs.Common.{◌≡◌, ℕ, ◌+◌, ◌<◌, true, inl, inr, List, [], ◌∷◌, ◌++◌, filter, Result, Ok, Err, length, get_or, take, is_some, sym, ap, subst}
+use Rattle.std.specs.Prelude.{Contains, IfOk, IfErr}
 use Rattle.std.specs.BTreeSet.{BTreeSet, contains}
 use Rattle.std.specs.List.{IsDistinct}
 use Rattle.std.specs.Map.{keys_of}
 use Rattle.std.proofs.lemmas.List.Elements.{Contains-push, Contains-push_cases, Contains-append_left, Contains-append_right}
 use Rattle.std.proofs.lemmas.Map.Views.{btree_set_contains_iff}
+use Rattle.std.proofs.lemmas.Result.{IfErr-weaker}
 use Rattle.oci_manifest.specs.Descriptor.{Descriptor, key_cmp, same_key, is_among}
 use Rattle.oci_store.specs.Content.{Entry}
 use Rattle.oci_store.specs.Graph.{Node}
@@ -18,9 +19,11 @@ use Rattle.oci_prune.specs.Attached.{AttachedBy, AttachedIn, attached_in, follow
 use Rattle.oci_prune.specs.Belonging.{AreAttached, AreAttachedTo, IsBelonging, IsComplete}
 use Rattle.oci_prune.specs.Belongs.{Belongs, given, needed, AreMembers}
 use Rattle.oci_prune.specs.Plan.{AreHeld}
-use Rattle.oci_prune.specs.Subjects.{referrers_in}
+use Rattle.oci_prune.specs.Subjects.{States, referrers_in}
 use Rattle.oci_prune.specs.declared.attachments.Attachments.{Attachments}
 use Rattle.oci_prune.specs.declared.belonging.Belonging.{Belonging}
+use Rattle.oci_prune.specs.declared.fault.PruneFault.{PruneFault}
+use Rattle.oci_prune.specs.declared.fault.PruneFault.TheVariants as fault
 use Rattle.oci_prune.proofs.Elements.{no_element, next_element}
 use Rattle.oci_prune.proofs.Keeping.{held_from_kept}
 use Rattle.oci_prune.proofs.Plans.{Same, kept_same, are_kept_same}
@@ -95,7 +98,8 @@ complete_from graph keys tags attachments b are to follow distinct named tables 
 
 -- ---- what is so if the tables have what is attached
 
-attached_same : (graph : List Node) (entries : List Entry) (held : Keys) (tags : Tags) (attachments : Attachments) → keys_of graph ≡ keys_of entries → AreHeld graph held → AreAttachments entries held tags attachments → Same (AttachedIn attachments) (AttachedBy entries tags)
+-- the tables of all that is attached
+pub attached_same : (graph : List Node) (entries : List Entry) (held : Keys) (tags : Tags) (attachments : Attachments) → keys_of graph ≡ keys_of entries → AreHeld graph held → AreAttachments (States entries) held tags attachments → Same (AttachedIn attachments) (AttachedBy entries tags)
 attached_same graph entries held tags attachments same is_held are k subject = (
   λ h. elim ((are k subject).0 h) [
     | inl refers ↦ inl refers.1
@@ -115,12 +119,21 @@ attached_also graph keys found R Q same to k = (
   λ p. (to k).1 (kept_same graph keys Q R (λ r s. (same r s).1) k p.0, (p.1.0, kept_same graph keys Q R (λ r s. (same r s).1) p.1.0 p.1.1, (same k p.1.0).1 p.1.2)),
 )
 
-pub belonging_from : (graph : List Node) (entries : List Entry) (keys held : Keys) (tags : Tags) (attachments : Attachments) (b : Belonging) → keys_of graph ≡ keys_of entries → AreHeld graph held → AreAttachments entries held tags attachments
-    → AreMembers graph keys (AttachedIn attachments) b.members → AreAttached graph keys (AttachedIn attachments) b.attached.items → attachments ≡ b.attachments → IsBelonging graph keys (AttachedBy entries tags) b
-belonging_from graph entries keys held tags attachments b same is_held attached are to tables =
-    let alike = attached_same graph entries held tags attachments same is_held attached in
+-- two facts of a value that was returned
+pub ok_both : {T E : Type 0} (r : Result T E) (P Q R : T → Type 0) → ((x : T) → P x → Q x → R x) → IfOk r P → IfOk r Q → IfOk r R
+ok_both (Ok x) P Q R to p q = to x p q
+ok_both (Err e) P Q R to p q = tt
+
+-- want of memory is a fault of any kind
+pub memory_fault : {T : Type 0} (r : Result T PruneFault) (P : PruneFault → Type 0) → P fault.Memory → IfErr r (λ (e : PruneFault). e ≡ fault.Memory) → IfErr r P
+memory_fault r P memory h = IfErr-weaker r (λ (e : PruneFault). e ≡ fault.Memory) P (λ e is. subst P (sym is) memory) h
+
+-- what belongs to keys by tables that have what is attached
+pub belonging_from : (graph : List Node) (keys : Keys) (tags : Tags) (R : Relation) (attachments : Attachments) (b : Belonging) → Same (AttachedIn attachments) R → IsComplete graph keys tags b → b.attachments ≡ attachments → IsBelonging graph keys R b
+belonging_from graph keys tags R attachments b attached complete tables =
+    let same : Same (AttachedIn b.attachments) R = subst (λ (a : Attachments). Same (AttachedIn a) R) (sym tables) attached in
     record {
-      members = are_kept_same graph keys (AttachedIn attachments) (AttachedBy entries tags) b.members alike are;
-      attached = attached_also graph keys b.attached.items (AttachedIn attachments) (AttachedBy entries tags) alike to;
-      attachments = subst (λ (a : Attachments). Same (AttachedIn a) (AttachedBy entries tags)) tables alike;
+      members = are_kept_same graph keys (AttachedIn b.attachments) R b.members same complete.members;
+      attached = attached_also graph keys b.attached.items (AttachedIn b.attachments) R same complete.by_tables;
+      attachments = same;
     }

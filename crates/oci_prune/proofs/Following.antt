@@ -12,7 +12,6 @@ use Rattle.std.proofs.lemmas.List.Elements.{Contains-push, Contains-push_cases, 
 use Rattle.std.proofs.lemmas.Slice.Eq.{bytes_eq-Decides}
 use Rattle.oci_manifest.specs.Descriptor.{Descriptor}
 use Rattle.oci_manifest.specs.MediaTypes.{kind_of}
-use Rattle.oci_store.specs.Content.{Entry}
 use Rattle.oci_store.specs.Tags.{Tags, by_bytes}
 use Rattle.oci_layout.specs.Layout.{is_manifest}
 use Rattle.oci_prune.specs.Attached.{stem, dashed, cut, is_stem_of, follows_one, Followers, stemmed_in, followers_in, AreAttachments, AreFollowers, AreStemmed, IsStemAdded}
@@ -129,8 +128,8 @@ are_followers tags followers are k subject =
 
 -- ---- both tables
 
-pub are_attachments : (entries : List Entry) (held : Keys) (tags : Tags) (attachments : Attachments) → AreReferrers entries held attachments.referrers → AreFollowers tags attachments.followers → AreAttachments entries held tags attachments
-are_attachments entries held tags attachments refer follow k subject = (
+pub are_attachments : (states : Descriptor → Descriptor → Type 0) (held : Keys) (tags : Tags) (attachments : Attachments) → AreReferrers states held attachments.referrers → AreFollowers tags attachments.followers → AreAttachments states held tags attachments
+are_attachments states held tags attachments refer follow k subject = (
   λ h. elim (Contains-append_cases (referrers_in attachments.referrers subject) (followers_in attachments.followers subject) k h) [
     | inl first ↦ inl ((refer k subject).0 first)
     | inr second ↦ inr ((follow k subject).0 second)

@@ -12,3 +12,4 @@ pub mod Following
 pub mod Stems
 pub mod Bringing
 pub mod Arriving
+pub mod Typing

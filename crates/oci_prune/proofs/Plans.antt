@@ -27,7 +27,7 @@ use Rattle.oci_prune.specs.Attached.{AttachedIn, AreAttachments}
 use Rattle.oci_prune.specs.Belongs.{Needs, Belongs, given, needed, IsNeeded, IsUnknown, AreMembers, AllKnown}
 use Rattle.oci_prune.specs.Plan.{AreHeld, AreRemoved, RefersIf, IsSafe, roots_of}
 use Rattle.oci_prune.specs.Refusal.{ChecksWhole, IsKeyFault, IsPlanFaultFrom, IsUnknownFault}
-use Rattle.oci_prune.specs.Subjects.{IsSubjectFault}
+use Rattle.oci_prune.specs.Subjects.{IsSubjectFault, States}
 use Rattle.oci_prune.specs.declared.attachments.Attachments.{Attachments}
 use Rattle.oci_prune.specs.declared.fault.PruneFault.{PruneFault}
 use Rattle.oci_prune.specs.declared.fault.PruneFault.TheVariants as fault
@@ -96,7 +96,7 @@ subject_key_fault store roots keeps (fault.LinkedBlobs path) h = absurd h
 
 -- ---- the subjects of the held keys
 
-pub attached_by_held : (store : State) (keys : List Descriptor) (attachments : Attachments) → keys_of store.nodes ≡ keys_of store.entries → AreHeld store.nodes keys → AreAttachments store.entries keys [] attachments → Same (AttachedIn attachments) (RefersIf true store)
+pub attached_by_held : (store : State) (keys : List Descriptor) (attachments : Attachments) → keys_of store.nodes ≡ keys_of store.entries → AreHeld store.nodes keys → AreAttachments (States store.entries) keys [] attachments → Same (AttachedIn attachments) (RefersIf true store)
 attached_by_held store keys attachments same held are referrer subject = (
   λ attached. elim ((are referrer subject).0 attached) [
     | inl refers ↦ refers.1

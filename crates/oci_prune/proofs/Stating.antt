@@ -1,5 +1,5 @@
 -- The subjects that keys state.
-use Rattle.std.proofs.Common.{◌≡◌, ℕ, ◌+◌, ◌<◌, Bool, cond, inl, inr, List, [], ◌∷◌, ◌++◌, length, get_or, take, Option, Some, None, Ok, nat_cmp, refl, sym, ap, subst, ◌∙◌}
+use Rattle.std.proofs.Common.{◌≡◌, ℕ, ◌+◌, ◌<◌, Bool, cond, inl, inr, List, [], ◌∷◌, ◌++◌, length, map, get_or, take, Option, Some, None, Ok, nat_cmp, refl, sym, ap, subst, ◌∙◌}
 use Rattle.std.specs.Prelude.{◌↔◌, Contains}
 use Rattle.std.specs.BTreeMap.{get, Updates}
 use Rattle.std.specs.Cmp.Lexicographic.{slice_cmp}
@@ -11,6 +11,7 @@ use Rattle.std.proofs.lemmas.List.Elements.{Contains-push, Contains-push_cases, 
 use Rattle.std.proofs.lemmas.Map.Text.{is_eq-slice_cmp}
 use Rattle.std.proofs.lemmas.Option.{none-some, same_Some}
 use Rattle.std.proofs.lemmas.Slice.Eq.{bytes_eq-Decides}
+use Rattle.oci_manifest.specs.ArtifactType.{artifact_type_of}
 use Rattle.oci_manifest.specs.Descriptor.{Descriptor, Matches}
 use Rattle.oci_manifest.specs.Fault.{Fails, not_json, not_object, no_config, bad_list, bad_descriptor}
 use Rattle.oci_manifest.specs.MediaTypes.{kind_of}
@@ -26,10 +27,16 @@ use Rattle.oci_prune.specs.Subjects.{States, Referrers, RefersBy, AreReferrers, 
 use Rattle.oci_layout.specs.declared.fault.LayoutFault.TheVariants as layout
 use Rattle.oci_prune.specs.declared.fault.PruneFault.{PruneFault}
 use Rattle.oci_prune.specs.declared.fault.PruneFault.TheVariants as fault
+use Rattle.oci_prune.specs.Typed.{IsOneOf, IsOfTypes, Passes, StatesBy}
+use Rattle.oci_prune.specs.declared.type_filter.TypeFilter.{TypeFilter}
+use Rattle.oci_prune.specs.declared.type_filter.TypeFilter.TheVariants as filter
 use Rattle.oci_prune.proofs.Elements.{next_element}
 
 abbrev Keys : Type 0
 Keys = List Descriptor
+
+abbrev Relation : Type 1
+Relation = Descriptor → Descriptor → Type 0
 
 -- ---- one key
 
@@ -43,6 +50,25 @@ stated_exact entries k bytes found own read subject = (
       let whole = subst (λ (bs : List ℕ). subject_of (kind_of k.media_type) bs ≡ Ok (Some subject)) same (subject_of-complete (kind_of k.media_type) states.0 subject states.2) in
       cc (sym read ∙ whole),
 )
+
+-- what was read and passes a filter is what the bytes state by it
+pub passing_exact : (entries : List Entry) (filter : TypeFilter) (k : Descriptor) (bytes : List ℕ) (stated found : Option Descriptor) → value_at entries k ≡ Some bytes → subject_of (kind_of k.media_type) bytes ≡ Ok stated
+    → ((subject : Descriptor) → (found ≡ Some subject) ↔ ((stated ≡ Some subject) × Passes filter (kind_of k.media_type) bytes subject)) → (subject : Descriptor) → (found ≡ Some subject) ↔ StatesBy entries filter k subject
+passing_exact entries filter.AnyType k bytes stated found own read passes subject = (
+  λ e. (stated_exact entries k bytes stated own read subject).0 ((passes subject).0 e).0,
+  λ states. (passes subject).1 ((stated_exact entries k bytes stated own read subject).1 states, tt),
+)
+passing_exact entries (filter.OneOf subjects types) k bytes stated found own read passes subject = (
+  λ e.
+      let p = (passes subject).0 e in
+      ((stated_exact entries k bytes stated own read subject).0 p.0, λ reached. (bytes, own, p.1 reached)),
+  λ states. (passes subject).1 ((stated_exact entries k bytes stated own read subject).1 states.0, λ reached. of_bytes (states.1 reached)),
+)
+  where
+    of_bytes : IsOfTypes entries (map (λ t. t.now) types.now) k → IsOneOf (map (λ t. t.now) types.now) (artifact_type_of (kind_of k.media_type) bytes)
+    of_bytes is =
+        let same : is.0 ≡ bytes = cc (sym is.1 ∙ own) in
+        subst (λ (bs : List ℕ). IsOneOf (map (λ t. t.now) types.now) (artifact_type_of (kind_of k.media_type) bs)) same is.2
 
 -- what could not be read breaks a rule
 pub unread_fault : (store : State) (k : Descriptor) (bytes : List ℕ) (e : ManifestFault) → Matches k bytes → (store.is_honest → value_at store.entries k ≡ Some bytes) → Fails e (subject_of (kind_of k.media_type) bytes)
@@ -89,38 +115,38 @@ noted old new k digest ks more updates was grown other subject =
           )
     ]
 
-referrers_push : (entries : List Entry) (keys : Keys) (key : Descriptor) (found : Option Descriptor) (old new : Referrers) → AreReferrers entries keys old → ((subject : Descriptor) → (found ≡ Some subject) ↔ States entries key subject)
-    → IsNoted key found old new → AreReferrers entries (keys ++ key ∷ []) new
-referrers_push entries keys key None old new are exact noted k subject = (
+referrers_push : (states : Relation) (keys : Keys) (key : Descriptor) (found : Option Descriptor) (old new : Referrers) → AreReferrers states keys old → ((subject : Descriptor) → (found ≡ Some subject) ↔ states key subject)
+    → IsNoted key found old new → AreReferrers states (keys ++ key ∷ []) new
+referrers_push states keys key None old new are exact noted k subject = (
   λ h.
       let p = (are k subject).0 (subst (λ (m : Referrers). RefersBy m k subject) noted h) in
       (Contains-append_left keys (key ∷ []) k p.0, p.1),
   λ p. subst (λ (m : Referrers). RefersBy m k subject) (sym noted) (elim (Contains-push_cases keys key k p.0) [
     | inl was ↦ (are k subject).1 (was, p.1)
     | inr is ↦
-        let never : None ≡ Some p.1.0 = (exact p.1.0).1 (subst (λ (x : Descriptor). States entries x p.1.0) (sym is) p.1.1) in
+        let never : None ≡ Some p.1.0 = (exact p.1.0).1 (subst (λ (x : Descriptor). states x p.1.0) (sym is) p.1.1) in
         absurd (none-some p.1.0 never)
   ]),
 )
-referrers_push entries keys key (Some found) old new are exact noted k subject = (
+referrers_push states keys key (Some found) old new are exact noted k subject = (
   λ h. elim ((noted k subject).0 h) [
     | inl was ↦
         let p = (are k subject).0 was in
         (Contains-append_left keys (key ∷ []) k p.0, p.1)
-    | inr both ↦ (subst (Contains (keys ++ key ∷ [])) both.0 (Contains-push keys key), (found, subst (λ (x : Descriptor). States entries x found) both.0 ((exact found).0 refl), both.1))
+    | inr both ↦ (subst (Contains (keys ++ key ∷ [])) both.0 (Contains-push keys key), (found, subst (λ (x : Descriptor). states x found) both.0 ((exact found).0 refl), both.1))
   ],
   λ p. (noted k subject).1 (elim (Contains-push_cases keys key k p.0) [
     | inl was ↦ inl ((are k subject).1 (was, p.1))
     | inr is ↦
-        let stated : Some found ≡ Some p.1.0 = (exact p.1.0).1 (subst (λ (x : Descriptor). States entries x p.1.0) (sym is) p.1.1) in
+        let stated : Some found ≡ Some p.1.0 = (exact p.1.0).1 (subst (λ (x : Descriptor). states x p.1.0) (sym is) p.1.1) in
         inr (is, ap (λ (d : Descriptor). d.digest) (same_Some found p.1.0 stated) ∙ p.1.2)
   ]),
 )
 
-pub referrers_more : (entries : List Entry) (keys : Keys) (i : ℕ) (k : Descriptor) (found : Option Descriptor) (old new : Referrers) → i < length keys → k ≡ get_or keys i k → AreReferrers entries (take i keys) old
-    → ((subject : Descriptor) → (found ≡ Some subject) ↔ States entries k subject) → IsNoted k found old new → AreReferrers entries (take (i + 1) keys) new
-referrers_more entries keys i k found old new lt is are exact noted =
-    subst (λ (ks : Keys). AreReferrers entries ks new) (sym (next_element keys i k lt is)) (referrers_push entries (take i keys) k found old new are exact noted)
+pub referrers_more : (states : Relation) (keys : Keys) (i : ℕ) (k : Descriptor) (found : Option Descriptor) (old new : Referrers) → i < length keys → k ≡ get_or keys i k → AreReferrers states (take i keys) old
+    → ((subject : Descriptor) → (found ≡ Some subject) ↔ states k subject) → IsNoted k found old new → AreReferrers states (take (i + 1) keys) new
+referrers_more states keys i k found old new lt is are exact noted =
+    subst (λ (ks : Keys). AreReferrers states ks new) (sym (next_element keys i k lt is)) (referrers_push states (take i keys) k found old new are exact noted)
 
 -- the fault of one key is one of the keys
 pub one_of : (store : State) (k : Descriptor) (P : Descriptor → Type 0) (e : PruneFault) → P k → IsSubjectFault store (λ other. other ≡ k) e → IsSubjectFault store P e

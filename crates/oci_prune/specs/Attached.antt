@@ -14,7 +14,7 @@ use Rattle.oci_manifest.specs.MediaTypes.{kind_of}
 use Rattle.oci_store.specs.Content.{Entry}
 use Rattle.oci_store.specs.Tags.{Tags}
 use Rattle.oci_layout.specs.Layout.{is_manifest}
-use Rattle.oci_prune.specs.Subjects.{Refers, referrers_in}
+use Rattle.oci_prune.specs.Subjects.{Refers, RefersIn, referrers_in}
 use Rattle.oci_prune.specs.declared.attachments.Attachments.{Attachments}
 
 -- ---- tags by digest
@@ -85,9 +85,10 @@ attached_in attachments subject = referrers_in attachments.referrers subject ++ 
 abbrev pub AttachedIn : Attachments → Descriptor → Descriptor → Type 0
 AttachedIn attachments k subject = Contains (attached_in attachments subject) k
 
--- the tables have what is attached, if only these keys are held
-abbrev pub AreAttachments : List Entry → List Descriptor → Tags → Attachments → Type 0
-AreAttachments entries held tags attachments = (k subject : Descriptor) → AttachedIn attachments k subject ↔ ((Contains held k × Refers entries k subject) ⊎ FollowsTag tags k subject)
+-- the tables have what is attached, if only these keys are held and these are the subjects that they
+-- state
+abbrev pub AreAttachments : (Descriptor → Descriptor → Type 0) → List Descriptor → Tags → Attachments → Type 0
+AreAttachments states held tags attachments = (k subject : Descriptor) → AttachedIn attachments k subject ↔ ((Contains held k × RefersIn states k subject) ⊎ FollowsTag tags k subject)
 
 -- the table has the keys of the tags, and no other
 abbrev pub AreFollowers : Tags → Followers → Type 0

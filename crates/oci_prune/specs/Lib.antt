@@ -11,3 +11,4 @@ pub mod Files
 pub mod Refusal
 pub mod Pruned
 pub mod Laws
+pub mod Typed

@@ -23,10 +23,14 @@ use Rattle.oci_prune.specs.declared.fault.PruneFault.TheVariants as fault
 abbrev pub States : List Entry → Descriptor → Descriptor → Type 0
 States entries k subject = (bytes : List ℕ) × (value_at entries k ≡ Some bytes) × HasSubject (kind_of k.media_type) bytes subject
 
+-- the first key states a subject that has the digest of the second
+abbrev pub RefersIn : (Descriptor → Descriptor → Type 0) → Descriptor → Descriptor → Type 0
+RefersIn states k subject = (stated : Descriptor) × states k stated × (stated.digest ≡ subject.digest)
+
 -- The first key, which is held, refers to the second: it states a subject of its digest. A subject of
 -- the same digest with another media type or size can mean nothing else.
 abbrev pub Refers : List Entry → Descriptor → Descriptor → Type 0
-Refers entries k subject = (stated : Descriptor) × States entries k stated × (stated.digest ≡ subject.digest)
+Refers entries k subject = RefersIn (States entries) k subject
 
 -- the keys that refer to the keys of each digest
 abbrev pub Referrers : Type 0
@@ -41,8 +45,8 @@ abbrev pub RefersBy : Referrers → Descriptor → Descriptor → Type 0
 RefersBy referrers referrer subject = Contains (referrers_in referrers subject) referrer
 
 -- the map has those of these keys that state a subject, under the digests of their subjects
-abbrev pub AreReferrers : List Entry → List Descriptor → Referrers → Type 0
-AreReferrers entries keys referrers = (k subject : Descriptor) → RefersBy referrers k subject ↔ (Contains keys k × Refers entries k subject)
+abbrev pub AreReferrers : (Descriptor → Descriptor → Type 0) → List Descriptor → Referrers → Type 0
+AreReferrers states keys referrers = (k subject : Descriptor) → RefersBy referrers k subject ↔ (Contains keys k × RefersIn states k subject)
 
 -- a key was added to the map under a digest
 abbrev pub IsAdded : Descriptor → List ℕ → Referrers → Referrers → Type 0

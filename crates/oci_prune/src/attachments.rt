@@ -3,10 +3,12 @@ ghost use Rattle.oci_manifest.specs.Descriptor.{Descriptor};
 ghost use Rattle.oci_store.specs.Tags.{by_bytes};
 ghost use Rattle.oci_prune.specs.Attached.{AreAttachments, AreFollowers, AttachedIn, attached_in, followers_in, stemmed_in, dashed, cut};
 ghost use Rattle.oci_prune.specs.Subjects.{IsSubjectFault, referrers_in};
+ghost use Rattle.oci_prune.specs.Typed.{StatesBy};
 
 use crate::fault::PruneFault;
 use crate::followers::{cut, dashed, followers_of};
 use crate::referrers::referrers_of;
+use crate::type_filter::TypeFilter;
 use oci_digest::{Digest, NoMemory};
 use oci_manifest::{Key, Kind};
 use oci_store::Source;
@@ -22,8 +24,8 @@ pub struct Attachments {
 }
 
 impl Attachments {
-    /// Returns what is attached to keys, if these are held and have these tags. Reads each held
-    /// manifest that may state a subject once.
+    /// Returns what is attached to keys, if these are held and have these tags, and only the
+    /// manifests that pass a filter count. Reads each held manifest that may state a subject once.
     ///
     /// # Errors
     ///
@@ -35,15 +37,16 @@ impl Attachments {
         source: &S,
         held: &[Key],
         tags: &[(String, Key)],
+        filter: &TypeFilter<'_>,
     ) -> Result<Attachments, PruneFault>
         ensures exact { IfOk result (λ attachments. (S.state source.now).is_honest
-            → AreAttachments (S.state source.now).entries held.now (by_bytes tags.now)
-            attachments) }
+            → AreAttachments (StatesBy (S.state source.now).entries filter.now) held.now
+            (by_bytes tags.now) attachments) }
         ensures followers { IfOk result (λ attachments.
             AreFollowers (by_bytes tags.now) attachments.followers) }
         ensures cause { IfErr result (IsSubjectFault (S.state source.now) (Contains held.now)) }
     {
-        let referrers = referrers_of(alloc, source, held)?;
+        let referrers = referrers_of(alloc, source, held, filter)?;
         let followers = followers_of(alloc, tags)?;
         Ok(Attachments {
             referrers,

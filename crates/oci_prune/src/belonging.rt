@@ -6,7 +6,7 @@ ghost use Rattle.oci_store.specs.Keyed.{has_key};
 ghost use Rattle.oci_store.specs.Tags.{by_bytes};
 ghost use Rattle.oci_store.specs.Visiting.{with_keys};
 ghost use Rattle.oci_layout.specs.Blobs.{meaning};
-ghost use Rattle.oci_prune.specs.Attached.{AttachedBy, attached_in};
+ghost use Rattle.oci_prune.specs.Attached.{AreFollowers, AttachedBy, attached_in};
 ghost use Rattle.oci_prune.specs.Belonging.{AreAttachedTo, IsBelonging, IsComplete};
 ghost use Rattle.oci_prune.specs.Subjects.{IsSubjectFault};
 
@@ -15,6 +15,7 @@ use crate::fault::PruneFault;
 use crate::followers::following_tags;
 use crate::held::held_keys;
 use crate::members::members_of;
+use crate::type_filter::TypeFilter;
 use oci_digest::NoMemory;
 use oci_layout::{Dir, Layout};
 use oci_manifest::Key;
@@ -66,7 +67,23 @@ pub fn belonging_of<D: Dir>(
         (λ k. has_key layout.now.graph k ≡ true)) }
 {
     let held = held_keys(alloc, layout)?;
-    let attachments = Attachments::of(alloc, layout, &held, tags)?;
+    let attachments = Attachments::of(alloc, layout, &held, tags, &TypeFilter::AnyType)?;
+    belonging_by(alloc, layout, keys, tags, attachments)
+}
+
+/// Returns what belongs to some keys of a layout, if this is attached to its keys, and by these tags.
+pub(crate) fn belonging_by<D: Dir>(
+    alloc: Global,
+    layout: &Layout<D>,
+    keys: &[Key],
+    tags: &[(String, Key)],
+    attachments: Attachments,
+) -> Result<Belonging, PruneFault>
+    requires { AreFollowers (by_bytes tags.now) attachments.followers }
+    ensures complete { IfOk result (IsComplete layout.now.graph keys.now (by_bytes tags.now)) }
+    ensures tables { IfOk result (λ found. found.attachments ≡ attachments) }
+    ensures memory { IfErr result (λ e. e ≡ PruneFault.Memory) }
+{
     let members = members_of(alloc, layout, keys, &attachments, false)?;
     let listed = keys_of_set(alloc, &members)?;
     let attached = attached_to_any(alloc, &attachments, &members, &listed)?;

@@ -10,6 +10,7 @@ ghost use Rattle.oci_prune.specs.Subjects.{IsSubjectFault};
 use crate::attachments::Attachments;
 use crate::fault::PruneFault;
 use crate::members::members_of;
+use crate::type_filter::TypeFilter;
 use oci_manifest::Key;
 use oci_store::{GraphSource, Source};
 use std::alloc::Global;
@@ -63,7 +64,7 @@ fn attachments_if<S: Source>(
         (λ k. (keeps_referrers ≡ true) × (has_key (S.state source.now).nodes k ≡ true))) }
 {
     if keeps_referrers {
-        Attachments::of(alloc, source, held, &[])
+        Attachments::of(alloc, source, held, &[], &TypeFilter::AnyType)
     } else {
         Ok(Attachments::none(alloc))
     }

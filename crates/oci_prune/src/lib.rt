@@ -5,6 +5,8 @@
 //! so are the keys of the tags that name its digest, such as `sha256-DIGITS.sig`.
 //!
 //! [`belonging_of`] returns what belongs to keys: a copy of the keys brings it along.
+//! [`belonging_of_types`] returns it if of what is attached to what the keys reach only referrers of
+//! some types are wanted, and [`referrers_of_types`] such referrers of one key.
 //!
 //! [`plan_prune`] plans a prune and changes nothing. The *kept* keys of the [`PrunePlan`] belong to
 //! the tagged keys and those of the entries that a tag hides. All other held keys are removed, and
@@ -45,6 +47,8 @@ mod plan;
 mod referrers;
 mod removal;
 mod run;
+mod type_filter;
+mod typed;
 mod whole;
 
 pub use attachments::Attachments;
@@ -53,3 +57,4 @@ pub use fault::PruneFault;
 pub use laws::{belonging_is_reached, kept_is_reached};
 pub use plan::{PrunePlan, PrunedFile, plan_prune, plan_prune_after, plan_prune_keeping};
 pub use run::{Pruned, prune};
+pub use typed::{belonging_of_types, referrers_of_types};

@@ -1,17 +1,19 @@
 ghost use Rattle.std.specs.Prelude.{◌≡◌, ◌↔◌, ◌++◌, ◌∷◌, [], Some, Contains, IfOk, IfErr, OnOk};
 ghost use Rattle.oci_manifest.specs.Descriptor.{Descriptor};
 ghost use Rattle.oci_manifest.specs.Subject.{may_refer};
-ghost use Rattle.oci_prune.specs.Subjects.{States, AreReferrers, IsAdded, IsNoted, IsSubjectFault};
+ghost use Rattle.oci_prune.specs.Subjects.{AreReferrers, IsAdded, IsNoted, IsSubjectFault};
+ghost use Rattle.oci_prune.specs.Typed.{Passes, StatesBy};
 
 use crate::fault::{PruneFault, of_fetch, of_manifest};
+use crate::type_filter::TypeFilter;
 use oci_digest::{Digest, NoMemory};
 use oci_manifest::{Key, Kind, subject};
 use oci_store::Source;
 use std::alloc::Global;
 use std::collections::BTreeMap;
 
-/// Returns those of these keys that state a subject, under the digests of their subjects. Reads each
-/// manifest that may state one once.
+/// Returns those of these keys that state a subject and pass a filter, under the digests of their
+/// subjects. Reads each manifest that may state one once.
 ///
 /// # Errors
 ///
@@ -22,14 +24,15 @@ pub(crate) fn referrers_of<S: Source>(
     alloc: Global,
     source: &S,
     keys: &[Key],
+    filter: &TypeFilter<'_>,
 ) -> Result<BTreeMap<Digest, Vec<Key>>, PruneFault>
     ensures exact { IfOk result (λ referrers. (S.state source.now).is_honest
-        → AreReferrers (S.state source.now).entries keys.now referrers) }
+        → AreReferrers (StatesBy (S.state source.now).entries filter.now) keys.now referrers) }
     ensures cause { IfErr result (IsSubjectFault (S.state source.now) (Contains keys.now)) }
 {
     let mut referrers = BTreeMap::new(alloc);
     for key in keys {
-        let found = subject_at(alloc, source, key)?;
+        let found = subject_at(alloc, source, key, filter)?;
         add_referrer(alloc, &mut referrers, key, found)?;
     }
     Ok(referrers)
@@ -78,12 +81,17 @@ pub(crate) fn put(keys: &mut Vec<Key>, key: Key) -> Result<(), NoMemory>
     Ok(())
 }
 
-/// Returns the subject of a key, or `None` if it states none. A key whose kind has no subjects is
-/// not read.
-fn subject_at<S: Source>(alloc: Global, source: &S, key: &Key) -> Result<Option<Key>, PruneFault>
+/// Returns the subject of a key, or `None` if it states none or does not pass a filter. A key whose
+/// kind has no subjects is not read.
+fn subject_at<S: Source>(
+    alloc: Global,
+    source: &S,
+    key: &Key,
+    filter: &TypeFilter<'_>,
+) -> Result<Option<Key>, PruneFault>
     ensures exact { IfOk result (λ found. (S.state source.now).is_honest
         → (subject : Descriptor) → (found ≡ Some subject)
-        ↔ States (S.state source.now).entries key.now subject) }
+        ↔ StatesBy (S.state source.now).entries filter.now key.now subject) }
     ensures cause { IfErr result (IsSubjectFault (S.state source.now) (λ k. k ≡ key.now)) }
 {
     let kind = Kind::of(key.media_type());
@@ -95,8 +103,29 @@ fn subject_at<S: Source>(alloc: Global, source: &S, key: &Key) -> Result<Option<
         Err(fault) => return Err(of_fetch(key.try_clone()?, fault)),
     };
     match subject(alloc, kind, bytes.as_slice()) {
-        Ok(found) => Ok(found),
+        Ok(stated) => Ok(passing(alloc, kind, bytes.as_slice(), stated, filter)?),
         Err(fault) => Err(of_manifest(key.try_clone()?, fault)),
+    }
+}
+
+/// Returns the subject that bytes of a kind state, if they pass a filter.
+fn passing(
+    alloc: Global,
+    kind: Kind,
+    bytes: &[u8],
+    stated: Option<Key>,
+    filter: &TypeFilter<'_>,
+) -> Result<Option<Key>, NoMemory>
+    ensures { IfOk result (λ found. (subject : Descriptor) → (found ≡ Some subject)
+        ↔ ((stated ≡ Some subject) × Passes filter.now kind bytes.now subject)) }
+{
+    let Some(subject) = stated else {
+        return Ok(None);
+    };
+    if filter.passes(alloc, kind, bytes, &subject)? {
+        Ok(Some(subject))
+    } else {
+        Ok(None)
     }
 }
 
