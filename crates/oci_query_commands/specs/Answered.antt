@@ -14,7 +14,7 @@ use Rattle.oci_manifest.specs.Descriptor.{Descriptor}
 -- whether a command answers for a whole layout: `tags`, `predecessors`, and `tree` with referrers
 abbrev pub is_of_all : Query → Bool
 is_of_all (query.Tags lists_all) = true
-is_of_all (query.Predecessors reference) = true
+is_of_all (query.Predecessors reference types) = true
 is_of_all (query.Tree reference platform shows_referrers) = shows_referrers
 is_of_all other = false
 

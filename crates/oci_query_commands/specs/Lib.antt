@@ -1,3 +1,4 @@
 pub mod Verified
 pub mod Answered
 pub mod Named
+pub mod Listed

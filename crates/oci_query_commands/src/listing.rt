@@ -1,4 +1,6 @@
-ghost use Rattle.std.specs.Prelude.{option_copied, IfOk};
+ghost use Rattle.std.specs.Prelude.{map, option_copied, IfOk};
+ghost use Rattle.oci_layout.specs.Blobs.{meaning};
+ghost use Rattle.oci_query_commands.specs.Listed.{ArePredecessors, ArePredecessorsOf};
 ghost use Rattle.oci_query_commands.specs.Named.{IsNamed};
 
 use crate::named::named_key;
@@ -6,6 +8,7 @@ use oci_digest::NoMemory;
 use oci_layout::{Dir, IndexEntry, Layout};
 use oci_manifest::Key;
 use oci_program::{ProgramFault, resolve};
+use oci_prune::referrers_of_types;
 use oci_store::{GraphSource, Source, keys_of_set};
 use serde::Serialize;
 use std::alloc::Global;
@@ -126,23 +129,54 @@ impl fmt::Display for Resolved {
     }
 }
 
-/// The held keys that list a key, in key order. `Display` prints them, one a line.
+/// The held keys that list a key, or its referrers of some types, in key order. `Display` prints
+/// them, one a line.
 #[derive(Drop, Serialize)]
 pub(crate) struct Predecessors {
     predecessors: Vec<Key>,
 }
 
 impl Predecessors {
-    /// Returns the held keys that list the key of a reference.
+    /// Returns the held keys that list the key of a reference; with types, those of them whose
+    /// `subject` has its digest and that are of one of these types, byte for byte.
+    ///
+    /// # Errors
+    ///
+    /// Those of [`resolve`], and with types those of [`referrers_of_types`].
     pub(crate) fn of<D: Dir>(
+        alloc: Global,
         layout: &Layout<D>,
         reference: &str,
-    ) -> Result<Predecessors, ProgramFault> {
+        types: &[&str],
+    ) -> Result<Predecessors, ProgramFault>
+        ensures { IfOk result (λ found. ArePredecessorsOf
+            (meaning (D.device layout.now.dir) layout.now.graph layout.now.tags) reference.now
+            (map (λ t. t.now) types.now) found.predecessors.items) }
+    {
         let key = resolve(layout, reference)?;
         Ok(Predecessors {
-            predecessors: layout.predecessors(&key)?,
+            predecessors: predecessors_of(alloc, layout, &key, types)?,
         })
     }
+}
+
+/// Returns the held keys that list a key; with types, those of them that refer to it and are of one
+/// of these types.
+fn predecessors_of<D: Dir>(
+    alloc: Global,
+    layout: &Layout<D>,
+    key: &Key,
+    types: &[&str],
+) -> Result<Vec<Key>, ProgramFault>
+    ensures { IfOk result (λ found. ArePredecessors
+        (meaning (D.device layout.now.dir) layout.now.graph layout.now.tags)
+        (map (λ t. t.now) types.now) key.now found.items) }
+{
+    let listing = layout.predecessors(key)?;
+    if types.is_empty() {
+        return Ok(listing);
+    }
+    Ok(referrers_of_types(alloc, layout, &listing, key, types)?)
 }
 
 impl fmt::Display for Predecessors {

@@ -40,6 +40,8 @@ use std::time::Clock;
 /// - 107 `NoPlatform` if a platform is asked for, and the reference names no index that lists a
 ///   manifest for it. 96 `Unknown`, 75 `Corrupt` or 77 `BadManifest` if that manifest is missing or
 ///   damaged.
+/// - 77 `BadManifest` and 88 `Fetch` of `predecessors` with types and of `tree` with referrers, if a
+///   manifest of the layout cannot be read.
 /// - 21 `Corrupt` if `tree` reads a referrer whose file does not match its key, or if the file of an
 ///   index that is asked for a platform does not.
 /// - 22 `Device` if a blob cannot be read by `resolve`, `tree` or `verify`.
@@ -51,15 +53,15 @@ pub fn run_query<
     W: Write,
     X: Write,
     F: From<ProgramFault>,
->(rt: &R, dir: D, query: Query<'_>, form: Form, out: &mut W, err: &mut X) -> Result<Outcome, F>
+>(rt: &R, dir: D, query: &Query<'_>, form: Form, out: &mut W, err: &mut X) -> Result<Outcome, F>
     // If the directory returns what was written into it, the outcome of `verify` is `Good` only if
     // nothing is wrong with the layout.
-    ensures verified { IfOk result (λ outcome. IsGoodVerify query.entry outcome
+    ensures verified { IfOk result (λ outcome. IsGoodVerify query.now outcome
         → (D.device dir).is_honest → IsVerified (D.device dir)) }
 
     // And `tags`, `predecessors`, and `tree` with referrers are done only if each entry of the index
     // is a descriptor, and no manifest is damaged.
-    ensures answered { OnOk result (is_of_all query.entry ≡ true
+    ensures answered { OnOk result (is_of_all query.now ≡ true
         → (D.device dir).is_honest → IsReadable (D.device dir)) }
 {
     let layout = match Layout::open_as_is(rt.alloc(), dir) {
@@ -73,20 +75,20 @@ pub fn run_query<
 fn answer_from<R: AllocGlobal + Clock + Wait, D: Dir, W: Write, X: Write>(
     rt: &R,
     layout: &Layout<D>,
-    query: Query<'_>,
+    query: &Query<'_>,
     form: Form,
     out: &mut W,
     err: &mut X,
 ) -> Result<Outcome, ProgramFault>
-    ensures verified { IfOk result (λ outcome. IsGoodVerify query.entry outcome
+    ensures verified { IfOk result (λ outcome. IsGoodVerify query.now outcome
         → IsWhole (D.device layout.now.dir) layout.now.graph layout.now.opened) }
-    ensures answered { OnOk result (is_of_all query.entry ≡ true
+    ensures answered { OnOk result (is_of_all query.now ≡ true
         → LeavesNothingOut (D.device layout.now.dir) layout.now.opened) }
 {
     let alloc = rt.alloc();
     match query {
         Query::Tags { lists_all } => {
-            let tags = Tags::of(alloc, layout, lists_all)?;
+            let tags = Tags::of(alloc, layout, *lists_all)?;
             print_answer_of_all(alloc, layout, tags, form, out, err)
         }
         Query::Resolve {
@@ -94,12 +96,12 @@ fn answer_from<R: AllocGlobal + Clock + Wait, D: Dir, W: Write, X: Write>(
             platform,
         } => print_answer(
             alloc,
-            &Resolved::of(layout, reference, platform)?,
+            &Resolved::of(layout, reference, *platform)?,
             form,
             out,
         ),
-        Query::Predecessors(reference) => {
-            let predecessors = Predecessors::of(layout, reference)?;
+        Query::Predecessors { reference, types } => {
+            let predecessors = Predecessors::of(alloc, layout, reference, types)?;
             print_answer_of_all(alloc, layout, predecessors, form, out, err)
         }
         Query::Tree {
@@ -107,11 +109,11 @@ fn answer_from<R: AllocGlobal + Clock + Wait, D: Dir, W: Write, X: Write>(
             platform,
             shows_referrers,
         } => {
-            let root = named_key(layout, reference, platform)?;
-            print_tree(alloc, layout, &root, shows_referrers, form, out, err)
+            let root = named_key(layout, reference, *platform)?;
+            print_tree(alloc, layout, &root, *shows_referrers, form, out, err)
         }
         Query::Verify { shows_progress } => {
-            print_findings(rt, layout, shows_progress, form, out, err)
+            print_findings(rt, layout, *shows_progress, form, out, err)
         }
     }
 }

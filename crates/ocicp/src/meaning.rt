@@ -54,16 +54,16 @@ fn reference_of<'w>(request: &Request<'w>) -> &'w str {
             Selection::AllTags => "",
         },
         Request::Untag(words) => words.tag,
-        Request::Query(_, query) => reference_in(*query),
+        Request::Query(_, query) => reference_in(query),
         _ => "",
     }
 }
 
 /// The reference of a query.
-fn reference_in<'w>(query: Query<'w>) -> &'w str {
+fn reference_in<'w>(query: &Query<'w>) -> &'w str {
     match query {
         Query::Resolve { reference, .. } => reference,
-        Query::Predecessors(reference) => reference,
+        Query::Predecessors { reference, .. } => reference,
         Query::Tree { reference, .. } => reference,
         Query::Tags { .. } => "",
         Query::Verify { .. } => "",

@@ -121,8 +121,8 @@ fn run_request<R: Host, W: Write, X: Write + Send>(
             run_prune(rt, dir, words, form, out, err)
         }
         Request::Query(path, query) => match Place::open(rt, path, &failures.read)? {
-            Place::Folder(dir) => run_query(rt, dir, *query, form, out, err),
-            Place::Archive(dir) => run_query(rt, dir, *query, form, out, err),
+            Place::Folder(dir) => run_query(rt, dir, query, form, out, err),
+            Place::Archive(dir) => run_query(rt, dir, query, form, out, err),
         },
     }
 }
