@@ -1,15 +1,19 @@
-"""`copy --referrers` of layouts made by hand and at random, also into mirrors, against what belongs to the image by the rules of README, worked
-out from the files."""
+"""`copy --referrers` of layouts made by hand and at random, also into mirrors and of some types, against what belongs to the image by the rules
+of README, worked out from the files."""
 import json
 import os
 import random
 import shutil
 
+from support.files import read
 from support.layouts import BAR, E, FOO, I1, M2, M3, S, digits, image, index, write_layout
 from support.program import first, run, told
 from support.pruning import BLOB, MEMBERS, Held, files_of, path, text
 
 OCTETS = "application/octet-stream"
+SBOM, SIGNATURE = "application/spdx+json", "application/vnd.example.signature"
+# Each of these is given with `--artifact-type`.
+TYPES = [SBOM], [SIGNATURE, E.media_type], [SBOM[:-1], SBOM + "+"]
 # The number of random layouts.
 LAYOUTS = 40
 
@@ -52,7 +56,7 @@ def random_layout(chance):
         if manifests and chance.random() < 0.4:
             made = index(chance.sample(manifests, chance.randrange(1, min(len(manifests), 3) + 1)), subject)
         else:
-            made = image(chance.sample([FOO, BAR], chance.randrange(3)), subject, number)
+            made = image(chance.sample([FOO, BAR], chance.randrange(3)), subject, number, chance.choice([None, SBOM, SIGNATURE]))
         manifests += [] if made in manifests else [made]
     tags = {"t%d" % number: chance.choice(manifests) for number in range(3)}
     for _ in range(chance.randrange(4)):
@@ -83,6 +87,21 @@ class Source(Held):
     def belonging(self, keys):
         return self.members(keys, self.attached)
 
+    def type_of(self, key):
+        """Return the type of a manifest: its `artifactType`, or else the media type of its config."""
+        value = json.loads(read("%s/%s" % (self.folder, path(key))))
+        return value.get("artifactType") or value.get("config", {}).get("mediaType")
+
+    def of_types(self, subjects, types):
+        """Return the referrers of these keys that are of one of these types."""
+        return {it for it in self.referrers(subjects) if self.type_of(it) in types}
+
+    def typed(self, keys, types):
+        """Return what belongs to keys, if of what is attached to what they reach only these types come."""
+        reached = self.members(keys, lambda found: set())
+        digests = {it.digest for it in reached}
+        return self.members(keys, lambda found: self.of_types(reached, types) | self.referrers({it for it in found if it.digest not in digests}))
+
 
 def wrong_copy(room, words, source, tag, members, tags):
     """Return the problem with a copy of a tag that is to bring these members and these tags, or None."""
@@ -112,6 +131,18 @@ def wrong_tree(room, source, tag):
     return "the tree lacks %s, and has %s" % (sorted(lost), sorted(more)) if lost or more else None
 
 
+def wrong_types(room, source, tag):
+    """Return the problem with the copies of a tag that bring referrers of some types, and with the lists of these, or None."""
+    key = source.tags[tag]
+    for types in TYPES:
+        words = [word for it in types for word in ("--artifact-type", it)]
+        problem = wrong_copy(room, ["--referrers", *words], source, tag, source.typed([key], types), {tag: key})
+        listed = sorted(it for it in source.of_types([key], types) if key in source.listed(it))
+        ended = run(["predecessors", *words, "source", tag], room)
+        if problem or ended[:3] != (0, "".join(text(it) + "\n" for it in listed), ""):
+            return problem or "predecessors of %s: %s" % (types, told(ended))
+
+
 def wrong_layout(room, layout):
     """Return the problem with the copies of each tag of a layout, or None."""
     shutil.rmtree(room + "/source", ignore_errors=True)
@@ -124,7 +155,7 @@ def wrong_layout(room, layout):
             tags = {**source.named(members), tag: key}
             words = ["--referrers", *(["--depth", str(depth)] if depth else [])]
             problem = problem or wrong_copy(room, words, source, tag, members, tags)
-        problem = problem or wrong_tree(room, source, tag)
+        problem = problem or wrong_tree(room, source, tag) or wrong_types(room, source, tag)
         if problem:
             return "%s: %s" % (tag, problem)
 

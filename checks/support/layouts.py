@@ -35,11 +35,12 @@ def listing(contents):
     return "[%s]" % ",".join(map(descriptor, contents))
 
 
-def image(layers, subject=None, number=None):
+def image(layers, subject=None, number=None, artifact_type=None):
     """Return an image with an empty config. A number tells it from other images of the same layers."""
     text = '{"schemaVersion":2,"mediaType":"%s","config":%s,"layers":%s' % (IMAGE, descriptor(E), listing(layers))
     text += ',"subject":' + descriptor(subject) if subject else ""
     text += ',"annotations":{"number":"%d"}' % number if number is not None else ""
+    text += ',"artifactType":"%s"' % artifact_type if artifact_type else ""
     return Content(IMAGE, (text + "}").encode())
 
 
