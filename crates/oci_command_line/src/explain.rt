@@ -341,7 +341,11 @@ Give the process more memory. `ocicp` itself prints `ocicp: memory` and ends wit
 
 107 NoPlatform
 The reference names no index that lists a manifest for the named platform. The platforms for which the index lists one follow. If none follows, the reference may name no index.
-Write one of these platforms, as OS/ARCH or OS/ARCH/VARIANT. If none follows, run the command without `--platform`, or look with `ocicp tree` at what the reference names.";
+Write one of these platforms, as OS/ARCH or OS/ARCH/VARIANT. If none follows, run the command without `--platform`, or look with `ocicp tree` at what the reference names.
+
+108 NoMatch
+The layout has tags, but none of them matches a pattern of `--match`. Nothing was copied.
+List the tags with `ocicp tags SRC`; the pattern must match a whole tag. Put the pattern in quotes, as in `--match 'v1.*'`: otherwise the shell may have replaced it by names of files.";
 
 /// What `explain` prints about an error number.
 #[derive(Clone, Copy, Serialize)]

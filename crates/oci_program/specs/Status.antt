@@ -73,6 +73,7 @@ program_number fault.Output = Some 94
 program_number (fault.NotWritable path) = Some 95
 program_number (fault.Locked folder) = Some 99
 program_number (fault.NoPlatform platform platforms) = Some 107
+program_number fault.NoMatch = Some 108
 program_number (fault.Archive e) = Some (archive_number e)
 program_number (fault.Key e) = Some (key_number_of e)
 program_number (fault.Push e) = Some (push_number e)

@@ -50,6 +50,9 @@ pub enum ProgramFault {
     /// platforms that the index states follow.
     #[error("107 NoPlatform {}{}", .0, SpaceSeparated(.1))]
     NoPlatform(String, Vec<String>),
+    /// The layout that a copy reads has tags, and none of them matches a pattern.
+    #[error("108 NoMatch")]
+    NoMatch,
     /// The file that a command reads is no archive, or could not be read.
     #[error("{0}")]
     Archive(#[from] ArchiveFault),
@@ -154,6 +157,7 @@ impl ProgramFault {
             ProgramFault::NotWritable(_) => Some(95),
             ProgramFault::Locked(_) => Some(99),
             ProgramFault::NoPlatform(_, _) => Some(107),
+            ProgramFault::NoMatch => Some(108),
             ProgramFault::Archive(fault) => Some(fault.number()),
             ProgramFault::Key(fault) => Some(fault.number()),
             ProgramFault::Push(fault) => Some(fault.number()),

@@ -3,7 +3,7 @@
 //!
 //! | Type | What it is |
 //! |---|---|
-//! | [`ProgramFault`] | why a command is refused, by a fault from below or one of 92 to 95, 99 and 107 |
+//! | [`ProgramFault`] | why a command is refused, by a fault from below or one of 92 to 95, 99, 107 and 108 |
 //! | [`Outcome`] | the result of a command that was not refused |
 //! | [`Form`] | lines or JSON, the form in which a command prints |
 //! | [`Ending`] | why a run ended early: an invalid command line, or a refused command |

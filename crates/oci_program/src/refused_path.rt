@@ -105,6 +105,7 @@ impl ProgramFault {
             ProgramFault::Archive(_) => Some((Role::Read, Part::Whole)),
             ProgramFault::Layout(fault) => Some((Role::Read, part_of_layout(fault))),
             ProgramFault::Source(fault) => Some((Role::Read, part_of_prune(fault))),
+            ProgramFault::NoMatch => Some((Role::Read, Part::Whole)),
             ProgramFault::Fetch(_) => Some((Role::Read, Part::Failed(None))),
             ProgramFault::File(path) => Some((Role::Read, Part::Named(path))),
             ProgramFault::Destination(fault) => Some((Role::Written, part_of_layout(fault))),
