@@ -4,6 +4,7 @@ mod Exact
 mod Listed
 mod Mirrored
 mod NamedRoots
+mod PatternRows
 mod Refusals
 mod Retagged
 mod Saved
