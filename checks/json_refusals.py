@@ -42,9 +42,11 @@ ONTO_FILES = ["copy good one file", "copy --all good file", "untag file one", "p
 # Commands for a platform that the index does not have, and for one whose manifest is missing.
 OF_PLATFORMS = ["resolve --platform linux/s390x good all", "tree --platform linux/arm64/v7 good all", "tree --platform linux/arm64 good one",
                 "resolve --platform linux/amd64 good all", "tree --referrers --platform linux/amd64 good all"]
+# Copies of the tags that match a pattern, where none does.
+OF_PATTERNS = ["copy --all --match nope good other", "copy --all --dry-run --match n --match on good other"]
 ITEMS = ["type", "type=nothing", "a=good/oci-layout a=good/oci-layout", "%s=good/%s" % (IMAGE, blob(M2))]
 # The numbers that the refusals here have.
-NUMBERS = {*range(10, 15), 21, 30, 33, 35, 36, 43, 53, 54, *range(70, 76), 77, *range(79, 83), 88, *range(92, 105), 107}
+NUMBERS = {*range(10, 15), 21, 30, 33, 35, 36, 43, 53, 54, *range(70, 76), 77, *range(79, 83), 88, *range(92, 105), 107, 108}
 
 
 def write_good(folder):
@@ -139,6 +141,7 @@ def others(refused):
         commands = [[reference if it == "REF" else it for it in command.split()] for command in REFERENCES]
         yield "the reference %r" % reference, refused.wrong(write_good, commands)
     yield "platforms", refused.wrong(write_platforms, [it.split() for it in OF_PLATFORMS])
+    yield "patterns", refused.wrong(write_good, [it.split() for it in OF_PATTERNS])
     yield "items", refused.wrong(write_good, [["mem", *it.split()] for it in ITEMS])
     yield "files", refused.wrong(write_good, [it.split() for it in ONTO_FILES])
     commands = [["mem", "%s=bad/%s" % (IMAGE, blob(LARGE))], *(it.split() for it in OF_BAD)]

@@ -1,5 +1,5 @@
 /// The blobs that a copy starts from.
-#[derive(Clone, Copy)]
+#[derive(Drop)]
 pub enum Selection<'w> {
     /// The blob that a reference resolves to.
     Reference {
@@ -9,7 +9,10 @@ pub enum Selection<'w> {
         destination: &'w str,
     },
     /// The blob of each tag of the source.
-    AllTags,
+    AllTags {
+        /// The patterns of which a tag must match one. If there are none, each tag counts.
+        patterns: Vec<&'w str>,
+    },
 }
 
 /// The progress that is shown on stderr during a copy.
@@ -47,7 +50,7 @@ pub struct CopyWords<'w> {
     /// Whether the copy also looks below the blobs that the destination has.
     pub descends: bool,
     /// Whether the tags that the source does not have are removed afterwards, with what no tag of
-    /// the destination then needs. Only with `Selection::AllTags`.
+    /// the destination then needs. Only with `Selection::AllTags` without patterns.
     pub prunes: bool,
     /// Whether the copy waits while another process has the lock of the destination's folder.
     pub waits: bool,

@@ -272,7 +272,7 @@ fn copy_words<'w>(
     matches: &ArgMatches<'w>,
     on_terminal: bool,
 ) -> Result<CopyWords<'w>, CommandLineFault> {
-    let (selection, destination) = selection_and_destination(matches);
+    let (selection, destination) = selection_and_destination(alloc, matches)?;
     Ok(CopyWords {
         source: word(matches, "source"),
         selection,
@@ -321,16 +321,20 @@ fn shown(matches: &ArgMatches<'_>, on_terminal: bool) -> Shown {
 
 /// The blobs to start from, and the destination's folder. With `--all` the folder is the second
 /// word.
-fn selection_and_destination<'w>(matches: &ArgMatches<'w>) -> (Selection<'w>, &'w str) {
+fn selection_and_destination<'w>(
+    alloc: Global,
+    matches: &ArgMatches<'w>,
+) -> Result<(Selection<'w>, &'w str), AllocError> {
     let second = word(matches, "source-reference");
     if matches.get_flag("all") {
-        return (Selection::AllTags, second);
+        let patterns = texts(alloc, matches, "match")?;
+        return Ok((Selection::AllTags { patterns }, second));
     }
     let selection = Selection::Reference {
         source: second,
         destination: word(matches, "destination-reference"),
     };
-    (selection, word(matches, "destination"))
+    Ok((selection, word(matches, "destination")))
 }
 
 /// The number of levels up to which referrers are copied too. `None`: they are not copied.

@@ -1,13 +1,13 @@
 -- Lemmas about the roots of a copy with what is attached to them, and about the tags that come along.
-use Rattle.std.proofs.Common.{◌≡◌, ◌≢◌, ℕ, ◌<◌, Bool, true, not, List, [], ◌∷◌, ◌++◌, length, get_or, filter, Some, None, inl, inr, refl, sym, ap, subst, ◌∙◌}
+use Rattle.std.proofs.Common.{◌≡◌, ◌≢◌, ℕ, ◌<◌, Bool, true, List, [], ◌∷◌, ◌++◌, length, get_or, filter, Some, None, inl, inr, refl, sym, ap, subst, ◌∙◌}
 use Rattle.std.specs.Prelude.{◌↔◌, Contains}
 use Rattle.std.specs.BTreeMap.{is_at}
 use Rattle.std.specs.BTreeSet.{BTreeSet, contains}
 use Rattle.std.specs.List.{All}
 use Rattle.std.specs.Map.{keys_of, values_of}
 use Rattle.std.specs.Ordering.{is_eq}
-use Rattle.std.specs.Str.{bytes_eq}
-use Rattle.std.proofs.lemmas.List.Elements.{All-cons, All-contains, All-contains_itself, All-filter, All-weaker, Contains-append_left, Contains-append_right, Contains-push, filter_passes}
+use Rattle.std.proofs.lemmas.List.{map-append}
+use Rattle.std.proofs.lemmas.List.Elements.{All-append, All-cons, All-contains, All-contains_itself, All-filter, All-nil, All-weaker, Contains-append_left, Contains-append_right, Contains-push, filter_passes}
 use Rattle.std.proofs.lemmas.List.Folds.{Any-from_list_any, list_any_at}
 use Rattle.std.proofs.lemmas.Map.Made.{Contains-values_of}
 use Rattle.oci_manifest.specs.Descriptor.{Descriptor, key_cmp}
@@ -15,7 +15,7 @@ use Rattle.oci_manifest.proofs.Keys.{Decides-same_key}
 use Rattle.oci_store.specs.Graph.{Node}
 use Rattle.oci_store.specs.Keyed.{has_key}
 use Rattle.oci_store.specs.State.{State}
-use Rattle.oci_store.specs.Tags.{Tags, by_bytes, without_tag, AreNames}
+use Rattle.oci_store.specs.Tags.{Tags, by_bytes, AreNames}
 use Rattle.oci_store.specs.Visiting.{with_keys}
 use Rattle.oci_store.proofs.KeyOrder.{is_eq-key_cmp}
 use Rattle.oci_store.proofs.Membership.{Keys, Contains-from_among, among_from_Contains, there-with_keys, with_keys-append}
@@ -70,27 +70,27 @@ module _ (graph : List Node) (climbed : Keys) (tags : Tags) (b : Belonging) (nam
       let named = All-contains (λ (tag : List ℕ × Descriptor). test tag ≡ true) (filter test tags) t (filter_passes test tags) kept in
       (there, tag_attached t there named)
 
-  -- the tags that come along are of roots
-  pub others_of_roots : (name : List ℕ) → AreOfRoots (each_once (climbed ++ b.attached.items)) (without_tag (by_bytes b.tags.items) name)
-  others_of_roots name = record {
+  -- those of the tags that come along which pass a test are of roots
+  pub others_of_roots : (test : List ℕ × Descriptor → Bool) → AreOfRoots (each_once (climbed ++ b.attached.items)) (filter test (by_bytes b.tags.items))
+  others_of_roots test = record {
     named = All-weaker (Contains (keys_of others)) (λ (n : List ℕ). n ≢ []) of_name (keys_of others) (All-contains_itself (keys_of others));
     rooted = All-weaker (Contains (values_of others)) (Contains roots) of_key (values_of others) (All-contains_itself (values_of others));
   }
     where
       others : Tags
-      others = without_tag (by_bytes b.tags.items) name
+      others = filter test (by_bytes b.tags.items)
 
       roots : Keys
       roots = each_once (climbed ++ b.attached.items)
 
       of_name : (n : List ℕ) → Contains (keys_of others) n → n ≢ []
       of_name n there =
-          let t = in_map_filter (λ (e : List ℕ × Descriptor). e.0) (λ (e : List ℕ × Descriptor). not (bytes_eq name e.0)) (by_bytes b.tags.items) n there in
+          let t = in_map_filter (λ (e : List ℕ × Descriptor). e.0) test (by_bytes b.tags.items) n there in
           subst (λ (other : List ℕ). other ≢ []) t.3 (All-contains (λ (other : List ℕ). other ≢ []) (keys_of tags) t.0.0 names.named (name_there tags t.0 (came t.0 t.1).0))
 
       of_key : (k : Descriptor) → Contains (values_of others) k → Contains roots k
       of_key k there =
-          let t = in_map_filter (λ (e : List ℕ × Descriptor). e.1) (λ (e : List ℕ × Descriptor). not (bytes_eq name e.0)) (by_bytes b.tags.items) k there in
+          let t = in_map_filter (λ (e : List ℕ × Descriptor). e.1) test (by_bytes b.tags.items) k there in
           once_there (climbed ++ b.attached.items) k (Contains-append_right climbed b.attached.items k (subst (Contains b.attached.items) t.3 (came t.0 t.1).1))
 
 -- a tag of a root is set before the others
@@ -112,18 +112,42 @@ reference_there store LeftOut k name roots others are = subst (λ (keys : Keys).
 reference_there store (Climbed depth) k name roots others are = climbed_there are.0 are.2.0.attached.items roots k are.2.2 (root_there store.nodes (Some depth) k are.0 are.1)
 reference_there store Attached k name roots others are = climbed_there (k ∷ []) are.0.attached.items roots k are.2 (Contains-push [] k)
 
--- the roots of a copy of all tags are those of any list with the same keys
-pub all_roots_by : (store : State) (referrers : Referrers) (keys other roots : Keys) → ((k : Descriptor) → Contains keys k ↔ Contains other k) → AreAllRoots store referrers keys roots → AreAllRoots store referrers other roots
-all_roots_by store LeftOut keys other roots same are = roots_by store.nodes None keys other roots same are
-all_roots_by store (Climbed depth) keys other roots same are = (are.0, roots_by store.nodes (Some depth) keys other are.0 same are.1, are.2)
-all_roots_by store Attached keys other roots same are = (are.0, roots_by store.nodes None keys other are.0 same are.1, are.2)
+-- the roots of a copy of tags are those of any list with the same keys
+pub all_roots_by : (store : State) (patterns : List (List ℕ)) (referrers : Referrers) (keys other roots : Keys) (others : Tags) → ((k : Descriptor) → Contains keys k ↔ Contains other k) → AreAllRoots store patterns referrers keys roots others
+    → AreAllRoots store patterns referrers other roots others
+all_roots_by store patterns LeftOut keys other roots others same are = (roots_by store.nodes None keys other roots same are.0, are.1)
+all_roots_by store patterns (Climbed depth) keys other roots others same are = (are.0, roots_by store.nodes (Some depth) keys other are.0 same are.1, are.2)
+all_roots_by store patterns Attached keys other roots others same are = (are.0, roots_by store.nodes None keys other are.0 same are.1, are.2)
 
-all_climbed_there : (store : State) (some climbed roots : Keys) → AddsAttached store climbed roots → All (λ (k : Descriptor). Contains climbed k) some → All (λ (k : Descriptor). Contains roots k) some
-all_climbed_there store some climbed roots adds = All-weaker (λ (k : Descriptor). Contains climbed k) (λ (k : Descriptor). Contains roots k) (λ k there. climbed_there climbed adds.0.attached.items roots k adds.2 there) some
+all_climbed_there : (store : State) (patterns : List (List ℕ)) (some climbed roots : Keys) (others : Tags) → AddsAttached store patterns climbed roots others → All (λ (k : Descriptor). Contains climbed k) some → All (λ (k : Descriptor). Contains roots k) some
+all_climbed_there store patterns some climbed roots others adds = All-weaker (λ (k : Descriptor). Contains climbed k) (λ (k : Descriptor). Contains roots k) (λ k there. climbed_there climbed adds.0.attached.items roots k adds.2 there) some
 
--- each of the keys that a copy of all tags starts from is among its roots
-pub all_there : (store : State) (referrers : Referrers) (some keys roots : Keys) → ((k : Descriptor) → Contains some k → Contains keys k) → AreAllRoots store referrers keys roots
+-- each of the keys that a copy of tags starts from is among its roots
+pub all_there : (store : State) (patterns : List (List ℕ)) (referrers : Referrers) (some keys roots : Keys) (others : Tags) → ((k : Descriptor) → Contains some k → Contains keys k) → AreAllRoots store patterns referrers keys roots others
     → All (λ (k : Descriptor). Contains roots k) some
-all_there store LeftOut some keys roots among are = some_there store.nodes None some keys roots among are
-all_there store (Climbed depth) some keys roots among are = all_climbed_there store some are.0 roots are.2 (some_there store.nodes (Some depth) some keys are.0 among are.1)
-all_there store Attached some keys roots among are = all_climbed_there store some are.0 roots are.2 (some_there store.nodes None some keys are.0 among are.1)
+all_there store patterns LeftOut some keys roots others among are = some_there store.nodes None some keys roots among are.0
+all_there store patterns (Climbed depth) some keys roots others among are = all_climbed_there store patterns some are.0 roots others are.2 (some_there store.nodes (Some depth) some keys are.0 among are.1)
+all_there store patterns Attached some keys roots others among are = all_climbed_there store patterns some are.0 roots others are.2 (some_there store.nodes None some keys are.0 among are.1)
+
+-- tags of roots, and then others
+pub both_of_roots : (roots : Keys) (tags others : Tags) → AreOfRoots roots tags → AreOfRoots roots others → AreOfRoots roots (tags ++ others)
+both_of_roots roots tags others of more = record {
+  named = subst (All (λ (n : List ℕ). n ≢ [])) (sym (map-append (λ (e : List ℕ × Descriptor). e.0) tags others)) (All-append (λ (n : List ℕ). n ≢ []) (keys_of tags) (keys_of others) of.named more.named);
+  rooted = subst (All (λ (k : Descriptor). Contains roots k)) (sym (map-append (λ (e : List ℕ × Descriptor). e.1) tags others)) (All-append (λ (k : Descriptor). Contains roots k) (values_of tags) (values_of others) of.rooted more.rooted);
+}
+
+-- tags of names, whose keys are roots
+pub some_of_roots : (roots : Keys) (test : List ℕ × Descriptor → Bool) (tags : Tags) → All (λ (n : List ℕ). n ≢ []) (keys_of tags) → All (λ (k : Descriptor). Contains roots k) (values_of (filter test tags)) → AreOfRoots roots (filter test tags)
+some_of_roots roots test tags named rooted = record {
+  named = All-weaker (Contains (keys_of (filter test tags))) (λ (n : List ℕ). n ≢ []) (λ n there. of n there) (keys_of (filter test tags)) (All-contains_itself (keys_of (filter test tags)));
+  rooted = rooted;
+}
+  where
+    of : (n : List ℕ) → Contains (keys_of (filter test tags)) n → n ≢ []
+    of n there =
+        let t = in_map_filter (λ (e : List ℕ × Descriptor). e.0) test tags n there in
+        subst (λ (other : List ℕ). other ≢ []) t.3 (All-contains (λ (other : List ℕ). other ≢ []) (keys_of tags) t.0.0 named (name_there tags t.0 t.1))
+
+-- no tags are of roots
+pub none_of_roots : (roots : Keys) → AreOfRoots roots []
+none_of_roots roots = record { named = All-nil (λ (n : List ℕ). n ≢ []); rooted = All-nil (λ (k : Descriptor). Contains roots k) }

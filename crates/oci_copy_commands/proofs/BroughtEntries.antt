@@ -76,7 +76,7 @@ roots_shallow entries named (k ∷ roots) all =
 pub with_roots_shallow : (entries named : List IndexEntry) (roots : List Descriptor) → All IsShallowEntry entries → All IsShallowEntry named → All IsShallowEntry (with_roots entries named roots)
 with_roots_shallow entries named roots all of_named = All-append IsShallowEntry named (flat_map (root_entry entries named) roots) of_named (roots_shallow entries named roots all)
 
-tags_shallow : (entries : List IndexEntry) (tags : Tags) → All IsShallowEntry entries → All IsShallowEntry (tag_entries entries tags)
+pub tags_shallow : (entries : List IndexEntry) (tags : Tags) → All IsShallowEntry entries → All IsShallowEntry (tag_entries entries tags)
 tags_shallow entries [] all = All-nil IsShallowEntry
 tags_shallow entries (t ∷ tags) all =
     All-append IsShallowEntry (reference_entry entries t.0 t.0 t.1) (tag_entries entries tags) (at_shallow (Some t.0) entries (place_of_reference entries t.0 t.1) all) (tags_shallow entries tags all)

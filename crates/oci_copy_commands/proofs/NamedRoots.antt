@@ -84,7 +84,7 @@ module _ (roots : Keys) where
   reference_named : (entries : List IndexEntry) (from to : List ℕ) (k : Descriptor) → Contains roots k → All (IsOfRoot roots) (reference_entry entries from to k)
   reference_named entries from to k there = there_named (Some to) k there (entry_at entries (place_of_reference entries from k)) (of_reference entries from k)
 
-  tags_named : (entries : List IndexEntry) (tags : Tags) → All (Contains roots) (values_of tags) → All (IsOfRoot roots) (tag_entries entries tags)
+  pub tags_named : (entries : List IndexEntry) (tags : Tags) → All (Contains roots) (values_of tags) → All (IsOfRoot roots) (tag_entries entries tags)
   tags_named entries [] all = All-nil (IsOfRoot roots)
   tags_named entries (t ∷ tags) all =
       All-append (IsOfRoot roots) (reference_entry entries t.0 t.0 t.1) (tag_entries entries tags) (reference_named entries t.0 t.0 t.1 (All-head (Contains roots) t.1 (values_of tags) all))

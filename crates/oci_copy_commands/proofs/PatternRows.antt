@@ -1,6 +1,6 @@
 -- Lemmas about rows of a pattern.
-use Rattle.std.proofs.Common.{◌≡◌, ◌≢◌, ℕ, ◌+◌, ◌-◌, ◌<◌, ◌≤◌, suc, Bool, true, false, cond, not, ◌&&◌, ◌||◌, ◌==◌, List, [], ◌∷◌, ◌++◌, Bor, length, drop, get_or, set, replicate, inl, inr, refl, sym, ap, subst, ◌∙◌, arith}
-use Rattle.std.proofs.Math.Seq.{drop-cons, drop-length}
+use Rattle.std.proofs.Common.{◌≡◌, ◌≢◌, ℕ, ◌+◌, ◌-◌, ◌<◌, ◌≤◌, Bool, true, false, cond, ◌&&◌, ◌||◌, ◌==◌, List, [], ◌∷◌, ◌++◌, Bor, length, drop, get_or, set, replicate, inl, inr, refl, sym, ap, subst, ◌∙◌, arith}
+use Rattle.std.proofs.Math.Seq.{drop-cons}
 use Rattle.std.proofs.lemmas.Bool.{cases_Bool, cases_eq, cases_lt, eqb-true}
 use Rattle.std.proofs.Math.Dec.{eqb-suc-zero}
 use Rattle.std.specs.List.{list_any}

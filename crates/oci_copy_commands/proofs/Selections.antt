@@ -1,12 +1,12 @@
 -- Lemmas about the roots of a copy, and the tags that it sets.
-use Rattle.std.proofs.Common.{◌≡◌, ◌≢◌, ℕ, ◌+◌, ◌<◌, ◌≤◌, true, not, inl, inr, List, [], ◌∷◌, ◌++◌, map, length, get_or, take, Option, None, Some, refl, sym, ap, subst, ◌∙◌, arith}
-use Rattle.std.specs.Prelude.{◌↔◌, ◌⊎◌, Contains, option_map, String, string_bytes, Result, Ok, Err, IfOk, IfErr, OnOk}
+use Rattle.std.proofs.Common.{◌≡◌, ◌≢◌, ℕ, ◌+◌, ◌<◌, ◌≤◌, true, inl, inr, List, [], ◌∷◌, ◌++◌, map, length, get_or, take, Option, None, Some, refl, sym, ap, subst, ◌∙◌, arith}
+use Rattle.std.specs.Prelude.{◌↔◌, ◌⊎◌, Contains, option_map, String, string_bytes, Result, Ok, Err, IfOk, IfErr}
 use Rattle.std.specs.List.{All, slice_get}
 use Rattle.std.specs.Map.{keys_of, values_of}
 use Rattle.std.specs.declared.alloc.Global.{Global}
 use Rattle.std.proofs.lemmas.List.{take_all, take_more}
 use Rattle.std.proofs.lemmas.Option.{slice_get-get_or, slice_get-map}
-use Rattle.std.proofs.lemmas.List.Elements.{All-append, All-contains, All-contains_itself, All-cons, All-nil, All-weaker, Contains-append_left, Contains-append_right, Contains-push, Contains-push_cases, filter-append}
+use Rattle.std.proofs.lemmas.List.Elements.{All-append, All-contains, All-contains_itself, All-cons, All-nil, All-weaker, Contains-append_left, Contains-append_right, Contains-push, Contains-push_cases}
 use Rattle.oci_manifest.specs.Descriptor.{Descriptor}
 use Rattle.oci_store.specs.Graph.{Node}
 use Rattle.oci_store.specs.Keyed.{has_key, HasAll}
@@ -17,12 +17,10 @@ use Rattle.oci_store.specs.declared.fault.RefFault.TheVariants as fault
 use Rattle.oci_store.proofs.Membership.{Keys, Contains-from_among, among_from_Contains, among-append_cases, among-with_keys, stays-with_keys, there-with_keys, with_keys-append}
 use Rattle.oci_copy.proofs.Places.{Contains-from_slice_get}
 use Rattle.oci_layout.specs.Entries.{IndexEntry, entry_keys, entry_of}
-use Rattle.oci_layout.specs.Saved.{no_name}
 use Rattle.oci_layout.specs.declared.index.IndexEntry.{IndexEntry as CodeEntry}
 use Rattle.oci_layout.proofs.EntryKeys.{entry_keys-append}
 use Rattle.oci_layout.proofs.LastNames.{entries-more}
 use Rattle.oci_prune.proofs.Elements.{next_element}
-use Rattle.oci_copy_commands.specs.Brought.{named_entries}
 use Rattle.oci_copy_commands.specs.Selected.{AreClimbed, AreClimbedOfKeys, IsClimbed, IsClimbedOfKeys}
 
 -- what is true of the elements so far, and of the next one
@@ -126,16 +124,13 @@ placed_both first second keys is k = subst (λ (ks : Keys). Contains ks k ↔ Co
         ]
         )
 
--- the keys of the entries with a name so far, and then that of the next entry
+-- the keys of the entries so far, and then that of the next entry
 pub placed_next : (keys : Keys) (es : List CodeEntry) (i : ℕ) (e : CodeEntry) → i < length es → e ≡ get_or es i e
-    → with_keys keys (entry_keys (named_entries (map entry_of (take (i + 1) es)))) ≡ with_keys (with_keys keys (entry_keys (named_entries (map entry_of (take i es))))) (entry_keys (named_entries (entry_of e ∷ [])))
+    → with_keys keys (entry_keys (map entry_of (take (i + 1) es))) ≡ with_keys (with_keys keys (entry_keys (map entry_of (take i es)))) (entry_keys (entry_of e ∷ []))
 placed_next keys es i e lt is =
     let before = map entry_of (take i es) in
     let next : List IndexEntry = entry_of e ∷ [] in
-    ap (λ (xs : List IndexEntry). with_keys keys (entry_keys (named_entries xs))) (entries-more es i e lt is)
-    ∙ ap (λ (xs : List IndexEntry). with_keys keys (entry_keys xs)) (filter-append (λ (x : IndexEntry). not (no_name x.name)) before next)
-    ∙ ap (with_keys keys) (entry_keys-append (named_entries before) (named_entries next))
-    ∙ with_keys-append keys (entry_keys (named_entries before)) (entry_keys (named_entries next))
+    ap (λ (xs : List IndexEntry). with_keys keys (entry_keys xs)) (entries-more es i e lt is) ∙ ap (with_keys keys) (entry_keys-append before next) ∙ with_keys-append keys (entry_keys before) (entry_keys next)
 
 -- setting a tag with a name on a held key is refused only if memory ran out
 pub only_memory : {X : Type 0} (r : Result X RefFault) (name : List ℕ) (graph : List Node) (k : Descriptor)
@@ -193,8 +188,3 @@ placed_all graph referrers roots keys i past so_far root =
 pub all_ok : {X E : Type 0} {P Q S R : X → Type 0} (r : Result X E) → ((x : X) → P x → Q x → S x → R x) → IfOk r P → IfOk r Q → IfOk r S → IfOk r R
 all_ok (Ok x) gives p q s = gives x p q s
 all_ok (Err e) gives p q s = p
-
--- combines facts about a result that succeeded, and two that do not speak of it
-pub five_ok : {X E A B : Type 0} {P Q R S : X → Type 0} (r : Result X E) → ((x : X) → A → B → P x → Q x → R x → S x) → OnOk r A → OnOk r B → IfOk r P → IfOk r Q → IfOk r R → IfOk r S
-five_ok (Ok x) gives a b p q s = gives x a b p q s
-five_ok (Err e) gives a b p q s = p

@@ -1,5 +1,5 @@
 -- The roots of a copy, the tags that it sets, and the entries that it brings.
-use Rattle.std.specs.Prelude.{◌≡◌, ◌≢◌, ◌↔◌, ℕ, Bool, true, false, not, List, [], ◌∷◌, ◌++◌, map, filter, Option, None, Some, is_some, Contains}
+use Rattle.std.specs.Prelude.{◌≡◌, ◌≢◌, ◌↔◌, ℕ, Bool, true, false, not, ◌&&◌, List, [], ◌∷◌, ◌++◌, map, filter, Option, None, Some, is_some, Contains}
 use Rattle.std.specs.List.{All, IsDistinct}
 use Rattle.std.specs.Map.{keys_of, values_of}
 use Rattle.oci_command_line.specs.declared.changing.CopyWords.{CopyWords}
@@ -18,7 +18,8 @@ use Rattle.oci_layout.specs.Entries.{IndexEntry, entry_keys, entry_of, is_held, 
 use Rattle.oci_layout.specs.Layout.{LayoutState, manifests_of}
 use Rattle.oci_layout.specs.Saved.{no_name}
 use Rattle.oci_layout.specs.declared.index.IndexEntry.{IndexEntry as CodeEntry}
-use Rattle.oci_copy_commands.specs.Brought.{named_entries, reference_entry, tag_entries, with_roots}
+use Rattle.oci_copy_commands.specs.Brought.{reference_entry, tag_entries, with_roots}
+use Rattle.oci_copy_commands.specs.Pattern.{matches_name, matching_entries, matching_tags, texts_of, unmatched_tags}
 use Rattle.oci_copy_commands.specs.declared.referrers.Referrers.{Referrers}
 use Rattle.oci_copy_commands.specs.declared.referrers.Referrers.TheVariants.{LeftOut, Climbed, Attached}
 use Rattle.oci_plan.specs.Up.{HasPath, IsUp, IsWithinDepth}
@@ -76,9 +77,12 @@ pub record IsSourceBelonging (store : State) (keys : List Descriptor) (b : Belon
   pub complete : IsComplete store.nodes keys store.tags b
   pub exact : store.is_honest → IsBelonging store.nodes keys (AttachedBy store.entries store.tags) b
 
--- the climbed keys, and then what is attached to the keys that belong to them
-abbrev pub AddsAttached : State → List Descriptor → List Descriptor → Type 0
-AddsAttached store climbed roots = (b : Belonging) × IsSourceBelonging store climbed b × (roots ≡ each_once (climbed ++ b.attached.items))
+-- The climbed keys, and then what is attached to the keys that belong to them; and the tags that come
+-- with tags that match patterns: those of the source that name a manifest which belongs to the climbed
+-- keys, and that match none of the patterns.
+abbrev pub AddsAttached : State → List (List ℕ) → List Descriptor → List Descriptor → Tags → Type 0
+AddsAttached store patterns climbed roots others =
+    (b : Belonging) × IsSourceBelonging store climbed b × (roots ≡ each_once (climbed ++ b.attached.items)) × (others ≡ unmatched_tags patterns (by_bytes b.tags.items))
 
 -- The roots of a copy with referrers, and the tags that come with the tag of a name: those of the source
 -- that name a manifest which belongs to the climbed keys, but for one of that name.
@@ -92,26 +96,27 @@ AreReferenceRoots store LeftOut k name roots others = (roots ≡ k ∷ []) × (o
 AreReferenceRoots store (Climbed depth) k name roots others = (climbed : List Descriptor) × IsUp store.nodes k depth climbed × AreWithAttached store climbed name roots others
 AreReferenceRoots store Attached k name roots others = AreWithAttached store (k ∷ []) name roots others
 
--- the roots of a copy of all tags: without referrers the keys that it starts from, each once; with
--- them the keys that it climbs to, and what is attached to the keys that belong to these
-abbrev pub AreAllRoots : State → Referrers → List Descriptor → List Descriptor → Type 0
-AreAllRoots store LeftOut keys roots = AreClimbedOfKeys store.nodes None keys roots
-AreAllRoots store (Climbed depth) keys roots = (climbed : List Descriptor) × AreClimbedOfKeys store.nodes (Some depth) keys climbed × AddsAttached store climbed roots
-AreAllRoots store Attached keys roots = (climbed : List Descriptor) × AreClimbedOfKeys store.nodes None keys climbed × AddsAttached store climbed roots
+-- the roots of a copy of the tags that match patterns, and the tags that come with these: without
+-- referrers the keys that it starts from, each once; with them the keys that it climbs to, and what is
+-- attached to the keys that belong to these
+abbrev pub AreAllRoots : State → List (List ℕ) → Referrers → List Descriptor → List Descriptor → Tags → Type 0
+AreAllRoots store patterns LeftOut keys roots others = AreClimbedOfKeys store.nodes None keys roots × (others ≡ [])
+AreAllRoots store patterns (Climbed depth) keys roots others = (climbed : List Descriptor) × AreClimbedOfKeys store.nodes (Some depth) keys climbed × AddsAttached store patterns climbed roots others
+AreAllRoots store patterns Attached keys roots others = (climbed : List Descriptor) × AreClimbedOfKeys store.nodes None keys climbed × AddsAttached store patterns climbed roots others
 
--- the keys that a copy of all tags starts from: the tagged ones, and those of the entries with a name
+-- the keys that a copy of tags starts from: those of the tags, and those of the entries of their names
 abbrev pub named_keys : Tags → List IndexEntry → List Descriptor
-named_keys tags entries = values_of tags ++ entry_keys (named_entries entries)
+named_keys tags named = values_of tags ++ entry_keys named
 
 -- ---- the tags
 
--- an entry has a key that is held, if it has a name
-abbrev pub IsNamedHeld : List Node → CodeEntry → Type 0
-IsNamedHeld graph e = not (no_name (text_of e.name)) ≡ true → is_held graph e.key ≡ true
+-- an entry has a key that is held, if it has a name that matches one of the patterns
+abbrev pub IsNamedHeld : List Node → List (List ℕ) → CodeEntry → Type 0
+IsNamedHeld graph patterns e = not (no_name (text_of e.name)) && matches_name patterns (text_of e.name) ≡ true → is_held graph e.key ≡ true
 
--- those of these entries that have a name have keys that are held
-abbrev pub AreNamedHeld : List Node → List CodeEntry → Type 0
-AreNamedHeld graph entries = All (IsNamedHeld graph) entries
+-- those of these entries that have a name which matches one of the patterns have keys that are held
+abbrev pub AreNamedHeld : List Node → List (List ℕ) → List CodeEntry → Type 0
+AreNamedHeld graph patterns entries = All (IsNamedHeld graph patterns) entries
 
 -- the tags, with each of these set in turn
 abbrev pub set_tags : Tags → Tags → Tags
@@ -158,18 +163,20 @@ SelectsReference device source from to referrers s =
     × (s.1 ≡ (name_of from to, k) ∷ others)
     × (map entry_of s.2 ≡ with_roots (said source.opened.content).entries (reference_entry (said source.opened.content).entries from (name_of from to) k ++ tag_entries (said source.opened.content).entries others) s.0)
 
--- a copy of all tags selects what each entry with a name names
-pub record SelectsAllTags {D : Type 0} (device : D → Device) (source : LayoutState D) (referrers : Referrers) (s : Selected) : Type 0 where
-  pub named : AreNamedHeld source.graph source.opened.content.entries
-  pub tagged : source.tags ≢ []
-  pub tags : s.1 ≡ source.tags
-  pub roots : AreAllRoots (meaning (device source.dir) source.graph source.tags) referrers (named_keys source.tags (said source.opened.content).entries) s.0
-  pub entries : map entry_of s.2 ≡ with_roots (said source.opened.content).entries (named_entries (said source.opened.content).entries) s.0
+-- A copy of the tags that match one of the patterns selects what each entry of their names names, and
+-- the tags that come with these. With no patterns each tag matches, and no other one comes.
+pub record SelectsAllTags {D : Type 0} (device : D → Device) (source : LayoutState D) (patterns : List (List ℕ)) (referrers : Referrers) (s : Selected) : Type 0 where
+  pub others : Tags
+  pub named : AreNamedHeld source.graph patterns source.opened.content.entries
+  pub tagged : matching_tags patterns source.tags ≢ []
+  pub tags : s.1 ≡ matching_tags patterns source.tags ++ others
+  pub roots : AreAllRoots (meaning (device source.dir) source.graph source.tags) patterns referrers (named_keys (matching_tags patterns source.tags) (matching_entries patterns (said source.opened.content).entries)) s.0 others
+  pub entries : map entry_of s.2 ≡ with_roots (said source.opened.content).entries (matching_entries patterns (said source.opened.content).entries ++ tag_entries (said source.opened.content).entries others) s.0
 
--- a copy selects what its words name: a reference, or all tags
+-- a copy selects what its words name: a reference, or the tags that match one of their patterns
 abbrev pub SelectsBy : {D : Type 0} → (D → Device) → LayoutState D → Referrers → Selection → Selected → Type 0
 SelectsBy device source referrers (selection.Reference from to) s = SelectsReference device source from.now to.now referrers s
-SelectsBy device source referrers selection.AllTags s = SelectsAllTags device source referrers s
+SelectsBy device source referrers (selection.AllTags patterns) s = SelectsAllTags device source (texts_of patterns.items) referrers s
 
 abbrev pub Selects : {D : Type 0} → (D → Device) → LayoutState D → CopyWords → Selected → Type 0
 Selects device source words s = SelectsBy device source (referrers_of words) words.selection s

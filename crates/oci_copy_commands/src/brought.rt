@@ -11,7 +11,6 @@ ghost use Rattle.oci_copy_commands.specs.Brought.{
   is_of,
   is_tagged,
   last_such,
-  named_entries,
   place_of_key,
   place_of_reference,
   reference_entry,
@@ -209,34 +208,23 @@ pub(crate) fn entries_of_reference(
     with_roots(alloc, &last, named, roots)
 }
 
-/// Returns the entries that a copy of all tags brings: the ones with a name, and those of the other
-/// roots.
+/// Returns the entries that a copy of tags brings: the entries of their names, those of the other tags
+/// under their own names, and those of the other roots without theirs.
 pub(crate) fn entries_of_tags(
     alloc: Global,
     entries: &[IndexEntry],
+    named: Vec<IndexEntry>,
+    others: &[(String, Key)],
     roots: &[Key],
 ) -> Result<Vec<IndexEntry>, NoMemory>
     ensures { IfOk result (λ brought. map entry_of brought.items
-        ≡ with_roots (map entry_of entries.now) (named_entries (map entry_of entries.now))
-        roots.now) }
+        ≡ with_roots (map entry_of entries.now) (map entry_of named.items
+        ++ tag_entries (map entry_of entries.now) (by_bytes others.now)) roots.now) }
 {
     let last = LastEntries::of(alloc, entries)?;
-    let named = named_entries(alloc, entries)?;
+    let mut named = named;
+    add_tags(alloc, &last, others, &mut named)?;
     with_roots(alloc, &last, named, roots)
-}
-
-/// Returns copies of the entries with a name.
-fn named_entries(alloc: Global, entries: &[IndexEntry]) -> Result<Vec<IndexEntry>, NoMemory>
-    ensures { IfOk result (λ named. map entry_of named.items
-        ≡ named_entries (map entry_of entries.now)) }
-{
-    let mut named = Vec::new(alloc);
-    for entry in entries {
-        if entry.has_name() {
-            named.push(entry.try_clone()?)?;
-        }
-    }
-    Ok(named)
 }
 
 /// Returns the entry of a reference under a name, if there is one.

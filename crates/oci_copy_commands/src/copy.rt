@@ -49,7 +49,8 @@ use std::io::Write;
 ///   `BadManifest` if it is that of a damaged blob.
 /// - 99 `Locked` if another process has the lock of DST, and the words say not to wait.
 /// - 97 `NoTags` with `--all`, if SRC has no tag, and 96 `Unknown` if the blob of an entry of its
-///   index that has a tag is missing or damaged.
+///   index that has a tag is missing or damaged. With `--match` only tags that match count, and 108
+///   `NoMatch` is for a SRC whose tags do not.
 /// - 96 `Unknown` with `--prune`, if the blob of any entry of SRC's index is missing or damaged, or
 ///   any manifest of SRC is damaged; with `--referrers` also if a manifest that one of SRC's lists is
 ///   missing; or if in DST the blob of an entry without a tag is missing or

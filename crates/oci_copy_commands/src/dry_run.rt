@@ -33,7 +33,8 @@ use std::io::Write;
 /// - 35 `EmptyReference` and 36 `UnknownReference` for the reference; 75 `Corrupt` and 77
 ///   `BadManifest` if it is that of a damaged blob.
 /// - 97 `NoTags` with `--all`, if SRC has no tag, and 96 `Unknown` if the blob of an entry of its
-///   index that has a tag is missing or damaged.
+///   index that has a tag is missing or damaged. With `--match` only tags that match count, and 108
+///   `NoMatch` is for a SRC whose tags do not.
 /// - 80 `DestinationOpen` and 81 `Plan` if there is no plan.
 /// - 94 `Output` if `out` cannot be written.
 /// - Out of memory, at any point.

@@ -6,7 +6,7 @@ ghost use Rattle.oci_store.specs.Tags.{by_bytes, without_tag, AreNames};
 ghost use Rattle.oci_store.specs.Visiting.{with_keys};
 ghost use Rattle.oci_layout.specs.Blobs.{meaning};
 ghost use Rattle.oci_layout.specs.Entries.{entry_keys, entry_of};
-ghost use Rattle.oci_copy_commands.specs.Brought.{named_entries};
+ghost use Rattle.oci_copy_commands.specs.Pattern.{texts_of};
 ghost use Rattle.oci_copy_commands.specs.Selected.{
   each_once,
   named_keys,
@@ -21,6 +21,7 @@ ghost use Rattle.oci_copy_commands.specs.Selected.{
   IsSourceBelonging,
 };
 
+use crate::matching::unmatched_tags;
 use crate::referrers::Referrers;
 use oci_digest::NoMemory;
 use oci_layout::{Dir, IndexEntry, Layout};
@@ -32,12 +33,12 @@ use oci_store::{GraphSource, KeyList};
 use std::alloc::Global;
 use std::slice;
 
-/// The roots of a copy of a reference.
+/// The roots of a copy, and the tags that it sets without being asked for them.
 #[derive(Drop)]
-pub(crate) struct ReferenceRoots {
+pub(crate) struct CopyRoots {
     /// The roots, each once.
     pub(crate) keys: Vec<Key>,
-    /// The tags of the source that come with the reference's, in byte order of the names.
+    /// The tags of the source that come with the others, in byte order of the names.
     pub(crate) tags: Vec<(String, Key)>,
 }
 
@@ -59,7 +60,7 @@ pub(crate) fn roots_of_reference<D: Dir>(
     key: &Key,
     name: &str,
     referrers: Referrers,
-) -> Result<ReferenceRoots, ProgramFault>
+) -> Result<CopyRoots, ProgramFault>
     ensures exact { IfOk result (λ roots. AreReferenceRoots
         (meaning (D.device source.now.dir) source.now.graph source.now.tags) referrers key.now
         name.now roots.keys.items (by_bytes roots.tags.items)) }
@@ -76,13 +77,13 @@ pub(crate) fn roots_of_reference<D: Dir>(
 }
 
 /// Returns one root, and no tags.
-fn only(alloc: Global, key: &Key) -> Result<ReferenceRoots, ProgramFault>
+fn only(alloc: Global, key: &Key) -> Result<CopyRoots, ProgramFault>
     ensures keys { IfOk result (λ roots. roots.keys.items ≡ key.now ∷ []) }
     ensures tags { IfOk result (λ roots. roots.tags.items ≡ []) }
 {
     let mut keys = Vec::new(alloc);
     keys.push(key.try_clone()?)?;
-    Ok(ReferenceRoots {
+    Ok(CopyRoots {
         keys,
         tags: Vec::new(alloc),
     })
@@ -94,7 +95,7 @@ fn with_attached<D: Dir>(
     source: &Layout<D>,
     climbed: &[Key],
     name: &str,
-) -> Result<ReferenceRoots, ProgramFault>
+) -> Result<CopyRoots, ProgramFault>
     ensures exact { IfOk result (λ roots. AreWithAttached
         (meaning (D.device source.now.dir) source.now.graph source.now.tags) climbed.now
         name.now roots.keys.items (by_bytes roots.tags.items)) }
@@ -104,12 +105,15 @@ fn with_attached<D: Dir>(
     let belonging = source_belonging(alloc, source, climbed)?;
     let keys = both(alloc, climbed, &belonging.attached)?;
     let tags = tags_without(alloc, &belonging.tags, name)?;
-    Ok(ReferenceRoots { keys, tags })
+    Ok(CopyRoots { keys, tags })
 }
 
-/// Returns the roots of a copy of these keys, each once. With referrers, the keys from which a path
-/// within the depth leads to one of them are among them if the copy climbs, and what is attached to
-/// what belongs to them comes after them.
+/// Returns the roots of a copy of these keys, which are those of tags that match the patterns. Each
+/// key is one of them, once.
+///
+/// With referrers, the keys from which a path within the depth leads to one of them are among them if
+/// the copy climbs, and what is attached to what belongs to them comes after them. The tags are then
+/// those of the source that name what belongs to them by its digest, and that match no pattern.
 ///
 /// # Errors
 ///
@@ -119,37 +123,50 @@ pub(crate) fn roots_of_keys<D: Dir>(
     alloc: Global,
     source: &Layout<D>,
     keys: &[Key],
+    patterns: &[&str],
     referrers: Referrers,
-) -> Result<Vec<Key>, ProgramFault>
-    ensures { IfOk result (λ roots. AreAllRoots
-        (meaning (D.device source.now.dir) source.now.graph source.now.tags) referrers keys.now
-        roots.items) }
+) -> Result<CopyRoots, ProgramFault>
+    ensures exact { IfOk result (λ roots. AreAllRoots
+        (meaning (D.device source.now.dir) source.now.graph source.now.tags)
+        (texts_of patterns.now) referrers keys.now roots.keys.items
+        (by_bytes roots.tags.items)) }
+    ensures tagged { IfOk result (λ roots.
+        AreOfRoots roots.keys.items (by_bytes roots.tags.items)) }
 {
     match referrers {
-        Referrers::LeftOut => climb_from_all(alloc, source, keys, None),
+        Referrers::LeftOut => Ok(CopyRoots {
+            keys: climb_from_all(alloc, source, keys, None)?,
+            tags: Vec::new(alloc),
+        }),
         Referrers::Climbed(depth) => {
             let climbed = climb_from_all(alloc, source, keys, Some(depth))?;
-            add_attached(alloc, source, &climbed)
+            add_attached(alloc, source, &climbed, patterns)
         }
         Referrers::Attached => {
             let climbed = climb_from_all(alloc, source, keys, None)?;
-            add_attached(alloc, source, &climbed)
+            add_attached(alloc, source, &climbed, patterns)
         }
     }
 }
 
-/// Returns the keys, and after them what is attached to what belongs to them, each once.
+/// Returns the keys, and after them what is attached to what belongs to them, each once. The tags are
+/// those that name what belongs to them by its digest, and that match no pattern.
 fn add_attached<D: Dir>(
     alloc: Global,
     source: &Layout<D>,
     climbed: &[Key],
-) -> Result<Vec<Key>, ProgramFault>
-    ensures { IfOk result (λ roots. AddsAttached
-        (meaning (D.device source.now.dir) source.now.graph source.now.tags) climbed.now
-        roots.items) }
+    patterns: &[&str],
+) -> Result<CopyRoots, ProgramFault>
+    ensures exact { IfOk result (λ roots. AddsAttached
+        (meaning (D.device source.now.dir) source.now.graph source.now.tags)
+        (texts_of patterns.now) climbed.now roots.keys.items (by_bytes roots.tags.items)) }
+    ensures tagged { IfOk result (λ roots.
+        AreOfRoots roots.keys.items (by_bytes roots.tags.items)) }
 {
     let belonging = source_belonging(alloc, source, climbed)?;
-    Ok(both(alloc, climbed, &belonging.attached)?)
+    let keys = both(alloc, climbed, &belonging.attached)?;
+    let tags = unmatched_tags(alloc, &belonging.tags, patterns)?;
+    Ok(CopyRoots { keys, tags })
 }
 
 /// Returns what belongs to keys of a source, by its manifests and its tags.
@@ -198,18 +215,18 @@ fn tags_without(
     Ok(others)
 }
 
-/// Returns the tagged keys, and those of the entries with a name, each once.
+/// Returns the tagged keys, and those of the entries of their names, each once.
 pub(crate) fn named_keys(
     alloc: Global,
     tags: &[(String, Key)],
-    entries: &[IndexEntry],
+    named: &[IndexEntry],
 ) -> Result<Vec<Key>, NoMemory>
     ensures { IfOk result (λ keys. (k : Descriptor) → Contains keys.items k
-        ↔ Contains (named_keys (by_bytes tags.now) (map entry_of entries.now)) k) }
+        ↔ Contains (named_keys (by_bytes tags.now) (map entry_of named.now)) k) }
 {
     let mut keys = KeyList::new(alloc);
     place_tags(tags, &mut keys)?;
-    place_named(entries, &mut keys)?;
+    place_named(named, &mut keys)?;
     Ok(keys.into_keys())
 }
 
@@ -223,25 +240,22 @@ fn place_tags(tags: &[(String, Key)], keys: &mut KeyList) -> Result<(), NoMemory
     Ok(())
 }
 
-/// Adds the keys of the entries with a name, each if it is new.
+/// Adds the keys of those entries that have one, each if it is new.
 fn place_named(entries: &[IndexEntry], keys: &mut KeyList) -> Result<(), NoMemory>
     ensures { OnOk result (keys.new
-        ≡ with_keys keys.old (entry_keys (named_entries (map entry_of entries.now)))) }
+        ≡ with_keys keys.old (entry_keys (map entry_of entries.now))) }
 {
     for entry in entries {
-        place_if_named(entry, keys)?;
+        place_entry(entry, keys)?;
     }
     Ok(())
 }
 
-/// Adds the key of an entry, if it has one and a name, and the key is new.
-fn place_if_named(entry: &IndexEntry, keys: &mut KeyList) -> Result<(), NoMemory>
+/// Adds the key of an entry, if it has one and the key is new.
+fn place_entry(entry: &IndexEntry, keys: &mut KeyList) -> Result<(), NoMemory>
     ensures { OnOk result (keys.new
-        ≡ with_keys keys.old (entry_keys (named_entries (entry_of entry.now ∷ [])))) }
+        ≡ with_keys keys.old (entry_keys (entry_of entry.now ∷ []))) }
 {
-    if !entry.has_name() {
-        return Ok(());
-    }
     let Some(key) = &entry.key else {
         return Ok(());
     };

@@ -1,28 +1,28 @@
 ghost use Rattle.std.specs.Prelude.{◌≡◌, ◌≢◌, ◌++◌, [], ◌∷◌, true, is_some, map, string_bytes, Contains, IfOk, OnOk};
 ghost use Rattle.std.specs.List.{All};
 ghost use Rattle.oci_copy.specs.Tagged.{name_of};
-ghost use Rattle.oci_store.specs.Tags.{by_bytes};
+ghost use Rattle.oci_store.specs.Tags.{by_bytes, AreNames};
 ghost use Rattle.oci_store.specs.Keyed.{has_key};
-ghost use Rattle.oci_layout.specs.Blobs.{meaning};
 ghost use Rattle.oci_layout.specs.Brought.{IsShallowEntry};
 ghost use Rattle.oci_layout.specs.Entries.{entry_of, said};
 ghost use Rattle.oci_layout.specs.Layout.{manifests_of};
-ghost use Rattle.oci_copy_commands.specs.Brought.{named_entries, reference_entry, tag_entries, with_roots};
+ghost use Rattle.oci_copy_commands.specs.Brought.{reference_entry, tag_entries, with_roots};
+ghost use Rattle.oci_copy_commands.specs.Pattern.{matching_tags, texts_of};
 ghost use Rattle.oci_copy_commands.specs.Selected.{
-  named_keys,
-  AreAllRoots,
   AreNamedHeld,
   AreOfRoots,
   HasAllReadable,
   IsNamedHeld,
   IsOfRoot,
   Selects,
+  SelectsAllTags,
   SelectsReference,
 };
 
 use crate::brought::{entries_of_reference, entries_of_tags};
+use crate::matching::{is_matching, matching_entries, matching_tags};
 use crate::referrers::{Referrers, referrers_of};
-use crate::roots::{ReferenceRoots, named_keys, roots_of_keys, roots_of_reference};
+use crate::roots::{CopyRoots, named_keys, roots_of_keys, roots_of_reference};
 use oci_command_line::{CopyWords, Selection};
 use oci_digest::NoMemory;
 use oci_layout::{Dir, IndexEntry, Layout, unreadable_entry};
@@ -74,7 +74,7 @@ impl Selected {
     /// - 35 `EmptyReference` if the reference is empty, and 36 `UnknownReference` if it is unknown.
     /// - 75 `Corrupt` and 77 `BadManifest` if it is that of a damaged blob, and 74 `Device` if the
     ///   file of that one cannot be read.
-    /// - 73 `BadIndex`, 96 `Unknown` and 97 `NoTags` for every tag, as from
+    /// - 73 `BadIndex`, 96 `Unknown`, 97 `NoTags` and 108 `NoMatch` for every tag, as from
     ///   [`Selected::all_tags`].
     /// - 77 `BadManifest` and 88 `Fetch` with referrers, if a manifest of the source cannot be read.
     /// - Out of memory, at any point.
@@ -91,12 +91,14 @@ impl Selected {
             check_readable(source)?;
         }
         let referrers = referrers_of(words);
-        match words.selection {
+        match &words.selection {
             Selection::Reference {
                 source: from,
                 destination: to,
             } => Selected::reference(alloc, source, from, to, referrers),
-            Selection::AllTags => Selected::all_tags(alloc, source, referrers),
+            Selection::AllTags { patterns } => {
+                Selected::all_tags(alloc, source, patterns, referrers)
+            }
         }
     }
 
@@ -144,7 +146,7 @@ impl Selected {
         from: &str,
         name: String,
         key: Key,
-        roots: ReferenceRoots,
+        roots: CopyRoots,
     ) -> Result<Selected, ProgramFault>
         requires named { string_bytes name ≢ [] }
         requires rooted { Contains roots.keys.items key }
@@ -159,7 +161,7 @@ impl Selected {
             ++ tag_entries (said source.now.opened.content).entries (by_bytes roots.tags.items))
             roots.keys.items) }
     {
-        let ReferenceRoots {
+        let CopyRoots {
             keys: roots,
             tags: others,
         } = roots;
@@ -180,43 +182,69 @@ impl Selected {
         })
     }
 
-    /// Selects the blob of each tag of the source, and that of each entry with a name, also if a
-    /// later entry has the name too. With referrers, what is attached to what these reach is
-    /// selected too, and if the copy climbs, the keys that list them or refer to them, as from
-    /// [`Selected::reference`]. The copy sets the same tags, brings all entries with a name, and those
-    /// of the other roots.
+    /// Selects the blob of each tag of the source whose name matches one of the patterns, and that of
+    /// each entry of such a name, also if a later entry has the name too. If there are no patterns,
+    /// each name matches. The copy sets these tags, brings these entries, and those of the other
+    /// roots.
+    ///
+    /// With any referrers, what is attached to what these reach is selected too, and if the copy climbs,
+    /// the keys that list them or refer to them, as from [`Selected::reference`]. The tags that are
+    /// named for the digest of one of these are then set too, each under its own name, in byte order
+    /// after the matching ones.
     ///
     /// # Errors
     ///
-    /// - 73 `BadIndex` if an entry of the index that has a tag is no descriptor, and 96 `Unknown` if
-    ///   the blob of one is missing or damaged: for the first such entry. A copy would leave it out.
+    /// - 73 `BadIndex` if an entry of the index that has such a name is no descriptor, and 96 `Unknown`
+    ///   if the blob of one is missing or damaged: for the first such entry. A copy would leave it
+    ///   out.
     /// - 97 `NoTags` if there is no tag.
+    /// - 108 `NoMatch` if there are tags, and none matches.
     /// - 77 `BadManifest` and 88 `Fetch` with referrers, if a manifest of the source cannot be read.
     /// - Out of memory, at any point.
     pub fn all_tags<D: Dir>(
         alloc: Global,
         source: &Layout<D>,
+        patterns: &[&str],
         referrers: Referrers,
     ) -> Result<Selected, ProgramFault>
-        ensures named { OnOk result (AreNamedHeld source.now.graph
-            source.now.opened.content.entries) }
-        ensures tagged { OnOk result (source.now.tags ≢ []) }
-        ensures tags { IfOk result (λ selected. selected.1 ≡ source.now.tags) }
-        ensures roots { IfOk result (λ selected. AreAllRoots
-            (meaning (D.device source.now.dir) source.now.graph source.now.tags) referrers
-            (named_keys source.now.tags (said source.now.opened.content).entries) selected.0) }
-        ensures entries { IfOk result (λ selected. map entry_of selected.2
-            ≡ with_roots (said source.now.opened.content).entries
-            (named_entries (said source.now.opened.content).entries) selected.0) }
+        ensures { IfOk result
+            (SelectsAllTags D.device source.now (texts_of patterns.now) referrers) }
     {
-        check_entries(source, source.entries())?;
-        let tags = source.tags()?;
-        if tags.is_empty() {
-            return Err(ProgramFault::Source(PruneFault::NoTags));
-        }
-        let keys = named_keys(alloc, &tags, source.entries())?;
-        let roots = roots_of_keys(alloc, source, &keys, referrers)?;
-        let entries = entries_of_tags(alloc, source.entries(), &roots)?;
+        check_entries(alloc, source, source.entries(), patterns)?;
+        let tags = tags_to_copy(alloc, source, patterns)?;
+        let named = matching_entries(alloc, source.entries(), patterns)?;
+        let keys = named_keys(alloc, &tags, &named)?;
+        let roots = roots_of_keys(alloc, source, &keys, patterns, referrers)?;
+        Selected::with_tags(alloc, source, tags, named, roots)
+    }
+
+    /// Selects the roots of a copy of tags, these tags and those that come with them, and the entries
+    /// of the source that the copy brings, among them the entries of the tags' names.
+    fn with_tags<D: Dir>(
+        alloc: Global,
+        source: &Layout<D>,
+        tags: Vec<(String, Key)>,
+        named: Vec<IndexEntry>,
+        roots: CopyRoots,
+    ) -> Result<Selected, ProgramFault>
+        requires tagged { AreOfRoots roots.keys.items (by_bytes tags.items) }
+        requires others { AreOfRoots roots.keys.items (by_bytes roots.tags.items) }
+        requires named { All (IsOfRoot roots.keys.items) (map entry_of named.items) }
+        requires shallow { All IsShallowEntry (map entry_of named.items) }
+        ensures roots { IfOk result (λ selected. selected.0 ≡ roots.keys.items) }
+        ensures tags { IfOk result (λ selected. selected.1
+            ≡ by_bytes tags.items ++ by_bytes roots.tags.items) }
+        ensures entries { IfOk result (λ selected. map entry_of selected.2
+            ≡ with_roots (said source.now.opened.content).entries (map entry_of named.items
+            ++ tag_entries (said source.now.opened.content).entries (by_bytes roots.tags.items))
+            roots.keys.items) }
+    {
+        let CopyRoots {
+            keys: roots,
+            tags: others,
+        } = roots;
+        let entries = entries_of_tags(alloc, source.entries(), named, &others, &roots)?;
+        let tags = joined(tags, others)?;
         Ok(Selected {
             roots,
             tags,
@@ -257,31 +285,68 @@ impl Selected {
     }
 }
 
-/// Refuses the first entry with a name that has no key, or one that a layout does not hold.
-fn check_entries<D: Dir>(layout: &Layout<D>, entries: &[IndexEntry]) -> Result<(), ProgramFault>
-    ensures { OnOk result (AreNamedHeld layout.now.graph entries.now) }
+/// Refuses the first entry that has a name which matches one of the patterns, and no key or one that
+/// a layout does not hold.
+fn check_entries<D: Dir>(
+    alloc: Global,
+    layout: &Layout<D>,
+    entries: &[IndexEntry],
+    patterns: &[&str],
+) -> Result<(), ProgramFault>
+    ensures { OnOk result (AreNamedHeld layout.now.graph (texts_of patterns.now) entries.now) }
 {
     for (place, entry) in entries.iter().enumerate() {
-        check_entry(layout, place, entry)?;
+        check_entry(alloc, layout, place, entry, patterns)?;
     }
     Ok(())
 }
 
-/// Refuses the entry at this place if it has a name, and no key or one that a layout does not hold.
+/// Refuses the entry at this place if it has a name that matches one of the patterns, and no key or
+/// one that a layout does not hold.
 fn check_entry<D: Dir>(
+    alloc: Global,
     layout: &Layout<D>,
     place: usize,
     entry: &IndexEntry,
+    patterns: &[&str],
 ) -> Result<(), ProgramFault>
-    ensures { OnOk result (IsNamedHeld layout.now.graph entry.now) }
+    ensures { OnOk result (IsNamedHeld layout.now.graph (texts_of patterns.now) entry.now) }
 {
-    if !entry.has_name() {
+    if !is_matching(alloc, entry, patterns)? {
         return Ok(());
     }
     match &entry.key {
         Some(key) => check_held(layout, key),
         None => Err(ProgramFault::Layout(unreadable_entry(place))),
     }
+}
+
+/// Returns the tags of a layout whose names match one of the patterns. There is at least one.
+///
+/// # Errors
+///
+/// - 97 `NoTags` if there is no tag.
+/// - 108 `NoMatch` if there are tags, and none matches.
+/// - Out of memory.
+fn tags_to_copy<D: Dir>(
+    alloc: Global,
+    layout: &Layout<D>,
+    patterns: &[&str],
+) -> Result<Vec<(String, Key)>, ProgramFault>
+    ensures tags { IfOk result (λ tags. by_bytes tags.items
+        ≡ matching_tags (texts_of patterns.now) layout.now.tags) }
+    ensures tagged { OnOk result (matching_tags (texts_of patterns.now) layout.now.tags ≢ []) }
+    ensures named { AreNames layout.now.graph layout.now.tags }
+{
+    let tags = layout.tags()?;
+    if tags.is_empty() {
+        return Err(ProgramFault::Source(PruneFault::NoTags));
+    }
+    let matching = matching_tags(alloc, &tags, patterns)?;
+    if matching.is_empty() {
+        return Err(ProgramFault::NoMatch);
+    }
+    Ok(matching)
 }
 
 /// Refuses a layout for its first damaged manifest, or else for its first entry that is no
@@ -346,6 +411,19 @@ fn first_tag(
     let mut others = others;
     let mut tags = Vec::new(alloc);
     tags.push((name, key))?;
+    tags.append(&mut others)?;
+    Ok(tags)
+}
+
+/// Returns tags, and after them others.
+fn joined(
+    tags: Vec<(String, Key)>,
+    others: Vec<(String, Key)>,
+) -> Result<Vec<(String, Key)>, NoMemory>
+    ensures { IfOk result (λ all. by_bytes all.items
+        ≡ by_bytes tags.items ++ by_bytes others.items) }
+{
+    let (mut tags, mut others) = (tags, others);
     tags.append(&mut others)?;
     Ok(tags)
 }

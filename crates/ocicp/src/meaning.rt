@@ -49,9 +49,9 @@ fn print_reference<X: Write>(reference: &str, err: &mut X) {
 /// the source.
 fn reference_of<'w>(request: &Request<'w>) -> &'w str {
     match request {
-        Request::Copy(words) => match words.selection {
+        Request::Copy(words) => match &words.selection {
             Selection::Reference { source, .. } => source,
-            Selection::AllTags => "",
+            Selection::AllTags { .. } => "",
         },
         Request::Untag(words) => words.tag,
         Request::Query(_, query) => reference_in(query),

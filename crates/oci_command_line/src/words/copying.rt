@@ -8,6 +8,7 @@ Examples:
   ocicp copy --referrers build v1 mirror   copies also its signatures and SBOMs, and the indexes that list it
   ocicp copy --all --referrers build mirror    copies every tag, with the referrers of each
   ocicp copy --referrers --artifact-type application/spdx+json build v1 mirror    copies the image and its SBOMs of this type
+  ocicp copy --all --match 'v1.*' build mirror   copies the tags that begin with `v1.`
   ocicp copy --all --prune build mirror    makes the tags of `mirror` those of `build`, and frees the space
   ocicp copy --all --dry-run build mirror  prints the blobs that a copy of every tag would copy
   ocicp copy --descend build v1 mirror     also restores blobs that `mirror` has lost
@@ -19,7 +20,7 @@ pub(crate) const COPY: CommandText = CommandText {
     about: "Copies an image, or every tag, from one layout into another",
     details: Some(
         "Copies the image or other blob that a reference names from one layout into another, and tags it \
-         there. With --all it copies every tag.\n\n\
+         there. With --all it copies every tag, or with --match those whose names match a pattern.\n\n\
          Everything that the blob reaches is copied too: the config and the layers of an image, the \
          images of an index, the subject of a referrer. Blobs that DST has are not copied again. DST is \
          created if it is not a layout. On a terminal, a line shows how many blobs and bytes have \
@@ -44,6 +45,7 @@ pub(crate) const COPY: CommandText = CommandText {
 pub(crate) fn copy_arguments(most_workers: u32) -> [Argument; 16] {
     [
         all(),
+        matching(),
         flag(
             "referrers",
             "Also copies the indexes that list it, and what is attached to it and to anything it reaches, such as signatures and SBOMs, with everything that these reach. A manifest is attached by its `subject`, and a tag by its name, such as `sha256-DIGITS.sig`; such tags are set too. Refused if SRC has a damaged manifest (75, 77), or an entry of its `index.json` that is no descriptor (73)",
@@ -123,6 +125,20 @@ fn all() -> Argument {
     Argument {
         conflicts: &["destination", "destination-reference"],
         ..flag("all", help)
+    }
+}
+
+/// `--match`. It conflicts with the destination's own word, as `--prune` does.
+fn matching() -> Argument {
+    let help =
+        "With --all: copies only the tags that match GLOB: `*` stands for any text, also an empty one, `?` for any one \
+         character, and each other character for itself. Given several times, a tag must match one of the patterns. \
+         Quote GLOB, so that the shell does not replace it by names of files. With --referrers, the tags of SRC that are \
+         named for the digest of a copied manifest come too. Refused if no tag of SRC matches (108). Not with --prune";
+    Argument {
+        conflicts: &["destination", "prune"],
+        needs: &["all"],
+        ..Argument::new("match", Kind::Texts("GLOB"), help)
     }
 }
 

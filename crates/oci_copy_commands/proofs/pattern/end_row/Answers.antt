@@ -1,4 +1,4 @@
-use Rattle.std.proofs.Common.{◌≡◌, ◌∙◌, ◌++◌, [], ◌∷◌, ℕ, Bool, true, false, List, ap, arith}
+use Rattle.std.proofs.Common.{◌∙◌, ◌++◌, [], ◌∷◌, Bool, true, false, List, ap, arith}
 use Rattle.oci_copy_commands.proofs.PatternRows.{more_false, row_at_end}
 use Rattle.oci_copy_commands.proofs.pattern.end_row.Goals as goal
 

@@ -1,4 +1,4 @@
-use Rattle.std.proofs.Common.{◌≡◌, ◌∙◌, ◌||◌, ◌+◌, [], ℕ, Bool, List, drop, sym, ap, arith}
+use Rattle.std.proofs.Common.{◌∙◌, ◌||◌, ◌+◌, ℕ, Bool, List, drop, sym, ap}
 use Rattle.std.specs.List.{list_any}
 use Rattle.std.proofs.Math.ListN.{drop_of_length-le}
 use Rattle.oci_copy_commands.specs.Pattern.{matches, texts_of}

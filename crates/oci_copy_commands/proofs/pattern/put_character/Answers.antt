@@ -1,4 +1,4 @@
-use Rattle.std.proofs.Common.{◌≡◌, ◌∙◌, ℕ, ◌+◌, ◌-◌, ◌<◌, Bool, List, length, length-set, drop, refl, ap, sym, subst, arith}
+use Rattle.std.proofs.Common.{◌≡◌, ◌∙◌, ℕ, ◌+◌, ◌-◌, ◌<◌, length, drop, refl, ap, subst, arith}
 use Rattle.oci_copy_commands.specs.Pattern.{after_character, after_continuation}
 use Rattle.oci_copy_commands.proofs.PatternRows.{after_next, change, changed_all, character_end, character_next, nothing_after, unchanged, IsChangedFrom}
 use Rattle.oci_copy_commands.proofs.pattern.put_character.Goals as goal

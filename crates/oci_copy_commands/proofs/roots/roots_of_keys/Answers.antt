@@ -1,31 +1,34 @@
 use Rattle.std.proofs.lemmas.Result.{IfOk-weaker}
-use Rattle.std.specs.Global.{Vec}
-use Rattle.oci_manifest.specs.Descriptor.{Descriptor}
+use Rattle.oci_store.specs.Tags.{by_bytes}
 use Rattle.oci_layout.specs.Blobs.{meaning}
+use Rattle.oci_copy_commands.specs.Pattern.{texts_of}
 use Rattle.oci_copy_commands.specs.Selected.{AddsAttached, AreAllRoots}
 use Rattle.oci_copy_commands.specs.declared.referrers.Referrers.TheVariants.{Climbed, Attached}
+use Rattle.oci_copy_commands.specs.declared.roots.CopyRoots.{CopyRoots}
 use Rattle.oci_copy_commands.proofs.roots.roots_of_keys.Goals as goal
 
-pub returns-in_ok-climbed-in-Climbed : goal.returns-in_ok-climbed-in-Climbed
-returns-in_ok-climbed-in-Climbed g c =
+pub returns-in_ok-climbed-in-Climbed-clause-exact : goal.returns-in_ok-climbed-in-Climbed-clause-exact
+returns-in_ok-climbed-in-Climbed-clause-exact g c =
     let store = meaning (g.D.Dir.device c.args.source.now.dir) c.args.source.now.graph c.args.source.now.tags in
+    let patterns = texts_of c.args.patterns.now in
     let climbed = c.in_ok-climbed-in-Climbed.climbed.items in
     rw (c.in-Climbed.is) (
     IfOk-weaker c.add_attached.result
-    (λ (roots : Vec Descriptor). AddsAttached store c.deref.result.now roots.items)
-    (λ (roots : Vec Descriptor). AreAllRoots store (Climbed c.in-Climbed.depth) c.args.keys.now roots.items)
+    (λ (roots : CopyRoots). AddsAttached store patterns c.deref.result.now roots.keys.items (by_bytes roots.tags.items))
+    (λ (roots : CopyRoots). AreAllRoots store patterns (Climbed c.in-Climbed.depth) c.args.keys.now roots.keys.items (by_bytes roots.tags.items))
     (λ roots attached. (climbed, c.in_ok-climbed-in-Climbed.ensures, rw c.deref.ensures.value at attached))
-    c.add_attached.ensures
+    c.add_attached.ensures.exact
     )
 
-pub returns-in_ok-climbed-in-Attached : goal.returns-in_ok-climbed-in-Attached
-returns-in_ok-climbed-in-Attached g c =
+pub returns-in_ok-climbed-in-Attached-clause-exact : goal.returns-in_ok-climbed-in-Attached-clause-exact
+returns-in_ok-climbed-in-Attached-clause-exact g c =
     let store = meaning (g.D.Dir.device c.args.source.now.dir) c.args.source.now.graph c.args.source.now.tags in
+    let patterns = texts_of c.args.patterns.now in
     let climbed = c.in_ok-climbed-in-Attached.climbed.items in
     rw (c.in-Attached.is) (
     IfOk-weaker c.add_attached-in-Attached.result
-    (λ (roots : Vec Descriptor). AddsAttached store c.deref-in-Attached.result.now roots.items)
-    (λ (roots : Vec Descriptor). AreAllRoots store Attached c.args.keys.now roots.items)
+    (λ (roots : CopyRoots). AddsAttached store patterns c.deref-in-Attached.result.now roots.keys.items (by_bytes roots.tags.items))
+    (λ (roots : CopyRoots). AreAllRoots store patterns Attached c.args.keys.now roots.keys.items (by_bytes roots.tags.items))
     (λ roots attached. (climbed, c.in_ok-climbed-in-Attached.ensures, rw c.deref-in-Attached.ensures.value at attached))
-    c.add_attached-in-Attached.ensures
+    c.add_attached-in-Attached.ensures.exact
     )

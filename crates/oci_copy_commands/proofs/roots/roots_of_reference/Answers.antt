@@ -3,7 +3,7 @@ use Rattle.oci_store.specs.Tags.{by_bytes}
 use Rattle.oci_layout.specs.Blobs.{meaning}
 use Rattle.oci_copy_commands.specs.Selected.{AreReferenceRoots, AreWithAttached}
 use Rattle.oci_copy_commands.specs.declared.referrers.Referrers.TheVariants.{Climbed, Attached}
-use Rattle.oci_copy_commands.specs.declared.roots.ReferenceRoots.{ReferenceRoots}
+use Rattle.oci_copy_commands.specs.declared.roots.CopyRoots.{CopyRoots}
 use Rattle.oci_copy_commands.proofs.roots.roots_of_reference.Goals as goal
 
 pub returns-in_ok-climb-in-Climbed-clause-exact : goal.returns-in_ok-climb-in-Climbed-clause-exact
@@ -13,8 +13,8 @@ returns-in_ok-climb-in-Climbed-clause-exact g c =
     let name = c.args.name.now in
     rw (c.in-Climbed.is) (
     IfOk-weaker c.with_attached.result
-    (λ (roots : ReferenceRoots). AreWithAttached store c.deref.result.now name roots.keys.items (by_bytes roots.tags.items))
-    (λ (roots : ReferenceRoots). AreReferenceRoots store (Climbed c.in-Climbed.depth) c.args.key.now name roots.keys.items (by_bytes roots.tags.items))
+    (λ (roots : CopyRoots). AreWithAttached store c.deref.result.now name roots.keys.items (by_bytes roots.tags.items))
+    (λ (roots : CopyRoots). AreReferenceRoots store (Climbed c.in-Climbed.depth) c.args.key.now name roots.keys.items (by_bytes roots.tags.items))
     (λ roots attached. (climbed, c.in_ok-climb-in-Climbed.ensures, rw c.deref.ensures.value at attached))
     c.with_attached.ensures.exact
     )
@@ -22,11 +22,10 @@ returns-in_ok-climb-in-Climbed-clause-exact g c =
 pub returns-in-Attached-clause-exact : goal.returns-in-Attached-clause-exact
 returns-in-Attached-clause-exact g c =
     let store = meaning (g.D.Dir.device c.args.source.now.dir) c.args.source.now.graph c.args.source.now.tags in
-    let name = c.args.name.now in
     rw (c.in-Attached.is) (
     IfOk-weaker c.with_attached-in-Attached.result
-    (λ (roots : ReferenceRoots). AreWithAttached store c.from_ref.result.now name roots.keys.items (by_bytes roots.tags.items))
-    (λ (roots : ReferenceRoots). AreReferenceRoots store Attached c.args.key.now name roots.keys.items (by_bytes roots.tags.items))
+    (λ (roots : CopyRoots). AreWithAttached store c.from_ref.result.now c.args.name.now roots.keys.items (by_bytes roots.tags.items))
+    (λ (roots : CopyRoots). AreReferenceRoots store Attached c.args.key.now c.args.name.now roots.keys.items (by_bytes roots.tags.items))
     (λ roots attached. rw c.from_ref.ensures.value at attached)
     c.with_attached-in-Attached.ensures.exact
     )

@@ -1,4 +1,6 @@
-use Rattle.std.proofs.Common.{◌++◌, ◌∙◌, ap}
+use Rattle.std.proofs.Common.{◌++◌, ◌∙◌, ℕ, List, not, ap}
+use Rattle.std.specs.Str.{bytes_eq}
+use Rattle.oci_manifest.specs.Descriptor.{Descriptor}
 use Rattle.oci_store.specs.Tags.{by_bytes, without_tag}
 use Rattle.oci_store.proofs.Membership.{Keys}
 use Rattle.oci_copy_commands.specs.Selected.{each_once}
@@ -19,5 +21,5 @@ returns-clause-tagged g c =
     let exact = returns-clause-exact g c in
     let belonging = c.in_ok-belonging.belonging in
     rw (exact.2, exact.3) (
-    others_of_roots c.args.source.now.graph c.args.climbed.now c.args.source.now.tags belonging c.source_belonging.ensures.names c.in_ok-belonging.ensures.exact.complete c.args.name.now
+    others_of_roots c.args.source.now.graph c.args.climbed.now c.args.source.now.tags belonging c.source_belonging.ensures.names c.in_ok-belonging.ensures.exact.complete (λ (t : List ℕ × Descriptor). not (bytes_eq c.args.name.now t.0))
     )

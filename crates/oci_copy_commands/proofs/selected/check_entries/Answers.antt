@@ -1,14 +1,15 @@
 use Rattle.std.proofs.Common.{subst, arith}
 use Rattle.std.specs.List.{All}
 use Rattle.std.proofs.lemmas.List.{take_all}
+use Rattle.oci_copy_commands.specs.Pattern.{texts_of}
 use Rattle.oci_copy_commands.specs.Selected.{IsNamedHeld}
 use Rattle.oci_copy_commands.proofs.Selections.{all_more}
 use Rattle.oci_copy_commands.proofs.selected.check_entries.Goals as goal
 
 pub loop-place-preserved : goal.loop-place-preserved
 loop-place-preserved g c =
-    all_more (IsNamedHeld c.args.layout.now.graph) c.args.entries.now c.loop-place.place c.index-entries-place.result c.loop-place-test.true c.index-entries-place.is c.in_ok-check_entry.ensures c.loop-place.invariant
+    all_more (IsNamedHeld c.args.layout.now.graph (texts_of c.args.patterns.now)) c.args.entries.now c.loop-place.place c.index-entries-place.result c.loop-place-test.true c.index-entries-place.is c.in_ok-check_entry.ensures c.loop-place.invariant
 
 pub returns : goal.returns
 returns g c =
-    subst (All (IsNamedHeld c.args.layout.now.graph)) (take_all c.loop-place.place c.args.entries.now (omega (arith, c.loop-place-test.false))) c.loop-place.invariant
+    subst (All (IsNamedHeld c.args.layout.now.graph (texts_of c.args.patterns.now))) (take_all c.loop-place.place c.args.entries.now (omega (arith, c.loop-place-test.false))) c.loop-place.invariant
