@@ -5,6 +5,7 @@ import os
 import random
 import shutil
 
+from support.dry_runs import wrong_dry_run
 from support.files import read
 from support.layouts import BAR, E, FOO, I1, M2, M3, S, digits, image, index, write_layout
 from support.program import first, run, told
@@ -192,8 +193,11 @@ class Mirror:
         ])
 
     def wrong(self):
-        """Return the problem with a mirror into the layout as it is, or None."""
+        """Return the problem with a mirror into the layout as it is, after a dry run of it, or None."""
         out = self.out()
+        planned = wrong_dry_run(self.room, ["--all", "--prune", "--referrers"], out)
+        if planned:
+            return planned
         ended = run(["copy", "--all", "--prune", "--referrers", "source", "mirror"], self.room)
         if ended[:3] != (0, out, ""):
             return "a mirror: %s, and not %r" % (told(ended), out)

@@ -20,7 +20,10 @@ from support.tar_files import pack
 LAYOUTS = 40
 # `L` is the layout or an archive of it, `M` another layout, and `N` a folder that does not exist.
 OF_REFERENCES = ["resolve L REF", "predecessors L REF", "tree L REF", "tree --referrers L REF", "copy --dry-run L REF M"]
-LOOKS = ["tags L", "verify L", "copy --dry-run --all --referrers L M", "copy --dry-run --all --descend L N", *OF_REFERENCES]
+LOOKS = [
+    "tags L", "verify L", "copy --dry-run --all --referrers L M", "copy --dry-run --all --descend L N", "copy --dry-run --all --prune L M",
+    "copy --dry-run --all --prune --referrers L N", *OF_REFERENCES,
+]
 # (by one worker, since a copy by more that is refused may leave one or another blob)
 CHANGES = [
     "prune --dry-run L", "prune --dry-run --no-referrers L", "copy --workers 1 --progress L TAG M new",

@@ -4,6 +4,7 @@ import shutil
 import signal
 
 from support import shim
+from support.dry_runs import wrong_dry_run
 from support.files import files, stamps
 from support.layouts import BAR, E, FOO, I1, LAYER, M2, M3, S, Content, blob, image, key, write_layout
 from support.program import first, run, told
@@ -66,9 +67,11 @@ def mirrored(room, library):
             shutil.rmtree(room + "/turn", ignore_errors=True)
             shutil.copytree(room + "/mirror", room + "/turn")
             out = in_turn(room, "turn")
+            planned = wrong_dry_run(room, ["--all", "--prune"], out)
             saves, ended = shim.run_marked(library, ["copy", "--all", "--prune", "source", "mirror"], room)
             again = run(["copy", "--all", "--prune", "source", "mirror"], room)
             yield "%s, where there is %s" % (source, mirror), first([
+                planned,
                 None if ended[:3] == (0, out, "") else told(ended),
                 None if files(room + "/mirror") == files(room + "/turn") else "other files than by three commands",
                 None if saves == 1 else "the index is put in place %d times" % saves,
@@ -76,12 +79,12 @@ def mirrored(room, library):
             ])
 
 
-def wrong_refusal(room, words, line):
-    """Return the problem with a mirror that is to be refused with this line, and to change nothing, or None."""
+def wrong_refusal(room, line):
+    """Return the problem with a mirror that is to be refused with this line, and to change nothing, with --dry-run too, or None."""
     before = stamps(room + "/mirror")
-    ended = run(["copy", "--all", "--prune", *words, "source", "mirror"], room)
+    ends = [run(["copy", "--all", "--prune", *words, "source", "mirror"], room) for words in (["--dry-run"], [])]
     return first([
-        None if ended[:3] == (1, "", "ocicp: %s\n" % line) else told(ended),
+        *(None if it[:3] == (1, "", "ocicp: %s\n" % line) else told(it) for it in ends),
         None if stamps(room + "/mirror") == before else "the mirror has changed",
     ])
 
@@ -91,20 +94,20 @@ def refused(room):
     good = SOURCES["an image"]
     old = MIRRORS["old images with other tags"]
     fresh(room, ([E, FOO, M2], {}, [M2]), old)
-    yield "a source without tags", wrong_refusal(room, [], "97 NoTags")
+    yield "a source without tags", wrong_refusal(room, "97 NoTags")
     fresh(room, ([E, FOO, M2], {"new": M2, "lost": lost}, []), old)
-    yield "a source without the file of an entry", wrong_refusal(room, [], "96 Unknown " + key(lost))
+    yield "a source without the file of an entry", wrong_refusal(room, "96 Unknown " + key(lost))
     fresh(room, good, (old[0], old[1], [lost]))
-    yield "a mirror without the file of an untagged entry", wrong_refusal(room, [], "96 Unknown " + key(lost))
+    yield "a mirror without the file of an untagged entry", wrong_refusal(room, "96 Unknown " + key(lost))
     fresh(room, good, old)
     os.rename(room + "/mirror/blobs", room + "/blobs")
     os.symlink("../blobs", room + "/mirror/blobs")
-    yield "a mirror whose blobs are elsewhere", wrong_refusal(room, [], "98 LinkedBlobs blobs")
+    yield "a mirror whose blobs are elsewhere", wrong_refusal(room, "98 LinkedBlobs blobs")
     os.remove(room + "/mirror/blobs")
     os.rename(room + "/blobs", room + "/mirror/blobs")
     os.remove("%s/mirror/%s" % (room, blob(OLD)))
-    yield "a mirror that lacks a layer", wrong_refusal(room, [], "80 DestinationOpen %s %s" % (key(OLD_IMAGE), key(OLD)))
-    for words in ["--prune", "source", "new", "mirror"], ["--prune", "source", "mirror"], ["--all", "--prune", "--dry-run", "source", "mirror"]:
+    yield "a mirror that lacks a layer", wrong_refusal(room, "80 DestinationOpen %s %s" % (key(OLD_IMAGE), key(OLD)))
+    for words in ["--prune", "source", "new", "mirror"], ["--prune", "source", "mirror"], ["--prune", "--dry-run", "source", "mirror"]:
         before = stamps(room + "/mirror")
         ended = run(["copy", *words], room)
         yield "copy " + " ".join(words), first([

@@ -30,6 +30,7 @@ READING = [
     ["verify", "source"],
     ["copy", "--dry-run", "source", "both", "copied"],
     ["copy", "--dry-run", "other", "bar", "source"],
+    ["copy", "--all", "--prune", "--dry-run", "other", "source"],
     ["copy", "--referrers", "source", "one", "copied"],
     ["prune", "--dry-run", "source"],
     ["prune", "--dry-run", "--no-referrers", "source"],

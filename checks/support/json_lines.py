@@ -9,6 +9,7 @@ DESCRIPTOR = {"mediaType": str, "digest": str, "size": int}
 GREATEST = (1 << 64) - 1
 SUM = (int, str)
 PRUNED = {"removed": list, "files": list, "kept": int, "bytes": SUM}
+CLEANED = {"untagged": list, **PRUNED}
 COPIED = {"copied": list, "planned": int, "pushed": int, "skipped": int}
 LEAST_DIGITS = 12
 # The values of a fault beside its number and its name.
@@ -171,19 +172,29 @@ def tag_of(words):
     return places[3 if len(places) > 3 else 1]
 
 
+def of_clean_up(value, words):
+    return ["untagged %s %s" % tagged(it) for it in value["untagged"]] + of_prune({name: value[name] for name in PRUNED}, words)
+
+
+def of_plan(value, words):
+    kinds = {"blobs": list, "planned": int, "bytes": SUM, "skipped": int, **({"prune": dict} if "--prune" in words else {})}
+    blobs, planned, total, skipped, *prune = taken(value, kinds)
+    lines = [*map(key, blobs), "planned %d bytes %d skipped %d" % (planned, sum_of(total), skipped)]
+    for it in prune:
+        taken(it, CLEANED)
+        lines += of_clean_up(it, words)
+    return lines
+
+
 def of_copy(value, words):
     if "--dry-run" in words:
-        blobs, planned, total, skipped = taken(value, {"blobs": list, "planned": int, "bytes": SUM, "skipped": int})
-        return [*map(key, blobs), "planned %d bytes %d skipped %d" % (planned, sum_of(total), skipped)]
+        return of_plan(value, words)
     prunes = "--prune" in words
-    copied, *counts = taken(value, {**COPIED, **({"untagged": list, **PRUNED} if prunes else {})})[:4]
+    copied, *counts = taken(value, {**COPIED, **(CLEANED if prunes else {})})[:4]
     if "--all" not in words and [it["tag"] for it in copied] != [tag_of(words)]:
         raise ValueError("the tag is not %r" % tag_of(words))
     lines = ["copied " + tagged(it)[1] for it in copied] + ["planned %d pushed %d skipped %d" % tuple(counts)]
-    if prunes:
-        lines += ["untagged %s %s" % tagged(it) for it in value["untagged"]]
-        lines += of_prune({name: value[name] for name in PRUNED}, words)
-    return lines
+    return lines + (of_clean_up(value, words) if prunes else [])
 
 
 def size(number):

@@ -9,3 +9,4 @@ mod Refusals
 mod Retagged
 mod Saved
 mod Selections
+mod PlannedCopies

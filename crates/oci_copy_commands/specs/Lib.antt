@@ -4,3 +4,4 @@ pub mod Mirror
 pub mod Pattern
 pub mod Refusal
 pub mod Selected
+pub mod PlannedMirror

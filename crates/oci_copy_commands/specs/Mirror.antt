@@ -4,6 +4,7 @@ use Rattle.std.specs.BTreeSet.{BTreeSet, contains}
 use Rattle.oci_command_line.specs.declared.changing.CopyWords.{CopyWords}
 use Rattle.oci_manifest.specs.Descriptor.{Descriptor, key_cmp}
 use Rattle.oci_store.specs.Content.{Entry}
+use Rattle.oci_store.specs.Copied.{Agree, IsCopied}
 use Rattle.oci_manifest.specs.MediaTypes.{kind_of}
 use Rattle.oci_manifest.specs.declared.kind.Kind.TheVariants.{Leaf}
 use Rattle.oci_store.specs.Graph.{Node, IsEdge, Reaches}
@@ -11,7 +12,7 @@ use Rattle.oci_store.specs.Keyed.{has_key, value_at}
 use Rattle.oci_store.specs.State.{State}
 use Rattle.oci_store.specs.Tags.{Tags, by_bytes}
 use Rattle.oci_plan.specs.declared.gathering.Existing.{Existing}
-use Rattle.oci_copy.specs.Grown.{BeginsWith}
+use Rattle.oci_copy.specs.Grown.{graph_of, BeginsWith}
 use Rattle.oci_copy.specs.Report.{IsReport}
 use Rattle.oci_copy.specs.declared.fault.CopyFault.{CopyFault}
 use Rattle.oci_layout.specs.Blobs.{meaning, stored}
@@ -91,11 +92,13 @@ abbrev pub IsCleanedCopy : {D : Type 0} → (D → Device) → Bool → List Des
 IsCleanedCopy device is_exact roots tags old new done = (removed : CleanUp) × (done.removed ≡ Some removed) × IsCleaned device is_exact roots tags old new removed
 
 -- A mirror was made, with the layout between the copy and the clean-up: keys came into it that were
--- met on the way from the roots, as many as the report says.
+-- met on the way from the roots, as many as the report says; all that the source reaches from them, if
+-- it is honest and its keys list what they list in the destination.
 pub record IsMirrored {D : Type 0} (device : D → Device) (existing : Existing) (is_exact : Bool) (source : State) (roots : List Descriptor) (tags : Tags) (old new : LayoutState D) (done : Copied) : Type 0 where
   pub copied : LayoutState D
   pub same_tags : copied.tags ≡ old.tags
   pub met : BringsOnlyMet source old.graph roots copied.graph
+  pub copy : source.is_honest → Agree (graph_of source) old.graph → IsCopied (graph_of source) (graph_of source) roots old.graph copied.graph
   pub reported : IsReport existing source (meaning (device old.dir) old.graph old.tags) roots (meaning (device copied.dir) copied.graph copied.tags) done.report
   pub cleaned : IsCleanedCopy device is_exact roots tags copied new done
 

@@ -1,5 +1,6 @@
 use crate::copy::Copied;
 use crate::mirror::CleanUp;
+use crate::planned::PlannedCleanUp;
 use crate::selected::Selected;
 use oci_copy::Report;
 use oci_digest::NoMemory;
@@ -68,7 +69,7 @@ impl Display for CopyAnswer {
     }
 }
 
-/// What `copy --all --prune` removed from the destination.
+/// What `copy --all --prune` removed from the destination, or would remove.
 ///
 /// It prints a line `untagged` for each removed tag, with the key that the tag named, and then what
 /// the prune removed.
@@ -100,6 +101,22 @@ impl CleanUpAnswer {
             pruned: PruneAnswer::of(alloc, plan, &pruned)?,
         };
         Ok((answer, pruned.fault))
+    }
+
+    /// Returns what would be removed.
+    ///
+    /// # Errors
+    ///
+    /// Returns [`NoMemory`] if an allocation fails.
+    pub(crate) fn planned(
+        alloc: Global,
+        planned: PlannedCleanUp,
+    ) -> Result<CleanUpAnswer, NoMemory> {
+        let PlannedCleanUp { untagged, plan } = planned;
+        Ok(CleanUpAnswer {
+            untagged: tagged(alloc, untagged)?,
+            pruned: PruneAnswer::planned(alloc, plan)?,
+        })
     }
 }
 

@@ -25,7 +25,7 @@ use std::io::Write;
 /// the destination, brings the entries of SRC's index, and saves it. Prints in this form the key of
 /// each tag and the report. With `--progress` each blob is printed on `err` when it arrives.
 /// Without it, on a terminal, one line shows how much has arrived. With `--dry-run` only the plan
-/// is printed. With `--all --prune` the tags that the source does not have are removed too, and
+/// is printed, and with `--prune` what would be removed. With `--all --prune` the tags that the source does not have are removed too, and
 /// what no tag then needs; the tags and what was removed are printed. What is attached to an image in
 /// DST stays then, but with `--referrers` only if SRC has it too. `F` is [`ProgramFault`] or another
 /// type that is made from one.
@@ -121,7 +121,7 @@ where
 }
 
 /// Refuses a source that a mirror must not follow, if the copy prunes.
-fn check_source_if<S: Dir>(
+pub(crate) fn check_source_if<S: Dir>(
     prunes: bool,
     is_exact: bool,
     source: &Layout<S>,
@@ -137,7 +137,7 @@ fn check_source_if<S: Dir>(
 
 /// Returns whether a mirror holds only what the tags of the source need, and what is attached to it
 /// there.
-fn is_exact(words: &CopyWords<'_>) -> bool
+pub(crate) fn is_exact(words: &CopyWords<'_>) -> bool
     ensures { result ≡ is_exact words.now }
 {
     words.referrers.is_some()
@@ -222,7 +222,7 @@ where
 }
 
 /// Prepares the destination of a copy for a mirror, if the copy prunes.
-fn prepare_if<D: PrunableDir>(
+pub(crate) fn prepare_if<D: PrunableDir>(
     alloc: Global,
     destination: &mut Layout<D>,
     words: &CopyWords<'_>,

@@ -16,6 +16,7 @@ mod matching;
 mod mem;
 mod mirror;
 mod pattern;
+mod planned;
 mod progress;
 mod referrers;
 mod retag;

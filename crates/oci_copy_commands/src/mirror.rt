@@ -390,7 +390,7 @@ fn prune_and_save<D: PrunableDir>(
 }
 
 /// Returns the fault of a command that prunes its destination.
-fn fault_of(fault: PruneFault) -> ProgramFault
+pub(crate) fn fault_of(fault: PruneFault) -> ProgramFault
     ensures { result ≡ of_prune fault }
 {
     match fault {

@@ -68,7 +68,7 @@ fn untag_all<D: Dir>(layout: &mut Layout<D>, tags: &[(String, Key)]) -> Result<(
 }
 
 /// Returns the tags that do not have the name of a kept one, in their order.
-fn other_tags(
+pub(crate) fn other_tags(
     alloc: Global,
     tags: &[(String, Key)],
     kept: &[(String, Key)],

@@ -11,6 +11,7 @@ Examples:
   ocicp copy --all --match 'v1.*' build mirror   copies the tags that begin with `v1.`
   ocicp copy --all --prune build mirror    makes the tags of `mirror` those of `build`, and frees the space
   ocicp copy --all --dry-run build mirror  prints the blobs that a copy of every tag would copy
+  ocicp copy --all --prune --dry-run build mirror    prints also what would be removed from `mirror`
   ocicp copy --descend build v1 mirror     also restores blobs that `mirror` has lost
   ocicp copy --all image.tar mirror        copies every tag of an archive, such as `docker save` writes";
 
@@ -68,7 +69,7 @@ pub(crate) fn copy_arguments(most_workers: u32) -> [Argument; 16] {
         ),
         flag(
             "dry-run",
-            "Changes nothing; prints the blobs that would be copied, then their number, their total size, and how many requested blobs DST already has",
+            "Changes nothing; prints the blobs that would be copied, then their number, their total size, and how many requested blobs DST already has. With --prune then prints the tags, blobs and files that would be removed, as --prune prints them",
         ),
         hint(),
         json(),
@@ -175,10 +176,10 @@ fn prune() -> Argument {
          `prune` does. With --referrers it also removes what is attached only in DST, and brings and keeps no index only because \
          that lists an image. Refused, before anything is copied, if the blob of an entry of SRC's `index.json` is missing or \
          damaged (96), SRC has a damaged manifest (96; with --referrers 75, 77), or an entry is no descriptor (73); with \
-         --referrers also if a manifest of SRC lists one that is missing (96). Not with --dry-run, since what is removed is known \
-         only after the copy";
+         --referrers also if a manifest of SRC lists one that is missing (96). Prints `untagged` for each removed tag, `removed` \
+         for each removed blob, `removed-file` for each other file that goes, and the counts; with --dry-run prints what would go";
     Argument {
-        conflicts: &["destination", "dry-run"],
+        conflicts: &["destination"],
         needs: &["all"],
         ..flag("prune", help)
     }

@@ -27,6 +27,7 @@ returns-clause-pruned g c =
       copied = left.result.0;
       same_tags = rw only.tags at left.ensures.spared.tags;
       met = grows.met;
+      copy = copy.graph;
       reported = copy.reported;
       cleaned = cleaned;
     })
