@@ -17,6 +17,7 @@ use Rattle.oci_store.specs.Graph.{Node}
 use Rattle.oci_store.specs.Keyed.{has_key, value_at}
 use Rattle.oci_layout.specs.Blobs.{blob_path, stored, IsFetch, IsNotOf}
 use Rattle.oci_layout.specs.Device.{Device, File}
+use Rattle.oci_layout.specs.Entries.{IndexEntry, name_of}
 use Rattle.oci_layout.specs.Opened.{is_damaged}
 use Rattle.oci_layout.specs.Refusal.{IsDamageFault}
 use Rattle.oci_layout.specs.declared.fault.LayoutFault.TheVariants as layout
@@ -118,6 +119,10 @@ all_stated elements = stated_after [] elements
 -- what an index of a layout lists, by the bytes that the layout has for its key
 abbrev pub listed_by : File → List Node → Descriptor → Items
 listed_by file graph k = listed_in (kind_of k.media_type) (unwrap_or (value_at (stored file graph) k) [])
+
+-- the entry of an image layout's index for a key, with its descriptor
+abbrev pub entry_for : Descriptor × Data → IndexEntry
+entry_for first = record { key = Some first.0; name = name_of first.1; value = first.1 }
 
 -- ---- refusals
 

@@ -1,11 +1,14 @@
-ghost use Rattle.std.specs.Prelude.{◌≡◌, true, false, map, Some, option_map, option_copied, string_bytes, IfErr, IfOk, OnOk};
+ghost use Rattle.std.specs.Prelude.{◌≡◌, ◌≤◌, true, false, map, Some, option_map, option_copied, string_bytes, IfErr, IfOk, OnOk};
 ghost use Rattle.std.specs.List.{list_any};
 ghost use Rattle.std.specs.Str.{bytes_eq};
+ghost use Rattle.serde_json.specs.Data.{depth};
 ghost use Rattle.serde_json.specs.View.{view, items_view};
 ghost use Rattle.oci_manifest.specs.MediaTypes.{kind_of};
 ghost use Rattle.oci_manifest.specs.Reading.{reading};
 ghost use Rattle.oci_store.specs.Keyed.{has_key};
+ghost use Rattle.oci_layout.specs.Entries.{entry_of, name_of, text_of};
 ghost use Rattle.oci_program.specs.Platform.{
+  entry_for,
   first_for,
   is_index,
   is_text,
@@ -30,7 +33,7 @@ ghost use Rattle.oci_program.specs.Platform.{
 
 use crate::fault::ProgramFault;
 use oci_digest::NoMemory;
-use oci_layout::{Dir, Layout, LayoutFault};
+use oci_layout::{Dir, IndexEntry, Layout, LayoutFault};
 use oci_manifest::{Key, Kind, ManifestFault, key_of, read_json};
 use oci_prune::PruneFault;
 use oci_store::Source;
@@ -59,6 +62,49 @@ impl Drop for Picked {
     }
 }
 
+impl Picked {
+    /// Returns the key, and the descriptor as an entry of an image layout's index.
+    ///
+    /// # Errors
+    ///
+    /// `NoMemory` if memory runs out.
+    pub fn into_entry(self) -> Result<(Key, IndexEntry), NoMemory>
+        ensures key { IfOk result (λ parts. parts.0 ≡ self.key) }
+        ensures entry { IfOk result (λ parts. entry_of parts.1 ≡ entry_for (picked_of self)) }
+    {
+        let Picked { key, descriptor } = self;
+        let copy = key.try_clone()?;
+        let name = name_of(key.allocator(), &descriptor)?;
+        let entry = IndexEntry {
+            key: Some(copy),
+            name,
+            value: descriptor,
+        };
+        Ok((key, entry))
+    }
+}
+
+/// Returns the name that a descriptor states, if it states one.
+fn name_of(alloc: Global, descriptor: &Value) -> Result<Option<String>, NoMemory>
+    ensures { IfOk result (λ name. text_of name ≡ name_of (view descriptor.now)) }
+{
+    match stated_name(descriptor) {
+        Some(name) => Ok(Some(String::from_str(alloc, name)?)),
+        None => Ok(None),
+    }
+}
+
+/// Returns the annotation of a descriptor that names it in an index.
+#[tactic(auto, unfolding(oci_layout::specs::Entries::name_of))]
+fn stated_name<'v>(descriptor: &'v Value) -> Option<&'v str>
+    ensures { option_copied result ≡ name_of (view descriptor.now) }
+{
+    descriptor
+        .get("annotations")?
+        .get("org.opencontainers.image.ref.name")?
+        .as_str()
+}
+
 /// Picks the manifest of an index for a platform: the first descriptor of its `manifests` that states
 /// the platform (OCI image specification 1.1, image-index.md, `platform`). `platform` is `OS/ARCH`,
 /// for any variant, or `OS/ARCH/VARIANT`. Indexes that the index lists are not looked into.
@@ -82,6 +128,8 @@ pub fn pick_platform<D: Dir>(
         → first_for platform.now (listed_by (D.device layout.now.dir).file layout.now.graph key.now)
         ≡ Some (picked_of picked)) }
     ensures held { IfOk result (λ picked. has_key layout.now.graph picked.key ≡ true) }
+    // It is not nested too deeply to be an entry of an index.
+    ensures shallow { IfOk result (λ picked. depth (view picked.descriptor) ≤ 125) }
     ensures refused { IfErr result
         (IsPickFault (D.device layout.now.dir) layout.now.graph key.now platform.now) }
 {
@@ -103,6 +151,7 @@ fn index_of<D: Dir>(layout: &Layout<D>, key: &Key) -> Result<Value, ProgramFault
     ensures listed { IfOk result (λ index. (D.device layout.now.dir).is_honest
         → manifests_in (view index)
         ≡ listed_by (D.device layout.now.dir).file layout.now.graph key.now) }
+    ensures shallow { IfOk result (λ index. depth (view index) ≤ 127) }
     ensures refused { IfErr result
         (IsUnreadIndex (D.device layout.now.dir) layout.now.graph key.now) }
 {
