@@ -23,9 +23,9 @@ use Rattle.oci_prune.specs.Attached.{follows, follows_one}
 use Rattle.oci_prune.specs.Belonging.{IsComplete}
 use Rattle.oci_prune.specs.declared.belonging.Belonging.{Belonging}
 use Rattle.oci_prune.proofs.Elements.{Contains-cons, Contains-head, Contains-tail, in_map_filter, no_element}
-use Rattle.oci_copy_commands.specs.Selected.{each_once, AddsAttached, AreAllRoots, AreOfRoots, AreReferenceRoots}
+use Rattle.oci_copy_commands.specs.Selected.{each_once, AreAllRoots, AreOfRoots, AreReferenceRoots}
 use Rattle.oci_copy_commands.specs.declared.referrers.Referrers.{Referrers}
-use Rattle.oci_copy_commands.specs.declared.referrers.Referrers.TheVariants.{LeftOut, Climbed, Attached}
+use Rattle.oci_copy_commands.specs.declared.referrers.Referrers.TheVariants.{LeftOut, Climbed, Attached, OfTypes}
 use Rattle.oci_copy_commands.proofs.Selections.{root_there, roots_by, some_there}
 
 -- ---- each key once
@@ -111,6 +111,7 @@ pub reference_there : (store : State) (referrers : Referrers) (k : Descriptor) (
 reference_there store LeftOut k name roots others are = subst (λ (keys : Keys). Contains keys k) (sym are.0) (Contains-push [] k)
 reference_there store (Climbed depth) k name roots others are = climbed_there are.0 are.2.0.attached.items roots k are.2.2 (root_there store.nodes (Some depth) k are.0 are.1)
 reference_there store Attached k name roots others are = climbed_there (k ∷ []) are.0.attached.items roots k are.2 (Contains-push [] k)
+reference_there store (OfTypes types) k name roots others are = climbed_there (k ∷ []) are.0.0.attached.items roots k are.0.2 (Contains-push [] k)
 
 -- the roots of a copy of tags are those of any list with the same keys
 pub all_roots_by : (store : State) (patterns : List (List ℕ)) (referrers : Referrers) (keys other roots : Keys) (others : Tags) → ((k : Descriptor) → Contains keys k ↔ Contains other k) → AreAllRoots store patterns referrers keys roots others
@@ -118,16 +119,18 @@ pub all_roots_by : (store : State) (patterns : List (List ℕ)) (referrers : Ref
 all_roots_by store patterns LeftOut keys other roots others same are = (roots_by store.nodes None keys other roots same are.0, are.1)
 all_roots_by store patterns (Climbed depth) keys other roots others same are = (are.0, roots_by store.nodes (Some depth) keys other are.0 same are.1, are.2)
 all_roots_by store patterns Attached keys other roots others same are = (are.0, roots_by store.nodes None keys other are.0 same are.1, are.2)
+all_roots_by store patterns (OfTypes types) keys other roots others same are = ((are.0.0, roots_by store.nodes None keys other are.0.0 same are.0.1, are.0.2), are.1)
 
-all_climbed_there : (store : State) (patterns : List (List ℕ)) (some climbed roots : Keys) (others : Tags) → AddsAttached store patterns climbed roots others → All (λ (k : Descriptor). Contains climbed k) some → All (λ (k : Descriptor). Contains roots k) some
-all_climbed_there store patterns some climbed roots others adds = All-weaker (λ (k : Descriptor). Contains climbed k) (λ (k : Descriptor). Contains roots k) (λ k there. climbed_there climbed adds.0.attached.items roots k adds.2 there) some
+all_climbed_there : (some climbed attached roots : Keys) → roots ≡ each_once (climbed ++ attached) → All (λ (k : Descriptor). Contains climbed k) some → All (λ (k : Descriptor). Contains roots k) some
+all_climbed_there some climbed attached roots are = All-weaker (λ (k : Descriptor). Contains climbed k) (λ (k : Descriptor). Contains roots k) (λ k there. climbed_there climbed attached roots k are there) some
 
 -- each of the keys that a copy of tags starts from is among its roots
 pub all_there : (store : State) (patterns : List (List ℕ)) (referrers : Referrers) (some keys roots : Keys) (others : Tags) → ((k : Descriptor) → Contains some k → Contains keys k) → AreAllRoots store patterns referrers keys roots others
     → All (λ (k : Descriptor). Contains roots k) some
 all_there store patterns LeftOut some keys roots others among are = some_there store.nodes None some keys roots among are.0
-all_there store patterns (Climbed depth) some keys roots others among are = all_climbed_there store patterns some are.0 roots others are.2 (some_there store.nodes (Some depth) some keys are.0 among are.1)
-all_there store patterns Attached some keys roots others among are = all_climbed_there store patterns some are.0 roots others are.2 (some_there store.nodes None some keys are.0 among are.1)
+all_there store patterns (Climbed depth) some keys roots others among are = all_climbed_there some are.0 are.2.0.attached.items roots are.2.2 (some_there store.nodes (Some depth) some keys are.0 among are.1)
+all_there store patterns Attached some keys roots others among are = all_climbed_there some are.0 are.2.0.attached.items roots are.2.2 (some_there store.nodes None some keys are.0 among are.1)
+all_there store patterns (OfTypes types) some keys roots others among are = all_climbed_there some are.0.0 are.0.2.0.attached.items roots are.0.2.2 (some_there store.nodes None some keys are.0.0 among are.0.1)
 
 -- tags of roots, and then others
 pub both_of_roots : (roots : Keys) (tags others : Tags) → AreOfRoots roots tags → AreOfRoots roots others → AreOfRoots roots (tags ++ others)

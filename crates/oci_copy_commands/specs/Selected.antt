@@ -21,11 +21,12 @@ use Rattle.oci_layout.specs.declared.index.IndexEntry.{IndexEntry as CodeEntry}
 use Rattle.oci_copy_commands.specs.Brought.{reference_entry, tag_entries, with_roots}
 use Rattle.oci_copy_commands.specs.Pattern.{matches_name, matching_entries, matching_tags, texts_of, unmatched_tags}
 use Rattle.oci_copy_commands.specs.declared.referrers.Referrers.{Referrers}
-use Rattle.oci_copy_commands.specs.declared.referrers.Referrers.TheVariants.{LeftOut, Climbed, Attached}
+use Rattle.oci_copy_commands.specs.declared.referrers.Referrers.TheVariants.{LeftOut, Climbed, Attached, OfTypes}
 use Rattle.oci_plan.specs.Up.{HasPath, IsUp, IsWithinDepth}
 use Rattle.oci_program.specs.Reference.{Names}
 use Rattle.oci_prune.specs.Attached.{AttachedBy}
 use Rattle.oci_prune.specs.Belonging.{IsBelonging, IsComplete}
+use Rattle.oci_prune.specs.Typed.{RefersByTypes}
 use Rattle.oci_prune.specs.declared.belonging.Belonging.{Belonging}
 
 -- no tag is empty, and each tags a root
@@ -77,6 +78,16 @@ pub record IsSourceBelonging (store : State) (keys : List Descriptor) (b : Belon
   pub complete : IsComplete store.nodes keys store.tags b
   pub exact : store.is_honest → IsBelonging store.nodes keys (AttachedBy store.entries store.tags) b
 
+-- what belongs to keys of a source, if of what is attached to what they reach only referrers of these
+-- types are wanted: all that is held and listed, and in an honest source exactly what is attached so
+pub record IsTypedBelonging (store : State) (types : List (List ℕ)) (keys : List Descriptor) (b : Belonging) : Type 0 where
+  pub complete : IsComplete store.nodes keys [] b
+  pub exact : store.is_honest → IsBelonging store.nodes keys (RefersByTypes store keys types) b
+
+-- the keys, and then what is attached to what belongs to them by these types
+abbrev pub AddsTyped : State → List (List ℕ) → List Descriptor → List Descriptor → Type 0
+AddsTyped store types keys roots = (b : Belonging) × IsTypedBelonging store types keys b × (roots ≡ each_once (keys ++ b.attached.items))
+
 -- The climbed keys, and then what is attached to the keys that belong to them; and the tags that come
 -- with tags that match patterns: those of the source that name a manifest which belongs to the climbed
 -- keys, and that match none of the patterns.
@@ -95,6 +106,7 @@ abbrev pub AreReferenceRoots : State → Referrers → Descriptor → List ℕ �
 AreReferenceRoots store LeftOut k name roots others = (roots ≡ k ∷ []) × (others ≡ [])
 AreReferenceRoots store (Climbed depth) k name roots others = (climbed : List Descriptor) × IsUp store.nodes k depth climbed × AreWithAttached store climbed name roots others
 AreReferenceRoots store Attached k name roots others = AreWithAttached store (k ∷ []) name roots others
+AreReferenceRoots store (OfTypes types) k name roots others = AddsTyped store (map (λ t. t.now) types.now) (k ∷ []) roots × (others ≡ [])
 
 -- the roots of a copy of the tags that match patterns, and the tags that come with these: without
 -- referrers the keys that it starts from, each once; with them the keys that it climbs to, and what is
@@ -103,6 +115,7 @@ abbrev pub AreAllRoots : State → List (List ℕ) → Referrers → List Descri
 AreAllRoots store patterns LeftOut keys roots others = AreClimbedOfKeys store.nodes None keys roots × (others ≡ [])
 AreAllRoots store patterns (Climbed depth) keys roots others = (climbed : List Descriptor) × AreClimbedOfKeys store.nodes (Some depth) keys climbed × AddsAttached store patterns climbed roots others
 AreAllRoots store patterns Attached keys roots others = (climbed : List Descriptor) × AreClimbedOfKeys store.nodes None keys climbed × AddsAttached store patterns climbed roots others
+AreAllRoots store patterns (OfTypes types) keys roots others = ((once : List Descriptor) × AreClimbedOfKeys store.nodes None keys once × AddsTyped store (map (λ t. t.now) types.now) once roots) × (others ≡ [])
 
 -- the keys that a copy of tags starts from: those of the tags, and those of the entries of their names
 abbrev pub named_keys : Tags → List IndexEntry → List Descriptor
@@ -144,15 +157,13 @@ pub record HasAllReadable {D : Type 0} (layout : LayoutState D) : Type 0 where
 abbrev pub Selected : Type 0
 Selected = List Descriptor × Tags × List CodeEntry
 
--- what a copy brings beside the blobs that it starts from: nothing without the depth of referrers,
--- and with it what is attached; one that does not prune climbs
-abbrev pub referrers_unless : Bool → Option ℕ → Referrers
-referrers_unless prunes None = LeftOut
-referrers_unless true (Some depth) = Attached
-referrers_unless false (Some depth) = Climbed depth
-
-abbrev pub referrers_of : CopyWords → Referrers
-referrers_of words = referrers_unless words.prunes words.referrers
+-- what a copy brings beside the blobs that it starts from: nothing without referrers, what is attached
+-- by the types if there are some, and else what is attached; it climbs only if it does not prune
+abbrev pub AreReferrersOf : CopyWords → Referrers → Type 0
+AreReferrersOf words LeftOut = words.referrers ≡ None
+AreReferrersOf words (OfTypes types) = (is_some words.referrers ≡ true) × (types.now ≡ words.types.items) × (types.now ≢ [])
+AreReferrersOf words Attached = (is_some words.referrers ≡ true) × (words.types.items ≡ []) × (words.prunes ≡ true)
+AreReferrersOf words (Climbed depth) = (words.referrers ≡ Some depth) × (words.types.items ≡ []) × (words.prunes ≡ false)
 
 -- a copy of a reference, which is tagged with its second name if that is not empty, selects the key
 -- that it names
@@ -179,4 +190,4 @@ SelectsBy device source referrers (selection.Reference from to) s = SelectsRefer
 SelectsBy device source referrers (selection.AllTags patterns) s = SelectsAllTags device source (texts_of patterns.items) referrers s
 
 abbrev pub Selects : {D : Type 0} → (D → Device) → LayoutState D → CopyWords → Selected → Type 0
-Selects device source words s = SelectsBy device source (referrers_of words) words.selection s
+Selects device source words s = (referrers : Referrers) × AreReferrersOf words referrers × SelectsBy device source referrers words.selection s

@@ -1,11 +1,10 @@
-ghost use Rattle.std.specs.Prelude.{◌≡◌};
-ghost use Rattle.oci_copy_commands.specs.Selected.{referrers_of};
+ghost use Rattle.oci_copy_commands.specs.Selected.{AreReferrersOf};
 
 use oci_command_line::CopyWords;
 
 /// What a copy brings beside the blobs that it starts from, and what these reach.
 #[derive(Clone, Copy)]
-pub enum Referrers {
+pub enum Referrers<'w> {
     /// Nothing.
     LeftOut,
     /// The keys that lead to them, at most this number of levels up (0 means no limit), and what is
@@ -13,16 +12,25 @@ pub enum Referrers {
     Climbed(u32),
     /// What is attached to what belongs to them. Nothing is climbed.
     Attached,
+    /// What is attached to what belongs to them, if of what is attached to what they reach only
+    /// referrers of these types are wanted. Nothing is climbed, and no tag attaches a key.
+    OfTypes(&'w [&'w str]),
 }
 
 /// Returns what the words of a copy bring beside the blobs that it starts from. A copy that prunes
 /// does not climb.
-pub(crate) fn referrers_of(words: &CopyWords<'_>) -> Referrers
-    ensures { result ≡ referrers_of words.now }
+pub(crate) fn referrers_of<'w>(words: &'w CopyWords<'w>) -> Referrers<'w>
+    ensures { AreReferrersOf words.now result }
 {
-    match (words.referrers, words.prunes) {
-        (None, _) => Referrers::LeftOut,
-        (Some(_), true) => Referrers::Attached,
-        (Some(depth), false) => Referrers::Climbed(depth),
+    let Some(depth) = words.referrers else {
+        return Referrers::LeftOut;
+    };
+    if !words.types.is_empty() {
+        return Referrers::OfTypes(&words.types);
+    }
+    if words.prunes {
+        Referrers::Attached
+    } else {
+        Referrers::Climbed(depth)
     }
 }

@@ -11,6 +11,7 @@ ghost use Rattle.oci_copy_commands.specs.Selected.{
   each_once,
   named_keys,
   AddsAttached,
+  AddsTyped,
   AreAllRoots,
   AreClimbed,
   AreClimbedOfKeys,
@@ -19,6 +20,7 @@ ghost use Rattle.oci_copy_commands.specs.Selected.{
   AreWithAttached,
   IsClimbed,
   IsSourceBelonging,
+  IsTypedBelonging,
 };
 
 use crate::matching::unmatched_tags;
@@ -28,7 +30,7 @@ use oci_layout::{Dir, IndexEntry, Layout};
 use oci_manifest::Key;
 use oci_plan::climb;
 use oci_program::ProgramFault;
-use oci_prune::{Belonging, belonging_of};
+use oci_prune::{Belonging, belonging_of, belonging_of_types};
 use oci_store::{GraphSource, KeyList};
 use std::alloc::Global;
 use std::slice;
@@ -48,7 +50,7 @@ pub(crate) struct CopyRoots {
 /// With referrers, the key comes first; if the copy climbs, these are the keys from which a path
 /// within the depth leads to it, in key order. Then comes what is attached to what belongs to these
 /// keys. The tags are those of the source that name what belongs to them by its digest, but for one
-/// of the same name.
+/// of the same name. With types no other tag comes.
 ///
 /// # Errors
 ///
@@ -59,11 +61,11 @@ pub(crate) fn roots_of_reference<D: Dir>(
     source: &Layout<D>,
     key: &Key,
     name: &str,
-    referrers: Referrers,
+    referrers: Referrers<'_>,
 ) -> Result<CopyRoots, ProgramFault>
     ensures exact { IfOk result (λ roots. AreReferenceRoots
-        (meaning (D.device source.now.dir) source.now.graph source.now.tags) referrers key.now
-        name.now roots.keys.items (by_bytes roots.tags.items)) }
+        (meaning (D.device source.now.dir) source.now.graph source.now.tags) referrers.entry
+        key.now name.now roots.keys.items (by_bytes roots.tags.items)) }
     ensures tagged { IfOk result (λ roots.
         AreOfRoots roots.keys.items (by_bytes roots.tags.items)) }
 {
@@ -73,6 +75,7 @@ pub(crate) fn roots_of_reference<D: Dir>(
             with_attached(alloc, source, &climb(alloc, source, key, depth)?, name)
         }
         Referrers::Attached => with_attached(alloc, source, slice::from_ref(key), name),
+        Referrers::OfTypes(types) => with_typed(alloc, source, slice::from_ref(key), types),
     }
 }
 
@@ -108,6 +111,24 @@ fn with_attached<D: Dir>(
     Ok(CopyRoots { keys, tags })
 }
 
+/// Returns the roots of a copy of these keys with referrers of these types alone, and no tags.
+fn with_typed<D: Dir>(
+    alloc: Global,
+    source: &Layout<D>,
+    keys: &[Key],
+    types: &[&str],
+) -> Result<CopyRoots, ProgramFault>
+    ensures keys { IfOk result (λ roots. AddsTyped
+        (meaning (D.device source.now.dir) source.now.graph source.now.tags)
+        (map (λ t. t.now) types.now) keys.now roots.keys.items) }
+    ensures tags { IfOk result (λ roots. roots.tags.items ≡ []) }
+{
+    Ok(CopyRoots {
+        keys: add_typed(alloc, source, keys, types)?,
+        tags: Vec::new(alloc),
+    })
+}
+
 /// Returns the roots of a copy of these keys, which are those of tags that match the patterns. Each
 /// key is one of them, once.
 ///
@@ -124,11 +145,11 @@ pub(crate) fn roots_of_keys<D: Dir>(
     source: &Layout<D>,
     keys: &[Key],
     patterns: &[&str],
-    referrers: Referrers,
+    referrers: Referrers<'_>,
 ) -> Result<CopyRoots, ProgramFault>
     ensures exact { IfOk result (λ roots. AreAllRoots
         (meaning (D.device source.now.dir) source.now.graph source.now.tags)
-        (texts_of patterns.now) referrers keys.now roots.keys.items
+        (texts_of patterns.now) referrers.entry keys.now roots.keys.items
         (by_bytes roots.tags.items)) }
     ensures tagged { IfOk result (λ roots.
         AreOfRoots roots.keys.items (by_bytes roots.tags.items)) }
@@ -145,6 +166,10 @@ pub(crate) fn roots_of_keys<D: Dir>(
         Referrers::Attached => {
             let climbed = climb_from_all(alloc, source, keys, None)?;
             add_attached(alloc, source, &climbed, patterns)
+        }
+        Referrers::OfTypes(types) => {
+            let once = climb_from_all(alloc, source, keys, None)?;
+            with_typed(alloc, source, &once, types)
         }
     }
 }
@@ -167,6 +192,40 @@ fn add_attached<D: Dir>(
     let keys = both(alloc, climbed, &belonging.attached)?;
     let tags = unmatched_tags(alloc, &belonging.tags, patterns)?;
     Ok(CopyRoots { keys, tags })
+}
+
+/// Returns the keys, and after them what is attached to what belongs to them, if of what is attached
+/// to what they reach only referrers of these types are wanted, each once.
+fn add_typed<D: Dir>(
+    alloc: Global,
+    source: &Layout<D>,
+    keys: &[Key],
+    types: &[&str],
+) -> Result<Vec<Key>, ProgramFault>
+    ensures { IfOk result (λ roots. AddsTyped
+        (meaning (D.device source.now.dir) source.now.graph source.now.tags)
+        (map (λ t. t.now) types.now) keys.now roots.items) }
+{
+    let belonging = typed_belonging(alloc, source, keys, types)?;
+    Ok(both(alloc, keys, &belonging.attached)?)
+}
+
+/// Returns what belongs to keys of a source, if of what is attached to what they reach only referrers
+/// of these types are wanted.
+fn typed_belonging<D: Dir>(
+    alloc: Global,
+    source: &Layout<D>,
+    keys: &[Key],
+    types: &[&str],
+) -> Result<Belonging, ProgramFault>
+    ensures { IfOk result (IsTypedBelonging
+        (meaning (D.device source.now.dir) source.now.graph source.now.tags)
+        (map (λ t. t.now) types.now) keys.now) }
+{
+    match belonging_of_types(alloc, source, keys, types) {
+        Ok(found) => Ok(found),
+        Err(fault) => Err(ProgramFault::Source(fault)),
+    }
 }
 
 /// Returns what belongs to keys of a source, by its manifests and its tags.

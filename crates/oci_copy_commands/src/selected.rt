@@ -107,10 +107,11 @@ impl Selected {
     ///
     /// If the copy climbs, the keys that list it or refer to it are selected too, at most that number
     /// of levels up. With any referrers, so is all that is attached to what these reach: the
-    /// manifests whose `subject` has its digest, and the blobs of the source's tags that are named for its
-    /// digest, as [`belonging_of`](oci_prune::belonging_of) says. Those tags are set too, each under
-    /// its own name, in byte order after the tag of the reference. One that has the name of that tag
-    /// is left out.
+    /// manifests whose `subject` has its digest, and the blobs of the source's tags that are named
+    /// for its digest, as [`belonging_of`](oci_prune::belonging_of) says. Those tags are set too, each
+    /// under its own name, in byte order after the tag of the reference. One that has the name of that
+    /// tag is left out. With types, what is attached is what
+    /// [`belonging_of_types`](oci_prune::belonging_of_types) says, and no other tag is set.
     ///
     /// The copy brings the entry of the reference under its tag: the last one of the name `from`, or
     /// else the last one of the blob without a name, or else its last one. It brings the entries of
@@ -128,9 +129,9 @@ impl Selected {
         source: &Layout<D>,
         from: &str,
         to: &str,
-        referrers: Referrers,
+        referrers: Referrers<'_>,
     ) -> Result<Selected, ProgramFault>
-        ensures { IfOk result (SelectsReference D.device source.now from.now to.now referrers) }
+        ensures { IfOk result (SelectsReference D.device source.now from.now to.now referrers.entry) }
     {
         let key = resolve(source, from)?;
         let name = tag_name(alloc, from, to)?;
@@ -205,10 +206,11 @@ impl Selected {
         alloc: Global,
         source: &Layout<D>,
         patterns: &[&str],
-        referrers: Referrers,
+        referrers: Referrers<'_>,
     ) -> Result<Selected, ProgramFault>
         ensures { IfOk result
-            (SelectsAllTags D.device source.now (texts_of patterns.now) referrers) }
+            (SelectsAllTags D.device source.now (texts_of patterns.now)
+            referrers.entry) }
     {
         check_entries(alloc, source, source.entries(), patterns)?;
         let tags = tags_to_copy(alloc, source, patterns)?;
