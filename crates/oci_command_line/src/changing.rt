@@ -7,6 +7,8 @@ pub enum Selection<'w> {
         source: &'w str,
         /// The tag to set in the destination. If it is empty, the source's reference is set.
         destination: &'w str,
+        /// The platform whose manifest is picked from the index that the reference names.
+        platform: Option<&'w str>,
     },
     /// The blob of each tag of the source.
     AllTags {

@@ -333,6 +333,7 @@ fn selection_and_destination<'w>(
     let selection = Selection::Reference {
         source: second,
         destination: word(matches, "destination-reference"),
+        platform: matches.get_str("platform"),
     };
     Ok((selection, word(matches, "destination")))
 }

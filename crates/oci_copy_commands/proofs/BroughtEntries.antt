@@ -84,3 +84,7 @@ tags_shallow entries (t ∷ tags) all =
 pub named_shallow : (entries : List IndexEntry) (from to : List ℕ) (k : Descriptor) (others : Tags) → All IsShallowEntry entries → All IsShallowEntry (reference_entry entries from to k ++ tag_entries entries others)
 named_shallow entries from to k others all =
     All-append IsShallowEntry (reference_entry entries from to k) (tag_entries entries others) (at_shallow (Some to) entries (place_of_reference entries from k) all) (tags_shallow entries others all)
+
+-- the entry of a manifest that an index lists, under a name, and those of the other tags
+pub listed_shallow : (entries : List IndexEntry) (e : IndexEntry) (to : List ℕ) (others : Tags) → All IsShallowEntry entries → IsShallowEntry e → All IsShallowEntry (renamed (Some to) e ∷ tag_entries entries others)
+listed_shallow entries e to others all here = All-cons IsShallowEntry (renamed (Some to) e) (tag_entries entries others) (renamed_shallow (Some to) e here) (tags_shallow entries others all)

@@ -94,6 +94,11 @@ module _ (roots : Keys) where
   both_named entries from to k others there all =
       All-append (IsOfRoot roots) (reference_entry entries from to k) (tag_entries entries others) (reference_named entries from to k there) (tags_named entries others all)
 
+  pub listed_named : (entries : List IndexEntry) (e : IndexEntry) (to : List ℕ) (k : Descriptor) (others : Tags) → e.key ≡ Some k → Contains roots k → All (Contains roots) (values_of others) → All (IsOfRoot roots) (renamed (Some to) e ∷ tag_entries entries others)
+  listed_named entries e to k others has there all =
+      All-cons (IsOfRoot roots) (renamed (Some to) e) (tag_entries entries others)
+      (λ named other is. subst (Contains roots) (same_Some k other (sym has ∙ sym (renamed_key (Some to) e) ∙ is)) there) (tags_named entries others all)
+
   -- ---- the entries of the other roots have no name
 
   no_name_of : (name : Option (List ℕ)) → is_none name ≡ true → no_name name ≡ true

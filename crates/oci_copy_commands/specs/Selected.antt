@@ -1,5 +1,5 @@
 -- The roots of a copy, the tags that it sets, and the entries that it brings.
-use Rattle.std.specs.Prelude.{◌≡◌, ◌≢◌, ◌↔◌, ℕ, Bool, true, false, not, ◌&&◌, List, [], ◌∷◌, ◌++◌, map, filter, Option, None, Some, is_some, Contains}
+use Rattle.std.specs.Prelude.{◌≡◌, ◌≢◌, ◌↔◌, ℕ, Bool, true, false, not, ◌&&◌, ◌||◌, List, [], ◌∷◌, ◌++◌, map, filter, Option, None, Some, is_some, Contains}
 use Rattle.std.specs.List.{All, IsDistinct}
 use Rattle.std.specs.Map.{keys_of, values_of}
 use Rattle.oci_command_line.specs.declared.changing.CopyWords.{CopyWords}
@@ -8,11 +8,12 @@ use Rattle.oci_command_line.specs.declared.changing.Selection.TheVariants as sel
 use Rattle.oci_copy.specs.Tagged.{name_of}
 use Rattle.oci_manifest.specs.Descriptor.{Descriptor, same_key}
 use Rattle.oci_store.specs.Graph.{Node}
+use Rattle.oci_store.specs.Keyed.{has_key}
 use Rattle.oci_store.specs.State.{State}
 use Rattle.oci_store.specs.Tags.{Tags, by_bytes, set_tag, tag_at, without_tag}
 use Rattle.oci_store.specs.Visiting.{with_keys}
 use Rattle.oci_layout.specs.Blobs.{meaning}
-use Rattle.oci_layout.specs.Brought.{IsShallowEntry}
+use Rattle.oci_layout.specs.Brought.{renamed, IsShallowEntry}
 use Rattle.oci_layout.specs.Device.{Device}
 use Rattle.oci_layout.specs.Entries.{IndexEntry, entry_keys, entry_of, is_held, said, text_of, unreadable_places}
 use Rattle.oci_layout.specs.Layout.{LayoutState, manifests_of}
@@ -23,7 +24,9 @@ use Rattle.oci_copy_commands.specs.Pattern.{matches_name, matching_entries, matc
 use Rattle.oci_copy_commands.specs.declared.referrers.Referrers.{Referrers}
 use Rattle.oci_copy_commands.specs.declared.referrers.Referrers.TheVariants.{LeftOut, Climbed, Attached, OfTypes}
 use Rattle.oci_plan.specs.Up.{HasPath, IsUp, IsWithinDepth}
+use Rattle.oci_program.specs.Platform.{entry_for, first_for, listed_by, picked_of}
 use Rattle.oci_program.specs.Reference.{Names}
+use Rattle.oci_program.specs.declared.platform.Picked.{Picked}
 use Rattle.oci_prune.specs.Attached.{AttachedBy}
 use Rattle.oci_prune.specs.Belonging.{IsBelonging, IsComplete}
 use Rattle.oci_prune.specs.Typed.{RefersByTypes}
@@ -157,22 +160,47 @@ pub record HasAllReadable {D : Type 0} (layout : LayoutState D) : Type 0 where
 abbrev pub Selected : Type 0
 Selected = List Descriptor × Tags × List CodeEntry
 
--- what a copy brings beside the blobs that it starts from: nothing without referrers, what is attached
--- by the types if there are some, and else what is attached; it climbs only if it does not prune
+-- whether a copy is of a manifest for a platform
+abbrev pub asks_platform : Selection → Bool
+asks_platform (selection.Reference from to platform) = is_some platform
+asks_platform (selection.AllTags patterns) = false
+
+-- whether a copy climbs: one that prunes, or asks for a platform, does not
+abbrev pub climbs : CopyWords → Bool
+climbs words = not (words.prunes || asks_platform words.selection)
+
+-- what a copy brings beside the blobs that it starts from: nothing without referrers; what is attached
+-- by the types, if there are some; and else what is attached, and what leads to it if the copy climbs
 abbrev pub AreReferrersOf : CopyWords → Referrers → Type 0
 AreReferrersOf words LeftOut = words.referrers ≡ None
 AreReferrersOf words (OfTypes types) = (is_some words.referrers ≡ true) × (types.now ≡ words.types.items) × (types.now ≢ [])
-AreReferrersOf words Attached = (is_some words.referrers ≡ true) × (words.types.items ≡ []) × (words.prunes ≡ true)
-AreReferrersOf words (Climbed depth) = (words.referrers ≡ Some depth) × (words.types.items ≡ []) × (words.prunes ≡ false)
+AreReferrersOf words Attached = (is_some words.referrers ≡ true) × (words.types.items ≡ []) × (climbs words ≡ false)
+AreReferrersOf words (Climbed depth) = (words.referrers ≡ Some depth) × (words.types.items ≡ []) × (climbs words ≡ true)
+
+-- a copy of a key under a name selects the roots of the key, its tag and those that come with it, and
+-- these entries of the key beside those of the other tags and roots
+abbrev pub SelectsKey : {D : Type 0} → (D → Device) → LayoutState D → Referrers → Descriptor → List ℕ → List IndexEntry → Selected → Type 0
+SelectsKey device source referrers k name own s =
+    (others : Tags) × AreReferenceRoots (meaning (device source.dir) source.graph source.tags) referrers k name s.0 others
+    × (s.1 ≡ (name, k) ∷ others)
+    × (map entry_of s.2 ≡ with_roots (said source.opened.content).entries (own ++ tag_entries (said source.opened.content).entries others) s.0)
 
 -- a copy of a reference, which is tagged with its second name if that is not empty, selects the key
 -- that it names
 abbrev pub SelectsReference : {D : Type 0} → (D → Device) → LayoutState D → List ℕ → List ℕ → Referrers → Selected → Type 0
 SelectsReference device source from to referrers s =
-    (k : Descriptor) × (others : Tags) × Names (keys_of source.graph) source.tags from k
-    × AreReferenceRoots (meaning (device source.dir) source.graph source.tags) referrers k (name_of from to) s.0 others
-    × (s.1 ≡ (name_of from to, k) ∷ others)
-    × (map entry_of s.2 ≡ with_roots (said source.opened.content).entries (reference_entry (said source.opened.content).entries from (name_of from to) k ++ tag_entries (said source.opened.content).entries others) s.0)
+    (k : Descriptor) × Names (keys_of source.graph) source.tags from k
+    × SelectsKey device source referrers k (name_of from to) (reference_entry (said source.opened.content).entries from (name_of from to) k) s
+
+-- A copy for a platform selects a held manifest of the index that the reference names: if the directory
+-- is honest, the first one that the index lists for the platform. The entry of its tag is its
+-- descriptor in the index.
+abbrev pub SelectsPlatform : {D : Type 0} → (D → Device) → LayoutState D → List ℕ → List ℕ → List ℕ → Referrers → Selected → Type 0
+SelectsPlatform device source platform from to referrers s =
+    (index : Descriptor) × (picked : Picked) × Names (keys_of source.graph) source.tags from index
+    × ((device source.dir).is_honest → first_for platform (listed_by (device source.dir).file source.graph index) ≡ Some (picked_of picked))
+    × (has_key source.graph picked.key ≡ true)
+    × SelectsKey device source referrers picked.key (name_of from to) (renamed (Some (name_of from to)) (entry_for (picked_of picked)) ∷ []) s
 
 -- A copy of the tags that match one of the patterns selects what each entry of their names names, and
 -- the tags that come with these. With no patterns each tag matches, and no other one comes.
@@ -184,9 +212,11 @@ pub record SelectsAllTags {D : Type 0} (device : D → Device) (source : LayoutS
   pub roots : AreAllRoots (meaning (device source.dir) source.graph source.tags) patterns referrers (named_keys (matching_tags patterns source.tags) (matching_entries patterns (said source.opened.content).entries)) s.0 others
   pub entries : map entry_of s.2 ≡ with_roots (said source.opened.content).entries (matching_entries patterns (said source.opened.content).entries ++ tag_entries (said source.opened.content).entries others) s.0
 
--- a copy selects what its words name: a reference, or the tags that match one of their patterns
+-- a copy selects what its words name: a reference, the manifest for a platform, or the tags that match
+-- one of their patterns
 abbrev pub SelectsBy : {D : Type 0} → (D → Device) → LayoutState D → Referrers → Selection → Selected → Type 0
-SelectsBy device source referrers (selection.Reference from to) s = SelectsReference device source from.now to.now referrers s
+SelectsBy device source referrers (selection.Reference from to None) s = SelectsReference device source from.now to.now referrers s
+SelectsBy device source referrers (selection.Reference from to (Some platform)) s = SelectsPlatform device source platform.now from.now to.now referrers s
 SelectsBy device source referrers (selection.AllTags patterns) s = SelectsAllTags device source (texts_of patterns.items) referrers s
 
 abbrev pub Selects : {D : Type 0} → (D → Device) → LayoutState D → CopyWords → Selected → Type 0

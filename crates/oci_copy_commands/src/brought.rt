@@ -1,9 +1,10 @@
 //! The entries of a source's index that a copy brings.
-ghost use Rattle.std.specs.Prelude.{◌≡◌, ◌++◌, ◌||◌, false, not, map, option_map, if◌then◌else◌, Some, IfOk, OnOk};
+ghost use Rattle.std.specs.Prelude.{◌≡◌, ◌++◌, ◌∷◌, ◌||◌, false, not, map, option_map, if◌then◌else◌, Some, IfOk, OnOk};
 ghost use Rattle.std.specs.BTreeMap.{get};
 ghost use Rattle.std.specs.List.{flat_map};
 ghost use Rattle.oci_manifest.specs.Descriptor.{Descriptor, key_cmp};
 ghost use Rattle.oci_store.specs.Tags.{by_bytes};
+ghost use Rattle.oci_layout.specs.Brought.{renamed};
 ghost use Rattle.oci_layout.specs.Entries.{entry_of, is_this_key};
 ghost use Rattle.oci_layout.specs.Saved.{no_name};
 ghost use Rattle.oci_copy_commands.specs.Brought.{
@@ -20,6 +21,7 @@ ghost use Rattle.oci_copy_commands.specs.Brought.{
   HasLastPlaces,
 };
 
+use crate::roots::CopyRoots;
 use oci_digest::NoMemory;
 use oci_layout::IndexEntry;
 use oci_manifest::Key;
@@ -194,18 +196,56 @@ pub(crate) fn entries_of_reference(
     from: &str,
     to: &str,
     key: &Key,
-    others: &[(String, Key)],
-    roots: &[Key],
+    roots: &CopyRoots,
 ) -> Result<Vec<IndexEntry>, NoMemory>
     ensures { IfOk result (λ brought. map entry_of brought.items
         ≡ with_roots (map entry_of entries.now)
         (reference_entry (map entry_of entries.now) from.now to.now key.now
-        ++ tag_entries (map entry_of entries.now) (by_bytes others.now)) roots.now) }
+        ++ tag_entries (map entry_of entries.now) (by_bytes roots.now.tags.items))
+        roots.now.keys.items) }
 {
     let last = LastEntries::of(alloc, entries)?;
-    let mut named = reference_entry(alloc, &last, from, to, key)?;
-    add_tags(alloc, &last, others, &mut named)?;
-    with_roots(alloc, &last, named, roots)
+    let named = reference_entry(alloc, &last, from, to, key)?;
+    with_tags_and_roots(alloc, &last, named, roots)
+}
+
+/// Returns the entries that a copy of a manifest brings that an index lists: this entry of it under a
+/// name, those of the other tags under their own, and those of the other roots without theirs.
+pub(crate) fn entries_of_listed(
+    alloc: Global,
+    entries: &[IndexEntry],
+    listed: &IndexEntry,
+    to: &str,
+    roots: &CopyRoots,
+) -> Result<Vec<IndexEntry>, NoMemory>
+    ensures { IfOk result (λ brought. map entry_of brought.items
+        ≡ with_roots (map entry_of entries.now)
+        (renamed (Some to.now) (entry_of listed.now)
+        ∷ tag_entries (map entry_of entries.now) (by_bytes roots.now.tags.items))
+        roots.now.keys.items) }
+{
+    let last = LastEntries::of(alloc, entries)?;
+    let mut named = Vec::new(alloc);
+    named.push(listed.with_name(alloc, to)?)?;
+    with_tags_and_roots(alloc, &last, named, roots)
+}
+
+/// Returns the named entries, those of the other tags of a copy of a reference, and those of its
+/// other roots.
+fn with_tags_and_roots(
+    alloc: Global,
+    last: &LastEntries<'_>,
+    named: Vec<IndexEntry>,
+    roots: &CopyRoots,
+) -> Result<Vec<IndexEntry>, NoMemory>
+    ensures { IfOk result (λ brought. map entry_of brought.items
+        ≡ with_roots (map entry_of last.now) (map entry_of named.items
+        ++ tag_entries (map entry_of last.now) (by_bytes roots.now.tags.items))
+        roots.now.keys.items) }
+{
+    let mut named = named;
+    add_tags(alloc, last, &roots.tags, &mut named)?;
+    with_roots(alloc, last, named, &roots.keys)
 }
 
 /// Returns the entries that a copy of tags brings: the entries of their names, those of the other tags

@@ -22,7 +22,8 @@ use std::alloc::Global;
 use std::io::Write;
 
 /// `copy SRC SRCREF DST [DSTREF]` and `copy --all SRC DST`: copies the selected blobs, tags them in
-/// the destination, brings the entries of SRC's index, and saves it. Prints in this form the key of
+/// the destination, brings the entries of SRC's index, and saves it. With `--platform` the manifest
+/// for a platform is selected in place of the index that SRCREF names. Prints in this form the key of
 /// each tag and the report. With `--progress` each blob is printed on `err` when it arrives.
 /// Without it, on a terminal, one line shows how much has arrived. With `--dry-run` only the plan
 /// is printed, and with `--prune` what would be removed. With `--all --prune` the tags that the source does not have are removed too, and
@@ -47,6 +48,9 @@ use std::io::Write;
 ///   77 `BadManifest` and 88 `Fetch` if one cannot be read after all.
 /// - 35 `EmptyReference` and 36 `UnknownReference` for the reference; 75 `Corrupt` and 77
 ///   `BadManifest` if it is that of a damaged blob.
+/// - 107 `NoPlatform` with `--platform`, if the reference names no index that lists a manifest for it;
+///   96 `Unknown`, 75 `Corrupt` and 77 `BadManifest` if that manifest is missing or damaged; 21
+///   `Corrupt` and 22 `Device` if the index cannot be read.
 /// - 99 `Locked` if another process has the lock of DST, and the words say not to wait.
 /// - 97 `NoTags` with `--all`, if SRC has no tag, and 96 `Unknown` if the blob of an entry of its
 ///   index that has a tag is missing or damaged. With `--match` only tags that match count, and 108

@@ -41,6 +41,9 @@ use std::io::Write;
 ///   77 `BadManifest` and 88 `Fetch` if one cannot be read after all.
 /// - 35 `EmptyReference` and 36 `UnknownReference` for the reference; 75 `Corrupt` and 77
 ///   `BadManifest` if it is that of a damaged blob.
+/// - 107 `NoPlatform` with `--platform`, if the reference names no index that lists a manifest for it;
+///   96 `Unknown`, 75 `Corrupt` and 77 `BadManifest` if that manifest is missing or damaged; 21
+///   `Corrupt` and 22 `Device` if the index cannot be read.
 /// - 97 `NoTags` with `--all`, if SRC has no tag, and 96 `Unknown` if the blob of an entry of its
 ///   index that has a tag is missing or damaged. With `--match` only tags that match count, and 108
 ///   `NoMatch` is for a SRC whose tags do not.

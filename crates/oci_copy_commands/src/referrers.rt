@@ -1,6 +1,7 @@
-ghost use Rattle.oci_copy_commands.specs.Selected.{AreReferrersOf};
+ghost use Rattle.std.specs.Prelude.{◌≡◌};
+ghost use Rattle.oci_copy_commands.specs.Selected.{asks_platform, climbs, AreReferrersOf};
 
-use oci_command_line::CopyWords;
+use oci_command_line::{CopyWords, Selection};
 
 /// What a copy brings beside the blobs that it starts from, and what these reach.
 #[derive(Clone, Copy)]
@@ -17,8 +18,7 @@ pub enum Referrers<'w> {
     OfTypes(&'w [&'w str]),
 }
 
-/// Returns what the words of a copy bring beside the blobs that it starts from. A copy that prunes
-/// does not climb.
+/// Returns what the words of a copy bring beside the blobs that it starts from.
 pub(crate) fn referrers_of<'w>(words: &'w CopyWords<'w>) -> Referrers<'w>
     ensures { AreReferrersOf words.now result }
 {
@@ -28,9 +28,26 @@ pub(crate) fn referrers_of<'w>(words: &'w CopyWords<'w>) -> Referrers<'w>
     if !words.types.is_empty() {
         return Referrers::OfTypes(&words.types);
     }
-    if words.prunes {
-        Referrers::Attached
-    } else {
+    if climbs(words) {
         Referrers::Climbed(depth)
+    } else {
+        Referrers::Attached
+    }
+}
+
+/// Returns whether a copy climbs. One that prunes, or asks for a platform, does not.
+fn climbs(words: &CopyWords<'_>) -> bool
+    ensures { result ≡ climbs words.now }
+{
+    !(words.prunes || asks_platform(&words.selection))
+}
+
+/// Returns whether a copy is of a manifest for a platform.
+fn asks_platform(selection: &Selection<'_>) -> bool
+    ensures { result ≡ asks_platform selection.now }
+{
+    match selection {
+        Selection::Reference { platform, .. } => platform.is_some(),
+        Selection::AllTags { .. } => false,
     }
 }

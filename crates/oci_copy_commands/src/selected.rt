@@ -6,7 +6,7 @@ ghost use Rattle.oci_store.specs.Keyed.{has_key};
 ghost use Rattle.oci_layout.specs.Brought.{IsShallowEntry};
 ghost use Rattle.oci_layout.specs.Entries.{entry_of, said};
 ghost use Rattle.oci_layout.specs.Layout.{manifests_of};
-ghost use Rattle.oci_copy_commands.specs.Brought.{reference_entry, tag_entries, with_roots};
+ghost use Rattle.oci_copy_commands.specs.Brought.{tag_entries, with_roots};
 ghost use Rattle.oci_copy_commands.specs.Pattern.{matching_tags, texts_of};
 ghost use Rattle.oci_copy_commands.specs.Selected.{
   AreNamedHeld,
@@ -16,10 +16,11 @@ ghost use Rattle.oci_copy_commands.specs.Selected.{
   IsOfRoot,
   Selects,
   SelectsAllTags,
+  SelectsPlatform,
   SelectsReference,
 };
 
-use crate::brought::{entries_of_reference, entries_of_tags};
+use crate::brought::{entries_of_listed, entries_of_reference, entries_of_tags};
 use crate::matching::{is_matching, matching_entries, matching_tags};
 use crate::referrers::{Referrers, referrers_of};
 use crate::roots::{CopyRoots, named_keys, roots_of_keys, roots_of_reference};
@@ -27,7 +28,7 @@ use oci_command_line::{CopyWords, Selection};
 use oci_digest::NoMemory;
 use oci_layout::{Dir, IndexEntry, Layout, unreadable_entry};
 use oci_manifest::Key;
-use oci_program::{ProgramFault, resolve};
+use oci_program::{ProgramFault, pick_platform, resolve};
 use oci_prune::PruneFault;
 use oci_store::Dest;
 use std::alloc::Global;
@@ -62,8 +63,9 @@ impl Model for Selected {
 }
 
 impl Selected {
-    /// Selects the roots and tags that the words of a copy name in an open layout: one reference,
-    /// or every tag. A copy that prunes does not climb.
+    /// Selects the roots and tags that the words of a copy name in an open layout: one reference, the
+    /// manifest of an index for a platform, or every tag. A copy that prunes, or asks for a platform,
+    /// does not climb.
     ///
     /// # Errors
     ///
@@ -74,6 +76,8 @@ impl Selected {
     /// - 35 `EmptyReference` if the reference is empty, and 36 `UnknownReference` if it is unknown.
     /// - 75 `Corrupt` and 77 `BadManifest` if it is that of a damaged blob, and 74 `Device` if the
     ///   file of that one cannot be read.
+    /// - 107 `NoPlatform`, 96 `Unknown`, 75 `Corrupt`, 77 `BadManifest`, 74 `Device` and 20 to 22 for a
+    ///   platform, as from [`Selected::platform`].
     /// - 73 `BadIndex`, 96 `Unknown`, 97 `NoTags` and 108 `NoMatch` for every tag, as from
     ///   [`Selected::all_tags`].
     /// - 77 `BadManifest` and 88 `Fetch` with referrers, if a manifest of the source cannot be read.
@@ -95,7 +99,13 @@ impl Selected {
             Selection::Reference {
                 source: from,
                 destination: to,
+                platform: None,
             } => Selected::reference(alloc, source, from, to, referrers),
+            Selection::Reference {
+                source: from,
+                destination: to,
+                platform: Some(platform),
+            } => Selected::platform(alloc, source, platform, from, to, referrers),
             Selection::AllTags { patterns } => {
                 Selected::all_tags(alloc, source, patterns, referrers)
             }
@@ -136,45 +146,69 @@ impl Selected {
         let key = resolve(source, from)?;
         let name = tag_name(alloc, from, to)?;
         let roots = roots_of_reference(alloc, source, &key, &name, referrers)?;
-        Selected::tagged(alloc, source, from, name, key, roots)
+        let entries = entries_of_reference(alloc, source.entries(), from, &name, &key, &roots)?;
+        Selected::tagged(alloc, name, key, roots, entries)
     }
 
-    /// Selects the roots of a copy of a reference, whose tag has this name, and the entries of the
-    /// source that the copy brings.
-    fn tagged<D: Dir>(
+    /// Selects the first manifest that an index lists for a platform, as from [`pick_platform`]; a
+    /// reference of the source names the index. The manifest is tagged `to`, or `from` if `to` is
+    /// empty, and the index is not selected.
+    ///
+    /// With referrers, what is attached is selected too, and its tags are set, as from
+    /// [`Selected::reference`]. The copy brings the manifest's descriptor in the index as the entry of
+    /// its tag, with all its members. It brings the entries of the other tags under their names, and
+    /// those of the other roots without a name.
+    ///
+    /// # Errors
+    ///
+    /// - 35 `EmptyReference` if `from` is empty, and 36 `UnknownReference` if it is unknown.
+    /// - 75 `Corrupt` and 77 `BadManifest` if it is that of a damaged blob, and 74 `Device` if the
+    ///   file of that one cannot be read.
+    /// - 107 `NoPlatform`, 96 `Unknown`, 75 `Corrupt`, 77 `BadManifest`, 74 `Device` and 20 to 22, as
+    ///   from [`pick_platform`].
+    /// - 77 `BadManifest` and 88 `Fetch` with referrers, if a manifest of the source cannot be read.
+    /// - Out of memory, at any point.
+    pub fn platform<D: Dir>(
         alloc: Global,
         source: &Layout<D>,
+        platform: &str,
         from: &str,
+        to: &str,
+        referrers: Referrers<'_>,
+    ) -> Result<Selected, ProgramFault>
+        ensures { IfOk result (SelectsPlatform D.device source.now platform.now from.now to.now
+            referrers.entry) }
+    {
+        let index = resolve(source, from)?;
+        let name = tag_name(alloc, from, to)?;
+        let (picked, listed) = pick_platform(source, &index, platform)?.into_entry()?;
+        let roots = roots_of_reference(alloc, source, &picked, &name, referrers)?;
+        let entries = entries_of_listed(alloc, source.entries(), &listed, &name, &roots)?;
+        Selected::tagged(alloc, name, picked, roots, entries)
+    }
+
+    /// Selects these roots of a copy of a key, whose tag has this name, and these entries.
+    fn tagged(
+        alloc: Global,
         name: String,
         key: Key,
         roots: CopyRoots,
+        entries: Vec<IndexEntry>,
     ) -> Result<Selected, ProgramFault>
         requires named { string_bytes name ≢ [] }
         requires rooted { Contains roots.keys.items key }
         requires others { AreOfRoots roots.keys.items (by_bytes roots.tags.items) }
+        requires of_roots { All (IsOfRoot roots.keys.items) (map entry_of entries.items) }
+        requires shallow { All IsShallowEntry (map entry_of entries.items) }
         ensures roots { IfOk result (λ selected. selected.0 ≡ roots.keys.items) }
         ensures tags { IfOk result (λ selected. selected.1
             ≡ (string_bytes name, key) ∷ by_bytes roots.tags.items) }
-        ensures entries { IfOk result (λ selected. map entry_of selected.2
-            ≡ with_roots (said source.now.opened.content).entries
-            (reference_entry (said source.now.opened.content).entries from.now
-            (string_bytes name) key
-            ++ tag_entries (said source.now.opened.content).entries (by_bytes roots.tags.items))
-            roots.keys.items) }
+        ensures entries { IfOk result (λ selected. selected.2 ≡ entries.items) }
     {
         let CopyRoots {
             keys: roots,
             tags: others,
         } = roots;
-        let entries = entries_of_reference(
-            alloc,
-            source.entries(),
-            from,
-            &name,
-            &key,
-            &others,
-            &roots,
-        )?;
         let tags = first_tag(alloc, name, key, others)?;
         Ok(Selected {
             roots,

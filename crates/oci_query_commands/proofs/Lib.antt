@@ -1,2 +1,3 @@
 pub mod Verified
 pub mod Answered
+pub mod Listers

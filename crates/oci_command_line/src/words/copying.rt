@@ -6,6 +6,7 @@ Examples:
   ocicp copy build v1 mirror               copies the image that `v1` names, and tags it `v1`
   ocicp copy build v1 mirror stable        copies it too, and tags it `stable`
   ocicp copy --referrers build v1 mirror   copies also its signatures and SBOMs, and the indexes that list it
+  ocicp copy --platform linux/arm64 build v1 mirror    copies one image of the index that `v1` names, and tags it `v1`
   ocicp copy --all --referrers build mirror    copies every tag, with the referrers of each
   ocicp copy --referrers --artifact-type application/spdx+json build v1 mirror    copies the image and its SBOMs of this type
   ocicp copy --all --match 'v1.*' build mirror   copies the tags that begin with `v1.`
@@ -21,7 +22,8 @@ pub(crate) const COPY: CommandText = CommandText {
     about: "Copies an image, or every tag, from one layout into another",
     details: Some(
         "Copies the image or other blob that a reference names from one layout into another, and tags it \
-         there. With --all it copies every tag, or with --match those whose names match a pattern.\n\n\
+         there. With --all it copies every tag, or with --match those whose names match a pattern. With \
+         --platform it copies one manifest of an index.\n\n\
          Everything that the blob reaches is copied too: the config and the layers of an image, the \
          images of an index, the subject of a referrer. Blobs that DST has are not copied again. DST is \
          created if it is not a layout. On a terminal, a line shows how many blobs and bytes have \
@@ -43,10 +45,11 @@ pub(crate) const COPY: CommandText = CommandText {
 
 /// The arguments of `copy`; `most_workers` bounds `--workers`. With `--all` the second word is the
 /// destination's folder, and there is no third one.
-pub(crate) fn copy_arguments(most_workers: u32) -> [Argument; 16] {
+pub(crate) fn copy_arguments(most_workers: u32) -> [Argument; 18] {
     [
         all(),
         matching(),
+        platform(),
         flag(
             "referrers",
             "Also copies the indexes that list it, and what is attached to it and to anything it reaches, such as signatures and SBOMs, with everything that these reach. A manifest is attached by its `subject`, and a tag by its name, such as `sha256-DIGITS.sig`; such tags are set too. Refused if SRC has a damaged manifest (75, 77), or an entry of its `index.json` that is no descriptor (73)",
@@ -143,13 +146,27 @@ fn matching() -> Argument {
     }
 }
 
+/// `--platform`
+fn platform() -> Argument {
+    let help =
+        "Copies the first manifest for this platform from the list of SRCREF's index, in place of the index, and tags it. \
+         PLATFORM is OS/ARCH, such as linux/arm64, which fits any variant, or OS/ARCH/VARIANT. What the list says of the manifest \
+         comes along as its entry in `index.json`. With --referrers, what is attached to the manifest and to anything it reaches \
+         comes, but not the index. Refused if the list has none for it, or SRCREF names no index (107), and if the manifest is \
+         missing (96) or damaged (75, 77). Not with --all";
+    Argument {
+        conflicts: &["all"],
+        ..Argument::new("platform", Kind::Text("PLATFORM"), help)
+    }
+}
+
 /// `--depth`
 fn depth() -> Argument {
     let help =
         "With --referrers: looks at most D levels up for what lists it or refers to it; 0 means no limit. What is attached \
-         to the blobs found comes at any depth. Not with --prune, which looks at no level up";
+         to the blobs found comes at any depth. Not with --prune, --platform or --artifact-type, which do not look for what lists it";
     Argument {
-        conflicts: &["prune"],
+        conflicts: &["prune", "platform"],
         ..Argument::new("depth", DEPTH, help)
     }
 }
