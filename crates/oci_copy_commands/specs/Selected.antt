@@ -2,6 +2,7 @@
 use Rattle.std.specs.Prelude.{◌≡◌, ◌≢◌, ◌↔◌, ℕ, Bool, true, false, not, ◌&&◌, ◌||◌, List, [], ◌∷◌, ◌++◌, map, filter, Option, None, Some, is_some, Contains}
 use Rattle.std.specs.List.{All, IsDistinct}
 use Rattle.std.specs.Map.{keys_of, values_of}
+use Rattle.std.specs.Option.{option_copied}
 use Rattle.oci_command_line.specs.declared.changing.CopyWords.{CopyWords}
 use Rattle.oci_command_line.specs.declared.changing.Selection.{Selection}
 use Rattle.oci_command_line.specs.declared.changing.Selection.TheVariants as selection
@@ -212,11 +213,15 @@ pub record SelectsAllTags {D : Type 0} (device : D → Device) (source : LayoutS
   pub roots : AreAllRoots (meaning (device source.dir) source.graph source.tags) patterns referrers (named_keys (matching_tags patterns source.tags) (matching_entries patterns (said source.opened.content).entries)) s.0 others
   pub entries : map entry_of s.2 ≡ with_roots (said source.opened.content).entries (matching_entries patterns (said source.opened.content).entries ++ tag_entries (said source.opened.content).entries others) s.0
 
+-- a copy of a reference selects the key that it names, or with a platform the manifest for that
+abbrev pub SelectsNamed : {D : Type 0} → (D → Device) → LayoutState D → List ℕ → List ℕ → Option (List ℕ) → Referrers → Selected → Type 0
+SelectsNamed device source from to None referrers s = SelectsReference device source from to referrers s
+SelectsNamed device source from to (Some platform) referrers s = SelectsPlatform device source platform from to referrers s
+
 -- a copy selects what its words name: a reference, the manifest for a platform, or the tags that match
 -- one of their patterns
 abbrev pub SelectsBy : {D : Type 0} → (D → Device) → LayoutState D → Referrers → Selection → Selected → Type 0
-SelectsBy device source referrers (selection.Reference from to None) s = SelectsReference device source from.now to.now referrers s
-SelectsBy device source referrers (selection.Reference from to (Some platform)) s = SelectsPlatform device source platform.now from.now to.now referrers s
+SelectsBy device source referrers (selection.Reference from to platform) s = SelectsNamed device source from.now to.now (option_copied platform) referrers s
 SelectsBy device source referrers (selection.AllTags patterns) s = SelectsAllTags device source (texts_of patterns.items) referrers s
 
 abbrev pub Selects : {D : Type 0} → (D → Device) → LayoutState D → CopyWords → Selected → Type 0

@@ -1,4 +1,4 @@
-ghost use Rattle.std.specs.Prelude.{◌≡◌, ◌≢◌, ◌++◌, [], ◌∷◌, true, is_some, map, string_bytes, Contains, IfOk, OnOk};
+ghost use Rattle.std.specs.Prelude.{◌≡◌, ◌≢◌, ◌++◌, [], ◌∷◌, true, is_some, map, option_copied, string_bytes, Contains, IfOk, OnOk};
 ghost use Rattle.std.specs.List.{All};
 ghost use Rattle.oci_copy.specs.Tagged.{name_of};
 ghost use Rattle.oci_store.specs.Tags.{by_bytes, AreNames};
@@ -16,6 +16,7 @@ ghost use Rattle.oci_copy_commands.specs.Selected.{
   IsOfRoot,
   Selects,
   SelectsAllTags,
+  SelectsNamed,
   SelectsPlatform,
   SelectsReference,
 };
@@ -99,16 +100,34 @@ impl Selected {
             Selection::Reference {
                 source: from,
                 destination: to,
-                platform: None,
-            } => Selected::reference(alloc, source, from, to, referrers),
-            Selection::Reference {
-                source: from,
-                destination: to,
-                platform: Some(platform),
-            } => Selected::platform(alloc, source, platform, from, to, referrers),
+                platform,
+            } => Selected::named(alloc, source, from, to, *platform, referrers),
             Selection::AllTags { patterns } => {
                 Selected::all_tags(alloc, source, patterns, referrers)
             }
+        }
+    }
+
+    /// Selects the blob that a reference of the source names, or the manifest for a platform that the
+    /// index lists which it names.
+    ///
+    /// # Errors
+    ///
+    /// As from [`Selected::reference`] and [`Selected::platform`].
+    fn named<D: Dir>(
+        alloc: Global,
+        source: &Layout<D>,
+        from: &str,
+        to: &str,
+        platform: Option<&str>,
+        referrers: Referrers<'_>,
+    ) -> Result<Selected, ProgramFault>
+        ensures { IfOk result (SelectsNamed D.device source.now from.now to.now
+            (option_copied platform.entry) referrers.entry) }
+    {
+        match platform {
+            Some(platform) => Selected::platform(alloc, source, platform, from, to, referrers),
+            None => Selected::reference(alloc, source, from, to, referrers),
         }
     }
 

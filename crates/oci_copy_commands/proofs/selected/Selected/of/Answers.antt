@@ -1,33 +1,20 @@
-use Rattle.std.proofs.Common.{◌≡◌, ◌∙◌, Some, None, ap, sym, subst}
+use Rattle.std.proofs.Common.{sym, subst}
 use Rattle.std.proofs.lemmas.Result.{IfOk-weaker}
+use Rattle.std.specs.Option.{option_copied}
 use Rattle.std.specs.Prelude.{IfOk}
 use Rattle.oci_command_line.specs.declared.changing.Selection.{Selection}
-use Rattle.oci_command_line.specs.declared.changing.Selection.TheVariants as selection
 use Rattle.oci_copy_commands.specs.Pattern.{texts_of}
-use Rattle.oci_copy_commands.specs.Selected.{Selects, Selected, SelectsAllTags, SelectsBy, SelectsPlatform, SelectsReference}
+use Rattle.oci_copy_commands.specs.Selected.{Selects, SelectsAllTags, SelectsBy, SelectsNamed}
 use Rattle.oci_copy_commands.proofs.selected.Selected.of.Goals as goal
 
-pub returns-in-Reference-default-default-None-clause-selects : goal.returns-in-Reference-default-default-None-clause-selects
-returns-in-Reference-default-default-None-clause-selects g c =
+pub returns-in-Reference-clause-selects : goal.returns-in-Reference-clause-selects
+returns-in-Reference-clause-selects g c =
     let device = g.D.Dir.device in
     let source = c.args.source.now in
-    let words = c.in-Reference-default-default-None in
+    let words = c.in-Reference in
     let referrers = c.referrers_of-referrers in
-    let none : words.platform ≡ None = rw words.is at words.platform-is in
-    let is : c.args.words.now.selection ≡ selection.Reference words.from words.to None = words.is ∙ ap (λ platform. selection.Reference words.from words.to platform) none in
-    IfOk-weaker c.reference.result (SelectsReference device source words.from.now words.to.now referrers.result) (Selects device source c.args.words.now)
-    (λ s selects. (referrers.result, referrers.ensures, subst (λ (it : Selection). SelectsBy device source referrers.result it s) (sym is) selects)) c.reference.ensures
-
-pub returns-in-Reference-default-default-Some-clause-selects : goal.returns-in-Reference-default-default-Some-clause-selects
-returns-in-Reference-default-default-Some-clause-selects g c =
-    let device = g.D.Dir.device in
-    let source = c.args.source.now in
-    let words = c.in-Reference-default-default-Some in
-    let referrers = c.referrers_of-referrers in
-    let some : words.platform' ≡ Some words.platform = rw words.is at words.platform-is in
-    let is : c.args.words.now.selection ≡ selection.Reference words.from words.to (Some words.platform) = words.is ∙ ap (λ platform. selection.Reference words.from words.to platform) some in
-    IfOk-weaker c.platform.result (SelectsPlatform device source words.platform.now words.from.now words.to.now referrers.result) (Selects device source c.args.words.now)
-    (λ s selects. (referrers.result, referrers.ensures, subst (λ (it : Selection). SelectsBy device source referrers.result it s) (sym is) selects)) c.platform.ensures
+    IfOk-weaker c.named.result (SelectsNamed device source words.from.now words.to.now (option_copied words.platform) referrers.result) (Selects device source c.args.words.now)
+    (λ s selects. (referrers.result, referrers.ensures, subst (λ (it : Selection). SelectsBy device source referrers.result it s) (sym words.is) selects)) c.named.ensures
 
 pub returns-in-AllTags-clause-selects : goal.returns-in-AllTags-clause-selects
 returns-in-AllTags-clause-selects g c =
