@@ -8,7 +8,7 @@ _ocicp() {
   fi
   case ${COMP_WORDS[1]} in
     copy)
-      flags='--all --referrers --depth --descend --prune --workers --progress --dry-run --hint --json --no-wait --help' valued='--depth --workers' kinds=(folder tag folder tag)
+      flags='--all --match --platform --referrers --depth --artifact-type --descend --prune --workers --progress --dry-run --hint --json --no-wait --help' valued='--match --platform --depth --artifact-type --workers' kinds=(folder tag folder tag)
       [[ " ${COMP_WORDS[*]} " != *' --all '* ]] || kinds=(folder folder)
       ;;
     untag)
@@ -24,7 +24,7 @@ _ocicp() {
       flags='--platform --hint --json --help' valued='--platform' kinds=(folder tag)
       ;;
     predecessors)
-      flags='--hint --json --help' kinds=(folder tag)
+      flags='--artifact-type --hint --json --help' valued='--artifact-type' kinds=(folder tag)
       ;;
     tree)
       flags='--referrers --platform --hint --json --help' valued='--platform' kinds=(folder tag)
