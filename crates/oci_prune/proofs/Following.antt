@@ -14,7 +14,7 @@ use Rattle.oci_manifest.specs.Descriptor.{Descriptor}
 use Rattle.oci_manifest.specs.MediaTypes.{kind_of}
 use Rattle.oci_store.specs.Tags.{Tags, by_bytes}
 use Rattle.oci_layout.specs.Layout.{is_manifest}
-use Rattle.oci_prune.specs.Attached.{stem, dashed, cut, is_stem_of, follows_one, Followers, stemmed_in, followers_in, AreAttachments, AreFollowers, AreStemmed, IsStemAdded}
+use Rattle.oci_prune.specs.Attached.{stem, dashed, cut, is_stem_of, Followers, stemmed_in, followers_in, AreAttachments, AreFollowers, AreStemmed, IsStemAdded}
 use Rattle.oci_prune.specs.Subjects.{AreReferrers, referrers_in}
 use Rattle.oci_prune.specs.declared.attachments.Attachments.{Attachments}
 use Rattle.oci_prune.proofs.Elements.{no_element, next_element}
@@ -140,24 +140,22 @@ are_attachments states held tags attachments refer follow k subject = (
   ],
 )
 
--- ---- the tags that follow keys
+-- ---- the tags that pass a test
 
--- what is left of one tag more
-next_followed : (subjects : Keys) (tags : List Named) (i : ℕ) (tag : Named) (passes : Bool) → i < length tags → tag ≡ get_or tags i tag → follows_one subjects (string_bytes tag.0) ≡ passes
-    → filter (λ (t : List ℕ × Descriptor). follows_one subjects t.0) (by_bytes (take (i + 1) tags))
-    ≡ filter (λ (t : List ℕ × Descriptor). follows_one subjects t.0) (by_bytes (take i tags)) ++ cond passes ((string_bytes tag.0, tag.1) ∷ []) []
-next_followed subjects tags i tag passes lt is test =
-    let P : List ℕ × Descriptor → Bool = λ (t : List ℕ × Descriptor). follows_one subjects t.0 in
+-- those that pass a test, of one tag more
+tags_next : (P : List ℕ × Descriptor → Bool) (tags : List Named) (i : ℕ) (tag : Named) (passes : Bool) → i < length tags → tag ≡ get_or tags i tag → P (string_bytes tag.0, tag.1) ≡ passes
+    → filter P (by_bytes (take (i + 1) tags)) ≡ filter P (by_bytes (take i tags)) ++ cond passes ((string_bytes tag.0, tag.1) ∷ []) []
+tags_next P tags i tag passes lt is test =
     let n : List ℕ × Descriptor = (string_bytes tag.0, tag.1) in
     ap (λ (ts : Tags). filter P ts) (by_bytes-next tags i tag lt is) ∙ filter-append P (by_bytes (take i tags)) (n ∷ []) ∙ ap (λ (b : Bool). filter P (by_bytes (take i tags)) ++ cond b (n ∷ []) []) test
 
-pub following_kept : (subjects : Keys) (tags items : List Named) (i : ℕ) (tag copy : Named) → i < length tags → tag ≡ get_or tags i tag → by_bytes items ≡ filter (λ (t : List ℕ × Descriptor). follows_one subjects t.0) (by_bytes (take i tags))
-    → follows_one subjects (string_bytes tag.0) ≡ true → string_bytes copy.0 ≡ string_bytes tag.0 → copy.1 ≡ tag.1 → by_bytes (items ++ copy ∷ []) ≡ filter (λ (t : List ℕ × Descriptor). follows_one subjects t.0) (by_bytes (take (i + 1) tags))
-following_kept subjects tags items i tag copy lt is was test name key =
-    let kept : Tags = filter (λ (t : List ℕ × Descriptor). follows_one subjects t.0) (by_bytes (take i tags)) in
+pub tags_kept : (P : List ℕ × Descriptor → Bool) (tags items : List Named) (i : ℕ) (tag copy : Named) → i < length tags → tag ≡ get_or tags i tag → by_bytes items ≡ filter P (by_bytes (take i tags))
+    → P (string_bytes tag.0, tag.1) ≡ true → string_bytes copy.0 ≡ string_bytes tag.0 → copy.1 ≡ tag.1 → by_bytes (items ++ copy ∷ []) ≡ filter P (by_bytes (take (i + 1) tags))
+tags_kept P tags items i tag copy lt is was test name key =
+    let kept : Tags = filter P (by_bytes (take i tags)) in
     map-append (λ (t : Named). (string_bytes t.0, t.1)) items (copy ∷ []) ∙ ap (λ (ts : Tags). ts ++ (string_bytes copy.0, copy.1) ∷ []) was ∙ ap (λ (text : List ℕ). kept ++ (text, copy.1) ∷ []) name ∙ ap (λ (k : Descriptor). kept ++ (string_bytes tag.0, k) ∷ []) key
-    ∙ sym (next_followed subjects tags i tag true lt is test)
+    ∙ sym (tags_next P tags i tag true lt is test)
 
-pub following_passed : (subjects : Keys) (tags items : List Named) (i : ℕ) (tag : Named) → i < length tags → tag ≡ get_or tags i tag → by_bytes items ≡ filter (λ (t : List ℕ × Descriptor). follows_one subjects t.0) (by_bytes (take i tags))
-    → follows_one subjects (string_bytes tag.0) ≡ false → by_bytes items ≡ filter (λ (t : List ℕ × Descriptor). follows_one subjects t.0) (by_bytes (take (i + 1) tags))
-following_passed subjects tags items i tag lt is was test = was ∙ sym (append-nil (filter (λ (t : List ℕ × Descriptor). follows_one subjects t.0) (by_bytes (take i tags)))) ∙ sym (next_followed subjects tags i tag false lt is test)
+pub tags_passed : (P : List ℕ × Descriptor → Bool) (tags items : List Named) (i : ℕ) (tag : Named) → i < length tags → tag ≡ get_or tags i tag → by_bytes items ≡ filter P (by_bytes (take i tags))
+    → P (string_bytes tag.0, tag.1) ≡ false → by_bytes items ≡ filter P (by_bytes (take (i + 1) tags))
+tags_passed P tags items i tag lt is was test = was ∙ sym (append-nil (filter P (by_bytes (take i tags)))) ∙ sym (tags_next P tags i tag false lt is test)

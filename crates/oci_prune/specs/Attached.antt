@@ -1,6 +1,6 @@
 -- What is attached to a key: the held manifests that state it as their subject, and the keys of the
 -- tags that name its digest (OCI distribution-spec 1.1, "Referrers Tag Schema").
-use Rattle.std.specs.Prelude.{◌≡◌, ◌↔◌, ◌⊎◌, ℕ, Bool, true, ◌&&◌, ◌||◌, ◌==◌, List, [], ◌∷◌, ◌++◌, take, if◌then◌else◌, Contains, String}
+use Rattle.std.specs.Prelude.{◌≡◌, ◌↔◌, ◌⊎◌, ℕ, Bool, true, not, ◌&&◌, ◌||◌, ◌==◌, List, [], ◌∷◌, ◌++◌, filter, take, if◌then◌else◌, Contains, String}
 use Rattle.std.specs.declared.alloc.Global.{Global}
 use Rattle.std.specs.BTreeMap.{BTreeMap, get_by_text}
 use Rattle.std.specs.BTreeSet.{BTreeSet, contains_text}
@@ -12,8 +12,10 @@ use Rattle.oci_digest.specs.Digest.{algorithm_of, encoded_of}
 use Rattle.oci_manifest.specs.Descriptor.{Descriptor}
 use Rattle.oci_manifest.specs.MediaTypes.{kind_of}
 use Rattle.oci_store.specs.Content.{Entry}
+use Rattle.oci_store.specs.Graph.{Node}
 use Rattle.oci_store.specs.Tags.{Tags}
 use Rattle.oci_layout.specs.Layout.{is_manifest}
+use Rattle.oci_prune.specs.Plan.{AreHeld}
 use Rattle.oci_prune.specs.Subjects.{Refers, RefersIn, referrers_in}
 use Rattle.oci_prune.specs.declared.attachments.Attachments.{Attachments}
 
@@ -52,6 +54,15 @@ follows name subject = is_manifest (kind_of subject.media_type) && names_digest 
 -- whether the name of a tag names the digest of one of these keys, which is of a manifest kind
 abbrev pub follows_one : List Descriptor → List ℕ → Bool
 follows_one subjects name = list_any (follows name) subjects
+
+-- the tags that follow none of these keys but their own: a name names the digest of no key of a
+-- manifest kind, or that of the tag's key
+abbrev pub independent_tags : List Descriptor → Tags → Tags
+independent_tags keys tags = filter (λ t. not (follows_one keys t.0) || names_digest t.0 t.1.digest) tags
+
+-- those of the tags that follow no held key but their own
+abbrev pub AreIndependent : List Node → Tags → Tags → Type 0
+AreIndependent graph tags found = (held : List Descriptor) × AreHeld graph held × (found ≡ independent_tags held tags)
 
 -- the first key is that of a tag whose name names the digest of the second, which is of a manifest
 -- kind

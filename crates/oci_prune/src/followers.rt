@@ -1,11 +1,25 @@
-ghost use Rattle.std.specs.Prelude.{◌≡◌, ◌++◌, ◌∷◌, ◌||◌, [], List, ℕ, take, filter, IfOk, OnOk, string_bytes};
+ghost use Rattle.std.specs.Prelude.{◌≡◌, ◌++◌, ◌∷◌, ◌||◌, not, [], List, ℕ, take, filter, IfOk, OnOk, string_bytes};
 ghost use Rattle.std.specs.BTreeSet.{contains_text};
 ghost use Rattle.std.specs.Str.{IsAscii};
 ghost use Rattle.oci_store.specs.Tags.{by_bytes};
-ghost use Rattle.oci_prune.specs.Attached.{AreFollowers, IsStemAdded, HasStems, stem, dashed, cut, follows_one, is_stem_at, is_stem_of};
+ghost use Rattle.oci_prune.specs.Attached.{
+  AreFollowers,
+  AreIndependent,
+  HasStems,
+  IsStemAdded,
+  cut,
+  dashed,
+  follows_one,
+  independent_tags,
+  is_stem_at,
+  is_stem_of,
+  stem,
+};
 
+use crate::held::held_keys;
 use crate::referrers::put;
 use oci_digest::{Digest, NoMemory};
+use oci_layout::{Dir, Layout};
 use oci_manifest::{Key, Kind};
 use std::alloc::Global;
 use std::collections::{BTreeMap, BTreeSet};
@@ -63,6 +77,68 @@ pub(crate) fn following_tags(
         following.push((tag.0.clone()?, tag.1.try_clone()?))?;
     }
     Ok(following)
+}
+
+/// Returns those of these tags that follow no other blob of a layout, in their order: the name of a
+/// tag names the digest of no held manifest, or it names the digest of its own key. A name names a
+/// digest as [`belonging_of`](crate::belonging_of) says. So the tag of a signature, such as
+/// `sha256-DIGITS.sig`, is left out if its image is held. A tag `sha256-DIGITS` of the image itself is
+/// not.
+///
+/// # Errors
+///
+/// `NoMemory` if memory runs out.
+pub fn independent_tags<D: Dir>(
+    alloc: Global,
+    layout: &Layout<D>,
+    tags: &[(String, Key)],
+) -> Result<Vec<(String, Key)>, NoMemory>
+    ensures { IfOk result (λ found. AreIndependent layout.now.graph (by_bytes tags.now)
+        (by_bytes found.items)) }
+{
+    tags_without(alloc, tags, &held_keys(alloc, layout)?)
+}
+
+/// Returns those of these tags that follow none of these keys but their own, in their order.
+fn tags_without(
+    alloc: Global,
+    tags: &[(String, Key)],
+    keys: &[Key],
+) -> Result<Vec<(String, Key)>, NoMemory>
+    ensures { IfOk result (λ found. by_bytes found.items
+        ≡ independent_tags keys.now (by_bytes tags.now)) }
+{
+    let stems = stems_of(alloc, keys)?;
+    let mut found = Vec::new(alloc);
+    for (name, key) in tags {
+        if !is_independent(alloc, &stems, name, key)? {
+            continue;
+        }
+        found.push((name.clone()?, key.try_clone()?))?;
+    }
+    Ok(found)
+}
+
+/// Returns whether the stem of a name is not among these, or names the digest of the tag's key.
+fn is_independent(
+    alloc: Global,
+    stems: &BTreeSet<String>,
+    name: &str,
+    key: &Key,
+) -> Result<bool, NoMemory>
+    ensures { IfOk result (λ it. it ≡ (not (contains_text stems.now (stem name.now))
+        || is_stem_of (stem name.now) key.now.digest)) }
+{
+    let stem = stem(name);
+    Ok(!stems.contains(stem) || is_stem_of(alloc, stem, key.digest())?)
+}
+
+/// Returns whether a stem names a digest.
+fn is_stem_of(alloc: Global, text: &str, digest: &Digest) -> Result<bool, NoMemory>
+    ensures { IfOk result (λ it. it ≡ is_stem_of text.now digest.now) }
+{
+    let dashed = dashed(alloc, digest)?;
+    Ok(text == dashed.as_str() || text == cut(dashed.as_str()))
 }
 
 /// Returns what a tag has before its first `.` if it names the digest of one of these keys, if that

@@ -6,7 +6,8 @@
 //!
 //! [`belonging_of`] returns what belongs to keys: a copy of the keys brings it along.
 //! [`belonging_of_types`] returns it if of what is attached to what the keys reach only referrers of
-//! some types are wanted, and [`referrers_of_types`] such referrers of one key.
+//! some types are wanted, and [`referrers_of_types`] such referrers of one key. [`independent_tags`]
+//! returns the tags that are attached to no other key.
 //!
 //! [`plan_prune`] plans a prune and changes nothing. The *kept* keys of the [`PrunePlan`] belong to
 //! the tagged keys and those of the entries that a tag hides. All other held keys are removed, and
@@ -54,6 +55,7 @@ mod whole;
 pub use attachments::Attachments;
 pub use belonging::{Belonging, belonging_of};
 pub use fault::PruneFault;
+pub use followers::independent_tags;
 pub use laws::{belonging_is_reached, kept_is_reached};
 pub use plan::{PrunePlan, PrunedFile, plan_prune, plan_prune_after, plan_prune_keeping};
 pub use run::{Pruned, prune};

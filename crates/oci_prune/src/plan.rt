@@ -195,8 +195,8 @@ pub fn plan_prune_keeping<D: PrunableDir>(
 ///
 /// # Errors
 ///
-/// Those of [`plan_prune_keeping`] but 97 `NoTags`, in the same order, of the layout after the copy:
-/// a damaged manifest that arrives is held then, and one that a root needs is looked for in both.
+/// Those of [`plan_prune_keeping`] but 97 `NoTags`, in the same order, of the layout after the copy.
+/// A damaged manifest that arrives is held after the copy, and does not refuse the plan.
 pub fn plan_prune_after<S: Dir, D: PrunableDir>(
     alloc: Global,
     source: &Layout<S>,

@@ -28,8 +28,8 @@ use std::collections::BTreeSet;
 /// and the held manifests whose `subject` has its digest. But a manifest whose `subject` has the
 /// digest of a held key that the given ones reach comes only if it is of one of these types: its
 /// `artifactType`, or else the media type of its config (OCI distribution-spec 1.1, "Listing
-/// Referrers"), byte for byte. What is attached to such a manifest itself comes whatever its type
-/// is. Tags do not count.
+/// Referrers"), byte for byte; or if the given keys reach it, or a member lists it. What is attached
+/// to such a manifest itself comes whatever its type is. Tags do not count.
 ///
 /// Without a type nothing that is attached to a key that the given ones reach comes.
 ///
