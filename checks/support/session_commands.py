@@ -103,7 +103,8 @@ class Commands:
 
     def do_invalid(self, line):
         status, out, err = self.ended(line)
-        return None if (status, out) == (2, "") and err.startswith("error: ") else transcript(status, out, err)
+        # (a run that prints nothing is told too)
+        return None if (status, out) == (2, "") and err.startswith("error: ") else transcript(status, out, err) or "no output\n"
 
     def do_explained(self, line):
         told = self.do_ocicp("explain " + line.split()[0])

@@ -12,7 +12,7 @@ pub enum Selection<'w> {
     },
     /// The blob of each tag of the source.
     AllTags {
-        /// The patterns of which a tag must match one. If there are none, each tag counts.
+        /// A tag counts if it matches one of these patterns. If there are none, each tag counts.
         patterns: Vec<&'w str>,
     },
 }
@@ -52,7 +52,8 @@ pub struct CopyWords<'w> {
     /// Whether the copy also looks below the blobs that the destination has.
     pub descends: bool,
     /// Whether the tags that the source does not have are removed afterwards, with what no tag of
-    /// the destination then needs. Only with `Selection::AllTags` without patterns.
+    /// the destination then needs; with patterns only those that match one. Only with
+    /// `Selection::AllTags`.
     pub prunes: bool,
     /// Whether the copy waits while another process has the lock of the destination's folder.
     pub waits: bool,

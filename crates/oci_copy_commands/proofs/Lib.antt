@@ -1,6 +1,7 @@
 mod AttachedRoots
 mod BroughtEntries
 mod Exact
+mod Goals
 mod Listed
 mod Mirrored
 mod NamedRoots

@@ -48,7 +48,7 @@ pub all_stay : (old new : List Node) (keys : List Descriptor) → new ≡ old �
 all_stay old new keys same k reached = ap (λ (graph : List Node). value_at graph k) same
 
 -- what a graph reaches is reached in one that begins with it, and has the same under it
-grown_value : (old added : List Node) (k : Descriptor) → has_key old k ≡ true → value_at (old ++ added) k ≡ value_at old k
+pub grown_value : (old added : List Node) (k : Descriptor) → has_key old k ≡ true → value_at (old ++ added) k ≡ value_at old k
 grown_value old added k held =
     let one = found old k held in
     value_at-append_left old added k one.0 one.1 ∙ sym one.1

@@ -10,12 +10,12 @@ use Rattle.oci_manifest.specs.Descriptor.{Descriptor, is_among}
 use Rattle.oci_store.specs.Graph.{Node}
 use Rattle.oci_store.specs.Tags.{Tags}
 use Rattle.oci_store.proofs.Membership.{Keys}
-use Rattle.oci_layout.specs.Brought.{annotations_of, comes, gives_way, renamed, same_name, staying, with_annotations, with_name, Brings}
+use Rattle.oci_layout.specs.Brought.{annotations_of, comes, gives_way, renamed, same_name, with_annotations, with_name, Brings}
 use Rattle.oci_layout.specs.Entries.{IndexEntry, entry_keys, is_held, is_this_key, said}
 use Rattle.oci_layout.specs.Layout.{OpenedIndex}
 use Rattle.oci_layout.specs.Saved.{first_entries, first_from, is_first, is_name, later_place, no_name, shadowed_keys, unnamed_keys}
 use Rattle.oci_layout.proofs.EntryKeys.{all_keys, first_key, key_or_none, no_first_key, this_key_is}
-use Rattle.oci_copy_commands.specs.Brought.{entry_at, first_of, if_there, is_of, is_tagged, last_such, named_entries, place_of_key, place_of_reference, reference_entry, root_entry, tag_entries, with_roots}
+use Rattle.oci_copy_commands.specs.Brought.{entry_at, first_of, if_there, is_of, is_tagged, last_such, place_of_key, place_of_reference, reference_entry, root_entry, tag_entries, with_roots}
 use Rattle.oci_copy_commands.specs.Selected.{IsOfRoot}
 
 and_first : (a b : Bool) → (a && b) ≡ true → a ≡ true
@@ -142,23 +142,14 @@ module _ (roots : Keys) where
         | inr none ↦ All-cons (IsOfRoot roots) e es (λ named k is. cc (sym none ∙ is)) (keys_named es (subst (All (Contains roots)) (no_first_key e es none) all))
       ]
 
-  -- ---- what is brought into an index without names
+  -- ---- what is brought into an index whose names are of roots
 
-  none_named : (es : List IndexEntry) → named_entries es ≡ [] → All (IsOfRoot roots) es
-  none_named [] none = All-nil (IsOfRoot roots)
-  none_named (e ∷ es) none =
-      elim (cases_Bool (not (no_name e.name))) [
-        | inl named ↦ cc (rw named at none)
-        | inr unnamed ↦ All-cons (IsOfRoot roots) e es (λ named k is. cc (sym unnamed ∙ named)) (none_named es (rw unnamed at none))
-      ]
-
-  pub brought_named : (entries : List IndexEntry) (tags : Tags) (old new : OpenedIndex) → Brings entries tags old new → named_entries (said old.content).entries ≡ [] → All (IsOfRoot roots) entries → All (IsOfRoot roots) (said new.content).entries
-  brought_named entries tags old new brings none all =
-      let before = (said old.content).entries in
+  pub brought_named : (entries : List IndexEntry) (tags : Tags) (old new : OpenedIndex) → Brings entries tags old new → All (IsOfRoot roots) (said old.content).entries → All (IsOfRoot roots) entries → All (IsOfRoot roots) (said new.content).entries
+  brought_named entries tags old new brings before all =
+      let was = (said old.content).entries in
       let stays : IndexEntry → Bool = λ e. not (gives_way false entries e.name) in
-      let came : IndexEntry → Bool = comes (is_among (values_of tags)) (is_among (unnamed_keys before)) in
-      subst (All (IsOfRoot roots)) (sym brings.entries)
-      (All-append (IsOfRoot roots) (filter stays before) (filter came entries) (All-filter stays (IsOfRoot roots) before (none_named before none)) (All-filter came (IsOfRoot roots) entries all))
+      let came : IndexEntry → Bool = comes (is_among (values_of tags)) (is_among (unnamed_keys was)) in
+      subst (All (IsOfRoot roots)) (sym brings.entries) (All-append (IsOfRoot roots) (filter stays was) (filter came entries) (All-filter stays (IsOfRoot roots) was before) (All-filter came (IsOfRoot roots) entries all))
 
   first_named : (absent : Descriptor → Bool) (graph : List Node) (tags : Tags) (all : List IndexEntry) (place : ℕ) (es : List IndexEntry) → All (IsOfRoot roots) es → All (IsOfRoot roots) (first_from absent graph tags all place es)
   first_named absent graph tags all place [] h = All-nil (IsOfRoot roots)
@@ -182,17 +173,3 @@ module _ (roots : Keys) where
       (All-weaker (Contains (filter test first)) Q
       (λ e there. All-contains (IsOfRoot roots) (filter test first) e named there (and_first (not (no_name e.name)) (is_held graph e.key) (All-contains (λ (x : IndexEntry). test x ≡ true) (filter test first) e passes there)))
       (filter test first) (All-contains_itself (filter test first)))
-
--- the entries that stay when all names are forgotten have none
-unnamed_stay : (name : Option (List ℕ)) → not (gives_way true [] name) ≡ true → not (no_name name) ≡ false
-unnamed_stay None h = refl
-unnamed_stay (Some []) h = refl
-unnamed_stay (Some (c ∷ cs)) h = cc h
-
-pub none_stay : (es : List IndexEntry) → named_entries (staying true [] es) ≡ []
-none_stay [] = refl
-none_stay (e ∷ es) =
-    elim (cases_Bool (not (gives_way true [] e.name))) [
-      | inl stays ↦ rw stays (rw (unnamed_stay e.name stays) (none_stay es))
-      | inr goes ↦ rw goes (none_stay es)
-    ]

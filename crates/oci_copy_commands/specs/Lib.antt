@@ -1,5 +1,6 @@
 pub mod Between
 pub mod Brought
+pub mod Goal
 pub mod Mirror
 pub mod Pattern
 pub mod Refusal

@@ -1,5 +1,5 @@
 -- What a copy that removes what no tag needs leaves of its destination, and why it is refused.
-use Rattle.std.specs.Prelude.{◌≡◌, ◌≢◌, ◌⊎◌, ℕ, Bool, true, not, List, [], filter, is_some, Some}
+use Rattle.std.specs.Prelude.{◌≡◌, ◌≢◌, ◌⊎◌, ℕ, Bool, true, not, List, [], filter, is_some, Option, None, Some, false}
 use Rattle.std.specs.BTreeSet.{BTreeSet, contains}
 use Rattle.oci_command_line.specs.declared.changing.CopyWords.{CopyWords}
 use Rattle.oci_manifest.specs.Descriptor.{Descriptor, key_cmp}
@@ -10,26 +10,26 @@ use Rattle.oci_manifest.specs.declared.kind.Kind.TheVariants.{Leaf}
 use Rattle.oci_store.specs.Graph.{Node, IsEdge, Reaches}
 use Rattle.oci_store.specs.Keyed.{has_key, value_at}
 use Rattle.oci_store.specs.State.{State}
-use Rattle.oci_store.specs.Tags.{Tags, by_bytes}
+use Rattle.oci_store.specs.Tags.{by_bytes}
 use Rattle.oci_plan.specs.declared.gathering.Existing.{Existing}
 use Rattle.oci_copy.specs.Grown.{graph_of, BeginsWith}
 use Rattle.oci_copy.specs.Report.{IsReport}
 use Rattle.oci_copy.specs.declared.fault.CopyFault.{CopyFault}
 use Rattle.oci_layout.specs.Blobs.{meaning, stored}
 use Rattle.oci_layout.specs.Device.{Device}
-use Rattle.oci_layout.specs.Entries.{said, text_of, unreadable_places}
+use Rattle.oci_layout.specs.Entries.{said, unreadable_places}
 use Rattle.oci_layout.specs.Layout.{LayoutState, manifests_of}
 use Rattle.oci_layout.specs.Refusal.{IsPutFault}
-use Rattle.oci_layout.specs.Saved.{no_name}
-use Rattle.oci_layout.specs.declared.index.IndexEntry.{IndexEntry as CodeEntry}
 use Rattle.oci_program.specs.declared.fault.ProgramFault.{ProgramFault}
 use Rattle.oci_program.specs.declared.fault.ProgramFault.TheVariants as program
+use Rattle.oci_prune.specs.Belongs.{AllKnown}
 use Rattle.oci_prune.specs.Plan.{AreKept, RefersIf, roots_with}
 use Rattle.oci_prune.specs.Pruned.{kept_of}
 use Rattle.oci_prune.specs.Refusal.{IsPlanFaultFrom}
 use Rattle.oci_prune.specs.declared.fault.PruneFault.{PruneFault}
 use Rattle.oci_prune.specs.declared.fault.PruneFault.TheVariants as prune
 use Rattle.oci_copy_commands.specs.Between.{BringsOnlyMet, IsTrusted}
+use Rattle.oci_copy_commands.specs.Goal.{patterns_of, Fits, Goal, IsPrepared}
 use Rattle.oci_copy_commands.specs.Selected.{other_tags}
 use Rattle.oci_copy_commands.specs.declared.copy.Copied.{Copied}
 use Rattle.oci_copy_commands.specs.declared.mirror.CleanUp.{CleanUp}
@@ -48,7 +48,8 @@ ListsHeldManifests graph from = (k : Descriptor) → IsEdge graph from k → IsH
 abbrev pub HoldsListedManifests : List Node → Type 0
 HoldsListedManifests graph = (from : Descriptor) → ListsHeldManifests graph from
 
--- whether a mirror holds only what the tags of the source need, and what is attached to it there
+-- whether a mirror keeps of what is attached in the destination only what the source has too, and what
+-- belongs to tags that stay
 abbrev pub is_exact : CopyWords → Bool
 is_exact words = is_some words.referrers
 
@@ -64,9 +65,16 @@ pub record IsWholeSource {D : Type 0} (is_exact : Bool) (source : LayoutState D)
 
 -- ---- the destination
 
--- an entry is a descriptor, if it has no name
-abbrev pub IsReadableIfUnnamed : CodeEntry → Type 0
-IsReadableIfUnnamed e = no_name (text_of e.name) ≡ true → is_some e.key ≡ true
+-- a prune that keeps these keys of a layout too needs no manifest that is missing; if the mirror is not
+-- exact, what refers to kept keys is known of an honest directory
+abbrev pub IsKnown : {D : Type 0} → (D → Device) → Bool → LayoutState D → List Descriptor → Type 0
+IsKnown device is_exact layout keys =
+    (not is_exact ≡ true → (device layout.dir).is_honest) → AllKnown layout.graph (roots_with layout keys) (RefersIf (not is_exact) (meaning (device layout.dir) layout.graph layout.tags))
+
+-- a copy with these words has a goal if it prunes: the goal of its patterns, which fits
+abbrev pub HasGoal : {D : Type 0} → (D → Device) → CopyWords → Goal → LayoutState D → LayoutState D → Option Goal → Type 0
+HasGoal device words selected old new None = words.prunes ≡ false
+HasGoal device words selected old new (Some goal) = (words.prunes ≡ true) × IsPrepared device (patterns_of words.selection) (is_exact words) selected old new goal × Fits new selected.0 goal.0
 
 -- ---- what is left
 
@@ -83,24 +91,24 @@ pub record IsPruned {D : Type 0} (device : D → Device) (is_exact : Bool) (root
   pub contents : (device old.dir).is_honest → stored (device new.dir).file new.graph ≡ filter (λ (e : Entry). contains key_cmp kept e.0) (stored (device old.dir).file old.graph)
 
 -- the layout with the new tags was pruned by the plan that is returned, and the returned tags went
-pub record IsCleaned {D : Type 0} (device : D → Device) (is_exact : Bool) (roots : List Descriptor) (tags : Tags) (old new : LayoutState D) (removed : CleanUp) : Type 0 where
-  pub pruned : IsPruned device is_exact roots (relabeled old new) new removed.plan.kept
-  pub untagged : by_bytes removed.untagged.items ≡ other_tags old.tags tags
+pub record IsCleaned {D : Type 0} (device : D → Device) (is_exact : Bool) (goal : Goal) (old new : LayoutState D) (removed : CleanUp) : Type 0 where
+  pub pruned : IsPruned device is_exact goal.0 (relabeled old new) new removed.plan.kept
+  pub untagged : by_bytes removed.untagged.items ≡ other_tags old.tags goal.1
 
 -- a copy was cleaned up by the plan that is returned
-abbrev pub IsCleanedCopy : {D : Type 0} → (D → Device) → Bool → List Descriptor → Tags → LayoutState D → LayoutState D → Copied → Type 0
-IsCleanedCopy device is_exact roots tags old new done = (removed : CleanUp) × (done.removed ≡ Some removed) × IsCleaned device is_exact roots tags old new removed
+abbrev pub IsCleanedCopy : {D : Type 0} → (D → Device) → Bool → Goal → LayoutState D → LayoutState D → Copied → Type 0
+IsCleanedCopy device is_exact goal old new done = (removed : CleanUp) × (done.removed ≡ Some removed) × IsCleaned device is_exact goal old new removed
 
 -- A mirror was made, with the layout between the copy and the clean-up: keys came into it that were
 -- met on the way from the roots, as many as the report says; all that the source reaches from them, if
--- it is honest and its keys list what they list in the destination.
-pub record IsMirrored {D : Type 0} (device : D → Device) (existing : Existing) (is_exact : Bool) (source : State) (roots : List Descriptor) (tags : Tags) (old new : LayoutState D) (done : Copied) : Type 0 where
+-- it is honest and its keys list what they list in the destination. The clean-up left what the goal needs.
+pub record IsMirrored {D : Type 0} (device : D → Device) (existing : Existing) (is_exact : Bool) (source : State) (roots : List Descriptor) (goal : Goal) (old new : LayoutState D) (done : Copied) : Type 0 where
   pub copied : LayoutState D
   pub same_tags : copied.tags ≡ old.tags
   pub met : BringsOnlyMet source old.graph roots copied.graph
   pub copy : source.is_honest → Agree (graph_of source) old.graph → IsCopied (graph_of source) (graph_of source) roots old.graph copied.graph
   pub reported : IsReport existing source (meaning (device old.dir) old.graph old.tags) roots (meaning (device copied.dir) copied.graph copied.tags) done.report
-  pub cleaned : IsCleanedCopy device is_exact roots tags copied new done
+  pub cleaned : IsCleanedCopy device is_exact goal copied new done
 
 -- each held key is reached from these keys
 abbrev pub HoldsOnlyReached : List Node → List Descriptor → Type 0

@@ -1,18 +1,19 @@
-ghost use Rattle.std.specs.Prelude.{◌≡◌, [], true, OnOk};
-ghost use Rattle.oci_layout.specs.Entries.{said};
-ghost use Rattle.oci_copy_commands.specs.Brought.{named_entries};
-ghost use Rattle.oci_copy_commands.specs.Mirror.{is_exact, IsWholeSource};
+ghost use Rattle.std.specs.Prelude.{◌≡◌, true, IfOk, OnOk};
+ghost use Rattle.oci_copy_commands.specs.Goal.{patterns_of};
+ghost use Rattle.oci_copy_commands.specs.Mirror.{is_exact, HasGoal, IsWholeSource};
+ghost use Rattle.oci_copy_commands.specs.Pattern.{texts_of};
 
 use crate::Host;
 use crate::answer::CopyAnswer;
 use crate::between::copy_between;
 use crate::destination::{make_blobs_folder, open_or_create, remove_leftovers};
 use crate::dry_run::show_plan;
+use crate::goal::Goal;
 use crate::mirror::{CleanUp, mirror, prepare_destination};
 use crate::progress::Progress;
 use crate::selected::Selected;
 use crate::whole::check_source;
-use oci_command_line::CopyWords;
+use oci_command_line::{CopyWords, Selection};
 use oci_copy::{Options, Report, plan_copy};
 use oci_layout::{Dir, FolderLock, Layout, PrunableDir};
 use oci_plan::Existing;
@@ -26,10 +27,11 @@ use std::io::Write;
 /// for a platform is selected in place of the index that SRCREF names. Prints in this form the key of
 /// each tag and the report. With `--progress` each blob is printed on `err` when it arrives.
 /// Without it, on a terminal, one line shows how much has arrived. With `--dry-run` only the plan
-/// is printed, and with `--prune` what would be removed. With `--all --prune` the tags that the source does not have are removed too, and
-/// what no tag then needs; the tags and what was removed are printed. What is attached to an image in
-/// DST stays then, but with `--referrers` only if SRC has it too. `F` is [`ProgramFault`] or another
-/// type that is made from one.
+/// is printed, and with `--prune` what would be removed. With `--all --prune` the tags that the source
+/// does not have are removed too, and what no tag then needs; the tags and what was removed are
+/// printed. What is attached to an image in DST stays, but with `--referrers` only if SRC has it too.
+/// With `--match` the tags of DST that match no pattern stay, with what belongs to them.
+/// `F` is [`ProgramFault`] or another type that is made from one.
 ///
 /// Otherwise a destination without `oci-layout` becomes a layout, once the source is open and its
 /// reference is resolved. The destination's folder is locked from before the destination is opened
@@ -43,7 +45,8 @@ use std::io::Write;
 ///   `index.json` than that of an empty layout; 74 also if DST cannot be created or locked, or its
 ///   folder `blobs/sha256` cannot be made.
 /// - 73 `BadIndex` for an entry that is no descriptor: with `--all`, if SRC has one with a tag; with
-///   `--referrers` or `--prune`, if SRC has any; with `--prune`, if DST has one without a tag.
+///   `--referrers` or `--prune`, if SRC has any; with `--prune`, if DST has one that has no tag, or
+///   one that matches no pattern, is not selected and does not go.
 /// - 75 `Corrupt` and 77 `BadManifest` with `--referrers`, if any manifest of SRC is damaged.
 ///   77 `BadManifest` and 88 `Fetch` if one cannot be read after all.
 /// - 35 `EmptyReference` and 36 `UnknownReference` for the reference; 75 `Corrupt` and 77
@@ -57,8 +60,8 @@ use std::io::Write;
 ///   `NoMatch` is for a SRC whose tags do not.
 /// - 96 `Unknown` with `--prune`, if the blob of any entry of SRC's index is missing or damaged, or
 ///   any manifest of SRC is damaged; with `--referrers` also if a manifest that one of SRC's lists is
-///   missing; or if in DST the blob of an entry without a tag is missing or
-///   damaged, or a manifest that a kept one lists is missing, or one that has no tag is damaged.
+///   missing; or if in DST the blob of an entry that has no such tag is missing or damaged, or a
+///   manifest that a kept one lists is missing, or one that has no tag is damaged.
 /// - 98 `LinkedBlobs` with `--prune`, if DST has a link to a folder of blobs. 88 `Fetch` and 77
 ///   `BadManifest` if one of its held manifests cannot be read.
 /// - 80 `DestinationOpen` and 81 `Plan` if there is no plan.
@@ -139,8 +142,8 @@ pub(crate) fn check_source_if<S: Dir>(
     }
 }
 
-/// Returns whether a mirror holds only what the tags of the source need, and what is attached to it
-/// there.
+/// Returns whether a mirror keeps of what is attached in the destination only what the source has
+/// too, and what belongs to tags that stay.
 pub(crate) fn is_exact(words: &CopyWords<'_>) -> bool
     ensures { result ≡ is_exact words.now }
 {
@@ -190,54 +193,70 @@ where
     requires whole { words.now.prunes ≡ true → IsWholeSource (is_exact words.now) source.now }
 {
     let options = options_of(words);
-    prepare_if(rt.alloc(), &mut destination, words)?;
+    let goal = goal_of(rt.alloc(), &mut destination, selected, words)?;
     let plan = plan_copy(rt.alloc(), source, &destination, selected.roots(), &options)?;
     remove_leftovers(rt, lock)?;
     let progress = Progress::new(rt, err, words.shown, &plan);
-    let copied = if words.prunes {
-        let (_mirrored, copied) = mirror(
-            rt,
-            source,
-            destination,
-            &plan,
-            selected,
-            is_exact(words),
-            &options,
-            &progress,
-        );
-        copied
-    } else {
-        let (_saved, copied) = copy_between(
-            rt,
-            source,
-            destination,
-            &plan,
-            selected,
-            &options,
-            &progress,
-        );
-        copied.map(|report| Copied {
-            report,
-            removed: None,
-        })
+    let copied = match &goal {
+        Some(goal) => {
+            let (_mirrored, copied) = mirror(
+                rt,
+                source,
+                destination,
+                &plan,
+                selected,
+                goal,
+                is_exact(words),
+                &options,
+                &progress,
+            );
+            copied
+        }
+        None => {
+            let (_saved, copied) = copy_between(
+                rt,
+                source,
+                destination,
+                &plan,
+                selected,
+                &options,
+                &progress,
+            );
+            copied.map(|report| Copied {
+                report,
+                removed: None,
+            })
+        }
     };
     progress.end();
     copied
 }
 
-/// Prepares the destination of a copy for a mirror, if the copy prunes.
-pub(crate) fn prepare_if<D: PrunableDir>(
+/// Prepares the destination of a copy for a mirror, and returns the goal of that, if the copy prunes.
+pub(crate) fn goal_of<D: PrunableDir>(
     alloc: Global,
     destination: &mut Layout<D>,
+    selected: &Selected,
     words: &CopyWords<'_>,
-) -> Result<(), ProgramFault>
-    ensures { OnOk result (words.now.prunes ≡ true
-        → named_entries (said destination.new.opened.content).entries ≡ []) }
+) -> Result<Option<Goal>, ProgramFault>
+    ensures { IfOk result (HasGoal D.device words.now (selected.now.0, selected.now.1)
+        destination.old destination.new) }
 {
-    if words.prunes {
-        prepare_destination(alloc, destination, is_exact(words))
-    } else {
-        Ok(())
+    if !words.prunes {
+        return Ok(None);
+    }
+    let patterns = patterns_of(&words.selection);
+    let goal = prepare_destination(alloc, destination, selected, patterns, is_exact(words))?;
+    Ok(Some(goal))
+}
+
+/// Returns the patterns that the tags of a copy must match.
+fn patterns_of<'w>(selection: &'w Selection<'w>) -> &'w [&'w str]
+    ensures { texts_of result.now ≡ patterns_of selection.now }
+{
+    match selection {
+        Selection::Reference { .. } => &[],
+        Selection::AllTags { patterns } => patterns,
     }
 }
 

@@ -2,7 +2,7 @@ ghost use Rattle.std.specs.Prelude.{◌≡◌, true};
 ghost use Rattle.oci_copy_commands.specs.Mirror.{is_exact, IsWholeSource};
 
 use crate::answer::CleanUpAnswer;
-use crate::copy::{check_source_if, is_exact, options_of, prepare_if};
+use crate::copy::{check_source_if, goal_of, is_exact, options_of};
 use crate::planned::{PlannedCleanUp, plan_mirror};
 use crate::selected::Selected;
 use oci_command_line::CopyWords;
@@ -36,7 +36,8 @@ use std::io::Write;
 /// - 70 to 74 if one of the two is not a layout or cannot be read; 70 for the destination only if it
 ///   has another `index.json` than that of an empty layout.
 /// - 73 `BadIndex` for an entry that is no descriptor: with `--all`, if SRC has one with a tag; with
-///   `--referrers` or `--prune`, if SRC has any; with `--prune`, if DST has one without a tag.
+///   `--referrers` or `--prune`, if SRC has any; with `--prune`, if DST has one that has no tag, or
+///   one that matches no pattern, is not selected and does not go.
 /// - 75 `Corrupt` and 77 `BadManifest` with `--referrers`, if any manifest of SRC is damaged.
 ///   77 `BadManifest` and 88 `Fetch` if one cannot be read after all.
 /// - 35 `EmptyReference` and 36 `UnknownReference` for the reference; 75 `Corrupt` and 77
@@ -122,14 +123,21 @@ fn plan_into<S: Dir, D: PrunableDir + Drop>(
     requires whole { words.now.prunes ≡ true → IsWholeSource (is_exact words.now) source.now }
 {
     let options = options_of(words);
-    prepare_if(alloc, &mut destination, words)?;
-    if words.prunes {
-        let exact = is_exact(words);
-        let (plan, clean_up) = plan_mirror(alloc, source, &destination, selected, exact, &options)?;
-        return Ok((plan, Some(clean_up)));
-    }
-    let plan = plan_copy(alloc, source, &destination, selected.roots(), &options)?;
-    Ok((plan, None))
+    let Some(goal) = goal_of(alloc, &mut destination, selected, words)? else {
+        let plan = plan_copy(alloc, source, &destination, selected.roots(), &options)?;
+        return Ok((plan, None));
+    };
+    let exact = is_exact(words);
+    let (plan, clean_up) = plan_mirror(
+        alloc,
+        source,
+        &destination,
+        selected,
+        &goal,
+        exact,
+        &options,
+    )?;
+    Ok((plan, Some(clean_up)))
 }
 
 /// What a copy would push, and with `--prune` what it would remove.

@@ -13,22 +13,37 @@ ghost use Rattle.oci_layout.specs.Layout.{manifests_of, OnlyIndex};
 ghost use Rattle.oci_prune.specs.Plan.{roots_of, roots_with};
 ghost use Rattle.oci_prune.specs.Pruned.{KeepsReached};
 ghost use Rattle.oci_copy_commands.specs.Between.{HasReached};
-ghost use Rattle.oci_copy_commands.specs.Brought.{named_entries};
-ghost use Rattle.oci_copy_commands.specs.Mirror.{of_prune, HoldsOnlyReached, IsCleaned, IsCleanedCopy, IsMirrored, IsPruned, IsReadableIfUnnamed, IsRefusedMirror, IsWholeSource, KeepsContents, KeepsHeld};
+ghost use Rattle.oci_copy_commands.specs.Goal.{Fits, IsOnlySelected, IsPrepared};
+ghost use Rattle.oci_copy_commands.specs.Mirror.{
+  HoldsOnlyReached,
+  IsCleaned,
+  IsCleanedCopy,
+  IsKnown,
+  IsMirrored,
+  IsPruned,
+  IsRefusedMirror,
+  IsWholeSource,
+  KeepsContents,
+  KeepsHeld,
+  of_prune,
+};
+ghost use Rattle.oci_copy_commands.specs.Pattern.{texts_of};
 ghost use Rattle.oci_copy_commands.specs.Refusal.{AfterRefusedCopy};
-ghost use Rattle.oci_copy_commands.specs.Selected.{set_tags};
+ghost use Rattle.oci_copy_commands.specs.Selected.{set_tags, IsOfRoot};
 
 use crate::Host;
 use crate::copy::Copied;
+use crate::goal::Goal;
+use crate::kept::{forget_others, kept_tags};
 use crate::retag::retag;
 use crate::selected::Selected;
 use oci_copy::{CopyFault, Options, Report, copy_plan};
-use oci_layout::{Dir, IndexEntry, Layout, OpenedIndex, PrunableDir, unreadable_entry};
+use oci_layout::{Dir, Layout, OpenedIndex, PrunableDir};
 use oci_manifest::Key;
 use oci_plan::Plan;
 use oci_pool::Hooks;
 use oci_program::ProgramFault;
-use oci_prune::{PruneFault, PrunePlan, Pruned, plan_prune, plan_prune_keeping, prune};
+use oci_prune::{PruneFault, PrunePlan, Pruned, plan_prune_keeping, prune};
 use oci_store::Store;
 use std::alloc::Global;
 
@@ -43,59 +58,45 @@ pub(crate) struct CleanUp {
     pub(crate) pruned: Pruned,
 }
 
-/// Refuses the first of the entries of a destination's index that has no name and is no descriptor.
-/// The fault has its place in the index, so this is called before entries are forgotten.
+/// Prepares the destination of a mirror that selects the tags which match one of the patterns, and
+/// returns its goal. With no patterns each tag matches, and the goal is what is selected.
+///
+/// The tags that match no pattern are kept, as of [`kept_tags`]. The destination forgets the entries
+/// of the other tags, since the mirror brings its own. One that cannot be pruned then is refused.
 ///
 /// # Errors
 ///
-/// 73 `BadIndex`.
-fn check_unnamed(entries: &[IndexEntry]) -> Result<(), ProgramFault>
-    ensures { OnOk result (All IsReadableIfUnnamed entries.now) }
-{
-    for (place, entry) in entries.iter().enumerate() {
-        check_if_unnamed(place, entry)?;
-    }
-    Ok(())
-}
-
-/// Refuses the entry at this place if it has no name and is no descriptor.
-fn check_if_unnamed(place: usize, entry: &IndexEntry) -> Result<(), ProgramFault>
-    ensures { OnOk result (IsReadableIfUnnamed entry.now) }
-{
-    if entry.has_name() {
-        return Ok(());
-    }
-    match &entry.key {
-        Some(_) => Ok(()),
-        None => Err(ProgramFault::Destination(unreadable_entry(place))),
-    }
-}
-
-/// Makes a destination forget the entries of its index that have a name, since a mirror brings its
-/// own. Refuses one that cannot be pruned then.
-///
-/// # Errors
-///
-/// As of [`check_unnamed`], and then as of [`check_destination`].
+/// - 77 `BadManifest` and 88 `Fetch`, as of [`kept_tags`].
+/// - 73 `BadIndex` for the first entry of its index that it does not forget and that is no descriptor.
+/// - Those of [`check_destination`].
+/// - 96 `Unknown` if the blob of a remembered entry with a name is not held after all.
 pub(crate) fn prepare_destination<D: PrunableDir>(
     alloc: Global,
     destination: &mut Layout<D>,
+    selected: &Selected,
+    patterns: &[&str],
     is_exact: bool,
-) -> Result<(), ProgramFault>
-    ensures unnamed { OnOk result
-        (named_entries (said destination.new.opened.content).entries ≡ []) }
+) -> Result<Goal, ProgramFault>
+    ensures goal { IfOk result (λ goal. IsPrepared D.device (texts_of patterns.now) is_exact
+        (selected.now.0, selected.now.1) destination.old destination.new goal) }
+    ensures whole { patterns.now ≡ [] → IfOk result (λ goal.
+        IsOnlySelected destination.new (selected.now.0, selected.now.1) goal) }
+    ensures fits { IfOk result (λ goal. Fits destination.new selected.now.0 goal.0) }
     ensures readable { OnOk result
         (unreadable_places (said destination.new.opened.content).entries ≡ []) }
+    ensures absent { OnOk result (destination.new.opened.absent ≡ []) }
     ensures damaged { OnOk result (destination.new.tags ≢ []
         → HasAll destination.new.graph (manifests_of destination.new.opened.damaged)) }
     ensures only { OnlyIndex destination.old destination.new }
 {
-    check_unnamed(destination.entries())?;
-    destination.forget_names()?;
-    check_destination(alloc, destination, is_exact)
+    let kept = kept_tags(alloc, destination, selected, patterns, is_exact)?;
+    forget_others(alloc, destination, selected, patterns, &kept.tags)?;
+    check_destination(alloc, destination, &kept.attached, is_exact)?;
+    Goal::of(alloc, destination, selected, kept)
 }
 
-/// Refuses a destination that cannot be pruned as it is. One without tags can.
+/// Refuses a destination that cannot be pruned as it is, and keep these keys of it. One without tags
+/// can.
 ///
 /// # Errors
 ///
@@ -111,6 +112,7 @@ pub(crate) fn prepare_destination<D: PrunableDir>(
 fn check_destination<D: PrunableDir>(
     alloc: Global,
     destination: &Layout<D>,
+    keys: &[Key],
     is_exact: bool,
 ) -> Result<(), ProgramFault>
     ensures readable { OnOk result
@@ -118,6 +120,8 @@ fn check_destination<D: PrunableDir>(
     ensures absent { OnOk result (destination.now.opened.absent ≡ []) }
     ensures damaged { OnOk result (destination.now.tags ≢ []
         → HasAll destination.now.graph (manifests_of destination.now.opened.damaged)) }
+    ensures known { OnOk result (destination.now.tags ≢ []
+        → IsKnown D.device is_exact destination.now keys.now) }
 {
     if let Some(key) = destination.absent().first() {
         return Err(ProgramFault::Prune(PruneFault::Unknown(key.try_clone()?)));
@@ -125,7 +129,7 @@ fn check_destination<D: PrunableDir>(
     match destination.check_entries() {
         Ok(()) => {
             check_unlinked(destination)?;
-            check_plan(alloc, destination, is_exact)
+            check_plan(alloc, destination, keys, is_exact)
         }
         Err(fault) => Err(ProgramFault::Destination(fault)),
     }
@@ -140,32 +144,37 @@ fn check_unlinked<D: PrunableDir>(layout: &Layout<D>) -> Result<(), ProgramFault
     }
 }
 
-/// Refuses a layout whose prune is refused, unless that is because it has no tags.
+/// Refuses a layout whose prune is refused that also keeps these keys, unless that is because it has
+/// no tags.
 fn check_plan<D: PrunableDir>(
     alloc: Global,
     layout: &Layout<D>,
+    keys: &[Key],
     is_exact: bool,
 ) -> Result<(), ProgramFault>
     ensures damaged { OnOk result (layout.now.tags ≢ []
         → HasAll layout.now.graph (manifests_of layout.now.opened.damaged)) }
+    ensures known { OnOk result (layout.now.tags ≢ []
+        → IsKnown D.device is_exact layout.now keys.now) }
 {
-    match plan_prune(alloc, layout, !is_exact) {
+    match plan_prune_keeping(alloc, layout, keys, !is_exact) {
         Ok(_) => Ok(()),
         Err(PruneFault::NoTags) => Ok(()),
         Err(fault) => Err(fault_of(fault)),
     }
 }
 
-/// Copies the planned blobs into a layout, sets the selected tags there and removes all others,
+/// Copies the planned blobs into a layout, sets the tags of the goal there and removes all others,
 /// brings the selected entries, saves it, and removes what no tag needs. The layout is saved once,
 /// before a file is removed that the old index needs.
 ///
 /// What refers to what a tag needs, such as a signature, stays. If the mirror is exact, it stays only
-/// if it is among the selected roots, or they reach it.
+/// if it is among the roots of the goal, or they reach it.
 ///
-/// The plan is one that `plan_copy` made of these two layouts, the selected roots and these
-/// options. The destination has forgotten the entries with a name. It is always returned. If the copy is refused, no tag, no entry and no
-/// file is removed, and the index is not written.
+/// The plan is one that `plan_copy` made of these two layouts, the selected roots and these options,
+/// and the goal is one that fits the destination, as from [`prepare_destination`]. The destination is
+/// always returned. If the copy is refused, no tag, no entry and no file is removed, and the index is
+/// not written.
 ///
 /// # Errors
 ///
@@ -181,6 +190,7 @@ pub(crate) fn mirror<R: Host, S: Dir + Sync, D: PrunableDir + Drop + Send, H: Ho
     destination: Layout<D>,
     plan: &Plan,
     selected: &Selected,
+    goal: &Goal,
     is_exact: bool,
     options: &Options,
     hooks: &H,
@@ -191,25 +201,25 @@ where
     requires planned { IsPlanOf (⟦<Layout<S> as Store>⟧.state source.now) options.now
         (⟦<Layout<D> as Store>⟧.state destination) selected.now.0 plan.now }
     requires whole { IsWholeSource is_exact source.now }
-    requires unnamed { named_entries (said destination.opened.content).entries ≡ [] }
+    requires fits { Fits destination selected.now.0 goal.now.0 }
 
-    // After a mirror the destination has exactly the selected tags, and what they need.
-    ensures tags { OnOk result.1 (result.0.tags ≡ set_tags [] selected.now.1) }
+    // After a mirror the destination has exactly the tags of the goal, and what they need.
+    ensures tags { OnOk result.1 (result.0.tags ≡ set_tags [] goal.now.1) }
     ensures brought { OnOk result.1 (Brings (map entry_of selected.now.2) result.0.tags
         destination.opened result.0.opened) }
     ensures saved { OnOk result.1 ((D.device result.0.dir).is_honest
         → HasIndex (D.device result.0.dir).file result.0.graph result.0.tags result.0.opened) }
     ensures pruned { IfOk result.1 (IsMirrored D.device options.now.existing is_exact
-        (⟦<Layout<S> as Store>⟧.state source.now) selected.now.0 selected.now.1 destination
+        (⟦<Layout<S> as Store>⟧.state source.now) selected.now.0 goal.now destination
         result.0) }
     ensures reached { OnOk result.1 (HasReached (⟦<Layout<S> as Store>⟧.state source.now)
         (⟦<Layout<D> as Store>⟧.state destination) selected.now.0
         (⟦<Layout<D> as Store>⟧.state result.0)) }
 
-    // All that was selected is held. An exact mirror holds only what is reached from it.
-    ensures held { OnOk result.1 (HasAll result.0.graph selected.now.0) }
+    // All roots of the goal are held. An exact mirror holds only what is reached from them.
+    ensures held { OnOk result.1 (HasAll result.0.graph goal.now.0) }
     ensures only { OnOk result.1 (is_exact ≡ true
-        → HoldsOnlyReached result.0.graph selected.now.0) }
+        → HoldsOnlyReached result.0.graph goal.now.0) }
 
     // What its tags need stays, whatever the result.
     ensures stays { KeepsHeld destination.graph result.0.graph (values_of result.0.tags) }
@@ -228,7 +238,7 @@ where
         (RefusedAt (Contains plan.now.keys) (IsStepCause
         (CanFail ⟦<Layout<D> as Store>⟧.state (⟦<Layout<D> as Store>⟧.state destination))
         (⟦<Layout<S> as Store>⟧.state source.now) (⟦<Layout<D> as Store>⟧.state destination))))
-        is_exact selected.now.0 (D.device result.0.dir) result.0) }
+        is_exact goal.now.0 (D.device result.0.dir) result.0) }
 {
     // A copy may change what the destination remembers of its index, as far as its contract says.
     let mut destination = destination;
@@ -244,7 +254,15 @@ where
         options,
         hooks,
     );
-    finish(rt.alloc(), destination, index, copied, selected, is_exact)
+    finish(
+        rt.alloc(),
+        destination,
+        index,
+        copied,
+        selected,
+        goal,
+        is_exact,
+    )
 }
 
 /// Gives the destination of a copy back what it remembered of its index, and cleans it up, unless
@@ -255,21 +273,23 @@ fn finish<D: PrunableDir>(
     index: OpenedIndex,
     copied: Result<Report, CopyFault>,
     selected: &Selected,
+    goal: &Goal,
     is_exact: bool,
 ) -> (Layout<D>, Result<Copied, ProgramFault>)
-    requires held { OnOk copied (HasAll destination.graph selected.now.0) }
-    ensures tags { OnOk result.1 (result.0.tags ≡ set_tags [] selected.now.1) }
+    requires held { OnOk copied (HasAll destination.graph goal.now.0) }
+    requires roots { All (Contains goal.now.0) selected.now.0 }
+    ensures tags { OnOk result.1 (result.0.tags ≡ set_tags [] goal.now.1) }
     ensures brought { OnOk result.1 (Brings (map entry_of selected.now.2) result.0.tags index
         result.0.opened) }
     ensures saved { OnOk result.1 ((D.device result.0.dir).is_honest
         → HasIndex (D.device result.0.dir).file result.0.graph result.0.tags result.0.opened) }
-    ensures pruned { IfOk result.1 (IsCleanedCopy D.device is_exact selected.now.0 selected.now.1
-        destination result.0) }
-    ensures stays { OnOk result.1 (KeepsReached destination.graph result.0.graph selected.now.0) }
-    ensures held { OnOk result.1 (HasAll result.0.graph selected.now.0) }
+    ensures pruned { IfOk result.1 (IsCleanedCopy D.device is_exact goal.now destination
+        result.0) }
+    ensures stays { OnOk result.1 (KeepsReached destination.graph result.0.graph goal.now.0) }
+    ensures held { OnOk result.1 (HasAll result.0.graph goal.now.0) }
     ensures only { OnOk result.1 (is_exact ≡ true
-        → named_entries (said index.content).entries ≡ []
-        → HoldsOnlyReached result.0.graph selected.now.0) }
+        → All (IsOfRoot goal.now.0) (said index.content).entries
+        → HoldsOnlyReached result.0.graph goal.now.0) }
     ensures report { IfOk result.1 (λ done. copied ≡ Ok done.report) }
     ensures reached { KeepsReached destination.graph result.0.graph (values_of result.0.tags) }
     ensures closed { IsClosed destination.graph → IsClosed result.0.graph }
@@ -277,12 +297,12 @@ fn finish<D: PrunableDir>(
     ensures remembered { OnErr copied (result.0.opened ≡ index) }
     ensures refused { IfErr result.1 (IsRefusedMirror
         (λ fault. (copied ≡ Err fault) ⊎ (IsOk copied × (fault ≡ CopyFault.Memory)))
-        is_exact selected.now.0 (D.device result.0.dir) result.0) }
+        is_exact goal.now.0 (D.device result.0.dir) result.0) }
 {
     let mut destination = destination;
     destination.put_index(index);
     match copied {
-        Ok(report) => match clean_up(alloc, &mut destination, selected, is_exact) {
+        Ok(report) => match clean_up(alloc, &mut destination, selected, goal, is_exact) {
             Ok(removed) => (destination, Ok(copied_of(report, removed))),
             Err(fault) => (destination, Err(fault)),
         },
@@ -301,8 +321,8 @@ fn copied_of(report: Report, removed: CleanUp) -> Copied
     }
 }
 
-/// Sets the selected tags in a layout that holds their keys, removes all others, brings the
-/// selected entries, saves it, and removes what no tag needs.
+/// Sets the tags of a goal in a layout that holds their keys, removes all others, brings the selected
+/// entries, saves it, and removes what no tag needs.
 ///
 /// # Errors
 ///
@@ -311,32 +331,34 @@ fn clean_up<D: PrunableDir>(
     alloc: Global,
     destination: &mut Layout<D>,
     selected: &Selected,
+    goal: &Goal,
     is_exact: bool,
 ) -> Result<CleanUp, ProgramFault>
-    requires held { HasAll destination.old.graph selected.now.0 }
-    ensures tags { OnOk result (destination.new.tags ≡ set_tags [] selected.now.1) }
+    requires held { HasAll destination.old.graph goal.now.0 }
+    requires roots { All (Contains goal.now.0) selected.now.0 }
+    ensures tags { OnOk result (destination.new.tags ≡ set_tags [] goal.now.1) }
     ensures brought { OnOk result (Brings (map entry_of selected.now.2) destination.new.tags
         destination.old.opened destination.new.opened) }
     ensures saved { OnOk result ((D.device destination.new.dir).is_honest
         → HasIndex (D.device destination.new.dir).file destination.new.graph
         destination.new.tags destination.new.opened) }
-    ensures pruned { IfOk result (IsCleaned D.device is_exact selected.now.0 selected.now.1
-        destination.old destination.new) }
+    ensures pruned { IfOk result (IsCleaned D.device is_exact goal.now destination.old
+        destination.new) }
     ensures stays { OnOk result (KeepsReached destination.old.graph destination.new.graph
-        selected.now.0) }
-    ensures held { OnOk result (HasAll destination.new.graph selected.now.0) }
+        goal.now.0) }
+    ensures held { OnOk result (HasAll destination.new.graph goal.now.0) }
     ensures only { OnOk result (is_exact ≡ true
-        → named_entries (said destination.old.opened.content).entries ≡ []
-        → HoldsOnlyReached destination.new.graph selected.now.0) }
+        → All (IsOfRoot goal.now.0) (said destination.old.opened.content).entries
+        → HoldsOnlyReached destination.new.graph goal.now.0) }
     ensures reached { KeepsReached destination.old.graph destination.new.graph
         (values_of destination.new.tags) }
     ensures closed { IsClosed destination.old.graph → IsClosed destination.new.graph }
     ensures refused { IfErr result (IsRefusedMirror (λ fault. fault ≡ CopyFault.Memory)
-        is_exact selected.now.0 (D.device destination.new.dir) destination.new) }
+        is_exact goal.now.0 (D.device destination.new.dir) destination.new) }
 {
-    let untagged = retag(alloc, destination, selected)?;
+    let untagged = retag(alloc, destination, goal)?;
     destination.bring(selected.entries())?;
-    match prune_and_save(alloc, destination, selected.roots(), is_exact) {
+    match prune_and_save(alloc, destination, goal.roots(), is_exact) {
         Ok((plan, pruned)) => Ok(CleanUp {
             untagged,
             plan,

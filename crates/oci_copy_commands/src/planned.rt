@@ -3,9 +3,11 @@ ghost use Rattle.std.specs.Prelude.{◌≡◌, ◌↔◌, true, Contains, IfOk, 
 ghost use Rattle.std.specs.BTreeSet.{contains};
 ghost use Rattle.oci_manifest.specs.Descriptor.{Descriptor, key_cmp};
 ghost use Rattle.oci_copy.specs.Planned.{IsPlanOf};
+ghost use Rattle.oci_copy_commands.specs.Goal.{Fits};
 ghost use Rattle.oci_copy_commands.specs.Mirror.{IsWholeSource};
 ghost use Rattle.oci_copy_commands.specs.PlannedMirror.{IsCopyAfter, IsPlannedCleanUp, IsRefusedPlan};
 
+use crate::goal::Goal;
 use crate::mirror::fault_of;
 use crate::retag::other_tags;
 use crate::selected::Selected;
@@ -29,8 +31,8 @@ pub(crate) struct PlannedCleanUp {
     pub(crate) plan: PrunePlan,
 }
 
-/// Plans a mirror: the copy, and what the clean-up after it would remove. Changes nothing. The
-/// destination has forgotten the entries with a name, as for [`mirror`](crate::mirror::mirror).
+/// Plans a mirror: the copy, and what the clean-up after it would remove. Changes nothing. The goal
+/// fits the destination, as for [`mirror`](crate::mirror::mirror).
 ///
 /// # Errors
 ///
@@ -43,21 +45,22 @@ pub(crate) fn plan_mirror<S: Dir, D: PrunableDir>(
     source: &Layout<S>,
     destination: &Layout<D>,
     selected: &Selected,
+    goal: &Goal,
     is_exact: bool,
     options: &Options,
 ) -> Result<(Plan, PlannedCleanUp), ProgramFault>
     requires whole { IsWholeSource is_exact source.now }
+    requires fits { Fits destination.now selected.now.0 goal.now.0 }
     ensures plan { IfOk result (λ it. IsPlanOf (⟦<Layout<S> as Store>⟧.state source.now)
         options.now (⟦<Layout<D> as Store>⟧.state destination.now) selected.now.0 it.0) }
     ensures planned { IfOk result (λ it. IsPlannedCleanUp (D.device destination.now.dir)
         (⟦<Layout<S> as Store>⟧.state source.now)
-        (⟦<Layout<D> as Store>⟧.state destination.now) it.0.keys is_exact selected.now.0
-        selected.now.1 it.1) }
+        (⟦<Layout<D> as Store>⟧.state destination.now) it.0.keys is_exact goal.now it.1) }
     ensures copied { IfOk result (λ it. IsCopyAfter (⟦<Layout<S> as Store>⟧.state source.now)
         (⟦<Layout<D> as Store>⟧.state destination.now) it.0.keys selected.now.0) }
 {
     let plan = plan_copy(alloc, source, destination, selected.roots(), options)?;
-    let clean_up = plan_clean_up(alloc, source, destination, &plan, selected, is_exact)?;
+    let clean_up = plan_clean_up(alloc, source, destination, &plan, goal, is_exact)?;
     Ok((plan, clean_up))
 }
 
@@ -71,20 +74,19 @@ fn plan_clean_up<S: Dir, D: PrunableDir>(
     source: &Layout<S>,
     destination: &Layout<D>,
     plan: &Plan,
-    selected: &Selected,
+    goal: &Goal,
     is_exact: bool,
 ) -> Result<PlannedCleanUp, ProgramFault>
     ensures planned { IfOk result (IsPlannedCleanUp (D.device destination.now.dir)
         (⟦<Layout<S> as Store>⟧.state source.now)
-        (⟦<Layout<D> as Store>⟧.state destination.now) plan.now.keys is_exact selected.now.0
-        selected.now.1) }
+        (⟦<Layout<D> as Store>⟧.state destination.now) plan.now.keys is_exact goal.now) }
     ensures refused { IfErr result (IsRefusedPlan (D.device destination.now.dir)
         destination.now.opened (⟦<Layout<S> as Store>⟧.state source.now)
-        (⟦<Layout<D> as Store>⟧.state destination.now) plan.now.keys is_exact selected.now.0) }
+        (⟦<Layout<D> as Store>⟧.state destination.now) plan.now.keys is_exact goal.now.0) }
 {
-    let untagged = other_tags(alloc, &destination.tags()?, selected.tags())?;
+    let untagged = other_tags(alloc, &destination.tags()?, goal.tags())?;
     let arriving = set_of_keys(alloc, plan.keys())?;
-    let roots = selected.roots();
+    let roots = goal.roots();
     match plan_prune_after(alloc, source, destination, &arriving, roots, !is_exact) {
         Ok(plan) => Ok(PlannedCleanUp { untagged, plan }),
         Err(fault) => Err(fault_of(fault)),

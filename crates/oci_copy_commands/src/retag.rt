@@ -10,7 +10,7 @@ ghost use Rattle.oci_store.specs.Tags.{by_bytes, tag_at};
 ghost use Rattle.oci_copy_commands.specs.Selected.{other_tags, set_tags, without_tags};
 
 use crate::between::tag_all;
-use crate::selected::Selected;
+use crate::goal::Goal;
 use oci_copy::CopyFault;
 use oci_digest::NoMemory;
 use oci_layout::{Dir, Layout};
@@ -19,7 +19,7 @@ use oci_program::ProgramFault;
 use oci_store::{RefFault, Tags, Untagger};
 use std::alloc::Global;
 
-/// Sets the selected tags in a layout that holds their keys, and removes its other tags. Returns
+/// Sets the tags of a goal in a layout that holds their keys, and removes its other tags. Returns
 /// those, in byte order of the names.
 ///
 /// # Errors
@@ -28,19 +28,19 @@ use std::alloc::Global;
 pub(crate) fn retag<D: Dir>(
     alloc: Global,
     layout: &mut Layout<D>,
-    selected: &Selected,
+    goal: &Goal,
 ) -> Result<Vec<(String, Key)>, ProgramFault>
-    requires held { HasAll layout.old.graph selected.now.0 }
-    ensures tags { OnOk result (layout.new.tags ≡ set_tags [] selected.now.1) }
-    ensures rooted { OnOk result (All (λ k. Contains selected.now.0 k)
+    requires held { HasAll layout.old.graph goal.now.0 }
+    ensures tags { OnOk result (layout.new.tags ≡ set_tags [] goal.now.1) }
+    ensures rooted { OnOk result (All (λ k. Contains goal.now.0 k)
         (values_of layout.new.tags)) }
     ensures removed { IfOk result (λ others. by_bytes others.items
-        ≡ other_tags layout.old.tags selected.now.1) }
+        ≡ other_tags layout.old.tags goal.now.1) }
     ensures only { OnlyTags layout.old layout.new }
     ensures memory { IfErr result (λ fault. (fault ≡ ProgramFault.Memory)
         ⊎ (fault ≡ ProgramFault.Copy CopyFault.Memory)) }
 {
-    let tags = selected.tags();
+    let tags = goal.tags();
     let others = other_tags(alloc, &layout.tags()?, tags)?;
     if let Err(fault) = tag_all(layout, tags) {
         return Err(ProgramFault::Copy(CopyFault::from(fault)));
@@ -88,14 +88,14 @@ pub(crate) fn other_tags(
 }
 
 /// Returns whether there is a tag with this name.
-fn has_tag(tags: &Tags, name: &str) -> bool
+pub(crate) fn has_tag(tags: &Tags, name: &str) -> bool
     ensures { result ≡ is_some (tag_at tags.now name.now) }
 {
     tags.get(name).is_some()
 }
 
 /// Returns a set of these tags.
-fn set_of(alloc: Global, tags: &[(String, Key)]) -> Result<Tags, NoMemory>
+pub(crate) fn set_of(alloc: Global, tags: &[(String, Key)]) -> Result<Tags, NoMemory>
     ensures { IfOk result (λ set. set ≡ set_tags [] (by_bytes tags.now)) }
 {
     let mut set = Tags::new(alloc);

@@ -246,7 +246,7 @@ fn source_belonging<D: Dir>(
 }
 
 /// Returns the keys of both lists, each once.
-fn both(alloc: Global, first: &[Key], second: &[Key]) -> Result<Vec<Key>, NoMemory>
+pub(crate) fn both(alloc: Global, first: &[Key], second: &[Key]) -> Result<Vec<Key>, NoMemory>
     ensures { IfOk result (λ keys. keys.items ≡ each_once (first.now ++ second.now)) }
 {
     let mut keys = KeyList::new(alloc);

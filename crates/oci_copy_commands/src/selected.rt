@@ -160,7 +160,8 @@ impl Selected {
         to: &str,
         referrers: Referrers<'_>,
     ) -> Result<Selected, ProgramFault>
-        ensures { IfOk result (SelectsReference D.device source.now from.now to.now referrers.entry) }
+        ensures { IfOk result (SelectsReference D.device source.now from.now to.now
+            referrers.entry) }
     {
         let key = resolve(source, from)?;
         let name = tag_name(alloc, from, to)?;
@@ -471,7 +472,7 @@ fn first_tag(
 }
 
 /// Returns tags, and after them others.
-fn joined(
+pub(crate) fn joined(
     tags: Vec<(String, Key)>,
     others: Vec<(String, Key)>,
 ) -> Result<Vec<(String, Key)>, NoMemory>

@@ -28,9 +28,9 @@ pub(crate) enum Kind {
         most: u32,
         default: Option<&'static str>,
     },
-    /// A flag with a text.
+    /// A flag with a text that is not empty.
     Text(&'static str),
-    /// A flag with a text that can be given several times.
+    /// A flag with a text that is not empty. It can be given several times.
     Texts(&'static str),
     /// A word without which the command line is invalid.
     Word(&'static str),
@@ -77,8 +77,10 @@ impl Kind {
                 most,
                 default,
             } => Ok(with_number(argument.long(id).value_name(name), most, default)),
-            Kind::Text(name) => Ok(argument.long(id).value_name(name)),
-            Kind::Texts(name) => Ok(argument.long(id).value_name(name).action(ArgAction::Append)),
+            Kind::Text(name) => Ok(with_text(argument.long(id).value_name(name))),
+            Kind::Texts(name) => Ok(with_text(argument.long(id).value_name(name)).action(
+                ArgAction::Append,
+            )),
             Kind::Word(name) => Ok(argument.value_name(name).required(true)),
             Kind::OptionalWord(name) => Ok(argument.value_name(name)),
             Kind::WordUnless { name, flag } => argument
@@ -96,6 +98,11 @@ fn with_number<'w>(argument: Arg<'w>, most: u32, default: Option<&'static str>) 
         Some(number) => argument.default_value(number),
         None => argument,
     }
+}
+
+/// Makes the value of an argument a text that is not empty.
+fn with_text<'w>(argument: Arg<'w>) -> Arg<'w> {
+    argument.value_parser(ValueParser::NonEmptyString)
 }
 
 /// A flag without a value.

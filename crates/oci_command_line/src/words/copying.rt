@@ -13,6 +13,7 @@ Examples:
   ocicp copy --all --prune build mirror    makes the tags of `mirror` those of `build`, and frees the space
   ocicp copy --all --dry-run build mirror  prints the blobs that a copy of every tag would copy
   ocicp copy --all --prune --dry-run build mirror    prints also what would be removed from `mirror`
+  ocicp copy --all --prune --match 'v1.*' build mirror   does it for the tags that begin with `v1.`, and leaves the others
   ocicp copy --descend build v1 mirror     also restores blobs that `mirror` has lost
   ocicp copy --all image.tar mirror        copies every tag of an archive, such as `docker save` writes";
 
@@ -132,15 +133,16 @@ fn all() -> Argument {
     }
 }
 
-/// `--match`. It conflicts with the destination's own word, as `--prune` does.
+/// `--match`. It conflicts with the destination's own word, as `--all` does.
 fn matching() -> Argument {
     let help =
         "With --all: copies only the tags that match GLOB: `*` stands for any text, also an empty one, `?` for any one \
          character, and each other character for itself. Given several times, a tag must match one of the patterns. \
          Quote GLOB, so that the shell does not replace it by names of files. With --referrers, the tags of SRC that are \
-         named for the digest of a copied manifest come too. Refused if no tag of SRC matches (108). Not with --prune";
+         named for the digest of a copied manifest come too, unless --artifact-type is given. With --prune, tags of DST that \
+         match no pattern stay. Refused if no tag of SRC matches (108)";
     Argument {
-        conflicts: &["destination", "prune"],
+        conflicts: &["destination"],
         needs: &["all"],
         ..Argument::new("match", Kind::Texts("GLOB"), help)
     }
@@ -191,7 +193,9 @@ fn prune() -> Argument {
     let help =
         "With --all: afterwards removes from DST the tags that SRC does not have, and what no tag then needs, as the command \
          `prune` does. With --referrers it also removes what is attached only in DST, and brings and keeps no index only because \
-         that lists an image. Refused, before anything is copied, if the blob of an entry of SRC's `index.json` is missing or \
+         that lists an image. With --match, the tags of DST that match no pattern stay, with what belongs to them; with --referrers \
+         those of them that are named for the digest of another manifest stay only if it belongs to tags that stay. \
+         Refused, before anything is copied, if the blob of an entry of SRC's `index.json` is missing or \
          damaged (96), SRC has a damaged manifest (96; with --referrers 75, 77), or an entry is no descriptor (73); with \
          --referrers also if a manifest of SRC lists one that is missing (96). Prints `untagged` for each removed tag, `removed` \
          for each removed blob, `removed-file` for each other file that goes, and the counts; with --dry-run prints what would go";

@@ -35,8 +35,8 @@ pub(crate) const PREDECESSORS: CommandText = CommandText {
         "Lists the manifests that list the blob of a reference: indexes, and referrers such as \
          signatures. Each line is a digest, a size and a media type. Only direct predecessors are listed; \
          `tree --referrers` shows theirs too.\n\n\
-         With `--artifact-type` only the referrers of this type are listed: the manifests that state the digest \
-         of the blob in their `subject`.\n\n\
+         With `--artifact-type`, of the manifests that list the blob only those are listed whose `subject` has its \
+         digest and that are of this type.\n\n\
          Then reports each entry of `index.json` that is no descriptor, as an error (73), and each damaged \
          manifest of the layout (75 or 77), since they may lead to the blob too.",
     ),
@@ -117,8 +117,8 @@ pub(crate) fn tree_referrers() -> Argument {
 /// `--artifact-type` of `predecessors`
 pub(crate) fn predecessors_type() -> Argument {
     let help =
-        "Lists only the manifests that state the digest of the blob in their `subject` and are of this type: their `artifactType`, or \
-         else the media type of their config. Can be given several times, for several types";
+        "Of the manifests that list the blob, lists only those whose `subject` has its digest and that are of this type: their \
+         `artifactType`, or else the media type of their config. Can be given several times, for several types";
     Argument::new("artifact-type", Kind::Texts("TYPE"), help)
 }
 

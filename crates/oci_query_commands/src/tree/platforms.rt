@@ -17,7 +17,7 @@ impl Platforms {
         }
     }
 
-    /// Sorts platforms by the keys of which they are stated.
+    /// Collects the platforms that are stated of each key.
     pub(crate) fn of(alloc: Global, stated: Vec<(String, Key)>) -> Result<Platforms, NoMemory> {
         let mut platforms = Platforms::none(alloc);
         for (platform, key) in stated {

@@ -11,6 +11,7 @@ use Rattle.oci_prune.specs.Plan.{roots_of, roots_with}
 use Rattle.oci_prune.specs.Pruned.{KeepsReached}
 use Rattle.oci_copy_commands.specs.Mirror.{relabeled, HoldsOnlyReached, IsPruned}
 use Rattle.oci_copy_commands.proofs.Exact.{fewer_stay, only_roots, roots_stay}
+use Rattle.oci_copy_commands.proofs.Goals.{of_more_roots}
 use Rattle.oci_copy_commands.proofs.Mirrored.{same_layout, tagged_stay}
 use Rattle.oci_copy_commands.proofs.NamedRoots.{brought_named}
 use Rattle.oci_copy_commands.proofs.mirror.clean_up.Goals as goal
@@ -24,23 +25,24 @@ returns-in-Ok-clause-pruned g c =
     let pruned = rw c.roots.ensures at c.in-Ok.ensures.pruned in
     record {
       pruned =
-          subst (λ (l : LayoutState g.row.D.Denot). IsPruned g.D.Dir.device c.args.is_exact c.args.selected.now.0 l new c.in-Ok.plan.kept)
+          subst (λ (l : LayoutState g.row.D.Denot). IsPruned g.D.Dir.device c.args.is_exact c.args.goal.now.0 l new c.in-Ok.plan.kept)
           (same_layout old (relabeled c.args.destination.now new) (brought.dir ∙ retagged.dir) (brought.graph ∙ retagged.graph) (sym c.prune_and_save.ensures.tags) (sym c.prune_and_save.ensures.opened)) pruned;
       untagged = c.in_ok-untagged.ensures.removed;
     }
 
 pub returns-in-Ok-clause-only : goal.returns-in-Ok-clause-only
-returns-in-Ok-clause-only g c exact none =
+returns-in-Ok-clause-only g c exact named =
     let old = c.bring.new.self in
     let new = c.prune_and_save.new.destination in
-    let roots = c.args.selected.now.0 in
+    let roots = c.args.goal.now.0 in
     let holds : HoldsOnlyReached new.graph (roots_with old roots) = rw c.roots.ensures at c.in-Ok.ensures.only exact in
     let tagged : All (Contains roots) (values_of old.tags) = subst (λ (tags : Tags). All (Contains roots) (values_of tags)) (sym c.bring.ensures.only.tags) c.in_ok-untagged.ensures.rooted in
     let brought = map entry_of c.args.selected.now.2 in
     let before = c.args.destination.now.opened in
     let came : Brings brought c.retag.new.layout.tags before old.opened = rw (c.entries.ensures.entries, c.retag.ensures.only.opened) at c.in_ok-bring.ensures.brought in
     let brings : Brings brought old.tags before old.opened = subst (λ (tags : Tags). Brings brought tags before old.opened) (sym c.bring.ensures.only.tags) came in
-    only_roots old roots new.graph tagged (brought_named roots brought old.tags before old.opened brings none c.entries.ensures.named) holds
+    let of_roots = of_more_roots c.args.selected.now.0 roots brought c.requires.roots c.entries.ensures.named in
+    only_roots old roots new.graph tagged (brought_named roots brought old.tags before old.opened brings named of_roots) holds
 
 pub returns-in-Ok-clause-reached : goal.returns-in-Ok-clause-reached
 returns-in-Ok-clause-reached g c =
@@ -60,10 +62,10 @@ pub returns-in-Ok-clause-stays : goal.returns-in-Ok-clause-stays
 returns-in-Ok-clause-stays g c =
     let old = c.bring.new.self in
     let new = c.prune_and_save.new.destination in
-    let roots = c.args.selected.now.0 in
+    let roots = c.args.goal.now.0 in
     subst (λ (graph : List Node). KeepsReached graph new.graph roots) (c.bring.ensures.only.graph ∙ c.retag.ensures.only.graph)
     (fewer_stay old.graph new.graph roots (roots_of old) (rw c.roots.ensures at c.in-Ok.ensures.stays))
 
 pub returns-in-Ok-clause-held : goal.returns-in-Ok-clause-held
 unfolding returns-in-Ok-clause-stays
-returns-in-Ok-clause-held g c = roots_stay c.args.destination.now.graph c.prune_and_save.new.destination.graph c.args.selected.now.0 (returns-in-Ok-clause-stays g c) c.requires.held
+returns-in-Ok-clause-held g c = roots_stay c.args.destination.now.graph c.prune_and_save.new.destination.graph c.args.goal.now.0 (returns-in-Ok-clause-stays g c) c.requires.held

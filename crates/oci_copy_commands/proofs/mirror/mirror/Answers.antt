@@ -10,6 +10,8 @@ use Rattle.oci_layout.proofs.Crosses.{layout_send, layout_sync}
 use Rattle.oci_layout.proofs.Law.{keys_of_one_digest}
 use Rattle.oci_copy_commands.specs.Mirror.{KeepsContents}
 use Rattle.oci_copy_commands.specs.declared.copy.Copied.{Copied}
+use Rattle.oci_copy.proofs.Roots.{on_ok_from}
+use Rattle.oci_copy_commands.proofs.Goals.{goal_held, some_stay}
 use Rattle.oci_copy_commands.proofs.Mirrored.{both_give, contents_after, err_gives, held_stay, reached_kept, report_gives}
 use Rattle.oci_copy_commands.proofs.Refusals.{after_refused, mirror_refused}
 use Rattle.oci_copy_commands.proofs.mirror.mirror.Goals as goal
@@ -34,7 +36,7 @@ returns-clause-pruned g c =
     c.finish.ensures.report (rw (c.roots-roots.ensures, only.dir, only.graph, only.tags) at left.ensures.copied) c.finish.ensures.pruned
 
 pub returns-clause-only : goal.returns-clause-only
-returns-clause-only g c = on_ok_weaker c.finish.result.1 (λ only exact. only exact (rw c.take_index-index.ensures.taken c.requires.unnamed)) c.finish.ensures.only
+returns-clause-only g c = on_ok_weaker c.finish.result.1 (λ only exact. only exact (rw c.take_index-index.ensures.taken c.requires.fits.named)) c.finish.ensures.only
 
 pub returns-clause-reached : goal.returns-clause-reached
 returns-clause-reached g c =
@@ -46,8 +48,16 @@ returns-clause-reached g c =
     let source = meaning (g.S.Dir.device from.dir) from.graph from.tags in
     let old = meaning (g.D.Dir.device to.dir) to.graph to.tags in
     let copied = meaning (g.D.Dir.device left.result.0.dir) left.result.0.graph left.result.0.tags in
-    both_give left.result.1 c.finish.result.1 (λ (done : Copied). done.report) (λ report copy keeps. reached_kept source old copied c.args.selected.now.0 new.graph copy keeps)
+    both_give left.result.1 c.finish.result.1 (λ (done : Copied). done.report) (λ report copy keeps. reached_kept source old copied c.args.selected.now.0 new.graph copy (some_stay left.result.0.graph new.graph c.args.selected.now.0 c.args.goal.now.0 c.requires.fits.selected keeps))
     c.finish.ensures.report (rw (c.roots-roots.ensures, only.dir, only.graph, only.tags) at left.ensures.copied) c.finish.ensures.stays
+
+pub finish-requires-clause-held : goal.finish-requires-clause-held
+finish-requires-clause-held g c =
+    let left = c.copy_plan-destination in
+    let only = c.take_index-index.ensures.only in
+    let grows = rw (c.roots-roots.ensures, only.dir, only.graph, only.tags) at left.ensures.grows in
+    on_ok_from left.result.1 _ _ (λ report copy. goal_held c.args.destination.graph left.result.0.graph c.args.selected.now.0 c.args.goal.now.0 grows.begins copy.roots_held c.requires.fits.held)
+    (rw (c.roots-roots.ensures, only.dir, only.graph, only.tags) at left.ensures.copied)
 
 pub returns-clause-stays : goal.returns-clause-stays
 returns-clause-stays g c =
@@ -63,7 +73,7 @@ returns-clause-unpruned g c =
     let only = c.take_index-index.ensures.only in
     let grows = rw (c.roots-roots.ensures, only.dir, only.graph, only.tags) at left.ensures.grows in
     let new = c.finish.result.0 in
-    after_refused (BeginsWith c.args.destination.graph new.graph) left.result.1 c.args.is_exact c.args.selected.now.0 (g.D.Dir.device new.dir) new c.finish.result.1 c.finish.ensures.refused
+    after_refused (BeginsWith c.args.destination.graph new.graph) left.result.1 c.args.is_exact c.args.goal.now.0 (g.D.Dir.device new.dir) new c.finish.result.1 c.finish.ensures.refused
     (err_gives left.result.1 (λ same. rw same.graph grows.begins) c.finish.ensures.unsaved)
 
 pub returns-clause-contents : goal.returns-clause-contents
@@ -77,7 +87,7 @@ returns-clause-contents g c =
     let source = meaning (g.S.Dir.device from.dir) from.graph from.tags in
     let old = meaning (g.D.Dir.device to.dir) to.graph to.tags in
     let copied = meaning (g.D.Dir.device left.result.0.dir) left.result.0.graph left.result.0.tags in
-    after_refused (KeepsContents source old (meaning (g.D.Dir.device new.dir) new.graph new.tags)) left.result.1 c.args.is_exact c.args.selected.now.0 (g.D.Dir.device new.dir) new c.finish.result.1 c.finish.ensures.refused
+    after_refused (KeepsContents source old (meaning (g.D.Dir.device new.dir) new.graph new.tags)) left.result.1 c.args.is_exact c.args.goal.now.0 (g.D.Dir.device new.dir) new c.finish.result.1 c.finish.ensures.refused
     (err_gives left.result.1 (λ same. rw (same.dir, same.graph, same.tags) (contents_after source old copied c.args.selected.now.0 (keys_of_one_digest (g.S.Dir.device from.dir).file from.graph) grows)) c.finish.ensures.unsaved)
 
 pub returns-clause-refused : goal.returns-clause-refused
@@ -85,7 +95,7 @@ returns-clause-refused g c =
     let left = c.copy_plan-destination in
     let only = c.take_index-index.ensures.only in
     let new = c.finish.result.0 in
-    mirror_refused c.args.options.now.workers _ (inl refl) left.result.1 (rw (only.dir, only.graph, only.tags) at left.ensures.refused) c.args.is_exact c.args.selected.now.0 (g.D.Dir.device new.dir) new c.finish.result.1 c.finish.ensures.refused
+    mirror_refused c.args.options.now.workers _ (inl refl) left.result.1 (rw (only.dir, only.graph, only.tags) at left.ensures.refused) c.args.is_exact c.args.goal.now.0 (g.D.Dir.device new.dir) new c.finish.result.1 c.finish.ensures.refused
 
 pub copy_plan-destination-requires-send-D : goal.copy_plan-destination-requires-send-D
 copy_plan-destination-requires-send-D g c κs within = param_send _ _ (arg_send _ no _ (layout_send _ (param 5 g.row.D-Draft) _ g.D.Draft.Drafting c.type_bounds.send-D))
