@@ -1,5 +1,5 @@
 """`copy --referrers` of layouts made by hand and at random, also into mirrors and of some types, against what belongs to the image by the rules
-of README, worked out from the files."""
+of README, worked out from the files. Mirrors of some tags likewise, also without `--referrers`."""
 import json
 import os
 import random
@@ -7,9 +7,10 @@ import shutil
 
 from support.dry_runs import wrong_dry_run
 from support.files import read
+from support.indexes import entry, named
 from support.layouts import BAR, E, FOO, I1, M2, M3, S, digits, image, index, write_layout
 from support.program import first, run, told
-from support.pruning import BLOB, MEMBERS, Held, files_of, path, text
+from support.pruning import MEMBERS, Held, files_of, key_of, name_of, path, text
 
 OCTETS = "application/octet-stream"
 SBOM, SIGNATURE = "application/spdx+json", "application/vnd.example.signature"
@@ -17,6 +18,8 @@ SBOM, SIGNATURE = "application/spdx+json", "application/vnd.example.signature"
 TYPES = [SBOM], [SIGNATURE, E.media_type], [SBOM[:-1], SBOM + "+"]
 # The number of random layouts.
 LAYOUTS = 40
+# Names of tags that are made of no digest. The pattern `v*` matches some of them.
+NAMES = ["v1", "v2", "v3", "edge", "edge", "stable", "stable"]
 
 
 def tag_of(content, suffix="", most=128):
@@ -65,6 +68,62 @@ def random_layout(chance):
     return contents + manifests, tags, manifests
 
 
+def random_entries(chance, manifests, names, repeats):
+    """Return random entries of an index: the content of each, and its name or None. Some have one of these names. Only if `repeats` do several
+    have the same one of these."""
+    found = []
+    for number in range(chance.randrange(2, 11)):
+        content = chance.choice([FOO, *[image([BAR], number=number + 20)] * 3, *manifests])
+        name = chance.choice([*NAMES, *names, *names, *[None] * 4])
+        if repeats or name not in names or name not in [it[1] for it in found]:
+            found.append((content, name))
+    return found
+
+
+def reached_of(contents, given):
+    """Return the given ones of these contents, and those whose digests are in the bytes of one that is returned."""
+    found, more = [], set(given)
+    while more:
+        found += more
+        more = {it for it in contents if it not in found and any(digits(it).encode() in other.bytes for other in found)}
+    return found
+
+
+def write_entries(folder, contents, entries, strays=()):
+    """Write a layout with these entries, the files of what they reach of these contents, and of strays. Each entry says more than its name."""
+    shutil.rmtree(folder, ignore_errors=True)
+    write_layout(folder, [*reached_of(contents, [it[0] for it in entries]), *strays], {})
+    values = [named(it, name, {"k": "v"}, number=place) if name else entry(it, number=place) for place, (it, name) in enumerate(entries)]
+    with open(folder + "/index.json", "w") as file:
+        json.dump({"schemaVersion": 2, "manifests": values}, file)
+
+
+def texts_of(key):
+    """Return the texts that name the digest of a key in a tag."""
+    whole = key.digest.replace(":", "-")
+    return {whole, whole[: len("sha512-") + 64]}
+
+
+def is_matching(name):
+    """Return whether the pattern `v*` matches a name."""
+    return name.startswith("v")
+
+
+def stem(name):
+    return name.split(".")[0]
+
+
+def stems(keys):
+    """Return what tags that are made of the digest of a manifest among these keys have before their first `.`."""
+    return {it for key in keys if key.media_type in MEMBERS for it in texts_of(key)}
+
+
+def tags_by(tags, keys):
+    """Return those of these tags that are made of the digest of a manifest among these keys."""
+    found = stems(keys)
+    return {name: key for name, key in tags.items() if stem(name) in found}
+
+
 class Source(Held):
     """A layout that is copied from."""
 
@@ -77,16 +136,22 @@ class Source(Held):
         return found
 
     def named(self, keys):
-        """Return the tags that are made of the digest of a manifest among these keys."""
-        whole = {it.digest.replace(":", "-") for it in keys if it.media_type in MEMBERS}
-        stems = whole | {it[: len("sha512-") + 64] for it in whole}
-        return {name: key for name, key in self.tags.items() if name.split(".")[0] in stems}
+        return tags_by(self.tags, keys)
 
     def attached(self, keys):
         return self.referrers(keys) | set(self.named(keys).values())
 
     def belonging(self, keys):
         return self.members(keys, self.attached)
+
+    def said(self, names):
+        """Return the entries of each of these names."""
+        entries = json.loads(read(self.folder + "/index.json"))["manifests"]
+        return {name: [it for it in entries if name_of(it) == name] for name in names}
+
+    def keys_of(self, names):
+        """Return the keys of the entries of these names."""
+        return {key_of(it) for entries in self.said(names).values() for it in entries}
 
     def type_of(self, key):
         """Return the type of a manifest: its `artifactType`, or else the media type of its config."""
@@ -162,57 +227,124 @@ def wrong_layout(room, layout):
 
 
 class Mirror:
-    """A mirror with referrers of a layout into another one, and what it is to print and to leave. Nothing is climbed to."""
+    """A mirror of `source` with referrers into the layout `mirror` as it is, and what it is to print and to leave. Nothing is climbed to."""
 
-    def __init__(self, room, layout, other):
-        self.room = room
-        for name, made in ("source", layout), ("mirror", other):
-            shutil.rmtree("%s/%s" % (room, name), ignore_errors=True)
-            write_layout("%s/%s" % (room, name), *made)
-        self.source, self.before = Source(room + "/source"), Held(room + "/mirror")
-        tagged = set(self.source.tags.values())
+    def __init__(self, room, words=("--referrers",)):
+        self.room, self.words = room, ["--all", "--prune", *words]
+        self.source, self.before = Source(room + "/source"), Source(room + "/mirror")
+        # The tags that are copied, those that stay, the keys that the copy starts from, and those that the mirror then has.
+        self.tags, self.stay = self.source.tags, {}
+        tagged = set(self.tags.values())
         self.members = self.source.belonging(tagged)
         self.roots = tagged | self.source.attached(self.members)
-        self.files = {path(it) for key in self.members for it in [key, *self.source.listed(key)]}
+        self.layout = self.source
 
     def blobs(self):
-        return {it for it in files_of(self.room + "/mirror") if BLOB.fullmatch(it)}
+        return {it for it in files_of(self.room + "/mirror") if it.startswith("blobs/")}
+
+    def files(self):
+        return {path(it) for key in self.members for it in [key, *self.layout.listed(key)]}
 
     def out(self):
-        """Return the lines of a mirror into the layout as it is."""
-        tags, new = self.source.tags, self.members - self.before.keys
-        removed, gone = self.before.keys - self.members, self.blobs() - self.files
+        """Return the lines of the mirror."""
+        tags, old, new = self.tags, self.before.tags, self.members - self.before.keys
+        removed, gone = self.before.keys - self.members, self.blobs() - self.files()
         lengths = {it: os.path.getsize("%s/mirror/%s" % (self.room, it)) for it in gone}
         return "".join(it + "\n" for it in [
-            *("copied " + text(tags[it]) for it in sorted(tags)),
+            *("copied " + text(tags[it]) for it in self.order(tags)),
             "planned %d pushed %d skipped %d" % (len(new), len(new), len(self.roots & self.before.keys)),
-            *("untagged %s %s" % (it, text(self.before.tags[it])) for it in sorted(set(self.before.tags) - set(tags))),
+            *("untagged %s %s" % (it, text(old[it])) for it in sorted(set(old) - set(tags) - set(self.stay))),
             *("removed " + text(it) for it in sorted(removed)),
             *("removed-file %s %d" % (it, lengths[it]) for it in sorted(gone - set(map(path, self.before.keys)))),
             "kept %d removed %d files %d bytes %d" % (len(self.members), len(removed), len(gone), sum(lengths.values())),
         ])
 
+    def order(self, tags):
+        """Return the names of tags in the order in which they are printed."""
+        return sorted(tags)
+
     def wrong(self):
-        """Return the problem with a mirror into the layout as it is, after a dry run of it, or None."""
-        out = self.out()
-        planned = wrong_dry_run(self.room, ["--all", "--prune", "--referrers"], out)
+        """Return the problem with the mirror, after a dry run of it, or None."""
+        out, files = self.out(), self.files()
+        said = {**self.before.said(self.stay), **self.source.said(self.tags)}
+        planned = wrong_dry_run(self.room, self.words, out)
         if planned:
             return planned
-        ended = run(["copy", "--all", "--prune", "--referrers", "source", "mirror"], self.room)
+        ended = run(["copy", *self.words, "source", "mirror"], self.room)
         if ended[:3] != (0, out, ""):
             return "a mirror: %s, and not %r" % (told(ended), out)
-        self.before = Held(self.room + "/mirror")
+        after = Source(self.room + "/mirror")
         return first([
-            None if self.before.keys == self.members else "the mirror holds %s" % sorted(map(text, self.before.keys)),
-            None if self.before.tags == self.source.tags else "the tags of the mirror are %s" % self.before.tags,
-            None if self.blobs() == self.files else "the files of the mirror are %s" % sorted(self.blobs()),
+            None if after.keys == self.members else "the mirror holds %s" % sorted(map(text, after.keys)),
+            None if after.tags == {**self.stay, **self.tags} else "the tags of the mirror are %s" % after.tags,
+            None if after.said(said) == said else "the entries of the mirror are %s" % after.said(said),
+            None if self.blobs() == files else "the files of the mirror are %s" % sorted(self.blobs()),
         ])
+
+
+class Both(Held):
+    """The keys of a mirror after a copy: those that it held, and these keys of the source."""
+
+    def __init__(self, before, source, keys):
+        self.before, self.source, self.keys = before, source, before.keys | keys
+
+    def member(self, key, name):
+        return (self.before if key in self.before.keys else self.source).member(key, name)
+
+
+class PartMirror(Mirror):
+    """A mirror of the tags that `v*` matches. If it is exact, it is one with referrers."""
+
+    def __init__(self, room, is_exact):
+        super().__init__(room, ["--match", "v*", *(["--referrers"] if is_exact else [])])
+        self.select(is_exact)
+        spared = {name: key for name, key in self.before.tags.items() if not is_matching(name) and name not in self.tags}
+        self.stay, kept = self.exactly(spared) if is_exact else (spared, self.before.keys_of(spared))
+        self.layout = Both(self.before, self.source, self.source.members(self.roots, lambda keys: set()))
+        self.members = self.layout.members(self.roots | kept, lambda keys: set() if is_exact else self.layout.referrers(keys))
+
+    def select(self, is_exact):
+        """Set the tags that are copied, and the keys that the copy starts from."""
+        source = self.source
+        self.tags = {name: key for name, key in source.tags.items() if is_matching(name)}
+        self.roots = source.keys_of(self.tags)
+        if is_exact:
+            members = source.belonging(self.roots)
+            self.tags.update(source.named(members))
+            self.roots |= source.attached(members)
+
+    def exactly(self, spared):
+        """Return those of these tags of the mirror that stay in an exact one, and the keys that stay for them."""
+        before, held = self.before, stems(self.before.keys)
+        own = {name: key for name, key in spared.items() if stem(name) not in held or stem(name) in texts_of(key)}
+        members = before.members(before.keys_of(own), lambda keys: before.referrers(keys) | set(tags_by(spared, keys).values()))
+        stay = {**own, **tags_by(spared, members)}
+        return stay, members | before.keys_of(stay)
+
+    def order(self, tags):
+        return sorted(tags, key=lambda name: (not is_matching(name), name))
 
 
 def wrong_mirror(room, layout, other):
     """Return the problem with a mirror of a layout into another one, and again, or None."""
-    mirror = Mirror(room, layout, other)
-    return mirror.wrong() or mirror.wrong()
+    for name, made in ("source", layout), ("mirror", other):
+        shutil.rmtree("%s/%s" % (room, name), ignore_errors=True)
+        write_layout("%s/%s" % (room, name), *made)
+    return Mirror(room).wrong() or Mirror(room).wrong()
+
+
+def wrong_part_mirror(room, chance):
+    """Return the problem with mirrors of some tags of a random layout into another one, each made twice, or None."""
+    contents, _, manifests = random_layout(chance)
+    names = [tag_of(chance.choice(manifests), chance.choice(["", ".sig", ".a.b"])) for _ in range(5)]
+    entries = [*random_entries(chance, manifests, names, False), (chance.choice(manifests), "v1")]
+    write_entries(room + "/source", contents, entries)
+    others, strays = random_entries(chance, manifests, names, True), chance.sample(contents, chance.randrange(3))
+    for is_exact in False, True:
+        write_entries(room + "/mirror", contents, others, strays)
+        problem = PartMirror(room, is_exact).wrong() or PartMirror(room, is_exact).wrong()
+        if problem:
+            return "%s referrers: %s" % ("with" if is_exact else "without", problem)
 
 
 def checks(room):
@@ -225,3 +357,5 @@ def checks(room):
         yield "a mirror of %s" % name, wrong_mirror(room, layout, random_layout(chance))
     for number in range(LAYOUTS):
         yield "mirror %d of a random layout" % number, wrong_mirror(room, random_layout(chance), random_layout(chance))
+    for number in range(LAYOUTS):
+        yield "mirror %d of some tags" % number, wrong_part_mirror(room, chance)
