@@ -1,14 +1,14 @@
 -- The function that reads a subject, against the relation that says what one is.
-use Rattle.std.proofs.Common.{◌≡◌, ℕ, true, inl, inr, List, [], ◌∷◌, codes, Option, Some, None, Result, Ok, Err, refl, ap, subst}
+use Rattle.std.proofs.Common.{◌≡◌, ℕ, true, inl, inr, List, [], ◌∷◌, codes, Option, Some, None, Result, Ok, Err, refl, sym, ap, subst, ◌∙◌}
 use Rattle.std.specs.Prelude.{MatchOption, IfErr}
 use Rattle.std.proofs.lemmas.Bool.{cases_Bool}
 use Rattle.serde_json.specs.Data.{Data, object, Members}
 use Rattle.serde_json.specs.Find.{as_object}
 use Rattle.oci_manifest.specs.Descriptor.{Descriptor}
-use Rattle.oci_manifest.specs.Fault.{Fails, Gives, not_json, not_object, bad_descriptor}
-use Rattle.oci_manifest.specs.Manifest.{HasReading, Holds, IsDescriptor, Reads, member_of, optional}
-use Rattle.oci_manifest.specs.Reading.{or_fault, reading, descriptor_of}
-use Rattle.oci_manifest.specs.Subject.{HasSubject, may_refer, stated_subject, subject_in, subject_of}
+use Rattle.oci_manifest.specs.Fault.{Fault, Fails, Gives, not_json, not_object, bad_descriptor}
+use Rattle.oci_manifest.specs.Manifest.{Field, HasReading, Holds, IsDescriptor, Reads, member_of, optional}
+use Rattle.oci_manifest.specs.Reading.{◌>>=◌, or_fault, reading, descriptor_of, all_keys, keys_in, keys_of, optional_in}
+use Rattle.oci_manifest.specs.Subject.{HasSubject, may_refer, stated_in, stated_subject, subject_in, subject_of}
 use Rattle.oci_manifest.specs.declared.fault.ManifestFault.{ManifestFault}
 use Rattle.oci_manifest.specs.declared.fault.ManifestFault.TheVariants as fault
 use Rattle.oci_manifest.specs.declared.kind.Kind.{Kind}
@@ -85,6 +85,31 @@ subject_of-reads Image bytes L h = manifest-reads Image bytes h.0 h.2.members h.
 subject_of-reads Index bytes L h = manifest-reads Index bytes h.0 h.2.members h.2.holds.0 refl h.1 h.2.is_object h.2.holds.2
 subject_of-reads Artifact bytes L h = manifest-reads Artifact bytes h.0 h.2.members h.2.holds.0 refl h.1 h.2.is_object h.2.holds.2
 
+-- ---- a manifest whose keys were read has a subject or none
+
+stated-member : (o : Option Data) (ks : List Descriptor) → optional_in (codes "subject") o ≡ Ok ks → (s : Option Descriptor) × (subject_in o ≡ Ok s)
+stated-member None ks h = (None, refl)
+stated-member (Some d) ks h =
+    let k = bind_ok (or_fault (bad_descriptor (codes "subject") 0) (descriptor_of d)) _ ks h in
+    (Some k.0, ap (λ (r : Result Descriptor Fault). r >>= λ j. Ok (Some j)) k.1)
+
+stated-keys : (manifest : Data) (fs : List Field) (ks : List Descriptor) → (or_fault not_object (as_object manifest) >>= λ members. all_keys manifest (optional (codes "subject") ∷ fs)) ≡ Ok ks
+    → (s : Option Descriptor) × (stated_subject manifest ≡ Ok s)
+unfolding all_keys keys_of stated_subject
+stated-keys manifest fs ks h =
+    let a = bind_ok (or_fault not_object (as_object manifest)) _ ks h in
+    let b = bind_ok (optional_in (codes "subject") (member_of manifest (codes "subject"))) _ ks a.2 in
+    let s = stated-member (member_of manifest (codes "subject")) b.0 b.1 in
+    (s.0, ap (λ (r : Result Members Fault). r >>= λ members. subject_in (member_of manifest (codes "subject"))) a.1 ∙ s.1)
+
+stated-reads : (kind : Kind) (manifest : Data) (ks : List Descriptor) → keys_in kind manifest ≡ Ok ks → (s : Option Descriptor) × (stated_in kind manifest ≡ Ok s)
+stated-reads Image manifest ks h = stated-keys manifest _ ks h
+stated-reads Index manifest ks h = stated-keys manifest _ ks h
+stated-reads Artifact manifest ks h = stated-keys manifest _ ks h
+stated-reads DockerImage manifest ks h = (None, refl)
+stated-reads DockerList manifest ks h = (None, refl)
+stated-reads Leaf manifest ks h = (None, refl)
+
 only_memory : (e : ManifestFault) (s : Option Descriptor) → Fails e (Ok s) → e ≡ fault.Memory
 only_memory fault.NotJson s h = cc h
 only_memory fault.NotObject s h = cc h
@@ -99,3 +124,10 @@ answer-reads view kind bytes (Ok x) h L reads = tt
 answer-reads view kind bytes (Err e) h L reads =
     let s = subject_of-reads kind bytes L reads in
     only_memory e s.0 (subst (Fails e) s.1 h)
+
+-- of a manifest whose keys were read, a subject is refused only if memory runs out, and then so is all
+pub stated-refused : (kind : Kind) (manifest : Data) (ks : List Descriptor) (e : ManifestFault) → keys_in kind manifest ≡ Ok ks → Fails e (stated_in kind manifest)
+    → (r : Result (List Descriptor) Fault) → Fails e r
+stated-refused kind manifest ks e keys h r =
+    let s = stated-reads kind manifest ks keys in
+    subst (λ (f : ManifestFault). Fails f r) (sym (only_memory e s.0 (subst (Fails e) s.1 h))) tt

@@ -101,11 +101,16 @@ abbrev pub reading : List ℕ → Option Data
 reading bytes = if is_utf8 bytes then read bytes else None
 
 -- the keys of a manifest's members, including repeated keys and undistributed layers
+abbrev pub keys_in : Kind → Data → Result (List Descriptor) Fault
+keys_in kind manifest = do
+  members ← or_fault not_object (as_object manifest)
+  all_keys manifest (fields_of kind)
+
+-- these keys, of the bytes of a manifest
 unfoldable pub manifest_keys : Kind → List ℕ → Result (List Descriptor) Fault
 manifest_keys kind bytes = do
   manifest ← or_fault not_json (reading bytes)
-  members ← or_fault not_object (as_object manifest)
-  all_keys manifest (fields_of kind)
+  keys_in kind manifest
 
 -- the keys of an index's `manifests`, or the first rule that it breaks
 unfoldable pub index_keys : Data → Result (List Descriptor) Fault

@@ -38,6 +38,10 @@ stated_subject manifest = do
   members ← or_fault not_object (as_object manifest)
   subject_in (member_of manifest (codes "subject"))
 
+-- the subject of a JSON value of a kind, or the first rule that it breaks
+abbrev pub stated_in : Kind → Data → Result (Option Descriptor) Fault
+stated_in kind manifest = if may_refer kind then stated_subject manifest else Ok None
+
 -- the subject of bytes of a kind, or the first rule that they break
 unfoldable pub subject_of : Kind → List ℕ → Result (Option Descriptor) Fault
 subject_of kind bytes = if may_refer kind then or_fault not_json (reading bytes) >>= stated_subject else Ok None

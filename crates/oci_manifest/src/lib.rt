@@ -20,7 +20,8 @@
 //! four types that are not distributed are not successors.
 //!
 //! [`artifact_type`] returns the type that a manifest declares, and [`subject`] the key of the
-//! manifest that it refers to. [`key_of`] reads a single descriptor.
+//! manifest that it refers to. [`read_links`] returns the successors and the subject at once. [`key_of`]
+//! reads a single descriptor.
 //!
 //! Manifests come from untrusted sources, so every input has a defined result: the keys, or a
 //! [`ManifestFault`] that names the first broken rule. The time is linear in the length of the
@@ -44,6 +45,6 @@ pub use fault::{KeyFault, ManifestFault};
 pub use key::{Key, MAX_SIZE};
 pub use kind::Kind;
 pub use manifest::{
-    artifact_type, index_keys, key_of, read_json, subject, subject_is_what_is_stated, successors,
-    successors_are_what_is_listed,
+    Links, artifact_type, index_keys, key_of, read_json, read_links, subject,
+    subject_is_what_is_stated, successors, successors_are_what_is_listed,
 };

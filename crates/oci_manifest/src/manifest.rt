@@ -4,13 +4,14 @@ ghost use Rattle.serde_json.specs.View.{view};
 ghost use Rattle.oci_manifest.specs.Descriptor.{Descriptor, same_key};
 ghost use Rattle.oci_manifest.specs.Fault.{Fault, Gives, IsFault, not_json};
 ghost use Rattle.oci_manifest.specs.Manifest.{Reads, Breaks};
-ghost use Rattle.oci_manifest.specs.Reading.{reading, or_fault, index_keys, manifest_keys, successors_of};
+ghost use Rattle.oci_manifest.specs.Reading.{reading, or_fault, index_keys, keys_in, successors_of};
 ghost use Rattle.oci_manifest.specs.declared.kind.Kind.{Kind};
 ghost use Rattle.oci_manifest.specs.declared.kind.Kind.TheVariants.{Leaf};
 
 mod artifact;
 mod descriptor;
 mod distinct;
+mod links;
 mod member;
 mod referrer;
 
@@ -20,6 +21,7 @@ use crate::kind::Kind;
 pub use artifact::artifact_type;
 pub use descriptor::key_of;
 use distinct::keep_distributed;
+pub use links::{Links, read_links};
 use member::{fields, push_fields, push_manifests};
 use oci_digest::NoMemory;
 pub use referrer::{subject, subject_is_what_is_stated};
@@ -59,16 +61,14 @@ fn read_value(alloc: Global, bytes: &[u8]) -> Result<Option<Value>, NoMemory>
 
 /// Returns the keys of a manifest's members in order, including repeated keys and undistributed
 /// layers.
-#[tactic(auto, unfolding(crate::specs::Reading::manifest_keys))]
-fn keys(alloc: Global, kind: Kind, bytes: &[u8]) -> Result<Vec<Key>, ManifestFault>
-    ensures { Gives (λ keys. keys.items) result (manifest_keys kind bytes.now) }
+fn keys_in(alloc: Global, kind: Kind, manifest: &Value) -> Result<Vec<Key>, ManifestFault>
+    ensures { Gives (λ keys. keys.items) result (keys_in kind (view manifest.now)) }
 {
-    let manifest = read_json(alloc, bytes)?;
     if !manifest.is_object() {
         return Err(ManifestFault::NotObject);
     }
     let mut found = Vec::new(alloc);
-    push_fields(alloc, fields(kind), &manifest, &mut found)?;
+    push_fields(alloc, fields(kind), manifest, &mut found)?;
     Ok(found)
 }
 
@@ -94,7 +94,7 @@ pub fn index_keys(alloc: Global, index: &Value) -> Result<Vec<Key>, ManifestFaul
 }
 
 /// Computes the result of `successors`.
-#[tactic(auto, unfolding(crate::specs::Reading::successors_of))]
+#[tactic(auto, unfolding(crate::specs::Reading::successors_of, crate::specs::Reading::manifest_keys))]
 fn answer(alloc: Global, kind: Kind, bytes: &[u8]) -> Result<Vec<Key>, ManifestFault>
     ensures exact { Gives (λ keys. keys.items) result (successors_of kind bytes.now) }
     ensures leaf { kind ≡ Leaf → IsOk result }
@@ -102,7 +102,8 @@ fn answer(alloc: Global, kind: Kind, bytes: &[u8]) -> Result<Vec<Key>, ManifestF
     if kind == Kind::Leaf {
         return Ok(Vec::new(alloc));
     }
-    let keys = keys(alloc, kind, bytes)?;
+    let manifest = read_json(alloc, bytes)?;
+    let keys = keys_in(alloc, kind, &manifest)?;
     Ok(keep_distributed(alloc, keys)?)
 }
 

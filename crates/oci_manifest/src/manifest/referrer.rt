@@ -3,7 +3,7 @@ ghost use Rattle.serde_json.specs.View.{view};
 ghost use Rattle.oci_manifest.specs.Descriptor.{Descriptor};
 ghost use Rattle.oci_manifest.specs.Fault.{Gives};
 ghost use Rattle.oci_manifest.specs.Manifest.{Reads};
-ghost use Rattle.oci_manifest.specs.Subject.{HasSubject, may_refer, stated_subject, subject_of};
+ghost use Rattle.oci_manifest.specs.Subject.{HasSubject, may_refer, stated_in, stated_subject, subject_of};
 ghost use Rattle.oci_manifest.specs.declared.kind.Kind.{Kind};
 
 use super::descriptor::key_of;
@@ -48,6 +48,21 @@ fn found_subject(alloc: Global, kind: Kind, bytes: &[u8]) -> Result<Option<Key>,
     }
     let manifest = read_json(alloc, bytes)?;
     stated_subject(alloc, &manifest)
+}
+
+/// Returns the subject of a manifest of a kind.
+pub(crate) fn stated_in(
+    alloc: Global,
+    kind: Kind,
+    manifest: &Value,
+) -> Result<Option<Key>, ManifestFault>
+    ensures { Gives (λ found. found) result (stated_in kind (view manifest.now)) }
+{
+    if may_refer(kind) {
+        stated_subject(alloc, manifest)
+    } else {
+        Ok(None)
+    }
 }
 
 /// Returns whether manifests of a kind may have a subject.

@@ -2,8 +2,9 @@ mod reads;
 mod types;
 
 use crate::tests::manifests::reads::{
-    ALL_KINDS, BAD, BAD_MANIFEST_0, DIGEST, EMPTY_LINE, EMPTY_MEDIA_TYPE, FORMS, GOOD, OF_BAR,
-    OF_EMPTY, OF_FOO, OF_IMAGE_0, OF_IMAGE_2, Read, answer, assert_read, assert_reads,
+    ALL_KINDS, BAD, BAD_MANIFEST_0, DIGEST, EMPTY_LINE, EMPTY_MEDIA_TYPE, FORMS, GOOD, LINKED,
+    OF_BAR, OF_EMPTY, OF_FOO, OF_IMAGE_0, OF_IMAGE_2, Read, answer, assert_links, assert_read,
+    assert_reads,
 };
 use crate::tests::texts::Part::{
     self, Brackets, BytesOf, DescriptorAs, DescriptorOf, KeyOf, Words,
@@ -246,6 +247,15 @@ fn kinds(rt: HostRuntime) {
     for (media_type, kind) in &KINDS {
         assert_kind(&rt, media_type, *kind);
     }
+}
+
+/// The successors and the subject are read at once.
+#[test]
+fn links(rt: HostRuntime) -> Result<(), Fail> {
+    for (kind, parts, want) in &LINKED {
+        assert_links(&rt, *kind, parts, want)?;
+    }
+    Ok(())
 }
 
 /// Asserts that a layer of this media type is not listed, neither as a subject nor in a list.

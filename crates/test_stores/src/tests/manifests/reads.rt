@@ -1,8 +1,8 @@
 //! Texts of manifests with their expected results, and functions that compare them.
 
-use crate::tests::texts::Part::{self, DescriptorOf, Words};
+use crate::tests::texts::Part::{self, DescriptorAs, DescriptorOf, Words};
 use crate::tests::texts::{assert_text, text};
-use oci_manifest::{Key, Kind, successors};
+use oci_manifest::{Key, Kind, Links, read_links, successors};
 use std::alloc::Global;
 use std::process::Abort;
 use std::test::Fail;
@@ -29,6 +29,40 @@ pub(crate) fn answer(alloc: Global, kind: Kind, bytes: &[u8]) -> Result<String, 
         Ok(keys) => line(alloc, &keys),
         Err(fault) => Ok(fault.to_string(alloc)?),
     }
+}
+
+/// Returns the result of `read_links` as text: the successors, and the subject if there is one; or
+/// the error.
+fn links(alloc: Global, kind: Kind, bytes: &[u8]) -> Result<String, Fail> {
+    match read_links(alloc, kind, bytes) {
+        Ok(
+            Links {
+                successors,
+                subject,
+            },
+        ) => {
+            let mut text = line(alloc, &successors)?;
+            if let Some(subject) = &subject {
+                text.push_str("subject ")?;
+                push_key(alloc, &mut text, subject)?;
+            }
+            Ok(text)
+        }
+        Err(fault) => Ok(fault.to_string(alloc)?),
+    }
+}
+
+/// Asserts the successors and the subject of a text that is read as a manifest of this kind.
+pub(crate) fn assert_links<R: AllocGlobal + Abort>(
+    rt: &R,
+    kind: Kind,
+    parts: &[Part],
+    want: &[Part],
+) -> Result<(), Fail> {
+    let manifest = text(rt.alloc(), parts)?;
+    let got = links(rt.alloc(), kind, manifest.as_bytes())?;
+    let row = format!(in rt.alloc(); "links {kind:?} {manifest}")?;
+    assert_text(rt, rt.alloc(), &row, got.as_str(), want)
 }
 
 /// Asserts the result of reading a text as a manifest of this kind.
@@ -77,6 +111,11 @@ pub(crate) const OF_IMAGE_2: &str =
     "7e1df211bc4556d2a9db939a81721c52e5e53c59e3dfb45a57205a794dd412b7";
 
 /// The printed key of `empty` in a result.
+/// The line of `Image0`.
+const IMAGE_0_LINE: Part = Words(
+    "sha256:88028e7a699c392898fd180bf967edbcdb6227a9b7434a3ba0c9efff269e613f 241 application/vnd.oci.image.manifest.v1+json;",
+);
+
 pub(crate) const EMPTY_LINE: Part = Words(
     "sha256:44136fa355b3678a1146ad16f7e8649e94fb4fc21fe77e8310c060f61caaff8a 2 application/vnd.oci.empty.v1+json;",
 );
@@ -137,14 +176,7 @@ pub(crate) const ALL_KINDS: [Read; 9] = [
             DescriptorOf(Image0),
             Words("]}"),
         ],
-        &[
-            Words("sha256:"),
-            Words(OF_IMAGE_0),
-            Words(" 241 "),
-            Words(IMAGE),
-            Words(";"),
-            EMPTY_LINE,
-        ],
+        &[IMAGE_0_LINE, EMPTY_LINE],
     ),
     (
         Kind::Image,
@@ -158,6 +190,59 @@ pub(crate) const ALL_KINDS: [Read; 9] = [
         &[Words("14 BadDescriptor layers 0")],
     ),
     (Kind::Leaf, &[Words("{")], &[]),
+];
+
+/// Manifests, each with its successors and its subject. A Docker image has no subject, and a subject
+/// that is a layer that is not distributed is no successor.
+pub(crate) const LINKED: [Read; 5] = [
+    (
+        Kind::Index,
+        &[
+            Words("{\"subject\":"),
+            DescriptorOf(Image0),
+            Words(",\"manifests\":["),
+            DescriptorOf(Empty),
+            Words("]}"),
+        ],
+        &[IMAGE_0_LINE, EMPTY_LINE, Words("subject "), IMAGE_0_LINE],
+    ),
+    (
+        Kind::Image,
+        &[Words("{\"config\":"), DescriptorOf(Empty), Words("}")],
+        &[EMPTY_LINE],
+    ),
+    (
+        Kind::DockerImage,
+        &[
+            Words("{\"subject\":"),
+            DescriptorOf(Image0),
+            Words(",\"config\":"),
+            DescriptorOf(Empty),
+            Words("}"),
+        ],
+        &[EMPTY_LINE],
+    ),
+    (
+        Kind::Artifact,
+        &[
+            Words("{\"subject\":"),
+            DescriptorAs(Empty, FOREIGN),
+            Words("}"),
+        ],
+        &[
+            Words("subject "),
+            Words("sha256:"),
+            Words(OF_EMPTY),
+            Words(" 2 "),
+            Words(FOREIGN),
+            Words(";"),
+        ],
+    ),
+    (
+        Kind::Image,
+        &[Words("{\"subject\":7}")],
+        &[Words("14 BadDescriptor subject 0")],
+    ),
 ];
 
 /// Values that are not lists or not descriptors.
