@@ -52,7 +52,8 @@ pub struct CopyWords<'w> {
     /// Whether the copy also looks below the blobs that the destination has.
     pub descends: bool,
     /// Whether the tags that the source does not have are removed afterwards, with what no tag of
-    /// the destination then needs; with patterns only those that match one. Only with
+    /// the destination then needs. With patterns, those that match none stay; with referrers, a tag
+    /// that is made of a digest then goes with the blob of that digest. Only with
     /// `Selection::AllTags`.
     pub prunes: bool,
     /// Whether the copy waits while another process has the lock of the destination's folder.

@@ -13,7 +13,7 @@ Examples:
   ocicp copy --all --prune build mirror    makes the tags of `mirror` those of `build`, and frees the space
   ocicp copy --all --dry-run build mirror  prints the blobs that a copy of every tag would copy
   ocicp copy --all --prune --dry-run build mirror    prints also what would be removed from `mirror`
-  ocicp copy --all --prune --match 'v1.*' build mirror   does it for the tags that begin with `v1.`, and leaves the others
+  ocicp copy --all --prune --match 'v1.*' build mirror   makes the tags that begin with `v1.` those of `build`
   ocicp copy --descend build v1 mirror     also restores blobs that `mirror` has lost
   ocicp copy --all image.tar mirror        copies every tag of an archive, such as `docker save` writes";
 
@@ -138,9 +138,10 @@ fn matching() -> Argument {
     let help =
         "With --all: copies only the tags that match GLOB: `*` stands for any text, also an empty one, `?` for any one \
          character, and each other character for itself. Given several times, a tag must match one of the patterns. \
-         Quote GLOB, so that the shell does not replace it by names of files. With --referrers, the tags of SRC that are \
-         named for the digest of a copied manifest come too, unless --artifact-type is given. With --prune, tags of DST that \
-         match no pattern stay. Refused if no tag of SRC matches (108)";
+         Quote GLOB, so that the shell does not replace it by names of files, and write one that begins with `-` as \
+         `--match=-GLOB`. With --referrers, the tags of SRC that are named for the digest of a copied manifest come too, \
+         unless --artifact-type is given. With --prune, tags of DST that match no pattern stay. Refused if no tag of SRC \
+         matches (108)";
     Argument {
         conflicts: &["destination"],
         needs: &["all"],
