@@ -55,7 +55,8 @@ pub trait PrunableDir: Dir {
     fn remove(&mut self, path: &str) -> Result<bool, DirFault>
         ensures { IsRemoval (Self.device self.old) (Self.device self.new) path.now result };
 
-    /// Waits until a file and its name are on the disk. Changes nothing.
+    /// Waits until a file and its name are on the disk, or that there is no such file. Changes
+    /// nothing.
     ///
     /// # Errors
     ///

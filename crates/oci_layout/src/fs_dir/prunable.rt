@@ -52,7 +52,7 @@ where
         }
     }
 
-    /// Syncs the file, and then the folder that has it.
+    /// Syncs the file, if there is one, and then the folder that has it.
     fn sync(&self, path: &str) -> Result<(), DirFault> {
         let place = self.place(path)?;
         match synced(self.rt, &place) {
@@ -106,10 +106,13 @@ where
     Ok(true)
 }
 
-/// Syncs a regular file, and then the folder that has it.
+/// Syncs a regular file, if there is one, and then the folder that has it.
 fn synced<R: Files>(rt: &R, place: &str) -> io::Result<()> {
-    length_of(rt, place)?;
-    fs::File::open(rt, place)?.sync_all()?;
+    match length_of(rt, place) {
+        Ok(_) => fs::File::open(rt, place)?.sync_all()?,
+        Err(error) if is_absence(&error) => {}
+        Err(error) => return Err(error),
+    }
     match place.rsplit_once('/') {
         Some((folder, _)) => fs::File::open(rt, folder)?.sync_all(),
         None => Ok(()),
