@@ -26,8 +26,8 @@ content_sync = search (key.the_sync, maps.crosses, values.crosses, knot.crosses,
 module _ (D W : RattleType) (d : dir.Ghosts D.Denot W.Denot) (w : drafting.Ghosts W.Denot) where
   pub layout_send : IsSend D → IsSend (layout.the_row D W d w)
   layout_send s = view_send (inside.the_row D W d w) _ _ _ _ (recorded_send (inside.the_field D W d w).row _ _ (inside.the_type D W d w).to_one (struct_send (shape (inside.the_type D W d w))
-      (heap.the_field_send, (s, (graph.the_send, (tags.the_send, (search (key.the_send, values.crosses), (search (key.the_send, values.crosses), (content_send, tt)))))))))
+      (heap.the_field_send, (s, (graph.the_send, (search (key.the_send, values.crosses, sendable) depth 60 fits 20000, (tags.the_send, (search (key.the_send, values.crosses), (search (key.the_send, values.crosses), (content_send, tt))))))))))
 
   pub layout_sync : IsSync D → IsSync (layout.the_row D W d w)
   layout_sync s = view_sync (inside.the_row D W d w) _ _ _ _ (recorded_sync (inside.the_field D W d w).row _ _ (inside.the_type D W d w).to_one (struct_sync (shape (inside.the_type D W d w))
-      (heap.the_field_sync, (s, (graph.the_sync, (tags.the_sync, (search (key.the_sync, values.crosses), (search (key.the_sync, values.crosses), (content_sync, tt)))))))))
+      (heap.the_field_sync, (s, (graph.the_sync, (search (key.the_sync, values.crosses, sendable) depth 60 fits 20000, (tags.the_sync, (search (key.the_sync, values.crosses), (search (key.the_sync, values.crosses), (content_sync, tt))))))))))

@@ -67,6 +67,7 @@ impl<D: PrunableDir> Layout<D> {
             return Ok(false);
         }
         let path = path_of(self.alloc, digest)?;
+        self.subjects = None;
         match self.dir.remove(&path) {
             Ok(found) => Ok(found),
             Err(fault) => Err(LayoutFault::from(fault)),
@@ -121,6 +122,7 @@ impl<D: PrunableDir> Layout<D> {
         }
         // The contract of `len` states that the keys are valid, so their files are not drafts.
         let _ = self.graph.len();
+        self.subjects = None;
         match self.dir.remove(path) {
             Ok(found) => Ok(found),
             Err(fault) => Err(LayoutFault::from(fault)),

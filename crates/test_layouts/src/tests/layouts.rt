@@ -24,6 +24,9 @@ pub(crate) enum Question {
     CheckEntries,
     /// Result: the held keys of the entries that are written before the tags, each followed by `;`.
     Shadowed,
+    /// Result: the remembered keys that state a subject, each followed by ` of `, the subject and `;`,
+    /// or `not remembered`.
+    Subjects,
 }
 
 /// A step with a layout.
@@ -77,7 +80,20 @@ fn answered<D: Dir>(alloc: Global, layout: &Layout<D>, question: Question) -> Re
         Question::Unreadable => unreadable(alloc, layout),
         Question::CheckEntries => done_or_fault(alloc, layout.check_entries(), "good"),
         Question::Shadowed => listed(alloc, &layout.shadowed_keys()?),
+        Question::Subjects => subjects(alloc, layout),
     }
+}
+
+/// Returns the remembered keys that state a subject, each with that.
+fn subjects<D: Dir>(alloc: Global, layout: &Layout<D>) -> Result<String, Fail> {
+    let Some(subjects) = layout.subjects() else {
+        return Ok(String::from_str(alloc, "not remembered")?);
+    };
+    let mut text = String::new(alloc);
+    for (key, subject) in subjects {
+        text.push_str(format!(in alloc; "{key} of {subject};")?.as_str())?;
+    }
+    Ok(text)
 }
 
 /// Takes a step with a layout. Returns its result.

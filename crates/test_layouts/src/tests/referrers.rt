@@ -1,12 +1,13 @@
-//! The index of an image that was copied with its referrers.
+//! A layout of an image that was copied with its referrers.
 
 use crate::tests::copies::Copying::Extended;
 use crate::tests::files::FileStep::Text;
-use crate::tests::layouts::LayoutStep::{Save, Tag};
-use crate::tests::steps::Step::{Copy, Create, In, With};
+use crate::tests::layouts::LayoutStep::{Ask, Push, Save, Tag};
+use crate::tests::layouts::Question::Subjects;
+use crate::tests::steps::Step::{Copy, Create, In, Open, OpenAsIs, With};
 use crate::tests::steps::{Ground, Row, assert_run};
 use std::test::Fail;
-use test_support::Sample::{Empty, Foo, Image2, Index3, Index4, Referrer};
+use test_support::Sample::{Empty, Foo, Image0, Image2, Index3, Index4, Referrer};
 
 /// The index of the image with its name, and of the index and the signature above it.
 const ROWS: &[Row] = &[
@@ -27,4 +28,33 @@ const ROWS: &[Row] = &[
 #[test]
 fn referrers_in_an_index(rt: HostRuntime) -> Result<(), Fail> {
     assert_run(&rt, Ground::Memory, ROWS)
+}
+
+/// The signature and its subject, the image. Python's hashlib computed the digests.
+const STATED: &str =
+    "sha256:bab9e997a499d9a01debd4356f23454db050baa4f31321e5a33e2e3aebd4f8eb 402 application/vnd.oci.image.manifest.v1+json of sha256:7e1df211bc4556d2a9db939a81721c52e5e53c59e3dfb45a57205a794dd412b7 385 application/vnd.oci.image.manifest.v1+json;";
+
+/// The signature and its subject, after each opening.
+const SUBJECTS: &[Row] = &[
+    Row(Create, "made"),
+    Row(With(Ask(Subjects)), ""),
+    Row(
+        Copy(Extended(&[Empty, Foo, Image2, Referrer, Index3, Index4], Image2)),
+        "planned 5 pushed 5 skipped 0",
+    ),
+    Row(With(Ask(Subjects)), "not remembered"),
+    Row(With(Tag(Image2, "t")), "tagged"),
+    Row(With(Save), "saved"),
+    Row(Open, "held 5 t"),
+    Row(With(Ask(Subjects)), STATED),
+    Row(OpenAsIs, "held 5 t"),
+    Row(With(Ask(Subjects)), STATED),
+    Row(With(Push(Image0)), "place 5"),
+    Row(With(Ask(Subjects)), "not remembered"),
+];
+
+/// The subjects that were read are remembered until a blob comes.
+#[test]
+fn remembered_subjects(rt: HostRuntime) -> Result<(), Fail> {
+    assert_run(&rt, Ground::Memory, SUBJECTS)
 }

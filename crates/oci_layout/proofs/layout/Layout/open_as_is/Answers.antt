@@ -11,4 +11,4 @@ returns-in-Ok-clause-sound g c =
     let dir = g.D.Dir.device c.args.dir in
     rw c.of.ensures (λ honest matching.
     (let o = c.in-Ok.ensures.opened honest in
-    IsSound-opened dir.is_honest true dir.file (entry_keys (said c.in-Ok.opened.content).entries) c.in-Ok.graph honest c.in-Ok.ensures.distinct o.read.walked matching))
+    IsSound-opened dir.is_honest true dir.file (entry_keys (said c.in-Ok.opened.content).entries) c.in-Ok.held.graph honest c.in-Ok.ensures.distinct o.read.walked matching))

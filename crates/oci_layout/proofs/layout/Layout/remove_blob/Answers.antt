@@ -16,7 +16,7 @@ invariant_of-self g c =
     let old = g.D.Dir.device s.dir in
     let new = g.D.Dir.device c.remove.new.self in
     let removal : IsRemoval old new path c.remove.result = rw (c.deref.ensures, c.in_ok-path.ensures) at c.remove.ensures in
-    IsLayout-removed old new s.graph s.tags path c.remove.result (blob_layout c.args.digest.now) removal c.self.invariant
+    (IsLayout-removed old new s.graph s.tags path c.remove.result (blob_layout c.args.digest.now) removal c.self.invariant.0, tt)
 
 pub returns-in-Ok-clause-held : goal.returns-in-Ok-clause-held
 returns-in-Ok-clause-held g c =

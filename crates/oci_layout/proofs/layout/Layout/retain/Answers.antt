@@ -10,7 +10,7 @@ pub invariant_of-self : goal.invariant_of-self
 invariant_of-self g c =
     let s = c.self.inside in
     let kept : All (λ (k : Descriptor). contains key_cmp c.args.kept.now k ≡ true) (values_of s.tags) = rw (← c.self.view_is) at c.requires.tagged in
-    IsLayout-retained (g.D.Dir.device s.dir) (λ (k : Descriptor). contains key_cmp c.args.kept.now k) s.graph c.in_ok-self-inside.field-0 s.tags c.in_ok-self-inside.ensures kept c.self.invariant
+    (IsLayout-retained (g.D.Dir.device s.dir) (λ (k : Descriptor). contains key_cmp c.args.kept.now k) s.graph c.in_ok-self-inside.field-0 s.tags c.in_ok-self-inside.ensures kept c.self.invariant.0, tt)
 
 pub returns-clause-sound : goal.returns-clause-sound
 returns-clause-sound g c =

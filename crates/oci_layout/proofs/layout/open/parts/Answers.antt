@@ -6,8 +6,8 @@ use Rattle.oci_layout.proofs.layout.open.parts.Goals as goal
 pub returns-clause-opened : goal.returns-clause-opened
 returns-clause-opened g c = λ honest.
     rw c.new.ensures (record {
-      content = said c.in_ok-graph.content;
-      read = c.in_ok-graph.ensures.read honest;
-      tagged = c.in_ok-tags.ensures.tags ∙ ap (λ (es : List CodeEntry). named c.in_ok-graph.graph (map entry_of es) []) c.entries.ensures.entries;
+      content = said c.in_ok-held.content;
+      read = c.in_ok-held.ensures.read honest;
+      tagged = c.in_ok-tags.ensures.tags ∙ ap (λ (es : List CodeEntry). named c.in_ok-held.held.graph (map entry_of es) []) c.entries.ensures.entries;
       content_is = c.none.ensures;
     })

@@ -6,6 +6,6 @@ use Rattle.oci_layout.proofs.layout.open.parts_as_is.Goals as goal
 pub returns-clause-opened : goal.returns-clause-opened
 returns-clause-opened g c = λ honest.
     rw c.new.ensures (record {
-      read = c.in_ok-graph.ensures.read honest;
-      tagged = c.in_ok-tags.ensures.tags ∙ ap (λ (es : List CodeEntry). owned c.in_ok-graph.graph (map entry_of es) []) c.entries.ensures.entries;
+      read = c.in_ok-held.ensures.read honest;
+      tagged = c.in_ok-tags.ensures.tags ∙ ap (λ (es : List CodeEntry). owned c.in_ok-held.held.graph (map entry_of es) []) c.entries.ensures.entries;
     })

@@ -14,11 +14,11 @@ pub returns-clause-read : goal.returns-clause-read
 returns-clause-read g c = λ honest.
     let as_is = c.args.as_is in
     let file = (g.D.Dir.device c.args.dir.now).file in
-    let graph = c.in_ok-graph.graph in
-    let damaged = c.in_ok-graph.damaged.items in
+    let graph = c.in_ok-held.held.graph in
+    let damaged = c.in_ok-held.damaged.items in
     let of_index = ap (λ (es : List CodeEntry). entry_keys (map entry_of es)) c.entries.ensures.entries in
     let walked = subst (λ (ks : List Descriptor). (w : HasWalked as_is file ks graph) × (damaged ≡ filter (is_damaged as_is file) w.visited))
-    (c.deref.ensures.value ∙ c.in_ok-keys.ensures ∙ of_index) (c.in_ok-graph.ensures.walked honest) in
+    (c.deref.ensures.value ∙ c.in_ok-keys.ensures ∙ of_index) (c.in_ok-held.ensures.walked honest) in
     record {
       layout = c.in_ok-check_version.ensures.found honest;
       index = c.in_ok-content.ensures.read honest;
@@ -29,7 +29,7 @@ returns-clause-read g c = λ honest.
 
 pub returns-clause-absent : goal.returns-clause-absent
 returns-clause-absent g c =
-    let graph = c.in_ok-graph.graph in
+    let graph = c.in_ok-held.held.graph in
     subst (λ ks. All (λ k. has_key graph k ≡ false) ks) (sym c.in_ok-absent.ensures) (absent-unheld graph _)
 
 pub returns-in_err-check_version-clause-cause : goal.returns-in_err-check_version-clause-cause

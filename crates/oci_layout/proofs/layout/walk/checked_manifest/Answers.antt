@@ -3,6 +3,7 @@ use Rattle.oci_layout.specs.Blobs.{blob_path}
 use Rattle.oci_layout.specs.Device.{IsSizedRead, of_length}
 use Rattle.oci_layout.proofs.Refusals.{read_fault}
 use Rattle.oci_layout.proofs.Walk.{manifest_damage, of_length_is, read_whole}
+use Rattle.oci_layout.proofs.Subjects.{read_states}
 use Rattle.oci_layout.proofs.layout.walk.checked_manifest.Goals as goal
 
 pub returns-in-Ok-clause-found : goal.returns-in-Ok-clause-found
@@ -12,7 +13,9 @@ returns-in-Ok-clause-found g c = λ honest.
     let bytes = c.as_slice.result.now in
     let found : of_length k.size (file (blob_path k.digest)) ≡ Some bytes =
     sym (rw (c.deref.ensures, c.in_ok-path.ensures, c.digest.ensures, c.size.ensures.size, c.in-Some.is, sym c.as_slice.ensures) at c.in_ok-bytes.ensures.found honest) in
-    read_whole file k bytes c.in-Ok.keys.items c.requires.manifest (of_length_is k.size (file (blob_path k.digest)) bytes found) c.in-Ok.ensures.matching c.in-Ok.ensures.listed
+    let at = of_length_is k.size (file (blob_path k.digest)) bytes found in
+    let read = read_whole file k bytes c.in-Ok.links.successors.items c.requires.manifest at c.in-Ok.ensures.matching c.in-Ok.ensures.listed in
+    (read.0, read.1, read_states file k bytes c.in-Ok.links.subject at c.in-Ok.ensures.subject)
 
 pub returns-clause-cause : goal.returns-clause-cause
 returns-clause-cause g c =

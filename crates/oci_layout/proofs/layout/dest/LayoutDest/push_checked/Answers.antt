@@ -11,9 +11,11 @@ use Rattle.oci_layout.proofs.layout.dest.LayoutDest.push_checked.Goals as goal
 pub invariant_of-self-2 : goal.invariant_of-self-2
 invariant_of-self-2 g c =
     let s = c.self.inside in
-    let put = rw (c.deref.ensures, c.in_ok-path.ensures) at c.put_blob-answer.ensures in
-    IsLayout-settled (g.D.Dir.device s.dir) (g.D.Dir.device c.put_blob-answer.new.dir) s.graph c.push.new.self c.settle.new.graph s.tags (c.into_parts-key.result.0, c.into_parts-key.result.2.items)
-    c.digest.result.now _ c.len-place.result c.put_blob-answer.result c.settle.result c.in_ok-push.ensures.pushed put c.settle.ensures c.self.invariant
+    let put = rw (c.deref.ensures, c.in_ok-path.ensures) at c.put_blob-answer.ensures in (
+      IsLayout-settled (g.D.Dir.device s.dir) (g.D.Dir.device c.put_blob-answer.new.dir) s.graph c.push.new.self c.settle.new.graph s.tags (c.into_parts-key.result.0, c.into_parts-key.result.2.items)
+          c.digest.result.now _ c.len-place.result c.put_blob-answer.result c.settle.result c.in_ok-push.ensures.pushed put c.settle.ensures c.self.invariant.0,
+      tt,
+    )
 
 pub returns-clause-pushed : goal.returns-clause-pushed
 returns-clause-pushed g c =

@@ -28,9 +28,11 @@ returns-clause-untouched g c =
 pub invariant_of-self-2 : goal.invariant_of-self-2
 invariant_of-self-2 g c =
     let s = c.self.inside in
-    let put = rw (c.deref.ensures, c.in_ok-path.ensures) at c.keep-answer.ensures.put in
-    IsLayout-settled (g.D.Dir.device s.dir) (g.D.Dir.device c.keep-answer.new.self) s.graph c.push.new.self c.settle.new.graph s.tags (c.args.key.now, c.new.result.items)
-    c.digest.result.now _ c.len-place.result c.keep-answer.result c.settle.result c.in_ok-push.ensures.pushed put c.settle.ensures c.self.invariant
+    let put = rw (c.deref.ensures, c.in_ok-path.ensures) at c.keep-answer.ensures.put in (
+      IsLayout-settled (g.D.Dir.device s.dir) (g.D.Dir.device c.keep-answer.new.self) s.graph c.push.new.self c.settle.new.graph s.tags (c.args.key.now, c.new.result.items)
+          c.digest.result.now _ c.len-place.result c.keep-answer.result c.settle.result c.in_ok-push.ensures.pushed put c.settle.ensures c.self.invariant.0,
+      tt,
+    )
 
 pub returns-clause-pushed : goal.returns-clause-pushed
 returns-clause-pushed g c =

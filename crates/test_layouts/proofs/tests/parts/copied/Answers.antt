@@ -1,0 +1,14 @@
+use denote.Exit.{no}
+use denote.Param.{param}
+use denote.Param.Send.{param_send, param_sync, arg_send, arg_sync}
+use Rattle.oci_layout.proofs.Crosses.{layout_send, layout_sync}
+use Rattle.oci_layout.proofs.mem_dir.MemDir.TheSendSync as directory
+use Rattle.oci_store.specs.contracts.draft.MemoryDraft as draft
+use Rattle.oci_store.specs.contracts.draft.MemoryDraftDrafting.TheImpl as drafting
+use Rattle.test_layouts.proofs.tests.parts.copied.Goals as goal
+
+pub copied_keys-requires-send-D : goal.copied_keys-requires-send-D
+copied_keys-requires-send-D g c κs within = param_send _ _ (arg_send _ no _ (layout_send _ (param 2 g.row.D-Draft) _ g.D.Draft.Drafting c.type_bounds.send-D))
+
+pub copied_keys-requires-sync-A : goal.copied_keys-requires-sync-A
+copied_keys-requires-sync-A g c κs within = param_sync _ _ (arg_sync _ no _ (layout_sync _ draft.the_row _ drafting.ghosts directory.the_sync))
