@@ -1,4 +1,5 @@
 pub mod Keeping
+pub mod Remembered
 pub mod Stating
 pub mod Elements
 pub mod Filing

@@ -96,6 +96,10 @@ attached_in attachments subject = referrers_in attachments.referrers subject ++ 
 abbrev pub AttachedIn : Attachments → Descriptor → Descriptor → Type 0
 AttachedIn attachments k subject = Contains (attached_in attachments subject) k
 
+-- the tables have what is attached to each key, and nothing else
+abbrev pub HasAttached : List Entry → Tags → Attachments → Type 0
+HasAttached entries tags attachments = (k subject : Descriptor) → AttachedIn attachments k subject ↔ AttachedBy entries tags k subject
+
 -- the tables have what is attached, if only these keys are held and these are the subjects that they
 -- state
 abbrev pub AreAttachments : (Descriptor → Descriptor → Type 0) → List Descriptor → Tags → Attachments → Type 0

@@ -48,6 +48,10 @@ RefersBy referrers referrer subject = Contains (referrers_in referrers subject) 
 abbrev pub AreReferrers : (Descriptor → Descriptor → Type 0) → List Descriptor → Referrers → Type 0
 AreReferrers states keys referrers = (k subject : Descriptor) → RefersBy referrers k subject ↔ (Contains keys k × RefersIn states k subject)
 
+-- the map has the first key of each pair, under the digest of the second
+abbrev pub HasPairs : List (Descriptor × Descriptor) → Referrers → Type 0
+HasPairs pairs referrers = (k subject : Descriptor) → RefersBy referrers k subject ↔ RefersIn (λ j stated. Contains pairs (j, stated)) k subject
+
 -- a key was added to the map under a digest
 abbrev pub IsAdded : Descriptor → List ℕ → Referrers → Referrers → Type 0
 IsAdded k digest old new = (other subject : Descriptor) → RefersBy new other subject ↔ (RefersBy old other subject ⊎ ((k ≡ other) × (digest ≡ subject.digest)))

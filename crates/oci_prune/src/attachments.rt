@@ -1,15 +1,19 @@
-ghost use Rattle.std.specs.Prelude.{◌≡◌, ◌++◌, [], Contains, IfOk, IfErr, OnOk};
+ghost use Rattle.std.specs.Prelude.{◌≡◌, ◌++◌, [], true, Contains, IfOk, IfErr, OnOk};
 ghost use Rattle.oci_manifest.specs.Descriptor.{Descriptor};
+ghost use Rattle.oci_layout.specs.Blobs.{meaning};
+ghost use Rattle.oci_store.specs.Keyed.{has_key};
 ghost use Rattle.oci_store.specs.Tags.{by_bytes};
-ghost use Rattle.oci_prune.specs.Attached.{AreAttachments, AreFollowers, AttachedIn, attached_in, followers_in, stemmed_in, dashed, cut};
-ghost use Rattle.oci_prune.specs.Subjects.{IsSubjectFault, referrers_in};
+ghost use Rattle.oci_prune.specs.Attached.{AreAttachments, AreFollowers, AttachedIn, HasAttached, attached_in, followers_in, stemmed_in, dashed, cut};
+ghost use Rattle.oci_prune.specs.Subjects.{HasPairs, IsSubjectFault, referrers_in};
 ghost use Rattle.oci_prune.specs.Typed.{StatesBy};
 
 use crate::fault::PruneFault;
 use crate::followers::{cut, dashed, followers_of};
-use crate::referrers::referrers_of;
+use crate::held::held_keys;
+use crate::referrers::{referrers_by, referrers_of};
 use crate::type_filter::TypeFilter;
 use oci_digest::{Digest, NoMemory};
+use oci_layout::{Dir, Layout};
 use oci_manifest::{Key, Kind};
 use oci_store::Source;
 use std::alloc::Global;
@@ -47,6 +51,55 @@ impl Attachments {
         ensures cause { IfErr result (IsSubjectFault (S.state source.now) (Contains held.now)) }
     {
         let referrers = referrers_of(alloc, source, held, filter)?;
+        let followers = followers_of(alloc, tags)?;
+        Ok(Attachments {
+            referrers,
+            followers,
+        })
+    }
+
+    /// Returns what is attached to keys by the subjects of the held manifests of a layout, and by
+    /// these tags. Reads each held manifest that may state a subject once, or none if the layout
+    /// [remembers](Layout::subjects) the subjects.
+    ///
+    /// # Errors
+    ///
+    /// The same as for [`of`](Attachments::of).
+    pub(crate) fn in_layout<D: Dir>(
+        alloc: Global,
+        layout: &Layout<D>,
+        tags: &[(String, Key)],
+    ) -> Result<Attachments, PruneFault>
+        ensures exact { IfOk result (λ attachments. (D.device layout.now.dir).is_honest
+            → HasAttached (meaning (D.device layout.now.dir) layout.now.graph
+            layout.now.tags).entries (by_bytes tags.now) attachments) }
+        ensures followers { IfOk result (λ attachments.
+            AreFollowers (by_bytes tags.now) attachments.followers) }
+        ensures cause { IfErr result (IsSubjectFault
+            (meaning (D.device layout.now.dir) layout.now.graph layout.now.tags)
+            (λ k. has_key layout.now.graph k ≡ true)) }
+    {
+        match layout.subjects() {
+            Some(subjects) => Ok(Attachments::by_pairs(alloc, subjects, tags)?),
+            None => {
+                let held = held_keys(alloc, layout)?;
+                Attachments::of(alloc, layout, &held, tags, &TypeFilter::AnyType)
+            }
+        }
+    }
+
+    /// Returns what is attached to keys, if the first key of each of these pairs states the second
+    /// as its subject, and these are the tags.
+    fn by_pairs(
+        alloc: Global,
+        pairs: &[(Key, Key)],
+        tags: &[(String, Key)],
+    ) -> Result<Attachments, NoMemory>
+        ensures pairs { IfOk result (λ attachments. HasPairs pairs.now attachments.referrers) }
+        ensures followers { IfOk result (λ attachments.
+            AreFollowers (by_bytes tags.now) attachments.followers) }
+    {
+        let referrers = referrers_by(alloc, pairs)?;
         let followers = followers_of(alloc, tags)?;
         Ok(Attachments {
             referrers,

@@ -13,9 +13,7 @@ ghost use Rattle.oci_prune.specs.Subjects.{IsSubjectFault};
 use crate::attachments::Attachments;
 use crate::fault::PruneFault;
 use crate::followers::following_tags;
-use crate::held::held_keys;
 use crate::members::members_of;
-use crate::type_filter::TypeFilter;
 use oci_digest::NoMemory;
 use oci_layout::{Dir, Layout};
 use oci_manifest::Key;
@@ -42,8 +40,8 @@ pub struct Belonging {
 /// its name, up to the first `.`, is the digest's text with `-` in place of `:`, as in
 /// `sha256-DIGITS.sig`, or the first 71 bytes of that. Only these `tags` are considered.
 ///
-/// Each held manifest of a kind that may have a subject is read once; Docker manifests are not. A
-/// key that is needed and not held is passed over. The time grows with the held keys, the keys that
+/// Each held manifest of a kind that may have a subject is read once, but none if the layout
+/// [remembers](Layout::subjects) the subjects. A key that is needed and not held is passed over. The time grows with the held keys, the keys that
 /// they list and the tags, times a logarithm.
 ///
 /// # Errors
@@ -66,8 +64,7 @@ pub fn belonging_of<D: Dir>(
         (meaning (D.device layout.now.dir) layout.now.graph layout.now.tags)
         (λ k. has_key layout.now.graph k ≡ true)) }
 {
-    let held = held_keys(alloc, layout)?;
-    let attachments = Attachments::of(alloc, layout, &held, tags, &TypeFilter::AnyType)?;
+    let attachments = Attachments::in_layout(alloc, layout, tags)?;
     belonging_by(alloc, layout, keys, tags, attachments)
 }
 

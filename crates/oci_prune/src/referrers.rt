@@ -1,7 +1,7 @@
 ghost use Rattle.std.specs.Prelude.{◌≡◌, ◌↔◌, ◌++◌, ◌∷◌, [], Some, Contains, IfOk, IfErr, OnOk};
 ghost use Rattle.oci_manifest.specs.Descriptor.{Descriptor};
 ghost use Rattle.oci_manifest.specs.Subject.{may_refer};
-ghost use Rattle.oci_prune.specs.Subjects.{AreReferrers, IsAdded, IsNoted, IsSubjectFault};
+ghost use Rattle.oci_prune.specs.Subjects.{AreReferrers, HasPairs, IsAdded, IsNoted, IsSubjectFault};
 ghost use Rattle.oci_prune.specs.Typed.{Passes, StatesBy};
 
 use crate::fault::{PruneFault, of_fetch, of_manifest};
@@ -34,6 +34,20 @@ pub(crate) fn referrers_of<S: Source>(
     for key in keys {
         let found = subject_at(alloc, source, key, filter)?;
         add_referrer(alloc, &mut referrers, key, found)?;
+    }
+    Ok(referrers)
+}
+
+/// Returns the first key of each of these pairs, under the digest of the second.
+pub(crate) fn referrers_by(
+    alloc: Global,
+    pairs: &[(Key, Key)],
+) -> Result<BTreeMap<Digest, Vec<Key>>, NoMemory>
+    ensures { IfOk result (HasPairs pairs.now) }
+{
+    let mut referrers = BTreeMap::new(alloc);
+    for pair in pairs {
+        add(alloc, &mut referrers, &pair.0, *pair.1.digest())?;
     }
     Ok(referrers)
 }

@@ -1,10 +1,7 @@
-use Rattle.std.proofs.Common.{List, subst}
-use Rattle.oci_manifest.specs.Descriptor.{Descriptor}
 use Rattle.oci_store.specs.Tags.{by_bytes}
-use Rattle.oci_layout.specs.Blobs.{stored, keys_of-stored}
-use Rattle.oci_prune.specs.Attached.{AttachedBy, AreAttachments}
-use Rattle.oci_prune.specs.Subjects.{States}
-use Rattle.oci_prune.proofs.Bringing.{attached_same, belonging_from, memory_fault, ok_both}
+use Rattle.oci_layout.specs.Blobs.{stored}
+use Rattle.oci_prune.specs.Attached.{AttachedBy}
+use Rattle.oci_prune.proofs.Bringing.{belonging_from, memory_fault, ok_both}
 use Rattle.oci_prune.proofs.belonging.belonging_of.Goals as goal
 
 pub returns-clause-exact : goal.returns-clause-exact
@@ -12,11 +9,8 @@ returns-clause-exact g c =
     let file = (g.D.Dir.device c.args.layout.now.dir).file in
     let graph = c.args.layout.now.graph in
     let tags = by_bytes c.args.tags.now in
-    let attachments = c.in_ok-attachments.attachments in
     ok_both c.belonging_by.result _ _ _
-    (λ b complete tables honest.
-    let are = subst (λ (ks : List Descriptor). AreAttachments (States (stored file graph)) ks tags attachments) c.deref.ensures.value (c.in_ok-attachments.ensures.exact honest) in
-    belonging_from graph c.args.keys.now tags (AttachedBy (stored file graph) tags) attachments b (attached_same graph (stored file graph) c.in_ok-held.held.items tags attachments (keys_of-stored file graph) c.in_ok-held.ensures are) complete tables)
+    (λ b complete tables honest. belonging_from graph c.args.keys.now tags (AttachedBy (stored file graph) tags) c.in_ok-attachments.attachments b (c.in_ok-attachments.ensures.exact honest) complete tables)
     c.belonging_by.ensures.complete c.belonging_by.ensures.tables
 
 pub returns-clause-cause : goal.returns-clause-cause
