@@ -63,6 +63,16 @@ def chain(count):
     return contents
 
 
+def signed_images(count):
+    """Return this number of images, each with a layer and two signatures. The last content is an image."""
+    contents = [E]
+    for number in range(count):
+        layers = [Content(LAYER, b"%d %d" % (number, place)) for place in range(3)]
+        signed = image(layers[:1])
+        contents += [*layers, *(image([layer], subject=signed) for layer in layers[1:]), signed]
+    return contents
+
+
 E = Content(EMPTY, b"{}")
 FOO = Content(LAYER, b"foo")
 BAR = Content(LAYER, b"bar")
