@@ -46,6 +46,9 @@ pub(crate) fn goes_by_parts<A: Source>(source: &A, key: &Key) -> bool
 
 /// Reads the content of a planned key into a draft, up to the first write that fails. The watcher
 /// is told of each part.
+///
+/// The draft is also put onto the disk here, so that a worker does not wait for the disk while it
+/// holds the lock.
 pub(crate) fn draft_planned<A: Source, W: Drafting, P: PartWatcher>(
     source: &A,
     key: &Key,
@@ -58,7 +61,10 @@ pub(crate) fn draft_planned<A: Source, W: Drafting, P: PartWatcher>(
         (A.state source.now) key.now) (IsContentCause (A.state source.now) key.now) }
 {
     match fetch_into(source, key, draft, watcher) {
-        Ok(()) => Ok(()),
+        Ok(()) => {
+            draft.settle();
+            Ok(())
+        }
         Err(fault) => Err(fetch_fault(key, fault)),
     }
 }

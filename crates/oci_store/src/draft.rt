@@ -25,6 +25,14 @@ pub trait Drafting {
         ensures { OnOk result ((bytes : List ℕ) → drafted self.old bytes
             → drafted self.new (bytes ++ part.now)) };
 
+    /// Puts the appended bytes onto the disk, if that is where the store keeps them, so that a push
+    /// of the draft need not wait for it. A device failure is reported by the push. By default this
+    /// does nothing.
+    fn settle(&mut self)
+        ensures same { (bytes : List ℕ) → drafted self.old bytes → drafted self.new bytes }
+        ensures lost { is_lost self.old → is_lost self.new }
+    {}
+
     /// Returns `true` only if a write of the draft failed. Its push then fails, so the rest need
     /// not be appended.
     fn is_broken(&self) -> bool

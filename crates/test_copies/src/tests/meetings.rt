@@ -1,10 +1,13 @@
 use crate::tests::calls::{assert_told, options, told_by_workers};
 use crate::tests::copies::Run;
 use bytes::Bytes;
+use oci_digest::NoMemory;
 use oci_manifest::Key;
 use oci_plan::Existing;
 use oci_pool::{Hooks, NoHooks};
-use oci_store::{FetchFault, MemoryStore, Source, Store};
+use oci_store::{
+    CheckedContent, ClosedStore, Dest, Drafting, FetchFault, MemoryStore, PushFault, Source, Store,
+};
 use std::process::Abort;
 use std::sync::Wait;
 use std::sync::atomic::{AtomicU64, Ordering};
@@ -136,6 +139,7 @@ impl Store for PartsMeet {
       entries = s.store.entries;
       tags = s.store.tags;
       name = [];
+      lasts = λ entries tags. ⊥;
       failures = 0;
       fails_at = λ k. true;
       is_honest = ⊤;
@@ -169,6 +173,122 @@ impl Source for PartsMeet {
     }
 }
 
+/// A draft that notes that it was settled after its last write, at a meeting place.
+#[derive(Drop)]
+struct SettlingDraft<'m, W> {
+    draft: W,
+    meeting: &'m MeetingPlace,
+    is_settled: bool,
+}
+
+impl<'m, W: Drafting> Drafting for SettlingDraft<'m, W> {
+    ghost drafted = { λ d. W.drafted d.draft };
+
+    ghost is_lost = { λ d. W.is_lost d.draft };
+
+    fn append(&mut self, part: &[u8]) -> Result<(), NoMemory> {
+        self.is_settled = false;
+        self.draft.append(part)
+    }
+
+    fn settle(&mut self) {
+        self.draft.settle();
+        self.meeting.come();
+        self.is_settled = true;
+    }
+
+    fn is_broken(&self) -> bool {
+        self.draft.is_broken()
+    }
+}
+
+/// A destination with a meeting place for the settling of its drafts. It counts the drafts that
+/// were settled before their push.
+#[derive(Drop)]
+struct SettlingStore<'m, D> {
+    store: D,
+    meeting: &'m MeetingPlace,
+    settled: &'m AtomicU64,
+}
+
+impl<'m, D: Dest> Store for SettlingStore<'m, D> {
+    ghost state = { λ s. D.state s.store };
+
+    ghost same_keys = { λ s. D.same_keys s.store };
+
+    ghost trusted = { λ s. D.trusted s.store };
+
+    ghost listed = { λ s. D.listed s.store };
+}
+
+impl<'m, D: Dest> Dest for SettlingStore<'m, D> {
+    ghost shares = { D.shares };
+
+    fn has(&self, key: &Key) -> bool {
+        self.store.has(key)
+    }
+
+    fn count(&self) -> usize {
+        self.store.count()
+    }
+
+    fn missing(&self) -> Result<Option<(Key, Key)>, NoMemory> {
+        self.store.missing()
+    }
+
+    fn push_checked(&mut self, content: CheckedContent) -> Result<usize, PushFault> {
+        self.store.push_checked(content)
+    }
+
+    fn push_closed(&mut self, key: &Key, bytes: Bytes) -> Result<usize, PushFault> {
+        self.store.push_closed(key, bytes)
+    }
+
+    type Draft = SettlingDraft<'m, D::Draft>;
+
+    fn draft(&self, key: &Key) -> Result<SettlingDraft<'m, D::Draft>, NoMemory> {
+        Ok(SettlingDraft {
+            draft: self.store.draft(key)?,
+            meeting: self.meeting,
+            is_settled: false,
+        })
+    }
+
+    fn push_draft(
+        &mut self,
+        key: &Key,
+        draft: SettlingDraft<'m, D::Draft>,
+    ) -> Result<usize, PushFault> {
+        if draft.is_settled {
+            self.settled.fetch_add(1, Ordering::SeqCst);
+        }
+        self.store.push_draft(key, draft.draft)
+    }
+
+    fn failures(&self) -> u64 {
+        self.store.failures()
+    }
+}
+
+/// Copies two layers into an empty destination by this number of workers.
+fn assert_two_into<
+    R: AllocGlobal + Threads + Wait + Sync + Abort,
+    A: Source + Sync,
+    D: Dest + Drop + Send,
+    H: Hooks + Sync,
+>(rt: &R, source: &A, empty: D, workers: u32, hooks: &H) -> Result<(), Fail>
+where
+    D::Draft: Send,
+{
+    let run = Run {
+        name: "two layers",
+        workers: Some(workers),
+    };
+    let options = options(run.workers, Existing::Skip, 0);
+    let told = told_by_workers(rt, source, empty, &[Foo, Bar], &options, hooks);
+    assert_told(rt, told, "planned 2 pushed 2 skipped 0", run)
+}
+
 /// Copies two layers by this number of workers.
 fn assert_two<R: AllocGlobal + Threads + Wait + Sync + Abort, A: Source + Sync, H: Hooks + Sync>(
     rt: &R,
@@ -176,14 +296,8 @@ fn assert_two<R: AllocGlobal + Threads + Wait + Sync + Abort, A: Source + Sync, 
     workers: u32,
     hooks: &H,
 ) -> Result<(), Fail> {
-    let run = Run {
-        name: "two layers",
-        workers: Some(workers),
-    };
     let empty = closed(rt.alloc(), &[])?;
-    let options = options(run.workers, Existing::Skip, 0);
-    let told = told_by_workers(rt, source, empty, &[Foo, Bar], &options, hooks);
-    assert_told(rt, told, "planned 2 pushed 2 skipped 0", run)
+    assert_two_into(rt, source, empty, workers, hooks)
 }
 
 /// Of the workers that copy from this source with these hooks, `met` meet before they fetch, `met`
@@ -268,4 +382,34 @@ fn parts_meet(rt: HostRuntime) -> Result<(), Fail> {
         meeting: MeetingPlace::looking(LOOKS),
     };
     assert_parts_meet(&rt, &source)
+}
+
+/// Two of three workers meet when they settle the drafts of two layers, and each draft was settled
+/// before its push.
+fn assert_settling_meets<R: AllocGlobal + Threads + Wait + Sync + Abort>(
+    rt: &R,
+    source: &PartsMeet,
+    store: ClosedStore,
+) -> Result<(), Fail> {
+    let meeting = MeetingPlace::looking(LOOKS);
+    let settled = AtomicU64::new(0);
+    let destination = SettlingStore {
+        store,
+        meeting: &meeting,
+        settled: &settled,
+    };
+    assert_two_into(rt, source, destination, 3, &NoHooks)?;
+    assert_eq!(rt; meeting.met(), 2);
+    assert_eq!(rt; settled.load(Ordering::SeqCst), 2);
+    Ok(())
+}
+
+/// Two workers settle their drafts at the same time, so neither holds the destination's lock.
+#[test]
+fn settling_meets(rt: HostRuntime) -> Result<(), Fail> {
+    let source = PartsMeet {
+        store: memory(rt.alloc(), &[Foo, Bar])?,
+        meeting: MeetingPlace::looking(1),
+    };
+    assert_settling_meets(&rt, &source, closed(rt.alloc(), &[])?)
 }
