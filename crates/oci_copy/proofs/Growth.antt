@@ -18,7 +18,7 @@ use Rattle.oci_store.proofs.Leaves.{IsChecked-leaf}
 use Rattle.oci_store.proofs.Lookups.{All-value_at, value_at-append_cases, has_key-append_left}
 use Rattle.oci_plan.proofs.Items.{value_at-nodes_of}
 use Rattle.oci_copy.specs.Brought.{IsDrafted}
-use Rattle.oci_copy.specs.Grown.{graph_of, HasKnownBytes, ListsByBytes}
+use Rattle.oci_copy.specs.Grown.{graph_of, HasKnownBytes, ListsByBytes, StillLasts}
 use Rattle.oci_copy.specs.Kept.{Keeps, IsOpeningAnd}
 use Rattle.oci_copy.proofs.Checks.{held-from_check}
 
@@ -49,6 +49,7 @@ keeps_start shares source planned opening = record {
   rising = omega arith;
   tags = refl;
   name = refl;
+  lasts = λ h entries tags same was. was;
 }
 
 -- bytes that are known after a push were known before it, and no put failed meanwhile
@@ -78,6 +79,11 @@ module _ {shares : Type 0} {source : State} {planned : List Descriptor} {opening
       let b = known_before {before = before} keeps.rising did.failures known in
       let was = keeps.known b.0 in
       record { is_sound = was.0; is_calm = b.1; agrees = agrees_at b.0 was.1 }
+
+  -- what lasted still does
+  still_lasts : StillLasts source opening after
+  still_lasts h entries tags same was =
+      did.lasts entries tags (λ other found at digest. same e.0 other e.1 found (own h) at digest) (keeps.lasts h entries tags same was)
 
   -- a push keeps it where it is done
   keeps_pushed : Contains planned e.0 → after.nodes ≡ before.nodes ++ node_of e ∷ [] → HasAll before.nodes (successors_in e.0 e.1) → ListsByBytes (node_of e)
@@ -109,6 +115,7 @@ module _ {shares : Type 0} {source : State} {planned : List Descriptor} {opening
         rising = (let u = keeps.rising in let rises = did.failures in omega arith);
         tags = did.tags ∙ keeps.tags;
         name = did.name ∙ keeps.name;
+        lasts = still_lasts;
       }
 
   -- and where it is refused
@@ -127,6 +134,7 @@ module _ {shares : Type 0} {source : State} {planned : List Descriptor} {opening
     rising = (let u = keeps.rising in let rises = did.failures in omega arith);
     tags = did.tags ∙ keeps.tags;
     name = did.name ∙ keeps.name;
+    lasts = still_lasts;
   }
 
 -- a push of content that was looked at keeps it, however it is answered
@@ -154,6 +162,7 @@ keeps_lost {before = before} did keeps = record {
   rising = (let u = keeps.rising in let rises = did.failures in omega arith);
   tags = did.tags ∙ keeps.tags;
   name = did.name ∙ keeps.name;
+  lasts = λ h entries tags same was. did.lasts entries tags (keeps.lasts h entries tags same was);
 }
 
 -- and a push of a draft, lost or not
@@ -164,6 +173,13 @@ keeps_drafted (inl lost) left did leaf plan fresh keeps = keeps_lost (left lost)
 keeps_drafted {k = k} {pushed = pushed} (inr it) left did leaf plan fresh keeps =
     let own = it.1 in
     keeps_answered {listed = []} pushed (did it.0 own.is_drafted own.matching) own.own plan fresh (IsChecked-leaf k it.0 [] leaf own.matching refl) keeps
+
+-- a push of a draft raises the count of failed puts only with a device error
+pub drafted_calm : (source : State) {shares lost : Type 0} {drafted : List ℕ → Type 0} {before after : State} {k : Descriptor} {pushed : Result ℕ PushFault}
+    → IsDrafted lost drafted source k → (lost → IsLostPush before after k pushed) → ((bytes : List ℕ) → drafted bytes → Matches k bytes → IsPush shares before after (k, bytes) pushed)
+    → before.failures < after.failures → IsErrOf pushed push.Device
+drafted_calm source (inl lost) left did = let it = left lost in it.calm
+drafted_calm source (inr own) left did = let it = did own.0 own.1.is_drafted own.1.matching in it.calm
 
 -- a push of a draft halts a store only if memory runs out
 pub drafted_running : (source : State) {shares lost : Type 0} {drafted : List ℕ → Type 0} {before after : State} {k : Descriptor} {pushed : Result ℕ PushFault}

@@ -114,6 +114,7 @@ module _ {shares : Type 0} {source : State} {options : Options} {opening now : S
     closed = closed_kept keeps;
     failures = keeps.rising;
     name = keeps.name;
+    lasts = keeps.lasts;
   }
 
   -- where the planned keys are held, so are the roots
@@ -198,4 +199,5 @@ unchanged_grows shares source opening roots = record {
   closed = λ was. was;
   failures = omega arith;
   name = refl;
+  lasts = λ h entries tags same was. was;
 }

@@ -83,4 +83,5 @@ module _ {shares : Type 0} {source opening now tagged : State} {roots : List Des
     closed = λ was. rw stays.nodes (grows.closed was);
     failures = rw stays.failures grows.failures;
     name = rw stays.name grows.name;
+    lasts = λ h entries tags same was. stays.lasts entries tags (grows.lasts h entries tags same was);
   }

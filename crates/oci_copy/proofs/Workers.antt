@@ -4,7 +4,7 @@ use Rattle.std.specs.Prelude.{Contains, IfErr, IsSomeAnd, slice_get}
 use Rattle.std.specs.List.{All, IsDistinct}
 use Rattle.std.specs.Map.{keys_of}
 use Rattle.std.specs.Result.{result_unwrap_or}
-use Rattle.std.proofs.lemmas.Bool.{false≢true}
+use Rattle.std.proofs.lemmas.Bool.{cases_lt, false≢true}
 use Rattle.std.proofs.lemmas.List.Elements.{All-contains, Contains-push}
 use Rattle.std.proofs.lemmas.Map.Made.{is_member-Decides, length-le_from_is_member}
 use Rattle.oci_manifest.specs.Descriptor.{Descriptor, same_key}
@@ -114,6 +114,14 @@ halted_after was running earlier now halted =
     elim (running halted) [
       | inl before ↦ elim (was before) [ inl opening ↦ inl opening | inr ran_out ↦ inr (earlier ran_out) ]
       | inr memory ↦ inr (now memory)
+    ]
+
+-- a put that failed since the opening failed before this push, or in it, and is noted
+pub failed_after : (opening before after : ℕ) {was failed noted : Type 0} → (opening < before → was) → (before < after → failed) → (was → noted) → (failed → noted) → opening < after → noted
+failed_after opening before after earlier did stays now lt =
+    elim (cases_lt opening before) [
+      | inl sooner ↦ stays (earlier sooner)
+      | inr later ↦ now (did (omega (arith, lt, later)))
     ]
 
 -- a put that failed now has failed since the opening

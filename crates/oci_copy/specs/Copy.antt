@@ -17,7 +17,7 @@ use Rattle.oci_copy.specs.declared.report.Report.{Report}
 use Rattle.oci_copy.specs.Options.{limit_of}
 use Rattle.oci_copy.specs.Destination.{IsClosedWhenSkipping}
 use Rattle.oci_copy.specs.Fault.{IsEarly}
-use Rattle.oci_copy.specs.Grown.{graph_of, BeginsWith, IsGrown, HasKnownBytes, ListsByBytes}
+use Rattle.oci_copy.specs.Grown.{graph_of, BeginsWith, IsGrown, HasKnownBytes, ListsByBytes, StillLasts}
 use Rattle.oci_copy.specs.Report.{IsReport}
 
 -- the destination is a copy with this report: it has its earlier contents and all that the source
@@ -66,6 +66,8 @@ pub record OnlyGrows (shares : Type 0) (source opening : State) (roots : List De
   -- the count of failed puts does not fall, and it is the same store
   pub failures : opening.failures ≤ now.failures
   pub name : now.name ≡ opening.name
+  -- a crash finds there what lasted at the opening
+  pub lasts : StillLasts source opening now
 
 -- a copy sets no tag, and changes nothing if it is refused before its first push
 pub record Spares {D : Type 0} (state : D → State) (opening now : D) (answer : Result Report CopyFault) : Type 0 where

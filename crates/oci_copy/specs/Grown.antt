@@ -7,6 +7,7 @@ use Rattle.oci_store.specs.Graph.{Node, nodes_of}
 use Rattle.oci_store.specs.Copied.{AreReached}
 use Rattle.oci_store.specs.Push.{IsCalm}
 use Rattle.oci_store.specs.State.{State}
+use Rattle.oci_store.specs.Tags.{Tags}
 
 -- the graph of the store's bytes
 abbrev pub graph_of : State → List Node
@@ -30,6 +31,12 @@ IsGrown {X} graph source roots old new = (added : List (Descriptor × X)) × (ne
 abbrev pub SameByDigest : List Entry → List Entry → Type 0
 SameByDigest a b = (k other : Descriptor) (x y : List ℕ) → value_at a k ≡ Some x → value_at b other ≡ Some y
     → other.digest ≡ k.digest → y ≡ x
+
+-- what lasted of the destination still lasts, if the source is honest, and each lasting content has the
+-- source's bytes where the two share a digest
+abbrev pub StillLasts : State → State → State → Type 0
+StillLasts source opening now = source.is_honest → (entries : List Entry) (tags : Tags) → SameByDigest source.entries entries
+    → opening.lasts entries tags → now.lasts entries tags
 
 -- The bytes of a copy are known: the source is honest, and the destination was sound. None of its
 -- puts failed from its opening until now, and none could fail uncounted. If the destination keeps

@@ -5,7 +5,7 @@ use Rattle.oci_manifest.specs.Descriptor.{Descriptor}
 use Rattle.oci_store.specs.Keyed.{value_at, HasAll, HasDistinctKeys}
 use Rattle.oci_store.specs.Graph.{Node}
 use Rattle.oci_store.specs.State.{State}
-use Rattle.oci_copy.specs.Grown.{graph_of, HasKnownBytes, ListsByBytes}
+use Rattle.oci_copy.specs.Grown.{graph_of, HasKnownBytes, ListsByBytes, StillLasts}
 
 -- these are pairs of the source whose keys are planned
 abbrev pub ArePlanned : {X : Type 0} → List (Descriptor × X) → List Descriptor → List (Descriptor × X) → Type 0
@@ -36,12 +36,15 @@ pub record Keeps (shares : Type 0) (source : State) (planned : List Descriptor) 
   pub rising : opening.failures ≤ now.failures
   pub tags : now.tags ≡ opening.tags
   pub name : now.name ≡ opening.name
+  -- a crash finds there what lasted at the opening
+  pub lasts : StillLasts source opening now
 
--- a run of pushes can begin: all that it keeps holds, and the destination had halted only if it had
--- at the opening
+-- a run of pushes can begin: all that it keeps holds, the destination had halted only if it had at the
+-- opening, and no put failed since
 pub record CanBegin (shares : Type 0) (source : State) (planned : List Descriptor) (opening now : State) : Type 0 where
   pub keeps : Keeps shares source planned opening now
   pub halted : now.is_halted → opening.is_halted
+  pub calm : now.failures ≡ opening.failures
 
 -- a run of pushes has ended, and its lock had this graph
 pub record HasEnded (shares : Type 0) (source : State) (planned : List Descriptor) (opening : State) (graph : List Node) (now : State) : Type 0 where

@@ -1,4 +1,4 @@
-ghost use Rattle.std.specs.Prelude.{◌≡◌, ◌≤◌, Contains, slice_get, OnOk, IfErr, IfSome, IsSomeAnd};
+ghost use Rattle.std.specs.Prelude.{◌≡◌, ◌≤◌, false, Contains, slice_get, OnOk, IfErr, IfSome, IsSomeAnd};
 ghost use Rattle.oci_store.specs.Keyed.{HasAll, HasDistinctKeys};
 ghost use Rattle.oci_pool.specs.Run.{IsCause};
 ghost use Rattle.oci_copy.specs.Cause.{CanFail, IsStepCause, RefusedAt};
@@ -18,14 +18,32 @@ use std::alloc::Global;
 use std::sync::{Condvar, Mutex, Wait};
 use std::thread::Threads;
 
-/// Returns the destination of a run, with the facts that every state of the lock kept.
-fn finish<D: Dest, T: CopyStart>(locked: LockedDestination<D, T>) -> D
-    ensures { HasEnded D.shares T.source T.planned T.opening locked (D.state result) }
+/// Returns the destination of a run, with the facts that every state of the lock kept, and whether
+/// a put failed in the run.
+fn finish<D: Dest, T: CopyStart>(locked: LockedDestination<D, T>) -> (D, bool)
+    ensures ended { HasEnded D.shares T.source T.planned T.opening locked (D.state result.0) }
+    ensures calm { result.1 ≡ false → (D.state result.0).failures ≡ T.opening.failures }
 {
-    let destination = locked.into_destination();
+    let (destination, put_failed) = locked.into_destination();
     // A no-op at run time: its contract states that no key is held twice.
     let _distinct = destination.count();
-    destination
+    (destination, put_failed)
+}
+
+/// Returns the destination of a run that stopped without a fault and now holds all planned keys. A
+/// put that failed is the fault of a run, so none failed in this one.
+fn finish_whole<D: Dest, T: CopyStart>(
+    locked: LockedDestination<D, T>,
+) -> (D, Result<(), CopyFault>)
+    ensures ended { HasEnded D.shares T.source T.planned T.opening locked (D.state result.0) }
+    ensures calm { OnOk result.1 ((D.state result.0).failures ≡ T.opening.failures) }
+    ensures memory { IfErr result.1 (λ fault. fault ≡ CopyFault.Memory) }
+{
+    let (destination, put_failed) = finish(locked);
+    if put_failed {
+        return (destination, Err(CopyFault::Memory));
+    }
+    (destination, Ok(()))
 }
 
 /// Returns the fault of a copy whose run stopped, or nothing if the run is only incomplete. The
@@ -74,6 +92,7 @@ where
     ensures held { OnOk result.1 (HasAll (D.state result.0).nodes plan.now.keys) }
     ensures distinct { HasDistinctKeys (D.state result.0).nodes }
     ensures keeps { Keeps D.shares T.source T.planned T.opening (D.state result.0) }
+    ensures calm { OnOk result.1 ((D.state result.0).failures ≡ T.opening.failures) }
     ensures cause { IfErr result.1 (RefusedAt (Contains T.planned)
         (IsStepCause (CanFail D.state T.opening) T.source T.opening)) }
 {
@@ -94,11 +113,12 @@ where
     match fault {
         None => {
             let locked = take(rt, &lock, &pushed, plan.keys());
-            (finish(locked), Ok(()))
+            finish_whole(locked)
         }
         Some(fault) => {
             let locked = take(rt, &lock, &pushed, &[]);
-            (finish(locked), Err(fault))
+            let (destination, _) = finish(locked);
+            (destination, Err(fault))
         }
     }
 }

@@ -7,7 +7,7 @@ ghost use Rattle.oci_store.specs.Keyed.{HasAll};
 ghost use Rattle.oci_copy.specs.Brought.{IsPlannedContent, IsPlannedDraft};
 ghost use Rattle.oci_copy.specs.Cause.{CanFail, IsStepAnswer};
 ghost use Rattle.oci_copy.specs.Fault.{of_push};
-ghost use Rattle.oci_copy.specs.Grown.{graph_of, HasKnownBytes};
+ghost use Rattle.oci_copy.specs.Grown.{graph_of, HasKnownBytes, StillLasts};
 ghost use Rattle.oci_copy.specs.Kept.{CanBegin, Keeps, IsOpeningAnd};
 
 use super::copy_start::CopyStart;
@@ -28,11 +28,13 @@ pub struct LockedDestination<D: Dest, T: CopyStart> {
     destination: D,
     /// Whether a push was refused because memory ran out.
     ran_out: bool,
+    /// Whether a push was refused because a put failed.
+    put_failed: bool,
     opening: PhantomData<T>,
 }
 
 impl<D: Dest, T: CopyStart> Model for LockedDestination<D, T> {
-    ghost use Rattle.std.specs.Prelude.{◌≡◌, ◌⊎◌, List, true};
+    ghost use Rattle.std.specs.Prelude.{◌≡◌, ◌⊎◌, ◌<◌, List, true};
     ghost use Rattle.oci_store.specs.Graph.{Node};
     ghost use Rattle.oci_copy.specs.Kept.{Keeps};
 
@@ -41,7 +43,8 @@ impl<D: Dest, T: CopyStart> Model for LockedDestination<D, T> {
     ghost view = { λ g. (D.state g.destination).nodes };
 
     ghost invariant = { λ g. Keeps D.shares T.source T.planned T.opening (D.state g.destination)
-        × ((D.state g.destination).is_halted → T.opening.is_halted ⊎ (g.ran_out ≡ true)) };
+        × ((D.state g.destination).is_halted → T.opening.is_halted ⊎ (g.ran_out ≡ true))
+        × (T.opening.failures < (D.state g.destination).failures → g.put_failed ≡ true) };
 }
 
 impl<D: Dest, T: CopyStart> LockedDestination<D, T> {
@@ -53,6 +56,7 @@ impl<D: Dest, T: CopyStart> LockedDestination<D, T> {
         LockedDestination {
             destination,
             ran_out: false,
+            put_failed: false,
             opening: PhantomData,
         }
     }
@@ -62,7 +66,7 @@ impl<D: Dest, T: CopyStart> LockedDestination<D, T> {
     /// The destination has all that the new keys list. If it was closed when the run began, it is
     /// closed. Each new key is planned. With an honest source, each new node is the source's. If
     /// the bytes are known, each new entry is the source's too. The tags and the name are
-    /// unchanged.
+    /// unchanged. What lasted when the run began still lasts, so a crash finds it there.
     pub fn destination(&self) -> &D
         ensures nodes { (D.state result.now).nodes ≡ self.now }
         ensures closed { IsClosed T.opening.nodes → IsClosed (D.state result.now).nodes }
@@ -80,6 +84,7 @@ impl<D: Dest, T: CopyStart> LockedDestination<D, T> {
             (D.state result.now).entries }
         ensures tags { (D.state result.now).tags ≡ T.opening.tags }
         ensures name { (D.state result.now).name ≡ T.opening.name }
+        ensures lasts { StillLasts T.source T.opening (D.state result.now) }
     {
         &self.destination
     }
@@ -101,6 +106,7 @@ impl<D: Dest, T: CopyStart> LockedDestination<D, T> {
         }
         let pushed = self.destination.push_checked(content);
         self.ran_out = has_run_out(self.ran_out, &pushed);
+        self.put_failed = has_failed(self.put_failed, &pushed);
         match pushed {
             Ok(_) => Ok(Held::by(self, key)),
             Err(fault) => Err(locked_fault(key, fault, self.ran_out)),
@@ -122,23 +128,26 @@ impl<D: Dest, T: CopyStart> LockedDestination<D, T> {
         }
         let pushed = self.destination.push_draft(key, draft);
         self.ran_out = has_run_out(self.ran_out, &pushed);
+        self.put_failed = has_failed(self.put_failed, &pushed);
         match pushed {
             Ok(_) => Ok(Held::by(self, key)),
             Err(fault) => Err(locked_fault(key, fault, self.ran_out)),
         }
     }
 
-    /// Returns the destination, once the run has ended.
-    pub(crate) fn into_destination(self) -> D
-        ensures nodes { (D.state result).nodes ≡ self }
-        ensures keeps { Keeps D.shares T.source T.planned T.opening (D.state result) }
+    /// Returns the destination, once the run has ended, and whether a put failed in it.
+    pub(crate) fn into_destination(self) -> (D, bool)
+        ensures nodes { (D.state result.0).nodes ≡ self }
+        ensures keeps { Keeps D.shares T.source T.planned T.opening (D.state result.0) }
+        ensures calm { result.1 ≡ false → (D.state result.0).failures ≡ T.opening.failures }
     {
         let LockedDestination {
             destination,
             ran_out: _,
+            put_failed,
             opening: _,
         } = self;
-        destination
+        (destination, put_failed)
     }
 }
 
@@ -151,6 +160,17 @@ fn has_run_out(ran_out: bool, pushed: &Result<usize, PushFault>) -> bool
     match pushed {
         Err(PushFault::Memory) => true,
         _ => ran_out,
+    }
+}
+
+/// Returns whether this push or an earlier one was refused because a put failed.
+fn has_failed(put_failed: bool, pushed: &Result<usize, PushFault>) -> bool
+    ensures before { put_failed ≡ true → result ≡ true }
+    ensures now { IsErrOf pushed.now PushFault.Device → result ≡ true }
+{
+    match pushed {
+        Err(PushFault::Device) => true,
+        _ => put_failed,
     }
 }
 

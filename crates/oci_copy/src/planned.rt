@@ -1,4 +1,4 @@
-ghost use Rattle.std.specs.Prelude.{◌≡◌, ◌⊎◌, Contains, IfOk, IfErr};
+ghost use Rattle.std.specs.Prelude.{◌≡◌, ◌⊎◌, Contains, IfOk, IfErr, OnOk};
 ghost use Rattle.oci_copy.specs.Cause.{CanFail, IsAnswerByWorkers, IsStepCause, RefusedAt};
 ghost use Rattle.oci_copy.specs.Copy.{IsCopy, OnlyGrows, Spares};
 ghost use Rattle.oci_copy.specs.Plain.{NeitherFails};
@@ -24,6 +24,8 @@ use std::thread::Threads;
 /// these roots and these options, and neither store has changed since. So a caller can look at the
 /// plan, or print it, before the first push, and nothing is planned twice. The outcome and the
 /// calls of the hooks are those of `copy_graph` from these roots.
+///
+/// No put failed in a copy that succeeds.
 ///
 /// Takes a lock and joins its workers. Termination is not proved.
 ///
@@ -57,6 +59,7 @@ where
     requires { IsPlanOf (A.state source.now) options.now (D.state destination) roots.now plan.now }
     ensures copied { IfOk result.1 (IsCopy D.shares options.now (A.state source.now)
         (D.state destination) roots.now (D.state result.0)) }
+    ensures calm { OnOk result.1 ((D.state result.0).failures ≡ (D.state destination).failures) }
     ensures grows { OnlyGrows D.shares (A.state source.now) (D.state destination) roots.now
         (D.state result.0) }
     ensures spared { Spares D.state destination result.0 result.1 }

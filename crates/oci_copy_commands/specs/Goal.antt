@@ -6,7 +6,7 @@ use Rattle.oci_command_line.specs.declared.changing.Selection.TheVariants as sel
 use Rattle.oci_manifest.specs.Descriptor.{Descriptor}
 use Rattle.oci_store.specs.Keyed.{has_key}
 use Rattle.oci_store.specs.Tags.{Tags, by_bytes, tag_at}
-use Rattle.oci_layout.specs.Blobs.{meaning}
+use Rattle.oci_layout.specs.Meaning.{meaning}
 use Rattle.oci_layout.specs.Brought.{Forgets}
 use Rattle.oci_layout.specs.Device.{Device}
 use Rattle.oci_layout.specs.Entries.{IndexEntry, entry_of, said}

@@ -15,7 +15,8 @@ use Rattle.oci_plan.specs.declared.gathering.Existing.{Existing}
 use Rattle.oci_copy.specs.Grown.{graph_of, BeginsWith}
 use Rattle.oci_copy.specs.Report.{IsReport}
 use Rattle.oci_copy.specs.declared.fault.CopyFault.{CopyFault}
-use Rattle.oci_layout.specs.Blobs.{meaning, stored}
+use Rattle.oci_layout.specs.Blobs.{stored}
+use Rattle.oci_layout.specs.Meaning.{meaning}
 use Rattle.oci_layout.specs.Device.{Device}
 use Rattle.oci_layout.specs.Entries.{said, unreadable_places}
 use Rattle.oci_layout.specs.Layout.{LayoutState, manifests_of}

@@ -13,7 +13,7 @@ use Rattle.oci_store.specs.Keyed.{has_key}
 use Rattle.oci_store.specs.State.{State}
 use Rattle.oci_store.specs.Tags.{Tags, by_bytes, set_tag, tag_at, without_tag}
 use Rattle.oci_store.specs.Visiting.{with_keys}
-use Rattle.oci_layout.specs.Blobs.{meaning}
+use Rattle.oci_layout.specs.Meaning.{meaning}
 use Rattle.oci_layout.specs.Brought.{renamed, IsShallowEntry}
 use Rattle.oci_layout.specs.Device.{Device}
 use Rattle.oci_layout.specs.Entries.{IndexEntry, entry_keys, entry_of, is_held, said, text_of, unreadable_places}

@@ -4,7 +4,7 @@ ghost use Rattle.std.specs.Map.{values_of};
 ghost use Rattle.oci_manifest.specs.Descriptor.{Descriptor};
 ghost use Rattle.oci_store.specs.Tags.{by_bytes, without_tag, AreNames};
 ghost use Rattle.oci_store.specs.Visiting.{with_keys};
-ghost use Rattle.oci_layout.specs.Blobs.{meaning};
+ghost use Rattle.oci_layout.specs.Meaning.{meaning};
 ghost use Rattle.oci_layout.specs.Entries.{entry_keys, entry_of};
 ghost use Rattle.oci_copy_commands.specs.Pattern.{texts_of};
 ghost use Rattle.oci_copy_commands.specs.Selected.{

@@ -5,15 +5,18 @@ use Rattle.std.specs.List.{All}
 use Rattle.std.specs.Map.{keys_of}
 use Rattle.oci_digest.proofs.DigestLemmas.{IsDigest-from_Verifies}
 use Rattle.oci_manifest.specs.Descriptor.{Descriptor, IsKey}
+use Rattle.oci_store.specs.Content.{Entry}
 use Rattle.oci_store.specs.Graph.{Node}
 use Rattle.oci_store.specs.Keyed.{has_key}
 use Rattle.oci_store.specs.Parts.{IsLostPush}
-use Rattle.oci_store.specs.Push.{closed_check, Refusal, Refused, IsCalm, IsRaised, IsPush}
+use Rattle.oci_store.specs.Push.{AgreesAt, closed_check, Refusal, Refused, IsCalm, IsRaised, IsPush}
 use Rattle.oci_store.specs.Tags.{Tags, AreNames}
 use Rattle.oci_store.proofs.Contents.{IsNew, IsNew-successors}
 use Rattle.oci_store.proofs.Leaves.{leaf_check-fresh}
 use Rattle.oci_store.proofs.References.{AreNames-pushed}
-use Rattle.oci_layout.specs.Blobs.{blob_path, meaning}
+use Rattle.oci_layout.specs.Blobs.{blob_path}
+use Rattle.oci_layout.specs.Lasts.{Lasts}
+use Rattle.oci_layout.specs.Meaning.{meaning}
 use Rattle.oci_layout.specs.Device.{Device, IsPut, Same}
 use Rattle.oci_layout.specs.Faults.{push_fault}
 use Rattle.oci_layout.specs.Push.{Settles}
@@ -61,9 +64,9 @@ refused dir.Failed check listed h = (listed, h)
 refused dir.Memory check listed h = tt
 
 taken_back : (old new : Device) (graph grown : List Node) (tags : Tags) (k : Descriptor) (bytes : List ℕ) (listed : List Descriptor) (drafted : List ℕ → Type 0) (e : DirFault)
-    → closed_check graph k bytes ≡ Ok listed → grown ≡ graph → IsPut old new (blob_path k.digest) drafted (Err e)
+    → closed_check graph k bytes ≡ Ok listed → grown ≡ graph → IsPut old new (blob_path k.digest) drafted (Err e) → ((entries : List Entry) (names : Tags) → AgreesAt entries k bytes → Lasts old entries names → Lasts new entries names)
     → IsPush ⊤ (meaning old graph tags) (meaning new grown tags) (k, bytes) (Err (push_fault e))
-taken_back old new graph grown tags k bytes listed drafted e checked back put = rw back (record {
+taken_back old new graph grown tags k bytes listed drafted e checked back put lasts = rw back (record {
   keys = record { place = tt; pushed = tt; refused = refl; checked = refused e _ listed checked };
   bytes = record {
     pushed = tt;
@@ -79,14 +82,16 @@ taken_back old new graph grown tags k bytes listed drafted e checked back put = 
   stays = λ is_halted. is_halted;
   tags = refl;
   name = refl;
+  lasts = lasts;
 })
 
 -- a push of what was drafted
 pub IsPush-settled : (old new : Device) (graph noted grown : List Node) (tags : Tags) (k : Descriptor) (bytes : List ℕ) (ks listed : List Descriptor) (drafted : List ℕ → Type 0)
     → (answer : Result Unit DirFault) (r : Result ℕ PushFault) → All IsKey (keys_of graph) → IsNew graph k bytes ks → closed_check graph k bytes ≡ Ok listed → drafted bytes
     → noted ≡ graph ++ (k, ks) ∷ [] → IsPut old new (blob_path k.digest) drafted answer → Settles (length graph) noted grown answer r
+    → ((entries : List Entry) (names : Tags) → AgreesAt entries k bytes → Lasts old entries names → Lasts new entries names)
     → IsPush ⊤ (meaning old graph tags) (meaning new grown tags) (k, bytes) r
-IsPush-settled old new graph noted grown tags k bytes ks listed drafted (Ok done) r keys passed checked is_drafted pushed put settled =
+IsPush-settled old new graph noted grown tags k bytes ks listed drafted (Ok done) r keys passed checked is_drafted pushed put settled lasts =
     let digests = digests_of graph keys in
     let is = IsDigest-from_Verifies k.digest bytes passed.matching.1 in
     let successors = IsNew-successors graph k bytes ks passed in
@@ -109,19 +114,21 @@ IsPush-settled old new graph noted grown tags k bytes ks listed drafted (Ok done
       stays = λ is_halted. is_halted;
       tags = refl;
       name = refl;
+      lasts = lasts;
     })
-IsPush-settled old new graph noted grown tags k bytes ks listed drafted (Err fault) r keys passed checked is_drafted pushed put settled =
+IsPush-settled old new graph noted grown tags k bytes ks listed drafted (Err fault) r keys passed checked is_drafted pushed put settled lasts =
     let back : grown ≡ graph = settled.1 graph (k, ks) pushed in
     let fault_is = settled.0 in
-    rw fault_is (taken_back old new graph grown tags k bytes listed drafted fault checked back put)
+    rw fault_is (taken_back old new graph grown tags k bytes listed drafted fault checked back put lasts)
 
 -- a push of a draft that is lost: its put is never one that passed
 pub IsLostPush-settled : (old new : Device) (graph noted grown : List Node) (tags : Tags) (k : Descriptor) (ks : List Descriptor) (drafted : List ℕ → Type 0) (place : ℕ)
     → (answer : Result Unit DirFault) (r : Result ℕ PushFault) → has_key graph k ≡ false → OnOk answer ⊥
     → noted ≡ graph ++ (k, ks) ∷ [] → IsPut old new (blob_path k.digest) drafted answer → Settles place noted grown answer r
+    → ((entries : List Entry) (names : Tags) → Lasts old entries names → Lasts new entries names)
     → IsLostPush (meaning old graph tags) (meaning new grown tags) k r
-IsLostPush-settled old new graph noted grown tags k ks drafted place (Ok done) r absent lost pushed put settled = absurd lost
-IsLostPush-settled old new graph noted grown tags k ks drafted place (Err e) r absent lost pushed put settled =
+IsLostPush-settled old new graph noted grown tags k ks drafted place (Ok done) r absent lost pushed put settled lasts = absurd lost
+IsLostPush-settled old new graph noted grown tags k ks drafted place (Err e) r absent lost pushed put settled lasts =
     let back : grown ≡ graph = settled.1 graph (k, ks) pushed in
     let fault_is = settled.0 in
     rw (fault_is, back) (record {
@@ -136,4 +143,5 @@ IsLostPush-settled old new graph noted grown tags k ks drafted place (Err e) r a
       stays = λ is_halted. is_halted;
       tags = refl;
       name = refl;
+      lasts = lasts;
     })

@@ -4,6 +4,7 @@ use Rattle.oci_layout.specs.Blobs.{IsSound}
 use Rattle.oci_layout.specs.Device.{Device, File, TouchesTwo}
 use Rattle.oci_layout.specs.Files.{HasFiles}
 use Rattle.oci_layout.specs.Index.{layout_file, index_file, empty_index_text, HasFreshTexts}
+use Rattle.oci_layout.specs.Lasts.{Lasts}
 use Rattle.oci_layout.specs.Layout.{no_index}
 use Rattle.oci_layout.specs.Prunable.{IsReadFault}
 use Rattle.oci_layout.specs.Refusal.{IsCreateFault}
@@ -32,6 +33,8 @@ pub record IsCreated (old new : Device) : Type 0 where
   -- it has the files of an empty layout, and is sound as one
   pub fresh : old.is_honest → IsFresh new.file
   pub sound : old.is_honest → IsSound new.is_honest new.file []
+  -- it lasts: a crash leaves these files
+  pub lasts : old.is_honest → Lasts new [] []
   -- no other file changed, and no put failed
   pub other : old.is_honest → TouchesTwo old.file new.file layout_file index_file
   pub calm : new.failures ≡ old.failures

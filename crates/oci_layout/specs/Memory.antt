@@ -1,8 +1,9 @@
 -- A directory in memory, and its fuse.
-use Rattle.std.specs.Prelude.{◌≡◌, ◌-◌, ◌/◌, ℕ, List, [], length, take, Option, Some, option_map, Result, Ok, Err, String, ⊤, false}
+use Rattle.std.specs.Prelude.{◌≡◌, ◌-◌, ◌/◌, ◌⊎◌, ℕ, List, [], length, take, Option, Some, IsSome, option_map, Result, Ok, Err, String, ⊤, false, refl}
 use Rattle.std.specs.declared.alloc.Global.{Global}
+use Rattle.std.proofs.Common.{inl}
 use Rattle.std.specs.BTreeMap.{BTreeMap, get_by_text}
-use Rattle.oci_layout.specs.Device.{Device, File, Puts}
+use Rattle.oci_layout.specs.Device.{Device, File, Puts, Same}
 use Rattle.oci_layout.specs.declared.fault.DirFault.{DirFault}
 use Rattle.oci_layout.specs.declared.fault.DirFault.TheVariants as dir
 use Rattle.oci_layout.specs.declared.mem_dir.MemDir.{MemDir}
@@ -15,9 +16,21 @@ files_of files path = get_by_text files path
 abbrev pub half : List ℕ → List ℕ
 half bytes = take (length bytes / 2) bytes
 
+-- what a crash may leave of the file at a path: what is there now, what was settled last, or anything
+-- if it was put, and not settled since
+abbrev pub MayLeave : MemDir → List ℕ → Option (List ℕ) → Type 0
+MayLeave d path left = (left ≡ files_of d.files path) ⊎ (left ≡ files_of d.settled path) ⊎ IsSome (files_of d.torn path)
+
 -- a directory in memory is honest, and its reads never fail
 abbrev pub device_of : MemDir → Device
-device_of d = record { file = files_of d.files; is_honest = ⊤; fails_reads = false; failures = d.failures }
+device_of d = record {
+  file = files_of d.files;
+  may_leave = MayLeave d;
+  is_honest = ⊤;
+  stays = λ honest path. inl refl;
+  fails_reads = false;
+  failures = d.failures;
+}
 
 -- a directory without files that no put failed in, with this fuse
 pub record IsNew (d : MemDir) (fuse : Option ℕ) : Type 0 where
@@ -32,3 +45,10 @@ abbrev pub Burns : MemDir → MemDir → List ℕ → List ℕ → Result Unit D
 Burns old new path bytes (Ok u) = (old.fuse ≡ Some 0 → ⊥) × (new.fuse ≡ option_map (λ puts. puts - 1) old.fuse)
 Burns old new path bytes (Err dir.Failed) = (old.fuse ≡ Some 0) × (new.fuse ≡ old.fuse) × Puts (files_of old.files) (files_of new.files) path (half bytes)
 Burns old new path bytes (Err dir.Memory) = new.fuse ≡ old.fuse
+
+-- a replacement succeeds only if the fuse still allows it, as a put does; one that fails changes no
+-- file
+abbrev pub BurnsWhole : MemDir → MemDir → Result Unit DirFault → Type 0
+BurnsWhole old new (Ok u) = (old.fuse ≡ Some 0 → ⊥) × (new.fuse ≡ option_map (λ puts. puts - 1) old.fuse)
+BurnsWhole old new (Err dir.Failed) = (old.fuse ≡ Some 0) × (new.fuse ≡ old.fuse) × Same (files_of old.files) (files_of new.files)
+BurnsWhole old new (Err dir.Memory) = (new.fuse ≡ old.fuse) × Same (files_of old.files) (files_of new.files)

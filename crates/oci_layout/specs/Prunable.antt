@@ -30,6 +30,9 @@ pub record IsRemoval (old new : Device) (path : List ℕ) (answer : Result Bool 
   pub found : IfOk answer (λ found. old.is_honest → found ≡ is_some (old.file path))
   -- after a fault no file changed
   pub refused : OnErr answer (old.is_honest → Same old.file new.file)
+  -- a crash leaves of the file what it could leave, or no file, and no more of any other file
+  pub left : old.is_honest → (q : List ℕ) (left : Option (List ℕ)) → new.may_leave q left
+      → old.may_leave q left ⊎ ((bytes_eq path q ≡ true) × (left ≡ None))
   -- a removal fails only if reads may fail too
   pub failed : IsErrOf answer dir.Failed → old.fails_reads ≡ true
   pub device : SameDevice old new

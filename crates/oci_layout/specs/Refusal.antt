@@ -109,6 +109,13 @@ IsCreateFault old new fault.Memory = Unit {0}
 IsCreateFault old new fault.AlreadyLayout = old.is_honest → is_some (old.file layout_file) ≡ true
 IsCreateFault old new other = ⊥
 
+-- why an index was not saved as one that a power cut leaves whole: the directory could not say that a
+-- file is on the disk, or a file was not put
+abbrev pub IsSettledFault : Device → Device → LayoutFault → Type 0
+IsSettledFault old new fault.Device = ((old.fails_reads ≡ true) × (new.failures ≡ old.failures)) ⊎ IsRaised old.failures new.failures
+IsSettledFault old new fault.Memory = Unit {0}
+IsSettledFault old new other = ⊥
+
 -- why a file was not put; `before` and `after` are the directory's counts of failed puts
 abbrev pub IsPutFault : ℕ → ℕ → LayoutFault → Type 0
 IsPutFault before after fault.Device = IsRaised before after

@@ -43,6 +43,7 @@ state_of live = record {
   entries = live.entries;
   tags = [];
   name = live.name;
+  lasts = λ entries tags. ⊥;
   failures = 0;
   fails_at = λ k. false;
   is_honest = ⊤;

@@ -21,6 +21,7 @@ after_copy source keys old = record {
   entries = with_arriving (contains key_cmp keys) source.entries old.entries;
   tags = old.tags;
   name = old.name;
+  lasts = old.lasts;
   failures = old.failures;
   fails_at = λ k. source.fails_at k || old.fails_at k;
   is_honest = source.is_honest × old.is_honest;

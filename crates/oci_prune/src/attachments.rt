@@ -1,6 +1,6 @@
 ghost use Rattle.std.specs.Prelude.{◌≡◌, ◌++◌, [], true, Contains, IfOk, IfErr, OnOk};
 ghost use Rattle.oci_manifest.specs.Descriptor.{Descriptor};
-ghost use Rattle.oci_layout.specs.Blobs.{meaning};
+ghost use Rattle.oci_layout.specs.Meaning.{meaning};
 ghost use Rattle.oci_store.specs.Keyed.{has_key};
 ghost use Rattle.oci_store.specs.Tags.{by_bytes};
 ghost use Rattle.oci_prune.specs.Attached.{AreAttachments, AreFollowers, AttachedIn, HasAttached, attached_in, followers_in, stemmed_in, dashed, cut};

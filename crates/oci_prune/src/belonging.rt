@@ -5,7 +5,7 @@ ghost use Rattle.oci_manifest.specs.Descriptor.{key_cmp, same_key};
 ghost use Rattle.oci_store.specs.Keyed.{has_key};
 ghost use Rattle.oci_store.specs.Tags.{by_bytes};
 ghost use Rattle.oci_store.specs.Visiting.{with_keys};
-ghost use Rattle.oci_layout.specs.Blobs.{meaning};
+ghost use Rattle.oci_layout.specs.Meaning.{meaning};
 ghost use Rattle.oci_prune.specs.Attached.{AreFollowers, AttachedBy, attached_in};
 ghost use Rattle.oci_prune.specs.Belonging.{AreAttachedTo, IsBelonging, IsComplete};
 ghost use Rattle.oci_prune.specs.Subjects.{IsSubjectFault};

@@ -1,6 +1,7 @@
 ghost use Rattle.std.specs.Prelude.{◌≡◌, ◌≢◌, ◌⊎◌, [], true, Some, None, IfOk, IfErr, OnOk, slice_get, string_bytes};
 ghost use Rattle.oci_store.specs.Keyed.{HasAll, first_missing};
-ghost use Rattle.oci_layout.specs.Blobs.{meaning, blob_path};
+ghost use Rattle.oci_layout.specs.Blobs.{blob_path};
+ghost use Rattle.oci_layout.specs.Meaning.{meaning};
 ghost use Rattle.oci_layout.specs.Entries.{said, unreadable_places};
 ghost use Rattle.oci_layout.specs.Layout.{manifests_of};
 ghost use Rattle.oci_prune.specs.After.{after_copy};

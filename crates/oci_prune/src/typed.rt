@@ -4,7 +4,7 @@ ghost use Rattle.std.specs.Cmp.Lexicographic.{slice_cmp};
 ghost use Rattle.std.specs.Ordering.{nat_cmp};
 ghost use Rattle.oci_manifest.specs.Descriptor.{Descriptor};
 ghost use Rattle.oci_store.specs.Keyed.{has_key};
-ghost use Rattle.oci_layout.specs.Blobs.{meaning};
+ghost use Rattle.oci_layout.specs.Meaning.{meaning};
 ghost use Rattle.oci_prune.specs.Belonging.{IsBelonging, IsComplete};
 ghost use Rattle.oci_prune.specs.Subjects.{IsSubjectFault, Refers};
 ghost use Rattle.oci_prune.specs.Typed.{IsOfTypes, IsReachedDigest, RefersByTypes};

@@ -5,7 +5,8 @@ use Rattle.std.specs.List.{All, filter}
 use Rattle.std.specs.Option.{unwrap_or}
 use Rattle.std.proofs.lemmas.List.Elements.{All-nil, All-cons, All-head, All-tail, All-more}
 use Rattle.std.proofs.lemmas.Option.{slice_get-get_or}
-use Rattle.oci_layout.specs.Blobs.{blob_path, blob_at, meaning, HasMatchingFiles}
+use Rattle.oci_layout.specs.Blobs.{blob_path, blob_at, HasMatchingFiles}
+use Rattle.oci_layout.specs.Meaning.{meaning}
 use Rattle.oci_layout.specs.Device.{Device, File}
 use Rattle.oci_layout.specs.Layout.{OpenedIndex}
 use Rattle.oci_layout.specs.Opened.{IsOpenedAsIs}

@@ -1,5 +1,5 @@
 ghost use Rattle.std.specs.Prelude.{map, option_copied, IfOk};
-ghost use Rattle.oci_layout.specs.Blobs.{meaning};
+ghost use Rattle.oci_layout.specs.Meaning.{meaning};
 ghost use Rattle.oci_query_commands.specs.Listed.{ArePredecessors, ArePredecessorsOf};
 ghost use Rattle.oci_query_commands.specs.Named.{IsNamed};
 

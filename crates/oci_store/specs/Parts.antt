@@ -5,11 +5,12 @@ use Rattle.oci_digest.specs.declared.hasher.Hasher.{Hasher}
 use Rattle.oci_manifest.specs.Descriptor.{Descriptor}
 use Rattle.oci_manifest.specs.MediaTypes.{kind_of}
 use Rattle.oci_manifest.specs.declared.kind.Kind.TheVariants.{Leaf}
-use Rattle.oci_store.specs.Content.{Matches}
+use Rattle.oci_store.specs.Content.{Entry, Matches}
 use Rattle.oci_store.specs.Graph.{Node}
 use Rattle.oci_store.specs.Keyed.{has_key}
 use Rattle.oci_store.specs.Push.{Refusal, already_exists, Answers, IsCalm, IsRaised}
 use Rattle.oci_store.specs.State.{State}
+use Rattle.oci_store.specs.Tags.{Tags}
 use Rattle.oci_store.specs.declared.fault.PushFault.{PushFault}
 use Rattle.oci_store.specs.declared.fault.PushFault.TheVariants as fault
 
@@ -68,3 +69,5 @@ pub record IsLostPush (old new : State) (k : Descriptor) (answer : Result ℕ Pu
   -- the tags and the name of the store stay
   pub tags : new.tags ≡ old.tags
   pub name : new.name ≡ old.name
+  -- what lasts stays
+  pub lasts : (entries : List Entry) (tags : Tags) → old.lasts entries tags → new.lasts entries tags

@@ -20,6 +20,9 @@ pub record State : Type 1 where
   pub tags : Tags
   -- the name of the store: empty, unless others look into the store while it grows
   pub name : List ℕ
+  -- a closed content with these entries and tags that the store had lasts: whatever a crash leaves, it
+  -- is there
+  pub lasts : List Entry → Tags → Type 0
   -- the number of failed puts of the device, which stays at the greatest `u64`
   pub failures : ℕ
   -- whether a fetch of a key may fail although the key is held
@@ -38,6 +41,8 @@ pub record OnlyTagsDiffer (old new : State) : Type 0 where
   pub sound : old.is_sound → new.is_sound
   pub failures : new.failures ≡ old.failures
   pub name : new.name ≡ old.name
+  -- what lasts stays
+  pub lasts : (entries : List Entry) (tags : Tags) → old.lasts entries tags → new.lasts entries tags
 
 -- the answer to a fetch of a key: it is held, or the error says why it could not be read
 pub record AnswersFetch {X : Type 0} (store : State) (k : Descriptor) (answer : Result X FetchFault) : Type 0 where
@@ -54,6 +59,7 @@ in_memory held tags = record {
   entries = held;
   tags = tags;
   name = [];
+  lasts = λ entries tags. ⊥;
   failures = 0;
   fails_at = λ k. false;
   is_honest = ⊤;

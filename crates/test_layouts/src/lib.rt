@@ -5,18 +5,18 @@
 //! files have the bytes that the standard and other tools prescribe, and a folder then has the
 //! right files.
 //!
-//! `tests` has `round_trips` (a layout is created, filled, saved and opened again, in memory and in
-//! a folder), `referrers` (the index of an image that was copied with its referrers), `algorithms`
-//! (SHA-512 digests), `fuses` (puts that fail), `openings` (layouts that are not opened, and
-//! indexes that other tools wrote), `brought` (entries that are brought), `no_descriptors` (entries
-//! that are no descriptors), `damaged` (damaged files), `pushes` (old files, and files that
-//! changed), `unreadable` (files that cannot be read), `changing` (a source whose files change
-//! during the copy), `failures` (the first call of the system that fails), `failing` (a read or a
-//! put that fails once, and a second copy), `parts` (contents that are read in parts), `arrivals`
-//! (the calls for each part that is read), `drafts` (files that are written in parts), `numbered`
-//! (the random numbers in their names), `leftovers` (their removal), `removals` (tags, keys, blobs
-//! and drafts that are removed), `locks` (the lock of a folder) and `large` (contents larger than
-//! one part, copied by workers).
+//! `tests` has `round_trips` (a layout is created, filled, saved and opened again, in memory and
+//! in a folder), `referrers` (the index of an image that was copied with its referrers),
+//! `algorithms` (SHA-512 digests), `fuses` (puts that fail), `crash` (crashes while a layout
+//! grows), `openings` (layouts that are not opened, and indexes that other tools wrote), `brought`
+//! (entries that are brought), `no_descriptors` (entries that are no descriptors), `damaged`
+//! (damaged files), `pushes` (old files, and files that changed), `unreadable` (files that cannot
+//! be read), `changing` (a source whose files change during the copy), `failures` (the first call
+//! of the system that fails), `failing` (a read or a put that fails once, and a second copy),
+//! `parts` (contents that are read in parts), `arrivals` (the calls for each part that is read),
+//! `drafts` (files that are written in parts), `numbered` (the random numbers in their names),
+//! `leftovers` (their removal), `removals` (tags, keys, blobs and drafts that are removed),
+//! `locks` (the lock of a folder) and `large` (contents larger than one part, copied by workers).
 //!
 //! Most tests are lists of steps, each with its expected result as text. `steps` takes them, with
 //! `layouts` (steps with a layout), `files` (steps with files), `drafting` (steps with drafts) and

@@ -3,6 +3,7 @@ mod arrivals;
 mod brought;
 mod changing;
 mod copies;
+mod crash;
 mod damaged;
 mod drafting;
 mod drafts;

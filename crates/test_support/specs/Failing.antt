@@ -11,6 +11,7 @@ failing held failures = record {
   entries = held.entries;
   tags = held.tags;
   name = [];
+  lasts = λ entries tags. ⊥;
   failures = failures;
   fails_at = λ k. false;
   is_honest = ⊤;

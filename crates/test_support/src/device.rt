@@ -108,6 +108,7 @@ impl<'d> Store for DeviceStore<'d> {
       entries = written s.1 s.0;
       tags = [];
       name = [];
+      lasts = λ entries tags. ⊥;
       failures = s.2;
       fails_at = λ k. true;
       is_honest = ⊤;

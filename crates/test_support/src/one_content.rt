@@ -52,6 +52,7 @@ impl Store for OneContent {
       entries = s ∷ [];
       tags = [];
       name = [];
+      lasts = λ entries tags. ⊥;
       failures = 0;
       fails_at = λ k. true;
       is_honest = ⊤;

@@ -45,6 +45,7 @@ impl Store for PublishedStore {
       entries = s.0;
       tags = [];
       name = 1 ∷ [];
+      lasts = λ entries tags. ⊥;
       failures = 0;
       fails_at = λ k. false;
       is_honest = ⊤;

@@ -1,7 +1,9 @@
 use crate::fault::DirFault;
 use crate::first_failure::FirstFailure;
+use crate::fs_dir::FsDir;
 use crate::fs_dir::files::{failed, part_of_file};
 use crate::fs_dir::lock::Lockable;
+use crate::fs_dir::settling::Syncs;
 use std::fs::OpenFile;
 use std::io::{ErrorKind, Write};
 use std::os::unix::fs::{MetadataExt, chown};
@@ -26,6 +28,7 @@ pub(crate) struct Beside<'r, R: Files + AllocGlobal> {
     first: Option<&'r FirstFailure>,
     path: String,
     file: R::File,
+    is_settled: bool,
 }
 
 impl<'r, R: Files + AllocGlobal> Drop for Beside<'r, R> {
@@ -35,6 +38,7 @@ impl<'r, R: Files + AllocGlobal> Drop for Beside<'r, R> {
             first: _,
             path,
             file,
+            is_settled: _,
         } = self;
         let _ = fs::remove_file(rt, &path);
         drop(file);
@@ -44,19 +48,37 @@ impl<'r, R: Files + AllocGlobal> Drop for Beside<'r, R> {
 impl<'r, R: Files + AllocGlobal> Beside<'r, R> {
     /// Appends bytes.
     pub(crate) fn append(&mut self, bytes: &[u8]) -> Result<(), DirFault> {
+        self.is_settled = false;
         match self.file.write_all(bytes) {
             Ok(()) => Ok(()),
             Err(error) => Err(failed(self.first, place_of(&self.path), error)),
         }
     }
 
-    /// Renames the file to the place.
-    pub(crate) fn rename(self, place: &str) -> Result<(), DirFault> {
+    /// Syncs the file, unless nothing was appended since the last time.
+    pub(crate) fn settle(&mut self, syncs: &Syncs) -> Result<(), DirFault> {
+        if self.is_settled {
+            return Ok(());
+        }
+        match syncs.sync(&self.file) {
+            Ok(()) => {
+                self.is_settled = true;
+                Ok(())
+            }
+            Err(error) => Err(failed(self.first, place_of(&self.path), error)),
+        }
+    }
+
+    /// Syncs the file, and then renames it to the place. So the place never gets a file whose bytes
+    /// are not on the disk.
+    pub(crate) fn rename(mut self, syncs: &Syncs, place: &str) -> Result<(), DirFault> {
+        self.settle(syncs)?;
         let Beside {
             rt,
             first,
             path,
             file,
+            is_settled: _,
         } = self;
         let renamed = fs::rename(rt, &path, place).map_err(|error| {
             let _ = fs::remove_file(rt, &path);
@@ -133,6 +155,7 @@ where
                         first,
                         path,
                         file,
+                        is_settled: false,
                     };
                     if beside.lock()? {
                         return Ok(beside);
@@ -220,5 +243,21 @@ fn make_folder_of<R: Files + AllocGlobal>(rt: &R, path: &str) -> io::Result<()> 
     match path.rsplit_once('/') {
         Some((folder, _)) => fs::create_dir_all(rt, folder),
         None => Ok(()),
+    }
+}
+
+impl<'r, R: Files + AllocGlobal + RandomSource> FsDir<'r, R>
+where
+    R::File: Lockable,
+{
+    /// Writes the file with this path. An `index.json` that is there already keeps its mode, its
+    /// group and its owner, as far as the system lets.
+    pub(crate) fn write(&self, path: &str, bytes: &[u8]) -> Result<(), DirFault> {
+        let place = self.place(path)?;
+        let beside = match path {
+            "index.json" => Beside::like(self.rt, self.first, &place, bytes)?,
+            _ => Beside::with(self.rt, self.first, &place, bytes)?,
+        };
+        beside.rename(&self.syncs, &place)
     }
 }

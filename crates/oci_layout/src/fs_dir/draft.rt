@@ -1,4 +1,4 @@
-ghost use Rattle.std.specs.Prelude.{◌≡◌, OnOk};
+ghost use Rattle.std.specs.Prelude.{◌≡◌, OnOk, IsTrue};
 ghost use Rattle.oci_layout.specs.declared.fs_dir.draft.Stage.TheVariants.{Failed};
 
 use crate::fault::DirFault;
@@ -6,6 +6,7 @@ use crate::first_failure::FirstFailure;
 use crate::fs_dir::beside::Beside;
 use crate::fs_dir::files::{length_of, part_of_file};
 use crate::fs_dir::lock::Lockable;
+use crate::fs_dir::settling::Syncs;
 use oci_digest::NoMemory;
 use oci_store::Drafting;
 use std::io::ErrorKind;
@@ -34,28 +35,52 @@ enum Stage<'r, R: Files + AllocGlobal> {
 pub struct FsDraft<'r, R: Files + AllocGlobal> {
     rt: &'r R,
     first: Option<&'r FirstFailure>,
+    syncs: Syncs,
     place: String,
     stage: Stage<'r, R>,
 }
 
 impl<'r, R: Files + AllocGlobal> FsDraft<'r, R> {
     /// Creates an empty draft of the file at a place. The folder is not touched.
-    pub(crate) fn at(rt: &'r R, first: Option<&'r FirstFailure>, place: String) -> FsDraft<'r, R> {
+    pub(crate) fn at(
+        rt: &'r R,
+        first: Option<&'r FirstFailure>,
+        syncs: Syncs,
+        place: String,
+    ) -> FsDraft<'r, R> {
         FsDraft {
             rt,
             first,
+            syncs,
             place,
             stage: Stage::Found(0),
         }
     }
 
     /// Creates a draft of a file that the folder cannot have. It is never kept.
-    pub(crate) fn nowhere(rt: &'r R) -> FsDraft<'r, R> {
+    pub(crate) fn nowhere(rt: &'r R, syncs: Syncs) -> FsDraft<'r, R> {
         FsDraft {
             rt,
             first: None,
+            syncs,
             place: String::new(rt.alloc()),
             stage: Stage::Failed,
+        }
+    }
+
+    /// Returns whether its bytes are in a file of its own.
+    pub(crate) fn is_written(&self) -> bool {
+        matches!(&self.stage, Stage::Written(_))
+    }
+
+    /// Returns whether its bytes cannot be synced. Syncs them if they are in a file of its own.
+    fn fails_to_settle(&mut self) -> bool
+        ensures { self.old.stage ≡ Failed → IsTrue result }
+    {
+        match &mut self.stage {
+            Stage::Written(beside) => beside.settle(&self.syncs).is_err(),
+            Stage::Found(_) => false,
+            Stage::Failed => true,
         }
     }
 }
@@ -98,6 +123,14 @@ where
         match fault {
             DirFault::Memory => Err(NoMemory),
             DirFault::Failed => Ok(()),
+        }
+    }
+
+    /// Syncs the file that the draft has beside its place, if it has one. If that fails, the draft
+    /// is lost.
+    fn settle(&mut self) {
+        if self.fails_to_settle() {
+            self.stage = Stage::Failed;
         }
     }
 
@@ -158,6 +191,7 @@ where
     let FsDraft {
         rt,
         first,
+        syncs,
         place: drafted,
         stage,
     } = draft;
@@ -166,9 +200,9 @@ where
             if drafted.as_str() == place && is_whole(rt, place, length) {
                 return Ok(());
             }
-            Beside::copied(rt, first, &drafted, length)?.rename(place)
+            Beside::copied(rt, first, &drafted, length)?.rename(&syncs, place)
         }
-        Stage::Written(beside) => beside.rename(place),
+        Stage::Written(beside) => beside.rename(&syncs, place),
         Stage::Failed => Err(DirFault::Failed),
     }
 }

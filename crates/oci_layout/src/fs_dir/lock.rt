@@ -1,5 +1,5 @@
 use crate::fs_dir::leftovers::remove_leftovers;
-use crate::fs_dir::path_of_folder;
+use crate::fs_dir::paths::path_of_folder;
 use std::fs::{OpenFile, TryLockError};
 use std::io::ErrorKind;
 use std::os::unix::fs::MetadataExt;
@@ -138,7 +138,7 @@ where
 }
 
 /// Opens a folder. Does not open anything else: a FIFO would wait for its writer.
-fn opened<R: Files>(rt: &R, place: &str) -> io::Result<R::File> {
+pub(crate) fn opened<R: Files>(rt: &R, place: &str) -> io::Result<R::File> {
     if fs::metadata(rt, place)?.is_dir() {
         fs::File::open(rt, place)
     } else {

@@ -1,8 +1,10 @@
 use crate::fault::DirFault;
-use crate::fs_dir::files::{failed, is_absence, length_of};
+use crate::fs_dir::FsDir;
+use crate::fs_dir::files::{failed, is_absence};
 use crate::fs_dir::leftovers::{first_link, free_leftovers, remove_free};
 use crate::fs_dir::lock::Lockable;
-use crate::fs_dir::{FsDir, path_of_folder};
+use crate::fs_dir::paths::path_of_folder;
+use crate::fs_dir::settling::Syncs;
 use crate::prunable_dir::PrunableDir;
 use std::fs::OpenFile;
 use std::io::ErrorKind;
@@ -45,6 +47,8 @@ where
     /// Fails for anything that is neither a regular file nor a link.
     fn remove(&mut self, path: &str) -> Result<bool, DirFault> {
         let place = self.place(path)?;
+        // (if another program writes it again, it has to be synced)
+        self.on_disk.remove(path);
         match removed(self.rt, &place) {
             Ok(found) => Ok(found),
             Err(error) if is_absence(&error) => Ok(false),
@@ -55,7 +59,7 @@ where
     /// Syncs the file, if there is one, and then the folder that has it.
     fn sync(&self, path: &str) -> Result<(), DirFault> {
         let place = self.place(path)?;
-        match synced(self.rt, &place) {
+        match synced(self.rt, &self.syncs, &place) {
             Ok(()) => Ok(()),
             Err(error) => Err(failed(self.first, &place, error)),
         }
@@ -107,14 +111,15 @@ where
 }
 
 /// Syncs a regular file, if there is one, and then the folder that has it.
-fn synced<R: Files>(rt: &R, place: &str) -> io::Result<()> {
-    match length_of(rt, place) {
-        Ok(_) => fs::File::open(rt, place)?.sync_all()?,
+fn synced<R: Files>(rt: &R, syncs: &Syncs, place: &str) -> io::Result<()> {
+    match syncs.sync_file(rt, place) {
+        Ok(true) => {}
+        Ok(false) => return Err(io::Error::from(ErrorKind::InvalidInput)),
         Err(error) if is_absence(&error) => {}
         Err(error) => return Err(error),
     }
     match place.rsplit_once('/') {
-        Some((folder, _)) => fs::File::open(rt, folder)?.sync_all(),
+        Some((folder, _)) => syncs.sync_folder(rt, folder),
         None => Ok(()),
     }
 }

@@ -6,10 +6,13 @@ ghost use Rattle.std.specs.Map.{keys_of};
 ghost use Rattle.std.specs.Ordering.{nat_cmp};
 ghost use Rattle.oci_digest.specs.Digest.{IsDigest};
 ghost use Rattle.oci_manifest.specs.Descriptor.{Descriptor, IsKey};
+ghost use Rattle.oci_store.specs.Content.{Entry};
 ghost use Rattle.oci_store.specs.Keyed.{has_key};
+ghost use Rattle.oci_store.specs.Tags.{Tags};
 ghost use Rattle.oci_layout.specs.Blobs.{blob_path};
 ghost use Rattle.oci_layout.specs.Device.{Finds};
 ghost use Rattle.oci_layout.specs.Index.{index_file, layout_file};
+ghost use Rattle.oci_layout.specs.Lasts.{Lasts};
 ghost use Rattle.oci_layout.specs.Layout.{OnlyFile};
 ghost use Rattle.oci_layout.specs.Prunable.{by_name, AreBlobs, IsNotRemoved, IsReadFault, Notes, Removes, is_draft_path};
 
@@ -60,6 +63,10 @@ impl<D: PrunableDir> Layout<D> {
         ensures held { (k : Descriptor) → has_key self.old.graph k ≡ true → k.digest ≡ digest.now
             → self.new ≡ self.old }
         ensures only { OnlyFile D.device self.old self.new (blob_path digest.now) }
+        ensures lasts { (entries : List Entry) (tags : Tags)
+            → All (λ e. e.0.digest ≢ digest.now) entries
+            → Lasts (D.device self.old.dir) entries tags
+            → Lasts (D.device self.new.dir) entries tags }
         ensures refused { IfErr result (IsNotRemoved (D.device self.old.dir)
             (D.device self.new.dir)) }
     {
@@ -114,6 +121,9 @@ impl<D: PrunableDir> Layout<D> {
         ensures index { (D.device self.old.dir).is_honest
             → (D.device self.new.dir).file index_file ≡ (D.device self.old.dir).file index_file }
         ensures only { OnlyFile D.device self.old self.new path.now }
+        ensures lasts { (entries : List Entry) (tags : Tags)
+            → Lasts (D.device self.old.dir) entries tags
+            → Lasts (D.device self.new.dir) entries tags }
         ensures refused { IfErr result (IsNotRemoved (D.device self.old.dir)
             (D.device self.new.dir)) }
     {

@@ -1,6 +1,9 @@
 //! A directory in memory with failures or changes.
 
-ghost use Rattle.std.specs.Prelude.{◌≡◌, None};
+ghost use Rattle.std.specs.Prelude.{◌≡◌, None, ⊤};
+ghost use Rattle.oci_layout.specs.Crash.{LeavesPut};
+ghost use Rattle.oci_layout.specs.Device.{Touches};
+ghost use Rattle.oci_layout.specs.Memory.{device_of};
 
 use bytes::Bytes;
 use oci_digest::NoMemory;
@@ -17,7 +20,8 @@ pub(crate) enum Failing {
     Read(u64),
     /// Each read after this many. A call of `exists` counts as a read.
     LaterReads(u64),
-    /// The put with this number, which leaves other bytes.
+    /// The put with this number, which leaves other bytes. A replacement counts as a put, and leaves
+    /// the old file; so does a draft that is kept where there is a file.
     Put(u64),
 }
 
@@ -129,11 +133,13 @@ impl FaultyDir {
 
 impl Dir for FaultyDir {
     ghost use Rattle.std.specs.Prelude.{true};
-    ghost use Rattle.oci_layout.specs.Memory.{files_of};
+    ghost use Rattle.oci_layout.specs.Memory.{device_of};
 
     ghost device = { λ d. record {
-      file = files_of d.dir.files;
+      file = (device_of d.dir).file;
+      may_leave = (device_of d.dir).may_leave;
       is_honest = d.change ≡ None;
+      stays = λ honest path. (device_of d.dir).stays tt path;
       fails_reads = true;
       failures = d.failures;
     } };
@@ -182,18 +188,40 @@ impl Dir for FaultyDir {
         }
     }
 
+    /// If it fails, it changes nothing.
+    fn replace(&mut self, path: &str, bytes: &[u8]) -> Result<(), DirFault> {
+        let fails = self.fails_put();
+        self.puts = self.puts.saturating_add(1);
+        if fails {
+            self.failures = self.failures.saturating_add(1);
+            return Err(DirFault::Failed);
+        }
+        match self.dir.replace(path, bytes) {
+            Ok(()) => Ok(()),
+            Err(DirFault::Memory) => Err(DirFault::Memory),
+            Err(DirFault::Failed) => {
+                self.failures = self.failures.saturating_add(1);
+                Err(DirFault::Failed)
+            }
+        }
+    }
+
+    fn settle(&mut self, paths: &[String]) -> Result<(), DirFault> {
+        self.dir.settle(paths)
+    }
+
     type Draft = MemoryDraft;
 
     fn draft(&self, path: &str) -> Result<MemoryDraft, NoMemory> {
         self.dir.draft(path)
     }
 
-    /// If it fails, it leaves one byte.
+    /// If it fails and there was no file, it leaves one byte.
     fn keep(&mut self, path: &str, draft: MemoryDraft) -> Result<(), DirFault> {
         let fails = self.fails_put();
         self.puts = self.puts.saturating_add(1);
         if fails {
-            let _ = self.dir.put(path, b"f");
+            leave(&mut self.dir, path, b"f");
             self.failures = self.failures.saturating_add(1);
             return Err(DirFault::Failed);
         }
@@ -213,5 +241,15 @@ impl Dir for FaultyDir {
 
     fn failures(&self) -> u64 {
         self.failures
+    }
+}
+
+/// Leaves these bytes of a put that fails, if there was no file.
+fn leave(dir: &mut MemDir, path: &str, bytes: &[u8])
+    ensures left { LeavesPut (device_of dir.old) (device_of dir.new) path.now (λ bytes. ⊤) }
+    ensures other { Touches (device_of dir.old).file (device_of dir.new).file path.now }
+{
+    if let Ok(false) = dir.exists(path) {
+        let _ = dir.put(path, bytes);
     }
 }

@@ -28,12 +28,13 @@ enum Form {
 }
 
 /// The marks, and the texts that they are replaced by.
-static MARKS: [(&str, Form, Sample); 27] = [
+static MARKS: [(&str, Form, Sample); 28] = [
     ("<key Empty>", Form::Whole, Empty),
     ("<key Foo>", Form::Whole, Foo),
     ("<key FooBySha512>", Form::Whole, FooBySha512),
     ("<key Bar>", Form::Whole, Bar),
     ("<key Image0>", Form::Whole, Image0),
+    ("<key Image2>", Form::Whole, Image2),
     ("<key Image3>", Form::Whole, Image3),
     ("<key Index1>", Form::Whole, Index1),
     ("<digest Empty>", Form::Digest, Empty),

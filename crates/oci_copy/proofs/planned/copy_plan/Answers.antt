@@ -1,4 +1,4 @@
-use Rattle.std.proofs.Common.{arith}
+use Rattle.std.proofs.Common.{refl, arith}
 use Rattle.std.specs.Prelude.{Contains}
 use Rattle.oci_copy.specs.Cause.{CanFail, IsStepCause, RefusedAt}
 use Rattle.oci_copy.proofs.Growth.{keeps_start}
@@ -11,6 +11,7 @@ pub run_copy_jobs-destination-requires-clause-begins : goal.run_copy_jobs-destin
 run_copy_jobs-destination-requires-clause-begins g c κs within = record {
   keeps = keeps_start g.D.Dest.shares (g.A.Store.state c.args.source.now) c.args.plan.now.keys (g.D.Store.state c.args.destination);
   halted = λ halted. halted;
+  calm = refl;
 }
 
 pub returns-in-Ok-clause-copied : goal.returns-in-Ok-clause-copied

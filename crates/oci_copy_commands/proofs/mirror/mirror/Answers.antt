@@ -5,7 +5,7 @@ use Rattle.std.proofs.Common.{inl, refl}
 use Rattle.std.proofs.lemmas.Result.{on_ok_weaker}
 use Rattle.std.specs.Map.{values_of}
 use Rattle.oci_copy.specs.Grown.{BeginsWith}
-use Rattle.oci_layout.specs.Blobs.{meaning}
+use Rattle.oci_layout.specs.Meaning.{meaning}
 use Rattle.oci_layout.proofs.Crosses.{layout_send, layout_sync}
 use Rattle.oci_layout.proofs.Law.{keys_of_one_digest}
 use Rattle.oci_copy_commands.specs.Mirror.{KeepsContents}

@@ -2,7 +2,7 @@ use Rattle.std.proofs.Common.{◌≡◌, false, List, inl, sym, ap, subst, ◌�
 use Rattle.oci_store.specs.Graph.{Node}
 use Rattle.oci_copy.specs.declared.fault.CopyFault.{CopyFault}
 use Rattle.oci_copy.specs.declared.fault.CopyFault.TheVariants as copy
-use Rattle.oci_layout.specs.Blobs.{meaning}
+use Rattle.oci_layout.specs.Meaning.{meaning}
 use Rattle.oci_layout.specs.Layout.{LayoutState}
 use Rattle.oci_prune.specs.Plan.{roots_with, AreKept, RefersIf}
 use Rattle.oci_prune.specs.Pruned.{kept_of, KeepsReached}

@@ -1,4 +1,4 @@
-use Rattle.oci_layout.specs.Blobs.{meaning}
+use Rattle.oci_layout.specs.Meaning.{meaning}
 use Rattle.oci_copy_commands.proofs.PlannedCopies.{copied_after}
 use Rattle.oci_copy_commands.proofs.planned.plan_mirror.Goals as goal
 

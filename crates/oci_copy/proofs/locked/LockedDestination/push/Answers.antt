@@ -7,25 +7,29 @@ use Rattle.oci_store.specs.Push.{Refused, closed_check}
 use Rattle.oci_store.specs.declared.fault.PushFault.{PushFault}
 use Rattle.oci_copy.specs.Cause.{CanFail, IsStepCause}
 use Rattle.oci_copy.proofs.Growth.{keeps_answered}
-use Rattle.oci_copy.proofs.Workers.{step_from_push, held_after, halted_after, halted_before, can_fail}
+use Rattle.oci_copy.proofs.Workers.{step_from_push, held_after, failed_after, halted_after, halted_before, can_fail}
 use Rattle.oci_copy.proofs.locked.LockedDestination.push.Goals as goal
 
 pub invariant_of-self : goal.invariant_of-self
 invariant_of-self g c =
     let did = c.push_checked-pushed.ensures.pushed in
     let same = c.requires.content.same in
-    let ran_out = c.has_run_out-self-inside.ensures in (
+    let ran_out = c.has_run_out-self-inside.ensures in
+    let failed = c.has_failed-self-inside.ensures in (
       keeps_answered {listed = c.requires.checked.0} _ did (rw same c.requires.content.own) (rw same c.requires.content.planned) (rw same (sym c.if-has.ensures)) (rw same c.requires.checked.1) c.self.invariant.0,
       halted_after c.self.invariant.1 did.running ran_out.before ran_out.now,
+      failed_after g.T.CopyStart.opening.failures (g.D.Store.state c.self.inside.destination).failures (g.D.Store.state c.push_checked-pushed.new.self).failures c.self.invariant.2 did.calm failed.before failed.now,
     )
 
 pub invariant_of-self-in-Err : goal.invariant_of-self-in-Err
 invariant_of-self-in-Err g c =
     let did = c.push_checked-pushed.ensures.pushed in
     let same = c.requires.content.same in
-    let ran_out = c.has_run_out-self-inside.ensures in (
+    let ran_out = c.has_run_out-self-inside.ensures in
+    let failed = c.has_failed-self-inside.ensures in (
       keeps_answered {listed = c.requires.checked.0} _ did (rw same c.requires.content.own) (rw same c.requires.content.planned) (rw same (sym c.if-has.ensures)) (rw same c.requires.checked.1) c.self.invariant.0,
       halted_after c.self.invariant.1 did.running ran_out.before ran_out.now,
+      failed_after g.T.CopyStart.opening.failures (g.D.Store.state c.self.inside.destination).failures (g.D.Store.state c.push_checked-pushed.new.self).failures c.self.invariant.2 did.calm failed.before failed.now,
     )
 
 pub by-requires-in-Ok : goal.by-requires-in-Ok

@@ -3,24 +3,28 @@ use Rattle.oci_store.specs.Content.{successors_in}
 use Rattle.oci_store.specs.declared.fault.PushFault.{PushFault}
 use Rattle.oci_store.proofs.Leaves.{IsChecked-leaf, HasAll-leaf}
 use Rattle.oci_copy.specs.Cause.{CanFail, IsStepCause}
-use Rattle.oci_copy.proofs.Growth.{keeps_drafted, drafted_running}
-use Rattle.oci_copy.proofs.Workers.{step_from_push, step_from_lost, held_after, halted_after, halted_before, can_fail}
+use Rattle.oci_copy.proofs.Growth.{drafted_calm, drafted_running, keeps_drafted}
+use Rattle.oci_copy.proofs.Workers.{step_from_push, step_from_lost, held_after, failed_after, halted_after, halted_before, can_fail}
 use Rattle.oci_copy.proofs.locked.LockedDestination.push_draft.Goals as goal
 
 pub invariant_of-self : goal.invariant_of-self
 invariant_of-self g c =
     let did = c.push_draft-pushed.ensures in
-    let ran_out = c.has_run_out-self-inside.ensures in (
+    let ran_out = c.has_run_out-self-inside.ensures in
+    let failed = c.has_failed-self-inside.ensures in (
       keeps_drafted c.requires.own did.lost did.pushed c.requires.leaf c.requires.planned (sym c.if-has.ensures) c.self.invariant.0,
       halted_after c.self.invariant.1 (drafted_running g.T.CopyStart.source c.requires.own did.lost did.pushed) ran_out.before ran_out.now,
+      failed_after g.T.CopyStart.opening.failures (g.D.Store.state c.self.inside.destination).failures (g.D.Store.state c.push_draft-pushed.new.self).failures c.self.invariant.2 (drafted_calm g.T.CopyStart.source c.requires.own did.lost did.pushed) failed.before failed.now,
     )
 
 pub invariant_of-self-in-Err : goal.invariant_of-self-in-Err
 invariant_of-self-in-Err g c =
     let did = c.push_draft-pushed.ensures in
-    let ran_out = c.has_run_out-self-inside.ensures in (
+    let ran_out = c.has_run_out-self-inside.ensures in
+    let failed = c.has_failed-self-inside.ensures in (
       keeps_drafted c.requires.own did.lost did.pushed c.requires.leaf c.requires.planned (sym c.if-has.ensures) c.self.invariant.0,
       halted_after c.self.invariant.1 (drafted_running g.T.CopyStart.source c.requires.own did.lost did.pushed) ran_out.before ran_out.now,
+      failed_after g.T.CopyStart.opening.failures (g.D.Store.state c.self.inside.destination).failures (g.D.Store.state c.push_draft-pushed.new.self).failures c.self.invariant.2 (drafted_calm g.T.CopyStart.source c.requires.own did.lost did.pushed) failed.before failed.now,
     )
 
 pub by-requires-in-Ok : goal.by-requires-in-Ok

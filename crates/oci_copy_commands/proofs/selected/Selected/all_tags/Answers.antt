@@ -5,7 +5,7 @@ use Rattle.std.specs.Map.{values_of}
 use Rattle.std.proofs.lemmas.List.Elements.{All-filter, Contains-append_left, Contains-append_right}
 use Rattle.oci_manifest.specs.Descriptor.{Descriptor}
 use Rattle.oci_store.specs.Tags.{Tags, by_bytes}
-use Rattle.oci_layout.specs.Blobs.{meaning}
+use Rattle.oci_layout.specs.Meaning.{meaning}
 use Rattle.oci_layout.specs.Brought.{IsShallowEntry}
 use Rattle.oci_layout.specs.Entries.{IndexEntry, entry_keys, entry_of, said}
 use Rattle.oci_layout.specs.Saved.{no_name}

@@ -3,7 +3,7 @@ use Rattle.std.specs.List.{All}
 use Rattle.oci_manifest.specs.Descriptor.{Descriptor}
 use Rattle.oci_copy.specs.Tagged.{name_of}
 use Rattle.oci_store.specs.Tags.{by_bytes}
-use Rattle.oci_layout.specs.Blobs.{meaning}
+use Rattle.oci_layout.specs.Meaning.{meaning}
 use Rattle.oci_layout.specs.Brought.{IsShallowEntry}
 use Rattle.oci_layout.specs.Entries.{IndexEntry, entry_of, said}
 use Rattle.oci_copy_commands.specs.Brought.{reference_entry, tag_entries, with_roots}

@@ -28,6 +28,7 @@ returns-in_err-push-clause-pushed c =
       stays = λ halted. halted;
       tags = refl;
       name = refl;
+      lasts = λ entries tags agrees was. was;
     })
 
 pub returns-clause-pushed : goal.returns-clause-pushed
@@ -56,4 +57,5 @@ returns-clause-pushed c =
       stays = λ halted. halted;
       tags = refl;
       name = refl;
+      lasts = λ entries tags agrees was. was;
     })

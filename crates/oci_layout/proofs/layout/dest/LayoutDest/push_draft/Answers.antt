@@ -1,12 +1,15 @@
 use Rattle.std.proofs.Common.{◌≡◌, true, false, [], length, Ok, sym, ◌∙◌}
+use Rattle.oci_digest.proofs.DigestLemmas.{IsDigest-from_Verifies}
 use Rattle.oci_store.specs.Keyed.{has_key}
 use Rattle.oci_store.specs.Push.{closed_check}
 use Rattle.oci_store.proofs.Checks.{IsPush-refused, closed_check-held}
 use Rattle.oci_store.proofs.Contents.{IsNew-from_checked}
 use Rattle.oci_store.proofs.Leaves.{IsChecked-leaf, closed_check-leaf, leaf_check-held, leaf_check-fresh, IsLostPush-refused}
 use Rattle.oci_layout.specs.Blobs.{blob_path}
+use Rattle.oci_layout.specs.Crash.{LeavesPut}
 use Rattle.oci_layout.specs.Device.{IsPut}
 use Rattle.oci_layout.specs.Push.{Settles}
+use Rattle.oci_layout.proofs.Crash.{Lasts-no_more, Lasts-put}
 use Rattle.oci_layout.proofs.Pushed.{IsLayout-settled, IsPush-settled, IsLostPush-settled}
 use Rattle.oci_layout.proofs.layout.dest.LayoutDest.push_draft.Goals as goal
 
@@ -42,6 +45,7 @@ returns-clause-pushed g c =
     let old = g.D.Dir.device s.dir in
     let new = g.D.Dir.device c.keep-answer.new.self in
     let put : IsPut old new (blob_path k.digest) (g.D.Draft.Drafting.drafted c.args.draft) c.keep-answer.result = rw (c.deref.ensures, c.in_ok-path.ensures, c.digest.ensures) at c.keep-answer.ensures.put in
+    let left : old.is_honest → LeavesPut old new (blob_path k.digest) (g.D.Draft.Drafting.drafted c.args.draft) = rw (c.deref.ensures, c.in_ok-path.ensures, c.digest.ensures) at c.keep-answer.ensures.left in
     let absent : has_key s.graph k ≡ false = sym c.holds.ensures ∙ c.if-holds.false in
     let settled : Settles (length s.graph) c.push.new.self c.settle.new.graph c.keep-answer.result c.settle.result = rw c.len-place.ensures.count at c.settle.ensures in
     rw (← c.self.view_is)
@@ -49,7 +53,8 @@ returns-clause-pushed g c =
     let checked : closed_check s.graph k bytes ≡ Ok [] = closed_check-leaf s.graph k bytes c.requires.leaf m ∙ leaf_check-fresh s.graph k absent in
     let passed = IsNew-from_checked s.graph k bytes ks absent (IsChecked-leaf k bytes ks c.requires.leaf m c.new.ensures.items) in
     IsPush-settled old new s.graph c.push.new.self c.settle.new.graph s.tags k bytes ks [] _ c.keep-answer.result c.settle.result
-    c.len-place.ensures.keys passed checked drafted c.in_ok-push.ensures.pushed put settled)
+    c.len-place.ensures.keys passed checked drafted c.in_ok-push.ensures.pushed put settled
+    (λ entries names. Lasts-put old new entries names k bytes _ (IsDigest-from_Verifies k.digest bytes m.1) drafted put.device.honest.0 left))
 
 pub returns-clause-lost : goal.returns-clause-lost
 returns-clause-lost g c =
@@ -59,4 +64,5 @@ returns-clause-lost g c =
     let absent : has_key s.graph k ≡ false = sym c.holds.ensures ∙ c.if-holds.false in
     rw (← c.self.view_is)
     (λ lost. IsLostPush-settled (g.D.Dir.device s.dir) (g.D.Dir.device c.keep-answer.new.self) s.graph c.push.new.self c.settle.new.graph s.tags k c.new.result.items _ c.len-place.result
-    c.keep-answer.result c.settle.result absent (c.keep-answer.ensures.lost lost) c.in_ok-push.ensures.pushed put c.settle.ensures)
+    c.keep-answer.result c.settle.result absent (c.keep-answer.ensures.lost lost) c.in_ok-push.ensures.pushed put c.settle.ensures
+    (λ entries names. Lasts-no_more (g.D.Dir.device s.dir) (g.D.Dir.device c.keep-answer.new.self) entries names c.keep-answer.ensures.put.device.honest.0 (c.keep-answer.ensures.lost_left lost)))
