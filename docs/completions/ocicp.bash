@@ -8,14 +8,14 @@ _ocicp() {
   fi
   case ${COMP_WORDS[1]} in
     copy)
-      flags='--all --match --platform --referrers --depth --artifact-type --descend --prune --workers --progress --dry-run --hint --json --no-wait --help' valued='--match --platform --depth --artifact-type --workers' kinds=(folder tag folder tag)
+      flags='--all --match --platform --referrers --depth --artifact-type --descend --prune --workers --progress --dry-run --hint --json --no-wait --no-sync --help' valued='--match --platform --depth --artifact-type --workers' kinds=(folder tag folder tag)
       [[ " ${COMP_WORDS[*]} " != *' --all '* ]] || kinds=(folder folder)
       ;;
     untag)
-      flags='--hint --json --no-wait --help' kinds=(folder tag)
+      flags='--hint --json --no-wait --no-sync --help' kinds=(folder tag)
       ;;
     prune)
-      flags='--dry-run --no-referrers --hint --json --no-wait --help' kinds=(folder)
+      flags='--dry-run --no-referrers --hint --json --no-wait --no-sync --help' kinds=(folder)
       ;;
     tags)
       flags='--all --hint --json --help' kinds=(folder)

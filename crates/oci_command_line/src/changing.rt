@@ -58,6 +58,8 @@ pub struct CopyWords<'w> {
     pub prunes: bool,
     /// Whether the copy waits while another process has the lock of the destination's folder.
     pub waits: bool,
+    /// Whether the copy waits until what it writes is on the disk.
+    pub syncs: bool,
 }
 
 /// The words of `untag`.
@@ -69,6 +71,8 @@ pub struct UntagWords<'w> {
     pub tag: &'w str,
     /// Whether the command waits while another process has the folder's lock.
     pub waits: bool,
+    /// Whether the command waits until what it writes is on the disk.
+    pub syncs: bool,
 }
 
 /// The words of `prune`.
@@ -82,4 +86,6 @@ pub struct PruneWords<'w> {
     pub is_dry: bool,
     /// Whether the command waits while another process has the folder's lock.
     pub waits: bool,
+    /// Whether the command waits until what it writes is on the disk.
+    pub syncs: bool,
 }

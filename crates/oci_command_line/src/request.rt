@@ -30,7 +30,7 @@ pub enum Request<'w> {
     Mem(MemWords<'w>),
     /// `copy`, with its folders, references and flags.
     Copy(CopyWords<'w>),
-    /// `untag`, with its folder, tag and flag.
+    /// `untag`, with its folder, tag and flags.
     Untag(UntagWords<'w>),
     /// `prune`, with its folder and flags.
     Prune(PruneWords<'w>),
@@ -285,6 +285,7 @@ fn copy_words<'w>(
         descends: matches.get_flag("descend"),
         prunes: matches.get_flag("prune"),
         waits: waits(matches),
+        syncs: syncs(matches),
     })
 }
 
@@ -293,6 +294,7 @@ fn untag_words<'w>(matches: &ArgMatches<'w>) -> UntagWords<'w> {
         folder: word(matches, "folder"),
         tag: word(matches, "tag"),
         waits: waits(matches),
+        syncs: syncs(matches),
     }
 }
 
@@ -302,12 +304,18 @@ fn prune_words<'w>(matches: &ArgMatches<'w>) -> PruneWords<'w> {
         keeps_referrers: !matches.get_flag("no-referrers"),
         is_dry: matches.get_flag("dry-run"),
         waits: waits(matches),
+        syncs: syncs(matches),
     }
 }
 
 /// Whether a command waits for the lock of a folder.
 fn waits(matches: &ArgMatches<'_>) -> bool {
     !matches.get_flag("no-wait")
+}
+
+/// Whether a command waits until what it writes is on the disk.
+fn syncs(matches: &ArgMatches<'_>) -> bool {
+    !matches.get_flag("no-sync")
 }
 
 /// The progress to show. `--progress` decides first.

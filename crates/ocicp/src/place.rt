@@ -61,12 +61,13 @@ pub(crate) fn open_copy<'r, R: Files<File: ReadAt> + AllocGlobal>(
         let path = String::from_str(rt.alloc(), path)?;
         return Err(ProgramFault::NotWritable(path));
     }
-    let destination = open_folder(rt, path, &failures.written)?;
+    let destination = open_folder(rt, path, &failures.written, words.syncs)?;
     Ok((Place::open(rt, words.source, &failures.read)?, destination))
 }
 
-/// Opens the folder that a command writes into. It need not exist, and is not touched. The first
-/// call of the system that fails there is noted in `first`.
+/// Opens the folder that a command writes into. It need not exist, and is not touched. Unless the
+/// command `syncs`, a write into it does not wait for the disk. The first call of the system that
+/// fails there is noted in `first`.
 ///
 /// # Errors
 ///
@@ -76,12 +77,14 @@ pub(crate) fn open_folder<'r, R: Files + AllocGlobal>(
     rt: &'r R,
     path: &str,
     first: &'r FirstFailure,
+    syncs: bool,
 ) -> Result<FsDir<'r, R>, ProgramFault> {
     if is_file(rt, path) {
         let path = String::from_str(rt.alloc(), path)?;
         return Err(ProgramFault::NotWritable(path));
     }
-    Ok(FsDir::noting(rt, path, first)?)
+    let folder = FsDir::noting(rt, path, first)?;
+    Ok(if syncs { folder } else { folder.unsynced() })
 }
 
 /// Returns whether a path is named like an archive, or has a prefix by which other tools tell

@@ -113,11 +113,11 @@ fn run_request<R: Host, W: Write, X: Write + Send>(
             }
         }
         Request::Untag(words) => {
-            let dir = open_folder(rt, words.folder, &failures.written)?;
+            let dir = open_folder(rt, words.folder, &failures.written, words.syncs)?;
             run_untag(rt, dir, words, form, out, err)
         }
         Request::Prune(words) => {
-            let dir = open_folder(rt, words.folder, &failures.written)?;
+            let dir = open_folder(rt, words.folder, &failures.written, words.syncs)?;
             run_prune(rt, dir, words, form, out, err)
         }
         Request::Query(path, query) => match Place::open(rt, path, &failures.read)? {

@@ -118,6 +118,14 @@ pub(crate) fn no_wait() -> Argument {
     )
 }
 
+/// `--no-sync`
+pub(crate) fn no_sync() -> Argument {
+    flag(
+        "no-sync",
+        "Does not wait until what is written is on the disk. A power cut may then leave a layout with torn files, also after status 0, so this is only for folders that can be made again",
+    )
+}
+
 /// `--hint`
 pub(crate) fn hint() -> Argument {
     flag(

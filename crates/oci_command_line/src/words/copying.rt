@@ -1,4 +1,4 @@
-use crate::words::argument::{Argument, Kind, flag, hint, json, no_wait};
+use crate::words::argument::{Argument, Kind, flag, hint, json, no_sync, no_wait};
 use crate::words::text::CommandText;
 
 const EXAMPLES: &str = "\
@@ -37,7 +37,9 @@ pub(crate) const COPY: CommandText = CommandText {
          Every blob is checked against its digest. A copy that is refused sets no tag in DST, and DST \
          keeps its blobs. The exception is 94: only the output could not be written, and the copy is done \
          and saved.\n\n\
-         A copy locks DST. Another copy into it on the same machine waits, unless it has --no-wait.",
+         A copy locks DST. Another copy into it on the same machine waits, unless it has --no-wait.\n\n\
+         A copy ends once what it wrote is on the disk, so that a power cut leaves the old layout or the \
+         new one, unless it has --no-sync.",
     ),
     usage: "ocicp copy [OPTIONS] <SRC> <SRCREF> <DST> [DSTREF]\n       \
          ocicp copy --all [OPTIONS] <SRC> <DST>",
@@ -46,7 +48,7 @@ pub(crate) const COPY: CommandText = CommandText {
 
 /// The arguments of `copy`; `most_workers` bounds `--workers`. With `--all` the second word is the
 /// destination's folder, and there is no third one.
-pub(crate) fn copy_arguments(most_workers: u32) -> [Argument; 18] {
+pub(crate) fn copy_arguments(most_workers: u32) -> [Argument; 19] {
     [
         all(),
         matching(),
@@ -78,6 +80,7 @@ pub(crate) fn copy_arguments(most_workers: u32) -> [Argument; 18] {
         hint(),
         json(),
         no_wait(),
+        no_sync(),
         Argument::new(
             "source",
             Kind::Word("SRC"),

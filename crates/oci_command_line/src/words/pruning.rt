@@ -1,4 +1,4 @@
-use crate::words::argument::{Argument, Kind, flag, hint, json, no_wait};
+use crate::words::argument::{Argument, Kind, flag, hint, json, no_sync, no_wait};
 use crate::words::text::CommandText;
 
 const EXAMPLES_OF_PRUNE: &str = "\
@@ -7,7 +7,7 @@ Examples:
   ocicp prune mirror                 removes what no tag needs
   ocicp prune --no-referrers mirror  also removes signatures and SBOMs that no tag reaches";
 
-/// `untag [--no-wait] FOLDER TAG`
+/// `untag [--no-wait] [--no-sync] FOLDER TAG`
 pub(crate) const UNTAG: CommandText = CommandText {
     name: "untag",
     about: "Removes a tag from a layout, and keeps the blob that it names",
@@ -20,7 +20,8 @@ pub(crate) const UNTAG: CommandText = CommandText {
          A tag whose blob is missing or damaged is removed too. An empty tag (35) and a tag that no entry \
          has (36) are refused, and nothing is changed. FOLDER is not created, and cannot be an archive (95).\n\n\
          `index.json` is written anew, without the entries of the tag. The other entries keep all that \
-         other tools wrote into them, such as `platform` and annotations.\n\n\
+         other tools wrote into them, such as `platform` and annotations. The command ends once it is on \
+         the disk, so that a power cut leaves the old one or the new one, unless --no-sync is given.\n\n\
          Locks FOLDER. While another process on the same machine has the lock, it waits.",
     ),
     usage: "ocicp untag [OPTIONS] <FOLDER> <TAG>",
@@ -28,18 +29,19 @@ pub(crate) const UNTAG: CommandText = CommandText {
 };
 
 /// The arguments of `untag`.
-pub(crate) fn untag_arguments() -> [Argument; 5] {
+pub(crate) fn untag_arguments() -> [Argument; 6] {
     let tag = "The tag to remove; it is never read as the digest of a blob";
     [
         hint(),
         json(),
         no_wait(),
+        no_sync(),
         folder(),
         Argument::new("tag", Kind::Word("TAG"), tag),
     ]
 }
 
-/// `prune [--dry-run] [--no-referrers] [--no-wait] FOLDER`
+/// `prune [--dry-run] [--no-referrers] [--no-wait] [--no-sync] FOLDER`
 pub(crate) const PRUNE: CommandText = CommandText {
     name: "prune",
     about: "Removes the blobs of a layout that no tag needs, to free their space",
@@ -64,10 +66,11 @@ pub(crate) const PRUNE: CommandText = CommandText {
          folder `blobs`, `blobs/sha256` or `blobs/sha512` that is \
          a symbolic link (98), since another layout may need the blobs there; a manifest whose file cannot be \
          read. FOLDER is not created, and cannot be an archive (95).\n\n\
-         `index.json` is saved first. If the prune is then killed, or a file cannot be removed (79), no \
-         tag has lost anything, and the next prune removes the rest. If a blob is removed, `index.json` is \
-         written anew, without the entries of removed blobs. The other entries keep all that other tools \
-         wrote into them, such as `platform` and annotations.\n\n\
+         `index.json` is saved first, and is on the disk before a file is removed, unless --no-sync is \
+         given. If the prune is then killed, or a file cannot be removed (79), no tag has lost anything, \
+         and the next prune removes the rest. If a blob is removed, `index.json` is written anew, without \
+         the entries of removed blobs. The other entries keep all that other tools wrote into them, such as \
+         `platform` and annotations.\n\n\
          Locks FOLDER, but not for --dry-run. While another process on the same machine has the lock, it \
          waits.",
     ),
@@ -76,7 +79,7 @@ pub(crate) const PRUNE: CommandText = CommandText {
 };
 
 /// The arguments of `prune`.
-pub(crate) fn prune_arguments() -> [Argument; 6] {
+pub(crate) fn prune_arguments() -> [Argument; 7] {
     [
         flag(
             "dry-run",
@@ -89,6 +92,7 @@ pub(crate) fn prune_arguments() -> [Argument; 6] {
         hint(),
         json(),
         no_wait(),
+        no_sync(),
         folder(),
     ]
 }
