@@ -1,9 +1,8 @@
 """What a power cut may leave after each call of a command that changes a layout. Wants `cc`.
 
 No power is cut. The calls of a command are recorded, `support.disk` works out the states in which a power cut may leave the layout after
-each of them, and each state is held against the promise of `support.cuts`. `tools/power_cuts` does that for the commands. Most of them put
-nothing onto the disk, so they break the promise, and are not checked here. Logs that are written by hand, most with one fault, show that
-faults are found.
+each of them, and each state is held against the promise of `support.cuts`. Logs that are written by hand, most with one fault, show that
+faults are found. `tools/power_cuts` prints what is found of any program.
 """
 import collections
 import copy
@@ -314,5 +313,7 @@ def all_examined(room):
 
 
 def checks(room):
-    os.mkdir(room + "/logs")
+    for name in "logs", "examined":
+        os.mkdir("%s/%s" % (room, name))
     yield from logs(room + "/logs")
+    yield from all_examined(room + "/examined")

@@ -51,20 +51,21 @@ def killed(layout, library, what):
 
 
 def wrong_order(layout, library):
-    """Return the problem with the order of the changes, or None. The new index is to be in its place and on the disk, with the folder,
-    before a file is removed. An index that is not written is to be on the disk too."""
+    """Return the problem with the order of the changes, or None. The new index is to be on the disk before it comes into its place, and then
+    its name, before a file is removed. An index that is not written is to be on the disk too."""
     layout.fresh()
     text, ended = shim.run_noted(library, ["prune", "layout"], layout.room)
     notes = [it.replace("layout/", "") for it in text.splitlines()]
     removed = [it for it in notes if it in layout.prune.gone]
     start = notes.index(removed[0]) if removed else 0
     saved = notes.index("index.json") if "index.json" in notes else start
-    is_saved = saved < start and notes[saved:start].count("(sync)") >= 2
+    is_saved = saved < start and notes[saved - 1] == "(sync)" and "(sync)" in notes[saved:start]
+    are_syncs = start >= 2 and set(notes[:start]) == {"(sync)"}
     return first([
         None if ended[:3] == (0, layout.prune.out, "") else told(ended),
         None if sorted(removed) == layout.prune.gone else "these were removed: %s" % removed,
         None if notes[start:] == removed else "after the first removal: %s" % notes[start:],
-        None if (is_saved if layout.untagged else notes[:start] == ["(sync)", "(sync)"]) else "these came first: %s" % notes[:start],
+        None if (is_saved if layout.untagged else are_syncs) else "these came first: %s" % notes[:start],
     ])
 
 
@@ -89,8 +90,8 @@ def without_room(layout, library, what):
             break
         nothing += not layout.gone()
         yield "%s, change %d refused" % (what, number), first([wrong_refused(layout, ended), layout.wrong_state(), layout.wrong_again()])
-    wanted = range(3, 10) if layout.untagged else [2]
-    yield "%d of these removed nothing" % nothing, None if nothing in wanted else "this is not one of %s" % list(wanted)
+    before = made - len(layout.prune.gone)
+    yield "%d of these removed nothing" % nothing, None if nothing == before else "but %d changes come before a removal" % before
 
 
 def wrong_limit(layout):

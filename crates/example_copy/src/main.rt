@@ -4,6 +4,7 @@
 use anyhow::Error;
 use oci_copy::{Key, NoHooks, Options, Report, copy};
 use oci_layout::{Dir, FolderLock, FsDir, Layout, LayoutFault};
+use oci_store::Dest;
 use std::sync::Wait;
 use std::thread::Threads;
 
@@ -24,10 +25,12 @@ fn copy_hello<
     let alloc = rt.alloc();
     let source = layout(Layout::open(alloc, source))?;
     let mirror = layout(Layout::open_or_create(alloc, mirror))?;
+    // What is held now is on the disk, if the folder was saved like this before.
+    let held = mirror.count();
     let options = Options::default();
     let (mut mirror, copied) = copy(rt, alloc, &source, "hello", mirror, "", &options, &NoHooks);
     let copied = copied?;
-    mirror.save()?;
+    mirror.save_settled(held)?;
     Ok(copied)
 }
 

@@ -10,4 +10,6 @@ mod Refusals
 mod Retagged
 mod Saved
 mod Selections
+mod Settled
+mod Cleaning
 mod PlannedCopies

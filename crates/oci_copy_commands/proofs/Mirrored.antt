@@ -1,5 +1,5 @@
 -- What a copy and a prune after it leave.
-use Rattle.std.proofs.Common.{◌≡◌, true, inr, List, ◌++◌, is_some, sym, ap, subst, ◌∙◌}
+use Rattle.std.proofs.Common.{◌≡◌, Bool, true, inr, List, length, ◌++◌, is_some, sym, ap, subst, ◌∙◌}
 use Rattle.std.specs.Prelude.{⊤, Contains, Result, Ok, Err, IfOk, OnOk, OnErr}
 use Rattle.std.specs.Map.{values_of}
 use Rattle.std.proofs.lemmas.List.Elements.{Contains-append_left}
@@ -19,7 +19,14 @@ use Rattle.oci_layout.specs.Layout.{LayoutState, OpenedIndex}
 use Rattle.oci_layout.specs.Saved.{shadowed_keys}
 use Rattle.oci_prune.specs.Plan.{roots_of}
 use Rattle.oci_prune.specs.Pruned.{KeepsReached}
-use Rattle.oci_copy_commands.specs.Between.{IsTrusted}
+use Rattle.oci_plan.specs.declared.gathering.Existing.{Existing}
+use Rattle.oci_copy.specs.Report.{IsReport}
+use Rattle.oci_layout.specs.Device.{Device}
+use Rattle.oci_layout.specs.Meaning.{meaning}
+use Rattle.oci_copy_commands.specs.Between.{BringsOnlyMet, IsTrusted}
+use Rattle.oci_copy_commands.specs.Goal.{Goal}
+use Rattle.oci_copy_commands.specs.Mirror.{IsCleanedCopySettled, IsMirrored}
+use Rattle.oci_copy_commands.specs.declared.copy.Copied.{Copied}
 
 -- ---- a layout from its parts
 
@@ -84,6 +91,22 @@ pub contents_after : (source old copied : State) (roots : List Descriptor) → S
 contents_after source old copied roots alike grows trusted =
     let grown = grows.grown_content (record { is_honest = trusted.is_honest; is_sound = trusted.is_sound; is_calm = trusted.is_calm; same_old = λ _. trusted.same; same_source = λ _. alike }) in
     (grown.0, grown.1)
+
+-- a copy that was cleaned up once its blobs were on the disk is a mirror
+pub mirrored : {D : Type 0} (device : D → Device) (existing : Existing) (is_exact : Bool) (source : State) (roots : List Descriptor) (goal : Goal) (old copied new : LayoutState D) (done : Copied) → copied.tags ≡ old.tags
+    → BringsOnlyMet source old.graph roots copied.graph → (source.is_honest → Agree (graph_of source) old.graph → IsCopied (graph_of source) (graph_of source) roots old.graph copied.graph)
+    → IsReport existing source (meaning (device old.dir) old.graph old.tags) roots (meaning (device copied.dir) copied.graph copied.tags) done.report → IsCleanedCopySettled device is_exact goal copied new done
+    → IsMirrored device existing is_exact source roots goal old new done
+mirrored device existing is_exact source roots goal old copied new done tags met copy reported cleaned =
+    let s = cleaned.2 in
+    record {
+      copied = s.settled;
+      same_tags = s.tags ∙ tags;
+      met = subst (λ (g : List Node). BringsOnlyMet source old.graph roots g) (sym s.graph) met;
+      copy = λ honest agree. subst (λ (g : List Node). IsCopied (graph_of source) (graph_of source) roots old.graph g) (sym s.graph) (copy honest agree);
+      reported = record { planned = reported.planned; pushed = reported.pushed; gained = ap length s.graph ∙ reported.gained; skipped = reported.skipped };
+      cleaned = (cleaned.0, cleaned.1, s.cleaned);
+    }
 
 -- ---- results
 

@@ -7,6 +7,7 @@ use Rattle.oci_copy.specs.declared.fault.CopyFault.{CopyFault}
 use Rattle.oci_copy.specs.declared.fault.CopyFault.TheVariants as copy
 use Rattle.oci_layout.specs.Device.{Device}
 use Rattle.oci_layout.specs.Layout.{LayoutState}
+use Rattle.oci_layout.specs.Refusal.{IsSettledFault}
 use Rattle.oci_layout.specs.declared.fault.LayoutFault.{LayoutFault}
 use Rattle.oci_layout.specs.declared.fault.LayoutFault.TheVariants as layout
 use Rattle.oci_program.specs.declared.fault.ProgramFault.{ProgramFault}
@@ -41,6 +42,19 @@ module _ {D : Type 0} (cause : CopyFault → Type 0) (is_exact : Bool) (roots : 
   device_refused old dir l reads layout.Memory h = absurd h
   device_refused old dir l reads (layout.BadManifest k e) h = absurd h
   device_refused old dir l reads layout.AlreadyLayout h = absurd h
+
+  -- a save that waits for the disk is refused for a cause
+  pub settled_refused : (old dir : Device) (l : LayoutState D) → dir.fails_reads ≡ old.fails_reads → (e : LayoutFault) → IsSettledFault old dir e → IsRefusedMirror cause is_exact roots dir l (program.Destination e)
+  settled_refused old dir l reads layout.Device (inl is) = inr (reads ∙ is.0)
+  settled_refused old dir l reads layout.Device (inr raised) = inl (old.failures, raised)
+  settled_refused old dir l reads layout.Memory h = inl (old.failures, tt)
+  settled_refused old dir l reads layout.NoLayoutFile h = absurd h
+  settled_refused old dir l reads layout.BadLayoutFile h = absurd h
+  settled_refused old dir l reads layout.BadVersion h = absurd h
+  settled_refused old dir l reads (layout.BadIndex e) h = absurd h
+  settled_refused old dir l reads (layout.Corrupt k) h = absurd h
+  settled_refused old dir l reads (layout.BadManifest k e) h = absurd h
+  settled_refused old dir l reads layout.AlreadyLayout h = absurd h
 
   -- a prune that is refused is a cause
   pub prune_refused : (old dir : Device) (l : LayoutState D) → dir.fails_reads ≡ old.fails_reads → (e : PruneFault) → IsDeviceFault (MayNotSave old dir) e → IsRefusedMirror cause is_exact roots dir l (of_prune e)

@@ -6,3 +6,4 @@ pub mod Pattern
 pub mod Refusal
 pub mod Selected
 pub mod PlannedMirror
+pub mod Settled

@@ -100,6 +100,17 @@ pub record IsCleaned {D : Type 0} (device : D → Device) (is_exact : Bool) (goa
 abbrev pub IsCleanedCopy : {D : Type 0} → (D → Device) → Bool → Goal → LayoutState D → LayoutState D → Copied → Type 0
 IsCleanedCopy device is_exact goal old new done = (removed : CleanUp) × (done.removed ≡ Some removed) × IsCleaned device is_exact goal old new removed
 
+-- A copy was cleaned up by the plan that is returned, once its blobs were on the disk: the layout between
+-- has the same keys and tags.
+pub record IsCleanedSettled {D : Type 0} (device : D → Device) (is_exact : Bool) (goal : Goal) (old new : LayoutState D) (removed : CleanUp) : Type 0 where
+  pub settled : LayoutState D
+  pub graph : settled.graph ≡ old.graph
+  pub tags : settled.tags ≡ old.tags
+  pub cleaned : IsCleaned device is_exact goal settled new removed
+
+abbrev pub IsCleanedCopySettled : {D : Type 0} → (D → Device) → Bool → Goal → LayoutState D → LayoutState D → Copied → Type 0
+IsCleanedCopySettled device is_exact goal old new done = (removed : CleanUp) × (done.removed ≡ Some removed) × IsCleanedSettled device is_exact goal old new removed
+
 -- A mirror was made, with the layout between the copy and the clean-up: keys came into it that were
 -- met on the way from the roots, as many as the report says; all that the source reaches from them, if
 -- it is honest and its keys list what they list in the destination. The clean-up left what the goal needs.

@@ -2,8 +2,9 @@ ghost use Rattle.std.specs.Prelude.{◌≡◌, ◌≢◌, ◌≤◌, ◌⊎◌, 
 ghost use Rattle.std.specs.List.{All};
 ghost use Rattle.std.specs.Map.{keys_of, values_of};
 ghost use Rattle.oci_store.specs.Closed.{IsClosed};
+ghost use Rattle.oci_store.specs.Content.{Entry};
 ghost use Rattle.oci_store.specs.Keyed.{HasAll};
-ghost use Rattle.oci_store.specs.Tags.{by_bytes};
+ghost use Rattle.oci_store.specs.Tags.{Tags, by_bytes};
 ghost use Rattle.oci_copy.specs.Cause.{CanFail, IsStepCause, RefusedAt, RefusedByWorkers};
 ghost use Rattle.oci_copy.specs.Grown.{BeginsWith};
 ghost use Rattle.oci_copy.specs.Planned.{IsPlanOf};
@@ -11,11 +12,13 @@ ghost use Rattle.oci_copy.specs.Report.{IsReport};
 ghost use Rattle.oci_layout.specs.Brought.{Brings};
 ghost use Rattle.oci_layout.specs.Entries.{entry_of};
 ghost use Rattle.oci_layout.specs.Files.{HasFiles};
+ghost use Rattle.oci_layout.specs.Lasts.{Lasts};
 ghost use Rattle.oci_layout.specs.Layout.{OnlyIndex};
-ghost use Rattle.oci_layout.specs.Refusal.{IsPutFault};
+ghost use Rattle.oci_prune.specs.Settled.{CanSettle, LeavesOneOf};
 ghost use Rattle.oci_copy_commands.specs.Between.{BringsOnlyChecked, BringsOnlyMet, HasReached, HoldsWhatCame, IsCopiedBetween, IsSaved, IsTrusted};
-ghost use Rattle.oci_copy_commands.specs.Refusal.{AfterRefusedCopy, IsRefusedBetween};
+ghost use Rattle.oci_copy_commands.specs.Refusal.{AfterRefusedCopy, IsRefusedBetween, IsSaveFault};
 ghost use Rattle.oci_copy_commands.specs.Selected.{set_tags};
+ghost use Rattle.oci_copy_commands.specs.Settled.{StartsSettled};
 
 use crate::selected::Selected;
 use oci_copy::{CopyFault, Options, Report, copy_plan};
@@ -24,7 +27,7 @@ use oci_manifest::Key;
 use oci_plan::Plan;
 use oci_pool::Hooks;
 use oci_program::ProgramFault;
-use oci_store::{RefFault, Store, Tagger};
+use oci_store::{Dest, RefFault, Store, Tagger};
 use std::sync::Wait;
 use std::thread::Threads;
 
@@ -39,8 +42,11 @@ use std::thread::Threads;
 ///
 /// - 82 `Push` if the destination refuses a blob, and 88 `Fetch` if the source does.
 /// - 85 `BadWorkers` if there are more than 64 workers. Nothing is copied.
-/// - 74 `Device` if `index.json` could not be written.
+/// - 74 `Device` if `index.json` could not be written, or if it is not known whether it and the
+///   copied blobs are on the disk.
 /// - Out of memory, at any point.
+///
+/// A power cut at any moment leaves the destination as it was, or as it is after the copy.
 pub fn copy_between<
     R: AllocGlobal + Threads + Wait + Sync,
     S: Dir + Sync,
@@ -81,7 +87,8 @@ where
         (CanFail ⟦<Layout<D> as Store>⟧.state (⟦<Layout<D> as Store>⟧.state destination))
         (⟦<Layout<S> as Store>⟧.state source.now) (⟦<Layout<D> as Store>⟧.state destination))))
         (λ fault. (before : ℕ) × ((⟦<Layout<D> as Store>⟧.state destination).failures ≤ before)
-        × IsPutFault before (⟦<Layout<D> as Store>⟧.state result.0).failures fault)) }
+        × IsSaveFault (D.device result.0.dir).fails_reads before
+        (⟦<Layout<D> as Store>⟧.state result.0).failures fault)) }
     ensures reached { OnOk result.1 (HasReached (⟦<Layout<S> as Store>⟧.state source.now)
         (⟦<Layout<D> as Store>⟧.state destination) selected.now.0
         (⟦<Layout<D> as Store>⟧.state result.0)) }
@@ -95,7 +102,18 @@ where
         (⟦<Layout<D> as Store>⟧.state destination) (⟦<Layout<D> as Store>⟧.state result.0)
         → HasFiles (D.device result.0.dir).file (⟦<Layout<D> as Store>⟧.state result.0).entries
         result.0.graph result.0.tags result.0.opened) }
+
+    // A power cut at any moment leaves the old layout or the new one.
+    ensures left { StartsSettled (⟦<Layout<S> as Store>⟧.state source.now)
+        (⟦<Layout<D> as Store>⟧.state destination) → LeavesOneOf (D.device result.0.dir)
+        (⟦<Layout<D> as Store>⟧.state destination).entries destination.tags
+        (⟦<Layout<D> as Store>⟧.state result.0).entries result.0.tags }
+    ensures lasts { OnOk result.1 (StartsSettled (⟦<Layout<S> as Store>⟧.state source.now)
+        (⟦<Layout<D> as Store>⟧.state destination) → Lasts (D.device result.0.dir)
+        (⟦<Layout<D> as Store>⟧.state result.0).entries result.0.tags) }
 {
+    // The files of the keys that are held now are on the disk, if the layout was saved before.
+    let from = destination.count();
     // A copy may change what the destination remembers of its index, as far as its contract says.
     let mut destination = destination;
     let index = destination.take_index();
@@ -110,14 +128,16 @@ where
         options,
         hooks,
     );
-    finish(destination, index, copied, selected)
+    finish(destination, index, from, copied, selected)
 }
 
 /// Gives the destination of a copy back what it remembered of its index. Sets the selected tags,
-/// brings the selected entries and saves it, unless the copy was refused.
+/// brings the selected entries and saves it, unless the copy was refused. The keys before the place
+/// `from` were held before the copy.
 fn finish<D: Dir>(
     destination: Layout<D>,
     index: OpenedIndex,
+    from: usize,
     copied: Result<Report, CopyFault>,
     selected: &Selected,
 ) -> (Layout<D>, Result<Report, ProgramFault>)
@@ -135,12 +155,20 @@ fn finish<D: Dir>(
         result.0.graph result.0.tags result.0.opened) }
     ensures refused { IfErr result.1 (IsRefusedBetween
         (λ fault. (copied ≡ Err fault) ⊎ (IsOk copied × (fault ≡ CopyFault.Memory)))
-        (IsPutFault (D.device destination.dir).failures (D.device result.0.dir).failures)) }
+        (IsSaveFault (D.device result.0.dir).fails_reads (D.device destination.dir).failures
+        (D.device result.0.dir).failures)) }
+    ensures left { (entries : List Entry) (tags : Tags) → CanSettle (D.device destination.dir)
+        from destination.graph entries tags → LeavesOneOf (D.device result.0.dir) entries tags
+        (⟦<Layout<D> as Store>⟧.state destination).entries result.0.tags }
+    ensures lasts { OnOk result.1 ((entries : List Entry) (tags : Tags)
+        → CanSettle (D.device destination.dir) from destination.graph entries tags
+        → Lasts (D.device result.0.dir) (⟦<Layout<D> as Store>⟧.state destination).entries
+        result.0.tags) }
 {
     let mut destination = destination;
     destination.put_index(index);
     match copied {
-        Ok(report) => match tag_and_save(&mut destination, selected) {
+        Ok(report) => match tag_and_save(&mut destination, selected, from) {
             Ok(()) => (destination, Ok(report)),
             Err(fault) => (destination, Err(fault)),
         },
@@ -149,10 +177,12 @@ fn finish<D: Dir>(
 }
 
 /// Sets the selected tags in a layout that holds their keys, brings the selected entries, and saves
-/// it.
+/// it. It waits for the files of the keys from the place `from` on before it writes the index, so
+/// that a power cut leaves no index without them.
 fn tag_and_save<D: Dir>(
     destination: &mut Layout<D>,
     selected: &Selected,
+    from: usize,
 ) -> Result<(), ProgramFault>
     requires held { HasAll destination.old.graph selected.now.0 }
     ensures tagged { OnOk result (destination.new.tags
@@ -166,8 +196,16 @@ fn tag_and_save<D: Dir>(
         (⟦<Layout<D> as Store>⟧.state destination.old).entries destination.new.graph
         destination.new.tags destination.new.opened) }
     ensures refused { IfErr result (IsRefusedBetween (λ fault. fault ≡ CopyFault.Memory)
-        (IsPutFault (D.device destination.old.dir).failures
-        (D.device destination.new.dir).failures)) }
+        (IsSaveFault (D.device destination.new.dir).fails_reads
+        (D.device destination.old.dir).failures (D.device destination.new.dir).failures)) }
+    ensures left { (entries : List Entry) (tags : Tags)
+        → CanSettle (D.device destination.old.dir) from destination.old.graph entries tags
+        → LeavesOneOf (D.device destination.new.dir) entries tags
+        (⟦<Layout<D> as Store>⟧.state destination.old).entries destination.new.tags }
+    ensures lasts { OnOk result ((entries : List Entry) (tags : Tags)
+        → CanSettle (D.device destination.old.dir) from destination.old.graph entries tags
+        → Lasts (D.device destination.new.dir)
+        (⟦<Layout<D> as Store>⟧.state destination.old).entries destination.new.tags) }
 {
     if let Err(fault) = tag_all(destination, selected.tags()) {
         return Err(ProgramFault::Copy(CopyFault::from(fault)));
@@ -176,7 +214,7 @@ fn tag_and_save<D: Dir>(
         Ok(()) => {}
         Err(_) => return Err(ProgramFault::Copy(CopyFault::Memory)),
     }
-    match destination.save() {
+    match destination.save_settled(from) {
         Ok(()) => Ok(()),
         Err(fault) => Err(ProgramFault::Destination(fault)),
     }

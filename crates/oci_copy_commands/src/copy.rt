@@ -37,13 +37,16 @@ use std::io::Write;
 /// reference is resolved. The destination's folder is locked from before the destination is opened
 /// until after it is saved. Files left by killed copies are removed once the copy is planned.
 ///
+/// A power cut at any moment leaves DST as it was, or as it is after the copy: the index is replaced
+/// once all copied blobs are on the disk. With `--prune` a file goes only after that.
+///
 /// # Errors
 ///
 /// With 80, 81, 99 and the faults before them, no blob, tag or entry of DST is changed.
 ///
 /// - 70 to 74 if SRC or DST is not a layout or cannot be read; 70 for DST only if it has another
-///   `index.json` than that of an empty layout; 74 also if DST cannot be created or locked, or its
-///   folder `blobs/sha256` cannot be made.
+///   `index.json` than that of an empty layout; 74 also if DST cannot be created or locked, if its
+///   folder `blobs/sha256` cannot be made, or if it is not known whether its index is on the disk.
 /// - 73 `BadIndex` for an entry that is no descriptor: with `--all`, if SRC has one with a tag; with
 ///   `--referrers` or `--prune`, if SRC has any; with `--prune`, if DST has one that has no tag, or
 ///   one that matches no pattern, is not selected and does not go.
@@ -66,7 +69,8 @@ use std::io::Write;
 ///   `BadManifest` if one of its held manifests cannot be read.
 /// - 80 `DestinationOpen` and 81 `Plan` if there is no plan.
 /// - 82 `Push` and 88 `Fetch` if a blob cannot be copied, and 74 `Device` if the index cannot be
-///   written. Blobs that arrived stay.
+///   written, or if it is not known whether it and the copied blobs are on the disk. Blobs that
+///   arrived stay.
 /// - 85 `BadWorkers` if there are more than 64 workers. Nothing is copied.
 /// - 79 `NotRemoved` with `--prune`, if a file cannot be removed. The copy is done and saved.
 /// - 94 `Output` if `out` cannot be written. The copy is done and saved.

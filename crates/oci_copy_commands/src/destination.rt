@@ -42,14 +42,16 @@ pub(crate) fn make_blobs_folder<R: Files + AllocGlobal>(
 }
 
 /// Opens the layout in a directory as it is. Creates one if there is no `oci-layout` and no index
-/// that the creation would replace.
+/// that the creation would replace. Waits until the index is on the disk: a process that was killed
+/// may have replaced it shortly before.
 ///
 /// # Errors
 ///
 /// - 70 `NoLayoutFile` if there is no `oci-layout`, and another `index.json` than that of an empty
 ///   layout.
 /// - 71 to 74 if the directory has a layout that cannot be opened.
-/// - 74 `Device` if a layout cannot be created.
+/// - 74 `Device` if a layout cannot be created, or if it is not known whether the index is on the
+///   disk.
 /// - Out of memory, at any point.
 pub(crate) fn open_or_create<D: Dir + Drop>(
     alloc: Global,
@@ -60,7 +62,16 @@ pub(crate) fn open_or_create<D: Dir + Drop>(
         opened => opened,
     };
     match opened {
-        Ok(layout) => Ok(layout),
+        Ok(layout) => settled(layout),
         Err((_dir, fault)) => Err(ProgramFault::Destination(fault)),
+    }
+}
+
+/// Returns a layout once its index is on the disk.
+fn settled<D: Dir + Drop>(layout: Layout<D>) -> Result<Layout<D>, ProgramFault> {
+    let mut layout = layout;
+    match layout.settle_index() {
+        Ok(()) => Ok(layout),
+        Err(fault) => Err(ProgramFault::Destination(fault)),
     }
 }

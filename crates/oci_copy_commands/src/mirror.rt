@@ -1,8 +1,10 @@
-ghost use Rattle.std.specs.Prelude.{◌≡◌, ◌≢◌, ◌⊎◌, [], true, Ok, Err, Some, map, Contains, IsOk, IfOk, IfErr, OnOk, OnErr};
+ghost use Rattle.std.specs.Prelude.{◌≡◌, ◌≢◌, ◌⊎◌, List, [], drop, true, Ok, Err, Some, map, Contains, IsOk, IfOk, IfErr, OnOk, OnErr};
 ghost use Rattle.std.specs.List.{All};
 ghost use Rattle.std.specs.Map.{values_of};
 ghost use Rattle.oci_store.specs.Closed.{IsClosed};
+ghost use Rattle.oci_store.specs.Content.{Entry};
 ghost use Rattle.oci_store.specs.Keyed.{HasAll};
+ghost use Rattle.oci_store.specs.Tags.{Tags};
 ghost use Rattle.oci_copy.specs.Cause.{CanFail, IsStepCause, RefusedAt, RefusedByWorkers};
 ghost use Rattle.oci_copy.specs.Grown.{BeginsWith};
 ghost use Rattle.oci_copy.specs.Planned.{IsPlanOf};
@@ -17,7 +19,8 @@ ghost use Rattle.oci_copy_commands.specs.Goal.{Fits, IsOnlySelected, IsPrepared}
 ghost use Rattle.oci_copy_commands.specs.Mirror.{
   HoldsOnlyReached,
   IsCleaned,
-  IsCleanedCopy,
+  IsCleanedCopySettled,
+  IsCleanedSettled,
   IsKnown,
   IsMirrored,
   IsPruned,
@@ -30,6 +33,9 @@ ghost use Rattle.oci_copy_commands.specs.Mirror.{
 ghost use Rattle.oci_copy_commands.specs.Pattern.{texts_of};
 ghost use Rattle.oci_copy_commands.specs.Refusal.{AfterRefusedCopy};
 ghost use Rattle.oci_copy_commands.specs.Selected.{set_tags, IsOfRoot};
+ghost use Rattle.oci_layout.specs.Lasts.{Lasts};
+ghost use Rattle.oci_prune.specs.Settled.{LeavesOneOf};
+ghost use Rattle.oci_copy_commands.specs.Settled.{AreSettled, CanCleanUp, StartsSettled};
 
 use crate::Host;
 use crate::copy::Copied;
@@ -44,7 +50,7 @@ use oci_plan::Plan;
 use oci_pool::Hooks;
 use oci_program::ProgramFault;
 use oci_prune::{PruneFault, PrunePlan, Pruned, plan_prune_keeping, prune};
-use oci_store::Store;
+use oci_store::{Dest, Store};
 use std::alloc::Global;
 
 /// What `copy --all --prune` removed from the destination.
@@ -166,7 +172,7 @@ fn check_plan<D: PrunableDir>(
 
 /// Copies the planned blobs into a layout, sets the tags of the goal there and removes all others,
 /// brings the selected entries, saves it, and removes what no tag needs. The layout is saved once,
-/// before a file is removed that the old index needs.
+/// when the copied blobs are on the disk, and before a file is removed that the old index needs.
 ///
 /// What refers to what a tag needs, such as a signature, stays. If the mirror is exact, it stays only
 /// if it is among the roots of the goal, or they reach it.
@@ -182,7 +188,8 @@ fn check_plan<D: PrunableDir>(
 /// - 85 `BadWorkers` if there are more than 64 workers. Nothing is copied.
 /// - 96 `Unknown`, 73 `BadIndex`, 88 `Fetch` and 77 `BadManifest` if the destination cannot be pruned
 ///   after all. The copied blobs stay, and the index is not written.
-/// - 74 `Device` if `index.json` could not be written.
+/// - 74 `Device` if `index.json` could not be written, or if it is not known whether it and the
+///   copied blobs are on the disk.
 /// - Out of memory, at any point.
 pub(crate) fn mirror<R: Host, S: Dir + Sync, D: PrunableDir + Drop + Send, H: Hooks + Sync>(
     rt: &R,
@@ -239,7 +246,18 @@ where
         (CanFail ⟦<Layout<D> as Store>⟧.state (⟦<Layout<D> as Store>⟧.state destination))
         (⟦<Layout<S> as Store>⟧.state source.now) (⟦<Layout<D> as Store>⟧.state destination))))
         is_exact goal.now.0 (D.device result.0.dir) result.0) }
+
+    // A power cut at any moment leaves the old layout or the new one.
+    ensures left { StartsSettled (⟦<Layout<S> as Store>⟧.state source.now)
+        (⟦<Layout<D> as Store>⟧.state destination) → LeavesOneOf (D.device result.0.dir)
+        (⟦<Layout<D> as Store>⟧.state destination).entries destination.tags
+        (⟦<Layout<D> as Store>⟧.state result.0).entries result.0.tags }
+    ensures lasts { OnOk result.1 (StartsSettled (⟦<Layout<S> as Store>⟧.state source.now)
+        (⟦<Layout<D> as Store>⟧.state destination) → Lasts (D.device result.0.dir)
+        (⟦<Layout<D> as Store>⟧.state result.0).entries result.0.tags) }
 {
+    // The files of the keys that are held now are on the disk, if the layout was saved before.
+    let from = destination.count();
     // A copy may change what the destination remembers of its index, as far as its contract says.
     let mut destination = destination;
     let index = destination.take_index();
@@ -258,6 +276,7 @@ where
         rt.alloc(),
         destination,
         index,
+        from,
         copied,
         selected,
         goal,
@@ -266,11 +285,12 @@ where
 }
 
 /// Gives the destination of a copy back what it remembered of its index, and cleans it up, unless
-/// the copy was refused.
+/// the copy was refused. The keys from the place `from` on were copied.
 fn finish<D: PrunableDir>(
     alloc: Global,
     destination: Layout<D>,
     index: OpenedIndex,
+    from: usize,
     copied: Result<Report, CopyFault>,
     selected: &Selected,
     goal: &Goal,
@@ -283,7 +303,7 @@ fn finish<D: PrunableDir>(
         result.0.opened) }
     ensures saved { OnOk result.1 ((D.device result.0.dir).is_honest
         → HasIndex (D.device result.0.dir).file result.0.graph result.0.tags result.0.opened) }
-    ensures pruned { IfOk result.1 (IsCleanedCopy D.device is_exact goal.now destination
+    ensures pruned { IfOk result.1 (IsCleanedCopySettled D.device is_exact goal.now destination
         result.0) }
     ensures stays { OnOk result.1 (KeepsReached destination.graph result.0.graph goal.now.0) }
     ensures held { OnOk result.1 (HasAll result.0.graph goal.now.0) }
@@ -298,14 +318,24 @@ fn finish<D: PrunableDir>(
     ensures refused { IfErr result.1 (IsRefusedMirror
         (λ fault. (copied ≡ Err fault) ⊎ (IsOk copied × (fault ≡ CopyFault.Memory)))
         is_exact goal.now.0 (D.device result.0.dir) result.0) }
+    ensures left { (entries : List Entry) (tags : Tags)
+        → CanCleanUp (D.device destination.dir) from destination.graph entries tags
+        → LeavesOneOf (D.device result.0.dir) entries tags
+        (⟦<Layout<D> as Store>⟧.state result.0).entries result.0.tags }
+    ensures lasts { OnOk result.1 ((entries : List Entry) (tags : Tags)
+        → CanCleanUp (D.device destination.dir) from destination.graph entries tags
+        → Lasts (D.device result.0.dir) (⟦<Layout<D> as Store>⟧.state result.0).entries
+        result.0.tags) }
 {
     let mut destination = destination;
     destination.put_index(index);
     match copied {
-        Ok(report) => match clean_up(alloc, &mut destination, selected, goal, is_exact) {
-            Ok(removed) => (destination, Ok(copied_of(report, removed))),
-            Err(fault) => (destination, Err(fault)),
-        },
+        Ok(report) => {
+            match settle_and_clean_up(alloc, &mut destination, from, selected, goal, is_exact) {
+                Ok(removed) => (destination, Ok(copied_of(report, removed))),
+                Err(fault) => (destination, Err(fault)),
+            }
+        }
         Err(fault) => (destination, Err(ProgramFault::Copy(fault))),
     }
 }
@@ -321,6 +351,56 @@ fn copied_of(report: Report, removed: CleanUp) -> Copied
     }
 }
 
+/// Waits until the copied blobs are on the disk, and cleans the layout up. The keys from the place
+/// `from` on were copied.
+///
+/// # Errors
+///
+/// As of [`mirror`], after the copy.
+fn settle_and_clean_up<D: PrunableDir>(
+    alloc: Global,
+    destination: &mut Layout<D>,
+    from: usize,
+    selected: &Selected,
+    goal: &Goal,
+    is_exact: bool,
+) -> Result<CleanUp, ProgramFault>
+    requires held { HasAll destination.old.graph goal.now.0 }
+    requires roots { All (Contains goal.now.0) selected.now.0 }
+    ensures tags { OnOk result (destination.new.tags ≡ set_tags [] goal.now.1) }
+    ensures brought { OnOk result (Brings (map entry_of selected.now.2) destination.new.tags
+        destination.old.opened destination.new.opened) }
+    ensures saved { OnOk result ((D.device destination.new.dir).is_honest
+        → HasIndex (D.device destination.new.dir).file destination.new.graph
+        destination.new.tags destination.new.opened) }
+    ensures pruned { IfOk result (IsCleanedSettled D.device is_exact goal.now destination.old
+        destination.new) }
+    ensures stays { OnOk result (KeepsReached destination.old.graph destination.new.graph
+        goal.now.0) }
+    ensures held { OnOk result (HasAll destination.new.graph goal.now.0) }
+    ensures only { OnOk result (is_exact ≡ true
+        → All (IsOfRoot goal.now.0) (said destination.old.opened.content).entries
+        → HoldsOnlyReached destination.new.graph goal.now.0) }
+    ensures reached { KeepsReached destination.old.graph destination.new.graph
+        (values_of destination.new.tags) }
+    ensures closed { IsClosed destination.old.graph → IsClosed destination.new.graph }
+    ensures refused { IfErr result (IsRefusedMirror (λ fault. fault ≡ CopyFault.Memory)
+        is_exact goal.now.0 (D.device destination.new.dir) destination.new) }
+    ensures left { (entries : List Entry) (tags : Tags)
+        → CanCleanUp (D.device destination.old.dir) from destination.old.graph entries tags
+        → LeavesOneOf (D.device destination.new.dir) entries tags
+        (⟦<Layout<D> as Store>⟧.state destination.new).entries destination.new.tags }
+    ensures lasts { OnOk result ((entries : List Entry) (tags : Tags)
+        → CanCleanUp (D.device destination.old.dir) from destination.old.graph entries tags
+        → Lasts (D.device destination.new.dir)
+        (⟦<Layout<D> as Store>⟧.state destination.new).entries destination.new.tags) }
+{
+    match destination.settle_blobs(from) {
+        Ok(()) => clean_up(alloc, destination, from, selected, goal, is_exact),
+        Err(fault) => Err(ProgramFault::Destination(fault)),
+    }
+}
+
 /// Sets the tags of a goal in a layout that holds their keys, removes all others, brings the selected
 /// entries, saves it, and removes what no tag needs.
 ///
@@ -330,6 +410,7 @@ fn copied_of(report: Report, removed: CleanUp) -> Copied
 fn clean_up<D: PrunableDir>(
     alloc: Global,
     destination: &mut Layout<D>,
+    from: usize,
     selected: &Selected,
     goal: &Goal,
     is_exact: bool,
@@ -355,10 +436,20 @@ fn clean_up<D: PrunableDir>(
     ensures closed { IsClosed destination.old.graph → IsClosed destination.new.graph }
     ensures refused { IfErr result (IsRefusedMirror (λ fault. fault ≡ CopyFault.Memory)
         is_exact goal.now.0 (D.device destination.new.dir) destination.new) }
+    ensures left { (entries : List Entry) (tags : Tags)
+        → CanCleanUp (D.device destination.old.dir) from destination.old.graph entries tags
+        → AreSettled (D.device destination.old.dir) (drop from destination.old.graph)
+        → LeavesOneOf (D.device destination.new.dir) entries tags
+        (⟦<Layout<D> as Store>⟧.state destination.new).entries destination.new.tags }
+    ensures lasts { OnOk result ((entries : List Entry) (tags : Tags)
+        → CanCleanUp (D.device destination.old.dir) from destination.old.graph entries tags
+        → AreSettled (D.device destination.old.dir) (drop from destination.old.graph)
+        → Lasts (D.device destination.new.dir)
+        (⟦<Layout<D> as Store>⟧.state destination.new).entries destination.new.tags) }
 {
     let untagged = retag(alloc, destination, goal)?;
     destination.bring(selected.entries())?;
-    match prune_and_save(alloc, destination, goal.roots(), is_exact) {
+    match prune_and_save(alloc, destination, from, goal.roots(), is_exact) {
         Ok((plan, pruned)) => Ok(CleanUp {
             untagged,
             plan,
@@ -369,10 +460,12 @@ fn clean_up<D: PrunableDir>(
 }
 
 /// Removes what no tag of a layout needs, and saves it; if the mirror is exact, what neither a tag nor
-/// one of these roots reaches. Returns the plan, and what was removed.
+/// one of these roots reaches. Returns the plan, and what was removed. The keys before the place
+/// `from` were saved before.
 fn prune_and_save<D: PrunableDir>(
     alloc: Global,
     destination: &mut Layout<D>,
+    from: usize,
     roots: &[Key],
     is_exact: bool,
 ) -> Result<(PrunePlan, Pruned), ProgramFault>
@@ -392,6 +485,16 @@ fn prune_and_save<D: PrunableDir>(
     ensures closed { IsClosed destination.old.graph → IsClosed destination.new.graph }
     ensures refused { IfErr result (IsRefusedMirror (λ fault. fault ≡ CopyFault.Memory)
         is_exact roots.now (D.device destination.new.dir) destination.new) }
+    ensures left { (entries : List Entry) (tags : Tags)
+        → CanCleanUp (D.device destination.old.dir) from destination.old.graph entries tags
+        → AreSettled (D.device destination.old.dir) (drop from destination.old.graph)
+        → LeavesOneOf (D.device destination.new.dir) entries tags
+        (⟦<Layout<D> as Store>⟧.state destination.new).entries destination.new.tags }
+    ensures lasts { OnOk result ((entries : List Entry) (tags : Tags)
+        → CanCleanUp (D.device destination.old.dir) from destination.old.graph entries tags
+        → AreSettled (D.device destination.old.dir) (drop from destination.old.graph)
+        → Lasts (D.device destination.new.dir)
+        (⟦<Layout<D> as Store>⟧.state destination.new).entries destination.new.tags) }
 {
     let plan = match plan_prune_keeping(alloc, destination, roots, !is_exact) {
         Ok(plan) => plan,
@@ -404,7 +507,7 @@ fn prune_and_save<D: PrunableDir>(
     // A prune saves the layout, before it removes a file, only if it drops a key. If it does not,
     // it removes only files that the old index does not need either.
     if plan.removed.is_empty()
-        && let Err(fault) = destination.save()
+        && let Err(fault) = destination.save_settled(from)
     {
         return Err(ProgramFault::Destination(fault));
     }

@@ -119,7 +119,7 @@ closed_either graph now roots set distinct safe (inr left) closed = subst (λ (g
 
 -- ---- where no key goes
 
-held_from_node : (graph : List Node) (n : Node) → Contains graph n → has_key graph n.0 ≡ true
+pub held_from_node : (graph : List Node) (n : Node) → Contains graph n → has_key graph n.0 ≡ true
 held_from_node [] n h = absurd (no_element n h)
 held_from_node (m ∷ graph) n h =
     elim (cases_Bool (same_key m.0 n.0)) [

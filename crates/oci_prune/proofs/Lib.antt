@@ -8,6 +8,7 @@ pub mod Noting
 pub mod Leaving
 pub mod Results
 pub mod Plans
+pub mod Settling
 pub mod Reaching
 pub mod Following
 pub mod Stems

@@ -12,3 +12,4 @@ pub mod Refusal
 pub mod Pruned
 pub mod Laws
 pub mod Typed
+pub mod Settled

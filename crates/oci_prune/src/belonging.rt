@@ -41,8 +41,8 @@ pub struct Belonging {
 /// `sha256-DIGITS.sig`, or the first 71 bytes of that. Only these `tags` are considered.
 ///
 /// Each held manifest of a kind that may have a subject is read once, but none if the layout
-/// [remembers](Layout::subjects) the subjects. A key that is needed and not held is passed over. The time grows with the held keys, the keys that
-/// they list and the tags, times a logarithm.
+/// [remembers](Layout::subjects) the subjects. A key that is needed and not held is passed over. The
+/// time grows with the held keys, the keys that they list and the tags, times a logarithm.
 ///
 /// # Errors
 ///

@@ -1,10 +1,13 @@
-ghost use Rattle.std.specs.Prelude.{◌≡◌, ◌≢◌, ◌⊎◌, None, Some, IsSome, IfSome, IfOk, map, length, string_bytes};
+ghost use Rattle.std.specs.Prelude.{◌≡◌, ◌≢◌, ◌⊎◌, List, None, Some, IsSome, IfSome, IfOk, map, length, string_bytes};
 ghost use Rattle.std.specs.List.{All};
 ghost use Rattle.std.specs.Map.{keys_of};
 ghost use Rattle.oci_layout.specs.Blobs.{blob_path};
+ghost use Rattle.oci_layout.specs.Lasts.{Lasts};
 ghost use Rattle.oci_layout.specs.Prunable.{by_name};
 ghost use Rattle.oci_prune.specs.Pruned.{is_gone, AreThere, AreApart, IsPathOf, IsDraftIn, AreSameBlobs, Removal};
 ghost use Rattle.oci_prune.specs.Refusal.{IsNotRemoved};
+ghost use Rattle.oci_store.specs.Content.{Entry};
+ghost use Rattle.oci_store.specs.Tags.{Tags};
 
 use crate::fault::PruneFault;
 use crate::plan::PrunedFile;
@@ -33,6 +36,10 @@ pub(crate) fn remove_files<D: PrunableDir>(
     ensures flags { (D.device layout.old.dir).is_honest
         → gone.new.items ≡ map (is_gone (D.device layout.new.dir).file) files.now }
     ensures noted { length gone.new.items ≡ length files.now }
+    ensures lasts { (entries : List Entry) (tags : Tags)
+        → All (λ f. All (λ e. e.0.digest ≢ f.digest) entries) files.now
+        → Lasts (D.device layout.old.dir) entries tags
+        → Lasts (D.device layout.new.dir) entries tags }
 {
     for place in 0..files.len() {
         gone[place] = remove_file(alloc, layout, &files[place], fault);
@@ -56,6 +63,10 @@ fn remove_file<D: PrunableDir>(
     ensures flag { (D.device layout.old.dir).is_honest
         → IsSome ((D.device layout.old.dir).file (blob_path file.now.digest))
         → result ≡ is_gone (D.device layout.new.dir).file file.now }
+    ensures lasts { (entries : List Entry) (tags : Tags)
+        → All (λ e. e.0.digest ≢ file.now.digest) entries
+        → Lasts (D.device layout.old.dir) entries tags
+        → Lasts (D.device layout.new.dir) entries tags }
 {
     match layout.remove_blob(&file.digest) {
         Ok(found) => found,
@@ -80,6 +91,9 @@ pub(crate) fn remove_drafts<D: PrunableDir>(
         fault.old fault.new }
     ensures files { AreSameBlobs (D.device layout.old.dir) (D.device layout.new.dir) }
     ensures noted { length gone.new.items ≡ length drafts.now }
+    ensures lasts { (entries : List Entry) (tags : Tags)
+        → Lasts (D.device layout.old.dir) entries tags
+        → Lasts (D.device layout.new.dir) entries tags }
 {
     for place in 0..drafts.len() {
         gone[place] = remove_draft(alloc, layout, drafts[place].0.as_str(), fault);
@@ -97,6 +111,9 @@ fn remove_draft<D: PrunableDir>(
     ensures removal { Removal D.device layout.old layout.new (λ touched. path.now ≡ touched)
         fault.old fault.new }
     ensures files { AreSameBlobs (D.device layout.old.dir) (D.device layout.new.dir) }
+    ensures lasts { (entries : List Entry) (tags : Tags)
+        → Lasts (D.device layout.old.dir) entries tags
+        → Lasts (D.device layout.new.dir) entries tags }
 {
     match layout.remove_leftover(path) {
         Ok(found) => found,

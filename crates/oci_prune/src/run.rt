@@ -2,19 +2,25 @@ ghost use Rattle.std.specs.Prelude.{◌≡◌, ◌≢◌, ◌⊎◌, ◌↔◌, 
 ghost use Rattle.std.specs.BTreeSet.{contains};
 ghost use Rattle.std.specs.List.{All};
 ghost use Rattle.oci_manifest.specs.Descriptor.{key_cmp};
+ghost use Rattle.std.specs.Map.{keys_of};
 ghost use Rattle.oci_store.specs.Closed.{IsClosed};
+ghost use Rattle.oci_store.specs.Content.{Entry};
+ghost use Rattle.oci_store.specs.Keyed.{HasAll};
+ghost use Rattle.oci_store.specs.Tags.{Tags};
 ghost use Rattle.oci_layout.specs.Blobs.{IsSound, stored};
 ghost use Rattle.oci_layout.specs.Index.{index_file, HasIndex};
+ghost use Rattle.oci_layout.specs.Lasts.{Lasts};
 ghost use Rattle.oci_prune.specs.Plan.{AreRemoved, IsPrunePlan, roots_of};
 ghost use Rattle.oci_prune.specs.Pruned.{is_gone, kept_of, HasOnlyNeeded, IsPlanned, IsSaved, IsTouchedBy, KeepsReached, OnlyIndex, Spares, StaysOrDrops};
 ghost use Rattle.oci_prune.specs.Refusal.{IsDeviceFault, IsRemovalFault, MayNotSave};
+ghost use Rattle.oci_prune.specs.Settled.{CanSettle, LeavesOneOf};
 
 use crate::fault::PruneFault;
 use crate::plan::PrunePlan;
 use crate::removal::{remove_drafts, remove_files};
 use oci_digest::NoMemory;
 use oci_layout::{Layout, PrunableDir};
-use oci_store::Dest;
+use oci_store::{Dest, Store};
 use std::alloc::Global;
 
 /// What a prune removed.
@@ -28,8 +34,13 @@ pub struct Pruned {
     pub fault: Option<PruneFault>,
 }
 
-/// Prunes a layout by a plan of it: drops the keys that are not kept, saves and syncs the index,
-/// and then removes the files and drafts of the plan. If no key goes, the index is not written.
+/// Prunes a layout by a plan of it: drops the keys that are not kept, saves the index and waits
+/// until it is on the disk, and then removes the files and drafts of the plan. If no key goes, the
+/// index is not written.
+///
+/// A power cut at any moment leaves the layout that was saved before, or the pruned one. The layout
+/// has to hold all that was saved before, and each file of a key that was not has to be on the disk,
+/// as after [`settle_blobs`](oci_layout::Layout::settle_blobs).
 ///
 /// A file that cannot be removed does not keep the others from being removed.
 /// [`Pruned::fault`](crate::Pruned) has the first such fault.
@@ -41,9 +52,9 @@ pub struct Pruned {
 /// - 89 `Memory` if memory runs out.
 ///
 /// No blob and no draft is then removed, and every tag and all that it reaches is held. The layout
-/// in memory holds the same keys as before, or only the kept ones. After a failed write
-/// `index.json` may have any bytes. After a failed sync it has the kept keys, but the old one may
-/// be back if the machine stops. The next prune syncs it again before it removes a file.
+/// in memory holds the same keys as before, or only the kept ones. `index.json` has its old bytes or
+/// the kept keys. After a failed sync the old ones may be back if the machine stops. The next prune
+/// syncs it again before it removes a file.
 pub fn prune<D: PrunableDir>(
     alloc: Global,
     layout: &mut Layout<D>,
@@ -97,6 +108,20 @@ pub fn prune<D: PrunableDir>(
         → done.files.items ≡ map (is_gone (D.device layout.new.dir).file) plan.now.files.items) }
     ensures noted { IfOk result (λ done. (length done.files.items ≡ length plan.now.files.items)
         × (length done.drafts.items ≡ length plan.now.drafts.items)) }
+
+    // A power cut at any moment leaves what was saved before, or the pruned layout.
+    ensures left { (entries : List Entry) (tags : Tags) → CanSettle (D.device layout.old.dir)
+        (length layout.old.graph) layout.old.graph entries tags
+        → HasAll layout.old.graph (keys_of entries) → LeavesOneOf (D.device layout.new.dir)
+        entries tags (⟦<Layout<D> as Store>⟧.state layout.new).entries layout.new.tags }
+    ensures lasts { OnOk result (plan.now.removed.items ≢ [] → (entries : List Entry)
+        (tags : Tags) → CanSettle (D.device layout.old.dir) (length layout.old.graph)
+        layout.old.graph entries tags → Lasts (D.device layout.new.dir)
+        (⟦<Layout<D> as Store>⟧.state layout.new).entries layout.new.tags) }
+    ensures stays { OnOk result (plan.now.removed.items ≡ [] → (entries : List Entry)
+        (tags : Tags) → HasAll layout.old.graph (keys_of entries)
+        → Lasts (D.device layout.old.dir) entries tags
+        → Lasts (D.device layout.new.dir) entries tags) }
 {
     let mut files = flags(alloc, plan.files.len())?;
     let mut drafts = flags(alloc, plan.drafts.len())?;
@@ -123,6 +148,8 @@ fn flags(alloc: Global, count: usize) -> Result<Vec<bool>, NoMemory>
 
 /// Drops the keys that are not kept from a layout, and saves its index. Does not write it if all
 /// held keys are kept. The index is on the disk before a blob is removed.
+///
+/// No key came, so no file of a key is waited for.
 fn save_kept<D: PrunableDir>(layout: &mut Layout<D>, plan: &PrunePlan) -> Result<(), PruneFault>
     requires rooted { All (λ k. contains key_cmp plan.now.kept k ≡ true) (roots_of layout.old) }
     requires removed { AreRemoved layout.old.graph plan.now.kept plan.now.removed.items }
@@ -131,6 +158,16 @@ fn save_kept<D: PrunableDir>(layout: &mut Layout<D>, plan: &PrunePlan) -> Result
     ensures saved { OnOk result (IsSaved D.device layout.old layout.new plan.now) }
     ensures cause { IfErr result (IsDeviceFault (MayNotSave (D.device layout.old.dir)
         (D.device layout.new.dir))) }
+    ensures left { (entries : List Entry) (tags : Tags) → CanSettle (D.device layout.old.dir)
+        (length layout.old.graph) layout.old.graph entries tags
+        → IsClosed (kept_of plan.now.kept layout.old.graph)
+        → LeavesOneOf (D.device layout.new.dir) entries tags
+        (stored (D.device layout.new.dir).file layout.new.graph) layout.new.tags }
+    ensures lasts { OnOk result (plan.now.removed.items ≢ [] → (entries : List Entry)
+        (tags : Tags) → CanSettle (D.device layout.old.dir) (length layout.old.graph)
+        layout.old.graph entries tags → IsClosed (kept_of plan.now.kept layout.old.graph)
+        → Lasts (D.device layout.new.dir)
+        (stored (D.device layout.new.dir).file layout.new.graph) layout.new.tags) }
 {
     if plan.removed.is_empty() {
         // An earlier prune may have been killed between its save and its sync.
@@ -140,7 +177,7 @@ fn save_kept<D: PrunableDir>(layout: &mut Layout<D>, plan: &PrunePlan) -> Result
         return Ok(());
     }
     layout.retain(&plan.kept)?;
-    layout.save()?;
-    layout.sync()?;
+    let count = layout.count();
+    layout.save_settled(count)?;
     Ok(())
 }

@@ -5,6 +5,7 @@
 //! Their contracts say what that leaves.
 #![tactic(auto)]
 
+mod opened;
 mod prune;
 mod untag;
 

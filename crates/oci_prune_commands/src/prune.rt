@@ -1,3 +1,4 @@
+use crate::opened::open_settled;
 use oci_command_line::PruneWords;
 use oci_layout::{Layout, Lockable, PrunableDir};
 use oci_program::{
@@ -12,13 +13,14 @@ use std::rt::Files;
 /// form what was removed. The directory is the words' folder, which is locked from before the
 /// layout is opened until after the last file is removed. With `--dry-run` nothing is locked or
 /// changed, and the same is printed. `F` is [`ProgramFault`] or another type that is made from one.
+/// A power cut at any moment leaves the layout with all that it had, or with what its tags need.
 ///
 /// # Errors
 ///
 /// With all but 74, 79 and 94 nothing is changed.
 ///
 /// - 70 to 74 if the directory has no layout, or it cannot be read; 74 also if the folder cannot be
-///   locked or `index.json` cannot be written.
+///   locked, if `index.json` cannot be written, or if it is not known whether it is on the disk.
 /// - 99 `Locked` if another process has the lock, and the words say not to wait.
 /// - 97 `NoTags` if the layout has no tag.
 /// - 96 `Unknown` if it is not known what a manifest needs, since it is missing or damaged.
@@ -70,7 +72,7 @@ fn prune_folder<R: Files<File: Lockable> + AllocGlobal, D: PrunableDir + Drop, X
 ) -> Result<(PruneAnswer, Option<PruneFault>), ProgramFault> {
     check_is_layout(&dir)?;
     let _lock = lock_folder(rt, words.folder, dir.first_failure(), words.waits, err)?;
-    let mut layout = Layout::open_as_is(rt.alloc(), dir)?;
+    let mut layout = open_settled(rt.alloc(), dir)?;
     let plan = plan_prune(rt.alloc(), &layout, words.keeps_referrers)?;
     let pruned = prune(rt.alloc(), &mut layout, &plan)?;
     let answer = PruneAnswer::of(rt.alloc(), plan, &pruned)?;

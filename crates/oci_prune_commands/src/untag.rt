@@ -1,6 +1,7 @@
 ghost use Rattle.std.specs.Prelude.{
   ◌≡◌,
   ◌-◌,
+  List,
   length,
   map,
   option_map,
@@ -14,18 +15,22 @@ ghost use Rattle.oci_layout.specs.Brought.{Forgets};
 ghost use Rattle.oci_layout.specs.Device.{Touches};
 ghost use Rattle.oci_layout.specs.Entries.{entry_of, said, text_of};
 ghost use Rattle.oci_layout.specs.Index.{index_file, HasIndex};
-ghost use Rattle.oci_layout.specs.Refusal.{IsPutFault};
+ghost use Rattle.oci_layout.specs.Lasts.{Lasts};
+ghost use Rattle.oci_layout.specs.Refusal.{IsSettledFault};
 ghost use Rattle.oci_layout.specs.Saved.{is_name};
-ghost use Rattle.oci_store.specs.Tags.{tag_at, without_tag};
+ghost use Rattle.oci_prune.specs.Settled.{CanSettle, LeavesOneOf};
+ghost use Rattle.oci_store.specs.Content.{Entry};
+ghost use Rattle.oci_store.specs.Tags.{Tags, tag_at, without_tag};
 ghost use Rattle.oci_prune_commands.specs.Named.{entries_named};
 ghost use Rattle.oci_prune_commands.specs.Refusal.{IsRefusedUntag};
 
+use crate::opened::open_settled;
 use oci_command_line::UntagWords;
 use oci_digest::NoMemory;
 use oci_layout::{Dir, IndexEntry, Layout, Lockable};
 use oci_manifest::Key;
 use oci_program::{Form, Outcome, ProgramFault, check_is_layout, lock_folder, print_answer};
-use oci_store::{RefFault, Untagger};
+use oci_store::{Dest, RefFault, Store, Untagger};
 use serde::Serialize;
 use std::alloc::Global;
 use std::fmt;
@@ -38,14 +43,15 @@ use std::rt::Files;
 /// directory is the words' folder, which is locked from before the layout is opened until after it is
 /// saved. Prints in this form the keys of the entries that had the tag; the last one is the key that
 /// it named. An entry that is no descriptor has none. `F` is [`ProgramFault`] or another type that is
-/// made from one.
+/// made from one. A power cut at any moment leaves the layout with the tag or without it.
 ///
 /// # Errors
 ///
 /// With all but 74 and 94 nothing is changed.
 ///
 /// - 70 to 74 if the directory has no layout, or it cannot be read, or its index is no object with a
-///   list `manifests`; 74 also if the folder cannot be locked or `index.json` cannot be written.
+///   list `manifests`; 74 also if the folder cannot be locked, if `index.json` cannot be written, or
+///   if it is not known whether it is on the disk, before the tag is removed or after.
 /// - 99 `Locked` if another process has the lock, and the words say not to wait.
 /// - 35 `EmptyReference` if the tag is empty, and 36 `UnknownReference` if no entry has it.
 /// - 94 `Output` if `out` cannot be written. The tag is removed.
@@ -102,7 +108,7 @@ fn untag_folder<R: Files<File: Lockable> + AllocGlobal, D: Dir + Drop, X: Write>
     let tag = String::from_str(rt.alloc(), words.tag)?;
     check_is_layout(&dir)?;
     let _lock = lock_folder(rt, words.folder, dir.first_failure(), words.waits, err)?;
-    let mut layout = Layout::open_as_is(rt.alloc(), dir)?;
+    let mut layout = open_settled(rt.alloc(), dir)?;
     let named = entries_named(rt.alloc(), &layout, words.tag)?;
     let descriptor = match untag_and_save(&mut layout, words.tag) {
         Err(ProgramFault::Reference(RefFault::UnknownReference)) => {
@@ -174,7 +180,8 @@ fn has_name(entry: &IndexEntry, name: &str) -> bool
 /// # Errors
 ///
 /// - 35 `EmptyReference` if the tag is empty, and 36 `UnknownReference` if there is no such tag.
-/// - 74 `Device` if `index.json` could not be written. The tag is removed from the layout in memory.
+/// - 74 `Device` if `index.json` could not be written, or if it is not known whether it is on the
+///   disk. The tag is removed from the layout in memory.
 /// - Out of memory, at any point.
 pub fn untag_and_save<D: Dir>(layout: &mut Layout<D>, tag: &str) -> Result<Key, ProgramFault>
     ensures named { IfOk result (λ key. tag_at layout.old.tags tag.now ≡ Some key) }
@@ -187,13 +194,24 @@ pub fn untag_and_save<D: Dir>(layout: &mut Layout<D>, tag: &str) -> Result<Key, 
         → Touches (D.device layout.old.dir).file (D.device layout.new.dir).file index_file }
     ensures refused { IfErr result (IsRefusedUntag layout.old.tags tag.now
         (layout.new ≡ layout.old)
-        (IsPutFault (D.device layout.old.dir).failures (D.device layout.new.dir).failures)) }
+        (IsSettledFault (D.device layout.old.dir) (D.device layout.new.dir))) }
+
+    // A power cut at any moment leaves the layout with the tag or without it.
+    ensures left { (entries : List Entry) (tags : Tags) → CanSettle (D.device layout.old.dir)
+        (length layout.old.graph) layout.old.graph entries tags
+        → LeavesOneOf (D.device layout.new.dir) entries tags
+        (⟦<Layout<D> as Store>⟧.state layout.new).entries layout.new.tags }
+    ensures lasts { OnOk result ((entries : List Entry) (tags : Tags)
+        → CanSettle (D.device layout.old.dir) (length layout.old.graph) layout.old.graph entries
+        tags → Lasts (D.device layout.new.dir)
+        (⟦<Layout<D> as Store>⟧.state layout.new).entries layout.new.tags) }
 {
     let key = match layout.untag(tag) {
         Ok(key) => key,
         Err(fault) => return Err(ProgramFault::Reference(fault)),
     };
-    match layout.save() {
+    let count = layout.count();
+    match layout.save_settled(count) {
         Ok(()) => Ok(key),
         Err(fault) => Err(ProgramFault::Layout(fault)),
     }
@@ -206,7 +224,8 @@ pub fn untag_and_save<D: Dir>(layout: &mut Layout<D>, tag: &str) -> Result<Key, 
 /// # Errors
 ///
 /// - 36 `UnknownReference` if there are no such entries. Nothing is changed and nothing is saved.
-/// - 74 `Device` if `index.json` could not be written. The layout in memory has forgotten them.
+/// - 74 `Device` if `index.json` could not be written, or if it is not known whether it is on the
+///   disk. The layout in memory has forgotten them.
 /// - Out of memory, at any point.
 pub fn forget_and_save<D: Dir>(
     layout: &mut Layout<D>,
@@ -223,13 +242,24 @@ pub fn forget_and_save<D: Dir>(
     ensures tags { layout.new.tags ≡ layout.old.tags }
     ensures other { (D.device layout.old.dir).is_honest
         → Touches (D.device layout.old.dir).file (D.device layout.new.dir).file index_file }
+
+    // A power cut at any moment leaves the layout with the same blobs and tags.
+    ensures left { (entries : List Entry) (tags : Tags) → CanSettle (D.device layout.old.dir)
+        (length layout.old.graph) layout.old.graph entries tags
+        → LeavesOneOf (D.device layout.new.dir) entries tags
+        (⟦<Layout<D> as Store>⟧.state layout.new).entries layout.new.tags }
+    ensures lasts { OnOk result ((entries : List Entry) (tags : Tags)
+        → CanSettle (D.device layout.old.dir) (length layout.old.graph) layout.old.graph entries
+        tags → Lasts (D.device layout.new.dir)
+        (⟦<Layout<D> as Store>⟧.state layout.new).entries layout.new.tags) }
 {
     let Some(last) = named.last() else {
         return Err(ProgramFault::Reference(RefFault::UnknownReference));
     };
     let key = copy_of(&last.key)?;
     layout.forget(named)?;
-    if let Err(fault) = layout.save() {
+    let count = layout.count();
+    if let Err(fault) = layout.save_settled(count) {
         return Err(ProgramFault::Layout(fault));
     }
     Ok(key)

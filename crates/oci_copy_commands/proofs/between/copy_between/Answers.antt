@@ -3,10 +3,13 @@ use denote.Param.{param}
 use denote.Param.Send.{param_send, param_sync, arg_send, arg_sync}
 use Rattle.std.proofs.Common.{inl, refl, List}
 use Rattle.oci_store.specs.Content.{Entry}
+use Rattle.oci_copy.specs.declared.report.Report.{Report}
 use Rattle.oci_layout.specs.Files.{HasFiles}
+use Rattle.oci_layout.specs.Meaning.{meaning}
 use Rattle.oci_layout.proofs.Crosses.{layout_send, layout_sync}
 use Rattle.oci_layout.proofs.Law.{keys_of_one_digest}
 use Rattle.oci_copy_commands.proofs.Saved.{after_report, sound_after, came_after, checked_after, met_after, report_after, copied_after, reached_after, files_after, refused_after}
+use Rattle.oci_copy_commands.proofs.Settled.{lasts_between, left_between}
 use Rattle.oci_copy_commands.proofs.between.copy_between.Goals as goal
 
 pub returns-clause-report : goal.returns-clause-report
@@ -79,6 +82,22 @@ returns-clause-refused g c =
     let only = c.take_index-index.ensures.only in
     refused_after c.args.options.now.workers _ _ _ (inl refl) (λ fault is. ((g.D.Dir.device left.result.0.dir).failures, (rw only.dir at left.ensures.grows.failures), is))
     left.result.1 (rw (only.dir, only.graph, only.tags) at left.ensures.refused) c.finish.result.1 c.finish.ensures.refused
+
+pub returns-clause-left : goal.returns-clause-left
+returns-clause-left g c =
+    let from = c.args.source.now in
+    let left = c.copy_plan-destination in
+    let only = c.take_index-index.ensures.only in
+    left_between g.D.Dir.device (meaning (g.S.Dir.device from.dir) from.graph from.tags) c.args.destination left.result.0 c.finish.result.0 c.args.selected.now.0 left.result.1 (keys_of_one_digest (g.S.Dir.device from.dir).file from.graph)
+    (rw (c.roots-roots.ensures, only.dir, only.graph, only.tags) at left.ensures.grows) (rw only.dir at left.ensures.calm) c.finish.ensures.unsaved c.finish.ensures.saved (rw c.count-from.ensures.count at c.finish.ensures.left)
+
+pub returns-clause-lasts : goal.returns-clause-lasts
+returns-clause-lasts g c =
+    let from = c.args.source.now in
+    let left = c.copy_plan-destination in
+    let only = c.take_index-index.ensures.only in
+    lasts_between g.D.Dir.device (meaning (g.S.Dir.device from.dir) from.graph from.tags) c.args.destination left.result.0 c.finish.result.0 c.args.selected.now.0 left.result.1 c.finish.result.1 (λ (r : Report). r) (keys_of_one_digest (g.S.Dir.device from.dir).file from.graph)
+    (rw (c.roots-roots.ensures, only.dir, only.graph, only.tags) at left.ensures.grows) (rw only.dir at left.ensures.calm) c.finish.ensures.report c.finish.ensures.saved (rw c.count-from.ensures.count at c.finish.ensures.lasts)
 
 pub copy_plan-destination-requires-send-D : goal.copy_plan-destination-requires-send-D
 copy_plan-destination-requires-send-D g c κs within = param_send _ _ (arg_send _ no _ (layout_send _ (param 5 g.row.D-Draft) _ g.D.Draft.Drafting c.type_bounds.send-D))

@@ -14,6 +14,7 @@ use Rattle.oci_copy_commands.proofs.Exact.{fewer_stay, only_roots, roots_stay}
 use Rattle.oci_copy_commands.proofs.Goals.{of_more_roots}
 use Rattle.oci_copy_commands.proofs.Mirrored.{same_layout, tagged_stay}
 use Rattle.oci_copy_commands.proofs.NamedRoots.{brought_named}
+use Rattle.oci_copy_commands.proofs.Cleaning.{are_settled_same, can_clean_up_same}
 use Rattle.oci_copy_commands.proofs.mirror.clean_up.Goals as goal
 
 pub returns-in-Ok-clause-pruned : goal.returns-in-Ok-clause-pruned
@@ -69,3 +70,27 @@ returns-in-Ok-clause-stays g c =
 pub returns-in-Ok-clause-held : goal.returns-in-Ok-clause-held
 unfolding returns-in-Ok-clause-stays
 returns-in-Ok-clause-held g c = roots_stay c.args.destination.now.graph c.prune_and_save.new.destination.graph c.args.goal.now.0 (returns-in-Ok-clause-stays g c) c.requires.held
+
+pub returns-in-Ok-clause-left : goal.returns-in-Ok-clause-left
+returns-in-Ok-clause-left g c = λ entries tags can settled.
+    let first = c.args.destination.now in
+    let old = c.bring.new.self in
+    let dir = c.bring.ensures.only.dir ∙ c.retag.ensures.only.dir in
+    let graph = c.bring.ensures.only.graph ∙ c.retag.ensures.only.graph in
+    c.prune_and_save.ensures.left entries tags (can_clean_up_same g.D.Dir.device first old c.args.from entries tags dir graph can) (are_settled_same g.D.Dir.device first old c.args.from dir graph settled)
+
+pub returns-in-Err-clause-left : goal.returns-in-Err-clause-left
+returns-in-Err-clause-left g c = λ entries tags can settled.
+    let first = c.args.destination.now in
+    let old = c.bring.new.self in
+    let dir = c.bring.ensures.only.dir ∙ c.retag.ensures.only.dir in
+    let graph = c.bring.ensures.only.graph ∙ c.retag.ensures.only.graph in
+    c.prune_and_save.ensures.left entries tags (can_clean_up_same g.D.Dir.device first old c.args.from entries tags dir graph can) (are_settled_same g.D.Dir.device first old c.args.from dir graph settled)
+
+pub returns-in-Ok-clause-lasts : goal.returns-in-Ok-clause-lasts
+returns-in-Ok-clause-lasts g c = λ entries tags can settled.
+    let first = c.args.destination.now in
+    let old = c.bring.new.self in
+    let dir = c.bring.ensures.only.dir ∙ c.retag.ensures.only.dir in
+    let graph = c.bring.ensures.only.graph ∙ c.retag.ensures.only.graph in
+    c.in-Ok.ensures.lasts entries tags (can_clean_up_same g.D.Dir.device first old c.args.from entries tags dir graph can) (are_settled_same g.D.Dir.device first old c.args.from dir graph settled)

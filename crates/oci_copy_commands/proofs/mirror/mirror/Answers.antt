@@ -12,8 +12,9 @@ use Rattle.oci_copy_commands.specs.Mirror.{KeepsContents}
 use Rattle.oci_copy_commands.specs.declared.copy.Copied.{Copied}
 use Rattle.oci_copy.proofs.Roots.{on_ok_from}
 use Rattle.oci_copy_commands.proofs.Goals.{goal_held, some_stay}
-use Rattle.oci_copy_commands.proofs.Mirrored.{both_give, contents_after, err_gives, held_stay, reached_kept, report_gives}
+use Rattle.oci_copy_commands.proofs.Mirrored.{both_give, contents_after, err_gives, held_stay, mirrored, reached_kept, report_gives}
 use Rattle.oci_copy_commands.proofs.Refusals.{after_refused, mirror_refused}
+use Rattle.oci_copy_commands.proofs.Cleaning.{lasts_mirrored, left_mirrored}
 use Rattle.oci_copy_commands.proofs.mirror.mirror.Goals as goal
 
 pub returns-clause-brought : goal.returns-clause-brought
@@ -25,14 +26,8 @@ returns-clause-pruned g c =
     let only = c.take_index-index.ensures.only in
     let grows = rw (c.roots-roots.ensures, only.dir, only.graph, only.tags) at left.ensures.grows in
     report_gives _ left.result.1 c.finish.result.1 (λ (done : Copied). done.report)
-    (λ done copy cleaned. record {
-      copied = left.result.0;
-      same_tags = rw only.tags at left.ensures.spared.tags;
-      met = grows.met;
-      copy = copy.graph;
-      reported = copy.reported;
-      cleaned = cleaned;
-    })
+    (λ done copy cleaned. mirrored g.D.Dir.device c.args.options.now.existing c.args.is_exact (meaning (g.S.Dir.device c.args.source.now.dir) c.args.source.now.graph c.args.source.now.tags) c.args.selected.now.0 c.args.goal.now c.args.destination left.result.0 c.finish.result.0 done
+    (rw only.tags at left.ensures.spared.tags) grows.met copy.graph copy.reported cleaned)
     c.finish.ensures.report (rw (c.roots-roots.ensures, only.dir, only.graph, only.tags) at left.ensures.copied) c.finish.ensures.pruned
 
 pub returns-clause-only : goal.returns-clause-only
@@ -96,6 +91,22 @@ returns-clause-refused g c =
     let only = c.take_index-index.ensures.only in
     let new = c.finish.result.0 in
     mirror_refused c.args.options.now.workers _ (inl refl) left.result.1 (rw (only.dir, only.graph, only.tags) at left.ensures.refused) c.args.is_exact c.args.goal.now.0 (g.D.Dir.device new.dir) new c.finish.result.1 c.finish.ensures.refused
+
+pub returns-clause-left : goal.returns-clause-left
+returns-clause-left g c =
+    let from = c.args.source.now in
+    let left = c.copy_plan-destination in
+    let only = c.take_index-index.ensures.only in
+    left_mirrored g.D.Dir.device (meaning (g.S.Dir.device from.dir) from.graph from.tags) c.args.destination left.result.0 c.finish.result.0 c.args.selected.now.0 left.result.1 (keys_of_one_digest (g.S.Dir.device from.dir).file from.graph)
+    (rw (c.roots-roots.ensures, only.dir, only.graph, only.tags) at left.ensures.grows) (rw only.dir at left.ensures.calm) c.finish.ensures.unsaved (rw c.count-from.ensures.count at c.finish.ensures.left)
+
+pub returns-clause-lasts : goal.returns-clause-lasts
+returns-clause-lasts g c =
+    let from = c.args.source.now in
+    let left = c.copy_plan-destination in
+    let only = c.take_index-index.ensures.only in
+    lasts_mirrored g.D.Dir.device (meaning (g.S.Dir.device from.dir) from.graph from.tags) c.args.destination left.result.0 c.finish.result.0 c.args.selected.now.0 left.result.1 c.finish.result.1 (λ (done : Copied). done.report) (keys_of_one_digest (g.S.Dir.device from.dir).file from.graph)
+    (rw (c.roots-roots.ensures, only.dir, only.graph, only.tags) at left.ensures.grows) (rw only.dir at left.ensures.calm) c.finish.ensures.report (rw c.count-from.ensures.count at c.finish.ensures.lasts)
 
 pub copy_plan-destination-requires-send-D : goal.copy_plan-destination-requires-send-D
 copy_plan-destination-requires-send-D g c κs within = param_send _ _ (arg_send _ no _ (layout_send _ (param 5 g.row.D-Draft) _ g.D.Draft.Drafting c.type_bounds.send-D))

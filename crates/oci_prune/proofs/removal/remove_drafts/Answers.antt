@@ -25,4 +25,5 @@ loop-place-preserved g c =
       };
       files = same_blobs_both a b d w.removal.spared.honest.0 w.files c.remove_draft.ensures.files;
       noted = length-set c.loop-place.gone.items c.loop-place.place c.remove_draft.result ∙ w.noted;
+      lasts = λ entries tags was. c.remove_draft.ensures.lasts entries tags (w.lasts entries tags was);
     }

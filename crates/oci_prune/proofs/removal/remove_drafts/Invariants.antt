@@ -1,6 +1,9 @@
-use Rattle.std.proofs.Common.{◌≡◌, length, take}
+use Rattle.std.proofs.Common.{◌≡◌, List, length, take}
+use Rattle.oci_layout.specs.Lasts.{Lasts}
 use Rattle.oci_layout.specs.Prunable.{by_name}
 use Rattle.oci_prune.specs.Pruned.{IsDraftIn, AreSameBlobs, Removal}
+use Rattle.oci_store.specs.Content.{Entry}
+use Rattle.oci_store.specs.Tags.{Tags}
 use Rattle.oci_prune.proofs.removal.remove_drafts.Given as goal
 
 -- as far as the loop has come
@@ -9,4 +12,5 @@ invariant-loop-place g l = record {
   removal : Removal g.D.Dir.device l.initial.layout l.layout (IsDraftIn (by_name (take l.place l.drafts))) l.initial.fault l.fault;
   files : AreSameBlobs (g.D.Dir.device l.initial.layout.dir) (g.D.Dir.device l.layout.dir);
   noted : length l.gone.items ≡ length l.drafts;
+  lasts : (entries : List Entry) (tags : Tags) → Lasts (g.D.Dir.device l.initial.layout.dir) entries tags → Lasts (g.D.Dir.device l.layout.dir) entries tags;
 }

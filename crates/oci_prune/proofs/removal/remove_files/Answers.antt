@@ -3,6 +3,7 @@ use Rattle.std.proofs.lemmas.List.{length-set, take_all}
 use Rattle.oci_prune.specs.Pruned.{is_gone}
 use Rattle.oci_prune.proofs.Noting.{notes_file}
 use Rattle.oci_prune.proofs.Sparing.{same_memory_both, spares_file, all_gone, flags_more}
+use Rattle.oci_prune.proofs.Settling.{apart_at}
 use Rattle.oci_prune.proofs.removal.remove_files.Goals as goal
 
 pub loop-place-preserved : goal.loop-place-preserved
@@ -26,6 +27,8 @@ loop-place-preserved g c =
           flags_more a b d c.args.layout.now.graph c.loop-place.layout.graph c.args.files.now c.loop-place.place c.index-files-place.result c.loop-place.gone.items c.remove_file.result c.loop-place-test.true c.index-files-place.is w.noted
           (c.requires.there honest) (c.requires.apart honest) w.removal.spared c.remove_file.ensures.removal.spared honest (w.flags honest) (c.remove_file.ensures.flag (w.removal.spared.honest.0 honest));
       noted = length-set c.loop-place.gone.items c.loop-place.place c.remove_file.result ∙ w.noted;
+      lasts = λ entries tags apart was.
+          c.remove_file.ensures.lasts entries tags (apart_at entries c.args.files.now c.loop-place.place c.index-files-place.result c.loop-place-test.true c.index-files-place.is apart) (w.lasts entries tags apart was);
     }
 
 pub returns-clause-flags : goal.returns-clause-flags

@@ -1,19 +1,24 @@
-use Rattle.std.proofs.Common.{◌≡◌, List, None, map, inr, sym, ap, subst, ◌∙◌}
+use Rattle.std.proofs.Common.{◌≡◌, ◌⊎◌, List, None, map, inl, inr, sym, ap, subst, ◌∙◌}
 use Rattle.std.specs.List.{All}
 use Rattle.std.specs.Map.{keys_of}
 use Rattle.oci_manifest.specs.Descriptor.{Descriptor}
-use Rattle.oci_layout.specs.Blobs.{blob_path}
+use Rattle.oci_store.specs.Content.{Entry}
+use Rattle.oci_store.specs.Keyed.{HasAll}
+use Rattle.oci_store.specs.Tags.{Tags}
+use Rattle.oci_layout.specs.Blobs.{blob_path, stored}
 use Rattle.oci_layout.specs.Index.{index_file}
+use Rattle.oci_layout.specs.Lasts.{Lasts}
 use Rattle.oci_layout.specs.Layout.{LayoutState}
 use Rattle.oci_layout.specs.Prunable.{by_name}
 use Rattle.oci_prune.specs.Plan.{roots_of}
 use Rattle.oci_prune.specs.Pruned.{is_gone, AreThere, AreApart, IsPathOf, IsDraftIn, Spares}
 use Rattle.oci_prune.specs.Refusal.{Notes}
 use Rattle.oci_prune.specs.declared.plan.PrunedFile.{PrunedFile}
-use Rattle.oci_prune.proofs.Leaving.{reached_either, closed_either}
+use Rattle.oci_prune.proofs.Leaving.{reached_either, closed_either, closed_left}
 use Rattle.oci_prune.proofs.Noting.{planned_fault}
 use Rattle.oci_prune.proofs.Sparing.{Drafts}
 use Rattle.oci_prune.proofs.Results.{unneeded_left, contents_left, only_needed, index_stays, has_index-stays, are_there, are_apart, flags_stay, are_digests}
+use Rattle.oci_prune.proofs.Settling.{all_apart_held, all_apart_stored, left_lasting, left_unsaved, none_or_some}
 use Rattle.oci_prune.proofs.run.prune.Goals as goal
 
 pub returns-in_err-save_kept-clause-reached : goal.returns-in_err-save_kept-clause-reached
@@ -119,3 +124,50 @@ returns-clause-faults g c =
     let files = subst (λ (fs : List PrunedFile). Notes mid (IsPathOf fs) None c.remove_files.new.fault) c.deref.ensures.value c.remove_files.ensures.removal.notes in
     let drafts = subst (λ (ds : Drafts). Notes last (IsDraftIn (by_name ds)) c.remove_files.new.fault c.remove_drafts.new.fault) c.deref-2.ensures.value c.remove_drafts.ensures.removal.notes in
     planned_fault old mid last c.args.plan.now c.remove_files.new.fault c.remove_drafts.new.fault c.in_ok-save_kept.ensures.only.spared.reads c.remove_files.ensures.removal.spared.reads files drafts
+
+pub returns-in_err-save_kept-clause-left : goal.returns-in_err-save_kept-clause-left
+returns-in_err-save_kept-clause-left g c = λ entries tags can held.
+    c.in_err-save_kept.ensures.left entries tags can (closed_left c.args.layout.now.graph (roots_of c.args.layout.now) c.args.plan.now.kept c.count.ensures.distinct c.requires.safe can.closed)
+
+pub returns-clause-stays : goal.returns-clause-stays
+returns-clause-stays g c = λ none entries tags held was.
+    let mid = c.save_kept.new.layout in
+    let same = c.in_ok-save_kept.ensures.saved.unwritten none in
+    let honest = c.in_ok-save_kept.ensures.only.spared.honest.0 was.is_honest in
+    let there = subst (λ (l : LayoutState g.row.D.Denot). HasAll l.graph (keys_of entries)) (sym same) held in
+    let lasting = subst (λ (l : LayoutState g.row.D.Denot). Lasts (g.D.Dir.device l.dir) entries tags) (sym same) was in
+    let others = subst (λ (fs : List PrunedFile). All (λ (f : PrunedFile). All (λ (k : Descriptor). k.digest ≡ f.digest → ⊥) (keys_of mid.graph)) fs) (sym c.deref.ensures.value)
+    (unneeded_left (g.D.Dir.device c.args.layout.now.dir).file c.args.layout.now.graph mid.graph c.args.plan.now.kept c.args.plan.now.files.items (c.requires.files (c.in_ok-save_kept.ensures.only.spared.honest.1 honest)) c.in_ok-save_kept.ensures.saved.kept) in
+    c.remove_drafts.ensures.lasts entries tags (c.remove_files.ensures.lasts entries tags (all_apart_held mid.graph entries c.deref.result.now there others) lasting)
+
+pub returns-clause-lasts : goal.returns-clause-lasts
+returns-clause-lasts g c = λ some entries tags can.
+    let mid = c.save_kept.new.layout in
+    let new = c.remove_drafts.new.layout in
+    let first = g.D.Dir.device mid.dir in
+    let last = g.D.Dir.device c.remove_files.new.layout.dir in
+    let end = g.D.Dir.device new.dir in
+    let content = stored first.file mid.graph in
+    let closed = closed_left c.args.layout.now.graph (roots_of c.args.layout.now) c.args.plan.now.kept c.count.ensures.distinct c.requires.safe can.closed in
+    let saved = c.in_ok-save_kept.ensures.lasts some entries tags can closed in
+    let honest = saved.is_honest in
+    let others = subst (λ (fs : List PrunedFile). All (λ (f : PrunedFile). All (λ (k : Descriptor). k.digest ≡ f.digest → ⊥) (keys_of mid.graph)) fs) (sym c.deref.ensures.value)
+    (unneeded_left (g.D.Dir.device c.args.layout.now.dir).file c.args.layout.now.graph mid.graph c.args.plan.now.kept c.args.plan.now.files.items (c.requires.files (c.in_ok-save_kept.ensures.only.spared.honest.1 honest)) c.in_ok-save_kept.ensures.saved.kept) in
+    let apart = all_apart_stored first.file mid.graph c.deref.result.now others in
+    let files = c.remove_files.ensures.removal in
+    let drafts = c.remove_drafts.ensures.removal in
+    let lasting = c.remove_drafts.ensures.lasts content mid.tags (c.remove_files.ensures.lasts content mid.tags apart saved) in
+    let same : stored end.file new.graph ≡ content =
+    ap (stored end.file) drafts.memory.graph ∙ drafts.spared.contents (files.spared.honest.0 honest) ∙ ap (stored last.file) files.memory.graph ∙ files.spared.contents honest in
+    subst (λ (es : List Entry). Lasts end es new.tags) (sym same) (subst (λ (names : Tags). Lasts end content names) (sym (drafts.memory.tags ∙ files.memory.tags)) lasting)
+
+pub returns-clause-left : goal.returns-clause-left
+unfolding returns-clause-stays returns-clause-lasts
+returns-clause-left g c = λ entries tags can held.
+    let new = c.remove_drafts.new.layout in
+    let end = g.D.Dir.device new.dir in
+    let content = stored end.file new.graph in
+    elim (none_or_some c.args.plan.now.removed.items) [
+      | inl none ↦ left_unsaved end entries content tags new.tags (returns-clause-stays g c none entries tags held can.lasts)
+      | inr some ↦ left_lasting end entries content tags new.tags (returns-clause-lasts g c some entries tags can)
+    ]

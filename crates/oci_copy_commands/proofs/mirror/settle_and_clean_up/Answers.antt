@@ -1,0 +1,43 @@
+use Rattle.std.proofs.Common.{sym, subst}
+use Rattle.std.proofs.lemmas.Result.{on_ok_weaker, IfOk-weaker}
+use Rattle.std.specs.List.{All}
+use Rattle.oci_layout.specs.Blobs.{stored}
+use Rattle.oci_layout.specs.Entries.{said}
+use Rattle.oci_layout.specs.Layout.{OpenedIndex}
+use Rattle.oci_prune.proofs.Settling.{left_unsaved}
+use Rattle.oci_copy_commands.specs.Selected.{IsOfRoot}
+use Rattle.oci_copy_commands.proofs.Cleaning.{are_settled_now, can_clean_up_settled}
+use Rattle.oci_copy_commands.proofs.mirror.settle_and_clean_up.Goals as goal
+
+pub returns-in-Ok-clause-pruned : goal.returns-in-Ok-clause-pruned
+returns-in-Ok-clause-pruned g c =
+    let same = c.settle_blobs.ensures.memory in
+    IfOk-weaker c.clean_up.result _ _ (λ removed is. record { settled = c.settle_blobs.new.self; graph = same.graph; tags = same.tags; cleaned = is }) c.clean_up.ensures.pruned
+
+pub returns-in-Ok-clause-only : goal.returns-in-Ok-clause-only
+returns-in-Ok-clause-only g c =
+    on_ok_weaker c.clean_up.result
+    (λ only exact named. only exact (subst (λ (index : OpenedIndex). All (IsOfRoot c.args.goal.now.0) (said index.content).entries) (sym c.settle_blobs.ensures.memory.opened) named)) c.clean_up.ensures.only
+
+pub returns-in-Ok-clause-left : goal.returns-in-Ok-clause-left
+returns-in-Ok-clause-left g c = λ entries tags can.
+    let old = c.args.destination.now in
+    let settled = c.settle_blobs.new.self in
+    let did = c.settle_blobs.ensures in
+    c.clean_up.ensures.left entries tags (can_clean_up_settled g.D.Dir.device old settled c.args.from entries tags did.memory.graph did.only (did.lasts entries tags can.lasts) can)
+    (are_settled_now (g.D.Dir.device settled.dir) c.args.from old.graph settled.graph did.memory.graph (c.in-Ok.ensures.settled can.is_sound.is_honest))
+
+pub returns-in-Ok-clause-lasts : goal.returns-in-Ok-clause-lasts
+returns-in-Ok-clause-lasts g c =
+    let old = c.args.destination.now in
+    let settled = c.settle_blobs.new.self in
+    let did = c.settle_blobs.ensures in
+    on_ok_weaker c.clean_up.result
+    (λ lasts entries tags can. lasts entries tags (can_clean_up_settled g.D.Dir.device old settled c.args.from entries tags did.memory.graph did.only (did.lasts entries tags can.lasts) can)
+    (are_settled_now (g.D.Dir.device settled.dir) c.args.from old.graph settled.graph did.memory.graph (c.in-Ok.ensures.settled can.is_sound.is_honest)))
+    c.clean_up.ensures.lasts
+
+pub returns-in-Err-clause-left : goal.returns-in-Err-clause-left
+returns-in-Err-clause-left g c = λ entries tags can.
+    let settled = c.settle_blobs.new.self in
+    left_unsaved (g.D.Dir.device settled.dir) entries (stored (g.D.Dir.device settled.dir).file settled.graph) tags settled.tags (c.settle_blobs.ensures.lasts entries tags can.lasts)

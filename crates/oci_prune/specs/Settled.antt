@@ -1,0 +1,23 @@
+-- What a power cut leaves of a layout that is changed and saved.
+use Rattle.std.specs.Prelude.{◌⊎◌, ℕ, List}
+use Rattle.oci_store.specs.Closed.{IsClosed}
+use Rattle.oci_store.specs.Content.{Entry}
+use Rattle.oci_store.specs.Graph.{Node}
+use Rattle.oci_store.specs.Tags.{Tags}
+use Rattle.oci_layout.specs.Blobs.{IsSound}
+use Rattle.oci_layout.specs.Crash.{IsLeft}
+use Rattle.oci_layout.specs.Device.{Device, File}
+use Rattle.oci_layout.specs.Lasts.{AreKnown, HasLayout, Lasts}
+
+-- A layout that is saved now may be saved whole: each of its files matches its key, it is closed, and a
+-- layout with these contents and tags lasts. Each key before the place is held there, or its file is on
+-- the disk.
+pub record CanSettle (dir : Device) (from : ℕ) (graph : List Node) (entries : List Entry) (tags : Tags) : Type 0 where
+  pub is_sound : IsSound dir.is_honest dir.file graph
+  pub closed : IsClosed graph
+  pub lasts : Lasts dir entries tags
+  pub known : AreKnown dir from graph entries
+
+-- a power cut leaves one of two layouts whole, each with its contents and tags
+abbrev pub LeavesOneOf : Device → List Entry → Tags → List Entry → Tags → Type 0
+LeavesOneOf dir entries tags others names = (left : File) → IsLeft dir left → HasLayout left entries tags ⊎ HasLayout left others names

@@ -1,0 +1,22 @@
+use oci_layout::{Dir, Layout};
+use oci_program::ProgramFault;
+use std::alloc::Global;
+
+/// Opens the layout in a directory as it is, and waits until its index is on the disk. A process
+/// that was killed may have replaced it shortly before.
+///
+/// # Errors
+///
+/// - 70 to 74 if the directory has no layout, or it cannot be read, or its index is no object with a
+///   list `manifests`; 74 also if it is not known whether the index is on the disk.
+/// - Out of memory, at any point.
+pub(crate) fn open_settled<D: Dir + Drop>(
+    alloc: Global,
+    dir: D,
+) -> Result<Layout<D>, ProgramFault> {
+    let mut layout = Layout::open_as_is(alloc, dir)?;
+    match layout.settle_index() {
+        Ok(()) => Ok(layout),
+        Err(fault) => Err(ProgramFault::Layout(fault)),
+    }
+}
