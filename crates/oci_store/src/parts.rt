@@ -46,7 +46,7 @@ fn part_size(left: u64) -> usize
 ///
 /// - 20 `NotFound`: the key is not held.
 /// - 21 `Corrupt`: the content is shorter or longer than the key's size or has another digest, or
-///   the source reported this error.
+///   the source reported this error. A sound source never causes it.
 /// - 22 `Device`: the device could not be read.
 /// - 23 `Memory`: an allocation failed.
 ///
@@ -65,6 +65,7 @@ pub fn fetch_into<A: Source, W: Drafting, P: PartWatcher>(
         (value_at (A.state source.now).entries key.now) bytes)) }
     ensures not_found { IsErrOf result FetchFault.NotFound
         ↔ (has_key (A.state source.now).entries key.now ≡ false) }
+    ensures good { IsErrOf result FetchFault.Corrupt → (A.state source.now).is_sound → ⊥ }
 {
     let mut hasher = Hasher::new(key.digest());
     let mut left = key.size();

@@ -1,5 +1,5 @@
 -- What a device has under keys after a put.
-use Rattle.std.proofs.Common.{◌≡◌, ℕ, true, false, inl, inr, Bor, List, [], ◌∷◌, ◌++◌, Bool, cond, Option, Some, None, is_some, refl, sym, ap, ◌∙◌}
+use Rattle.std.proofs.Common.{◌≡◌, ℕ, true, false, inl, inr, Bor, List, [], ◌∷◌, ◌++◌, Bool, cond, Option, Some, None, is_some, refl, sym, ap, subst, ◌∙◌}
 use Rattle.std.specs.Map.{lookup}
 use Rattle.std.specs.Option.{unwrap_or, option_copied}
 use Rattle.std.specs.Prelude.{IfSome}
@@ -11,7 +11,7 @@ use Rattle.std.proofs.lemmas.Slice.Eq.{bytes_eq-Decides}
 use Rattle.std.proofs.lemmas.Bool.{cases_Bool}
 use Rattle.oci_manifest.specs.Descriptor.{Descriptor, same_key}
 use Rattle.oci_manifest.proofs.Keys.{Decides-same_key}
-use Rattle.oci_store.specs.Content.{Entry}
+use Rattle.oci_store.specs.Content.{Entry, Matches}
 use Rattle.test_support.specs.Files.{Files, file_at, written, Changes}
 use Rattle.oci_store.specs.Keyed.{value_at, has_key}
 use Rattle.oci_store.specs.Push.{AgreesAt}
@@ -33,13 +33,16 @@ value_at-written files (e ∷ graph) k h =
       | inr apart ↦ rw apart (value_at-written files graph k (rw apart at h))
     ]
 
--- what is found as a digest's file stands under the digest's keys that are there
-pub value_at-from_file : (files : Files) (graph : List Entry) (k : Descriptor) (r : Option (Bor (List ℕ)))
-    → option_copied r ≡ lookup (λ other. is_eq (slice_cmp nat_cmp k.digest other)) files
-    → IfSome r (λ bytes. has_key (written files graph) k ≡ true → value_at (written files graph) k ≡ Some bytes.now)
-value_at-from_file files graph k None e = tt
-value_at-from_file files graph k (Some x) e = λ h.
+-- what a look-up of a digest's file gives stands under the digest's keys that are there
+pub value_at-from_file : (files : Files) (graph : List Entry) (k : Descriptor) (found : Option (List ℕ)) → found ≡ lookup (λ other. is_eq (slice_cmp nat_cmp k.digest other)) files
+    → has_key (written files graph) k ≡ true → value_at (written files graph) k ≡ Some (unwrap_or found [])
+value_at-from_file files graph k found e h =
     value_at-written files graph k (sym (has_key-written files graph k) ∙ h) ∙ ap (λ (o : Option (List ℕ)). Some (unwrap_or o [])) (sym e)
+
+-- what was pushed matches its key
+pub matches_copied : (k : Descriptor) (r : Option (Bor (List ℕ))) (found : Option (List ℕ)) → IfSome r (λ x. Matches k x.now) → option_copied r ≡ found → IfSome found (Matches k)
+matches_copied k None found h e = subst (λ (o : Option (List ℕ)). IfSome o (Matches k)) e tt
+matches_copied k (Some x) found h e = subst (λ (o : Option (List ℕ)). IfSome o (Matches k)) e h
 
 stays : (old new : Files) (digest bytes q : List ℕ) → Changes old new digest bytes → (digest ≡ q → file_at old q ≡ bytes) → file_at new q ≡ file_at old q
 stays old new digest bytes q changes agrees =

@@ -1,5 +1,6 @@
 ghost use Rattle.std.specs.Prelude.{◌≡◌, true, Some, IfSome, OnOk, OnErr};
 ghost use Rattle.test_support.specs.Files.{written, Changes};
+ghost use Rattle.oci_store.specs.Content.{Matches};
 ghost use Rattle.oci_store.specs.Keyed.{has_key, value_at};
 
 use bytes::Bytes;
@@ -82,17 +83,21 @@ impl<'d> DeviceStore<'d> {
 
     /// Returns whether the key is held.
     fn holds(&self, key: &Key) -> bool
-        ensures { result ≡ has_key (written self.now.1 self.now.0) key.now }
+        ensures held { result ≡ has_key (written self.now.1 self.now.0) key.now }
+        ensures pushed { IfSome (value_at self.now.0 key.now) (Matches key.now) }
     {
         self.held.content(key).is_some()
     }
 
-    /// Returns the current bytes of the file of a key's digest.
-    fn file_of(&self, key: &Key) -> Option<&Bytes>
-        ensures { IfSome result (λ bytes. has_key (written self.now.1 self.now.0) key.now ≡ true
-            → value_at (written self.now.1 self.now.0) key.now ≡ Some bytes.now) }
+    /// Returns the current bytes of the file of a key's digest, and none if there is no file.
+    fn bytes_of(&self, key: &Key) -> &[u8]
+        ensures { has_key (written self.now.1 self.now.0) key.now ≡ true
+            → value_at (written self.now.1 self.now.0) key.now ≡ Some result.now }
     {
-        self.files.get(key.digest())
+        match self.files.get(key.digest()) {
+            Some(bytes) => bytes.as_slice(),
+            None => &[],
+        }
     }
 }
 
@@ -139,13 +144,11 @@ impl<'d> Source for DeviceStore<'d> {
         if !self.device.passes_get() {
             return Err(FetchFault::Device);
         }
-        let Some(content) = self.file_of(key) else {
-            return Err(FetchFault::Corrupt);
-        };
-        if !key.matches(content.as_slice()) {
+        let bytes = self.bytes_of(key);
+        if !key.matches(bytes) {
             return Err(FetchFault::Corrupt);
         }
-        content.clone().map_err(|_| FetchFault::Memory)
+        Bytes::copy_from_slice(self.alloc, bytes).map_err(|_| FetchFault::Memory)
     }
 }
 

@@ -1,7 +1,8 @@
 use Rattle.std.proofs.Common.{◌≡◌, ◌<◌, [], ◌++◌, ◌≤◌, ◌-◌, length, inr, refl, arith}
 use Rattle.oci_store.specs.Keyed.{value_at}
-use Rattle.oci_store.proofs.Leaves.{IsReading-on, IsDraftOf-end}
+use Rattle.oci_store.proofs.Leaves.{IsReading-on, IsDraftOf-end, matching-end}
 use Rattle.oci_store.proofs.parts.fetch_into.Goals as goal
+use Rattle.oci_store.proofs.parts.fetch_into.Goals.{then-left-gt0-via-then-left-gt0, then-left-gt0-via-else-left-gt0+then-not-matches}
 
 pub loop-part-init : goal.loop-part-init
 loop-part-init g c =
@@ -69,3 +70,23 @@ returns-clause-drafted g c =
           short none
           ((c.matches.ensures c.args.key.now.digest (m ++ part) hashed).0 c.if-not-matches.false),
     )
+
+pub returns-then-left-gt0-clause-good : goal.returns-then-left-gt0-clause-good
+returns-then-left-gt0-clause-good g c = λ corrupt sound.
+    let state = g.A.Store.state c.args.source.now in
+    let found = value_at state.entries c.args.key.now in
+    let honest = g.A.Store.trusted c.args.source.now sound in
+    let inv = c.loop-part.invariant in
+    let m = inv.0 in
+    let part = c.in_ok-part.part in
+    let len = c.len-length.ensures.value in
+    let short : length part < c.part_size-most.result = omega arith in
+    let hashed = rw c.as_slice.ensures at c.update.ensures c.args.key.now.digest m inv.1.hashed in
+    let whole = matching-end c.loop-part.hasher (g.W.Drafting.drafted c.loop-part.draft) c.args.key.now state.is_honest found
+    c.loop-part.left c.part_size-most.result m part inv.1
+    (rw c.size.ensures.size at c.in_ok-part.ensures.part honest) short honest (c.in_ok-part.ensures.sound sound) in
+    let none = whole.0 in
+    elim c.then-left-gt0.branch [
+      | then-left-gt0-via-then-left-gt0 w ↦ let more = w.if-left-gt0.true in absurd (omega arith)
+      | then-left-gt0-via-else-left-gt0+then-not-matches w ↦ cc ((w.matches.ensures c.args.key.now.digest (m ++ part) hashed).1 whole.1, w.if-not-matches.true)
+    ]
