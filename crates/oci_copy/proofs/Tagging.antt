@@ -76,7 +76,7 @@ module _ {shares : Type 0} {source opening now tagged : State} {roots : List Des
     begins = rw stays.nodes grows.begins;
     grown = λ h. rw stays.nodes (grows.grown h);
     grown_content = λ t. rw stays.entries (grows.grown_content (known now tagged stays.failures t));
-    sound = λ t. stays.sound (grows.sound (known now tagged stays.failures t));
+    sound = λ t. stays.sound.0 (grows.sound (known now tagged stays.failures t));
     met = rw stays.nodes grows.met;
     whole = rw stays.nodes grows.whole;
     checked = rw stays.nodes grows.checked;

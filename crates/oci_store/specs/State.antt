@@ -38,9 +38,12 @@ pub record State : Type 1 where
 pub record OnlyTagsDiffer (old new : State) : Type 0 where
   pub nodes : new.nodes ≡ old.nodes
   pub entries : new.entries ≡ old.entries
-  pub sound : old.is_sound → new.is_sound
-  pub failures : new.failures ≡ old.failures
   pub name : new.name ≡ old.name
+  pub failures : new.failures ≡ old.failures
+  pub fails_at : (k : Descriptor) → new.fails_at k ≡ old.fails_at k
+  pub honest : old.is_honest ↔ new.is_honest
+  pub sound : old.is_sound ↔ new.is_sound
+  pub halted : old.is_halted ↔ new.is_halted
   -- what lasts stays
   pub lasts : (entries : List Entry) (tags : Tags) → old.lasts entries tags → new.lasts entries tags
 
