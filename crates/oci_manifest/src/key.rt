@@ -5,16 +5,20 @@ ghost use Rattle.oci_manifest.specs.declared.fault.KeyFault.TheVariants.{BadSize
 
 use crate::fault::KeyFault;
 use crate::media_type::MediaType;
+use arrayvec::ArrayString;
 use oci_digest::{Digest, NoMemory};
 use serde::{Described, Serialize, Serializer};
 use std::alloc::Global;
 use std::cmp::Ordering;
-use std::fmt;
+use std::fmt::{self, Write};
 use std::marker::Model;
 
 /// The greatest size that a descriptor may state, 2^63 - 1. In the specification `size` is an int64
 /// (OCI image-spec 1.1, descriptor.md).
 pub const MAX_SIZE: u64 = 9_223_372_036_854_775_807;
+
+/// The length of the longest text of a digest, which is one of SHA-512.
+const LONGEST_DIGEST: usize = 135;
 
 /// The identity of a content: its media type, its digest and its size in bytes.
 ///
@@ -171,21 +175,37 @@ impl fmt::Debug for Key {
     }
 }
 
-impl Described for Key {}
-
 /// A key is written as a descriptor with its required properties, `mediaType`, `digest` and `size`
 /// (OCI image-spec 1.1, descriptor.md, "Properties").
+impl Described for Key {
+    ghost use Rattle.oci_manifest.specs.Written.{WritesKey};
+
+    ghost writes = { WritesKey };
+}
+
 impl Serialize for Key {
     fn serialize<S: Serializer>(&self, out: &mut S) -> Result<(), S::Error> {
         out.begin_map(Some(3))?;
         out.key("mediaType")?;
         out.str(self.media_type())?;
         out.key("digest")?;
-        out.collect_str(&self.digest)?;
+        let Ok(digest) = text_of(&self.digest) else {
+            return Err(out.custom("the text of a digest is too long"));
+        };
+        out.str(digest.as_str())?;
         out.key("size")?;
         out.u64(self.size)?;
         out.end_map()
     }
+}
+
+/// Returns the text of a digest. Does not allocate.
+fn text_of(digest: &Digest) -> Result<ArrayString<LONGEST_DIGEST>, fmt::Error>
+    ensures { IfOk result (λ text. text.bytes ≡ digest.now) }
+{
+    let mut text = ArrayString::new();
+    write!(text, "{digest}")?;
+    Ok(text)
 }
 
 /// Two keys are equal if all three parts are equal.
