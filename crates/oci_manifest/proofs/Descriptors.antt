@@ -13,7 +13,7 @@ use Rattle.oci_manifest.specs.Manifest.{IsDescriptor, NoDescriptor}
 use Rattle.oci_manifest.specs.Reading.{text_at, size_at, descriptor_of}
 use Rattle.oci_manifest.proofs.Chains.{some_bind, apart, some_or_none}
 
-text_some : (o : Option Data) (s : List ℕ) → option_and_then as_str o ≡ Some s → o ≡ Some (string s)
+pub text_some : (o : Option Data) (s : List ℕ) → option_and_then as_str o ≡ Some s → o ≡ Some (string s)
 text_some None s h = cc h
 text_some (Some null) s h = cc h
 text_some (Some (boolean b)) s h = cc h

@@ -6,3 +6,4 @@ pub mod Descriptors
 pub mod Members
 pub mod Laws
 pub mod Subjects
+pub mod ArtifactTypes

@@ -45,6 +45,6 @@ pub use fault::{KeyFault, ManifestFault};
 pub use key::{Key, MAX_SIZE};
 pub use kind::Kind;
 pub use manifest::{
-    Links, artifact_type, index_keys, key_of, read_json, read_links, subject,
-    subject_is_what_is_stated, successors, successors_are_what_is_listed,
+    Links, artifact_type, artifact_type_is_what_is_declared, index_keys, key_of, read_json,
+    read_links, subject, subject_is_what_is_stated, successors, successors_are_what_is_listed,
 };

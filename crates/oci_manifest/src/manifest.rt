@@ -18,7 +18,7 @@ mod referrer;
 use crate::fault::ManifestFault;
 use crate::key::Key;
 use crate::kind::Kind;
-pub use artifact::artifact_type;
+pub use artifact::{artifact_type, artifact_type_is_what_is_declared};
 pub use descriptor::key_of;
 use distinct::keep_distributed;
 pub use links::{Links, read_links};

@@ -1,6 +1,7 @@
-ghost use Rattle.std.specs.Prelude.{◌≡◌, IfOk, option_map, option_copied, string_bytes};
+ghost use Rattle.std.specs.Prelude.{◌≡◌, ◌↔◌, ℕ, List, Some, IfOk, option_map, option_copied, string_bytes};
 ghost use Rattle.serde_json.specs.View.{view};
-ghost use Rattle.oci_manifest.specs.ArtifactType.{type_at, config_type, stated_type, artifact_type_of};
+ghost use Rattle.oci_manifest.specs.ArtifactType.{DeclaresType, type_at, config_type, stated_type, artifact_type_of};
+ghost use Rattle.oci_manifest.specs.declared.kind.Kind.{Kind};
 
 use super::read_value;
 use crate::kind::Kind;
@@ -60,3 +61,11 @@ fn type_at<'v>(value: &'v Value, name: &str) -> Option<&'v str>
     let text = value.get(name)?.as_str()?;
     if text.is_empty() { None } else { Some(text) }
 }
+
+/// States that `artifact_type_of`, which contracts above compute with, agrees with the readable
+/// relation: it returns a type exactly if the bytes declare that type. The function does nothing at
+/// run time.
+pub fn artifact_type_is_what_is_declared()
+    ensures { (kind : Kind) (bytes type : List ℕ)
+        → (artifact_type_of kind bytes ≡ Some type) ↔ DeclaresType kind bytes type }
+{}
