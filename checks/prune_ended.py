@@ -1,5 +1,6 @@
 """Prunes that are ended half-way, that cannot change a file, and that run beside copies. No tag loses anything, and the same prune,
 made again, finishes. Wants `cc`."""
+import os
 import re
 import resource
 import shutil
@@ -12,10 +13,11 @@ from support.layouts import E, FOO, LAYER, M2, S, Content, image, key, write_lay
 from support.program import first, leftovers, run, told, wrong_layout
 from support.prune_layout import CONTENTS, TAGS, UNTAGGED, Layout
 
-# Each change is noted: the path of each file that is opened, renamed to or removed.
+# Each change is noted: the path of each file that is opened, renamed to, removed or synced.
 NOTES = shim.CHANGES + r"""
 static int on_change(const char *path) {
   note(path ? path : "(write)");
+  if (path && strcmp(path, SYNC) == 0) { note(" "); note(synced); }
   note("\n");
   return 0;
 }
@@ -37,44 +39,67 @@ WAITS = re.compile(r"(ocicp: waiting for another process that writes into copied
 
 def killed(layout, library, what):
     """Kill a prune before each change that it makes."""
-    halves = 0
+    counts = set()
     for number in range(1, shim.MOST + 1):
         layout.fresh()
         made, ended = shim.run_marked(library, ["prune", "layout"], layout.room, {"LAST_CHANGE": str(number)})
         if made < number:
             break
-        halves += 0 < len(layout.gone()) < len(layout.prune.gone)
+        counts.add(len(layout.gone()))
         wrong = None if ended.status == -signal.SIGKILL else "it was not killed: " + told(ended)
         yield "%s, killed before change %d" % (what, number), first([wrong, layout.wrong_state(), layout.wrong_again()])
     yield "%s makes at most %d changes" % (what, shim.MOST), None if made < number else "it makes more"
-    yield "%d of these kills left some of the files" % halves, None if halves == len(layout.prune.gone) - 1 else "and not one less than go"
+    wanted = set(range(len(layout.prune.gone)))
+    yield "%s, killed between each two removals" % what, None if counts == wanted else "so many files were gone: %s" % sorted(counts)
+
+
+def noted(layout, line):
+    """Return a noted change with its path in the layout. The layout itself is `.`."""
+    what, _, path = line.rpartition(" ")
+    path = path.removeprefix(os.path.realpath(layout.room) + "/")
+    return " ".join(filter(None, [what, "." if path == "layout" else path.removeprefix("layout/")]))
+
+
+def is_save(notes):
+    """Return whether these changes write a new index: it is on the disk before it comes into its place, and then its name is. The names of
+    blobs may be synced before."""
+    draft = re.escape("index.json") + r"\.[0-9a-f]{16}\.new"
+    wanted = [draft, r"\(write\)", r"\(sync\) " + draft, "index.json", r"\(sync\) \."]
+    found = [it for place, it in enumerate(notes) if it != "(write)" or notes[place - 1] != "(write)"]
+    before = found[:-len(wanted)]
+    return all(it.startswith("(sync) ") for it in before) and all(map(re.fullmatch, wanted, found[len(before):])) and len(found) >= len(wanted)
 
 
 def wrong_order(layout, library):
-    """Return the problem with the order of the changes, or None. The new index is to be on the disk before it comes into its place, and then
-    its name, before a file is removed. An index that is not written is to be on the disk too."""
+    """Return the problem with the order of the changes, or None. The index is to be on the disk before the first file is removed. The files
+    that no held key has go first. Then the new index, if there is one, is saved, before the other files are removed."""
     layout.fresh()
     text, ended = shim.run_noted(library, ["prune", "layout"], layout.room)
-    notes = [it.replace("layout/", "") for it in text.splitlines()]
+    notes = [noted(layout, it) for it in text.splitlines()]
     removed = [it for it in notes if it in layout.prune.gone]
-    start = notes.index(removed[0]) if removed else 0
-    saved = notes.index("index.json") if "index.json" in notes else start
-    is_saved = saved < start and notes[saved - 1] == "(sync)" and "(sync)" in notes[saved:start]
-    are_syncs = start >= 2 and set(notes[:start]) == {"(sync)"}
+    start, most = notes.index(removed[0]) if removed else 0, len(layout.prune.first)
+    rest = notes[start + most:]
+    save = rest[:next((place for place, it in enumerate(rest) if it in layout.prune.gone), len(rest))]
     return first([
         None if ended[:3] == (0, layout.prune.out, "") else told(ended),
         None if sorted(removed) == layout.prune.gone else "these were removed: %s" % removed,
-        None if notes[start:] == removed else "after the first removal: %s" % notes[start:],
-        None if (is_saved if layout.untagged else are_syncs) else "these came first: %s" % notes[:start],
+        None if {"(sync) index.json", "(sync) ."} <= set(notes[:start]) else "these came first: %s" % notes[:start],
+        None if all(it.startswith("(sync)") for it in notes[:start]) else "these came first: %s" % notes[:start],
+        None if sorted(notes[start:start + most]) == layout.prune.first else "these went first: %s" % notes[start:start + most],
+        None if (is_save(save) if layout.untagged else not save) else "the save: %s" % save,
+        None if rest[len(save):] == removed[most:] else "after the save: %s" % rest[len(save):],
     ])
 
 
 def wrong_refused(layout, ended):
-    """Return the problem with a prune for which one change was refused, or None. It removes nothing, or all files but one."""
-    left = sorted(set(layout.prune.gone) - set(layout.gone()))
-    if left == layout.prune.gone:
-        wanted = [(1, "", "ocicp: 74 Device\n")]
-        return None if ended[:3] in wanted else told(ended)
+    """Return the problem with a prune for which one change was refused, or None. It removes nothing, or what no held key has, or all files
+    but one."""
+    gone = layout.gone()
+    if not gone:
+        return None if ended[:3] == (1, "", "ocicp: 74 Device\n") else told(ended)
+    if gone == layout.prune.first and layout.untagged:
+        return None if ended[:3] == (1, layout.prune.unsaved, "ocicp: 74 Device\n") else told(ended)
+    left = sorted(set(layout.prune.gone) - set(gone))
     if len(left) != 1:
         return "these files are left: %s" % left
     return None if (ended.status, ended.err) == (1, "ocicp: 79 NotRemoved %s\n" % left[0]) else told(ended)
@@ -82,16 +107,20 @@ def wrong_refused(layout, ended):
 
 def without_room(layout, library, what):
     """Refuse each change of a prune in turn."""
-    nothing = 0
+    nothing = unsaved = 0
     for number in range(1, shim.MOST + 1):
         layout.fresh()
         made, ended = shim.run_marked(library, ["prune", "layout"], layout.room, {"REFUSED_CHANGE": str(number)})
         if made < number:
             break
         nothing += not layout.gone()
+        unsaved += layout.untagged != [] and layout.gone() == layout.prune.first
         yield "%s, change %d refused" % (what, number), first([wrong_refused(layout, ended), layout.wrong_state(), layout.wrong_again()])
-    before = made - len(layout.prune.gone)
-    yield "%d of these removed nothing" % nothing, None if nothing == before else "but %d changes come before a removal" % before
+    saving = made - len(layout.prune.gone)
+    yield "%s: %d refusals removed nothing, %d only what no held key has" % (what, nothing, unsaved), first([
+        None if nothing + unsaved == saving else "but %d changes are no removals" % saving,
+        None if (unsaved > 0) == bool(layout.untagged) else "and the save was refused %d times" % unsaved,
+    ])
 
 
 def wrong_limit(layout):
@@ -99,9 +128,10 @@ def wrong_limit(layout):
     layout.fresh()
     limit = lambda: resource.setrlimit(resource.RLIMIT_FSIZE, (0, 0))
     ended = run(["prune", "layout"], layout.room, preexec_fn=limit, restore_signals=False)
+    wanted = {path: it for path, it in layout.before.items() if path not in layout.prune.first}
     return first([
-        None if ended[:3] == (1, "", "ocicp: 74 Device\n") else told(ended),
-        None if files(layout.room + "/layout") == layout.before else "the layout is not as it was",
+        None if ended[:3] == (1, layout.prune.unsaved, "ocicp: 74 Device\n") else told(ended),
+        None if files(layout.room + "/layout") == wanted else "more or less is gone than what no held key has",
         layout.wrong_again(),
     ])
 

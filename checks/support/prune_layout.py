@@ -48,11 +48,11 @@ class Layout:
 
     def wrong_state(self):
         """Return the problem with the layout after a prune that has not finished, or None. It is to hold its old contents or the kept ones,
-        with each file of these, and no file is to be gone before the index is saved."""
+        with each file of these, and no file that a held key has is to be gone before the index is saved."""
         held = self.prune.kept if self.saved() else self.prune.held.keys
         return first([
             wrong_layout(self.room, "layout", held, TAGS),
-            None if self.saved() or not self.gone() else "a file is gone before the index is saved",
+            None if self.saved() or set(self.gone()) <= set(self.prune.first) else "a file is gone before the index is saved",
             None if set(self.gone()) <= set(self.prune.gone) else "these files are gone: %s" % self.gone(),
         ])
 

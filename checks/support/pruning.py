@@ -127,12 +127,19 @@ class Prune:
         # (a link is no draft)
         drafts = [it for it in lengths if DRAFT.fullmatch(it) and it not in written and not os.path.islink("%s/%s" % (folder, it))]
         self.gone = sorted(blobs + drafts)
+        # These go before the index is saved.
+        self.first = [it for it in self.gone if it not in had]
         self.lines = [
             *("removed " + text(it) for it in self.removed),
-            *("removed-file %s %d" % (it, lengths[it]) for it in self.gone if it not in had),
-            "kept %d removed %d files %d bytes %d"
-            % (len(self.kept), len(self.removed), len(self.gone), sum(lengths[it] for it in self.gone)),
+            *("removed-file %s %d" % (it, lengths[it]) for it in self.first),
+            last_line(len(self.kept), len(self.removed), [lengths[it] for it in self.gone]),
         ]
+        # What is printed if the index cannot be saved, and by `prune --leftovers`: no key goes.
+        self.unsaved, self.leftovers = (
+            "".join("removed-file %s %d\n" % (it, lengths[it]) for it in gone) + last_line(len(held.keys), 0, [lengths[it] for it in gone]) + "\n"
+            for gone in (self.first, sorted(drafts))
+        )
+        self.drafts = sorted(drafts)
         self.refusals = [
             *(["97 NoTags"] if not held.tags else []),
             *("96 Unknown " + text(it) for it in held.absent),
@@ -146,6 +153,10 @@ class Prune:
         """Return the manifests that a kept key lists and that are not held. Nobody knows which keys they list."""
         listed = {it for key in self.kept for it in self.held.listed(key)}
         return {it for it in listed - self.held.keys if it.media_type in MEMBERS}
+
+
+def last_line(kept, removed, lengths):
+    return "kept %d removed %d files %d bytes %d" % (kept, removed, len(lengths), sum(lengths))
 
 
 def files_of(folder):

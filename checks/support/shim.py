@@ -5,7 +5,7 @@ import subprocess
 from support.program import PROGRAM, run
 
 # Calls `on_change` before each call that would change a file or a folder, with the path, or with NULL for a write to an open file; and
-# before each call that waits for the disk, with SYNC. It returns the error of that call, or 0 to let the call through.
+# before each call that waits for the disk, with SYNC; `synced` is then the path of the file that it waits for. It returns the error of that call, or 0 to let the call through.
 CHANGES = r"""
 #define _GNU_SOURCE
 #include <dlfcn.h>
@@ -13,12 +13,14 @@ CHANGES = r"""
 #include <fcntl.h>
 #include <signal.h>
 #include <stdarg.h>
+#include <stdio.h>
 #include <stdlib.h>
 #include <string.h>
 #include <sys/stat.h>
 #include <sys/syscall.h>
 #include <unistd.h>
 #define SYNC "(sync)"
+static __thread char synced[4096];
 static int on_change(const char *path);
 static int is_refused(const char *path) {
   int error = on_change(path);
@@ -66,8 +68,15 @@ ssize_t write(int file, const void *bytes, size_t count) {
   if (file > 2 && is_refused(NULL)) return -1;
   return NEXT(ssize_t (*)(int, const void *, size_t), "write")(file, bytes, count);
 }
-int fsync(int file) { return is_refused(SYNC) ? -1 : NEXT(int (*)(int), "fsync")(file); }
-int fdatasync(int file) { return is_refused(SYNC) ? -1 : NEXT(int (*)(int), "fdatasync")(file); }
+static int is_sync_refused(int file) {
+  char place[64];
+  snprintf(place, sizeof place, "/proc/self/fd/%d", file);
+  ssize_t length = readlink(place, synced, sizeof synced - 1);
+  synced[length < 0 ? 0 : length] = 0;
+  return is_refused(SYNC);
+}
+int fsync(int file) { return is_sync_refused(file) ? -1 : NEXT(int (*)(int), "fsync")(file); }
+int fdatasync(int file) { return is_sync_refused(file) ? -1 : NEXT(int (*)(int), "fdatasync")(file); }
 /* Writes a text into the pipe that the environment names. */
 __attribute__((unused)) static void note(const char *text) {
   if (syscall(SYS_write, atoi(getenv("MARK")), text, strlen(text)) != (long)strlen(text)) abort();

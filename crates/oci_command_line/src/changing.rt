@@ -82,6 +82,8 @@ pub struct PruneWords<'w> {
     pub folder: &'w str,
     /// Whether the referrers of kept blobs are kept too.
     pub keeps_referrers: bool,
+    /// Whether only the files that killed copies left are removed.
+    pub only_leftovers: bool,
     /// Whether the prune is only planned and printed.
     pub is_dry: bool,
     /// Whether the command waits while another process has the folder's lock.

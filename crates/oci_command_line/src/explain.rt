@@ -301,7 +301,7 @@ Remove a folder in the file's place, and restore the blob with `ocicp copy --des
 
 97 NoTags
 The layout has no tag, so no blob would be kept or copied. Nothing was copied or removed.
-Check the path. `ocicp copy FOLDER DIGEST FOLDER TAG` tags a blob that is to be kept. If nothing is to be kept, delete the folder.
+Check the path. `ocicp copy FOLDER DIGEST FOLDER TAG` tags a blob that is to be kept. `ocicp prune --leftovers` removes the files that killed copies left. If nothing is to be kept, delete the folder.
 
 98 LinkedBlobs
 The named folder of the layout is a symbolic link, so another layout may need the blobs behind it. Nothing was removed.

@@ -302,6 +302,7 @@ fn prune_words<'w>(matches: &ArgMatches<'w>) -> PruneWords<'w> {
     PruneWords {
         folder: word(matches, "folder"),
         keeps_referrers: !matches.get_flag("no-referrers"),
+        only_leftovers: matches.get_flag("leftovers"),
         is_dry: matches.get_flag("dry-run"),
         waits: waits(matches),
         syncs: syncs(matches),

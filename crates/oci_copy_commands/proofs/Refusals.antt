@@ -1,6 +1,6 @@
 -- Why a mirror is refused.
 use Rattle.std.proofs.Common.{◌≡◌, ◌⊎◌, inl, inr, ℕ, Bool, not, List, Result, Ok, Err, sym, subst, ◌∙◌}
-use Rattle.std.specs.Prelude.{IsOk, IfErr, OnErr}
+use Rattle.std.specs.Prelude.{IsOk, IfErr, OnErr, OnOk}
 use Rattle.oci_manifest.specs.Descriptor.{Descriptor}
 use Rattle.oci_copy.specs.Cause.{IsAnswerByWorkers, RefusedByWorkers}
 use Rattle.oci_copy.specs.declared.fault.CopyFault.{CopyFault}
@@ -97,3 +97,15 @@ pub after_refused : {D X Y : Type 0} (holds : Type 0) (copied : Result X CopyFau
 after_refused holds copied is_exact roots dir l (Ok y) is there = is
 after_refused holds copied is_exact roots dir l (Err (program.Copy e)) is there = refused_there holds copied e is there
 after_refused holds copied is_exact roots dir l (Err e) is there = tt
+
+-- ---- a prune by its save
+
+pub on_saved : {P : Type 0} (saved : Result Unit PruneFault) → OnOk saved P → IsOk saved → P
+on_saved (Ok u) holds is = holds
+on_saved (Err e) holds is = cc is
+
+pub on_error : {P : Type 0} (saved : Result Unit PruneFault) (e : PruneFault) → OnErr saved P → saved ≡ Err e → P
+on_error {P} saved e holds is = subst (λ (r : Result Unit PruneFault). OnErr r P) is holds
+
+pub if_error : (saved : Result Unit PruneFault) (e : PruneFault) (is_so : PruneFault → Type 0) → IfErr saved is_so → saved ≡ Err e → is_so e
+if_error saved e is_so holds is = subst (λ (r : Result Unit PruneFault). IfErr r is_so) is holds

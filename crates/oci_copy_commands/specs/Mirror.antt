@@ -33,7 +33,7 @@ use Rattle.oci_copy_commands.specs.Between.{BringsOnlyMet, IsTrusted}
 use Rattle.oci_copy_commands.specs.Goal.{patterns_of, Fits, Goal, IsPrepared}
 use Rattle.oci_copy_commands.specs.Selected.{other_tags}
 use Rattle.oci_copy_commands.specs.declared.copy.Copied.{Copied}
-use Rattle.oci_copy_commands.specs.declared.mirror.CleanUp.{CleanUp}
+use Rattle.oci_copy_commands.specs.declared.clean_up.CleanUp.{CleanUp}
 
 -- ---- the source
 

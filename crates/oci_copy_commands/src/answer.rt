@@ -1,5 +1,5 @@
+use crate::clean_up::CleanUp;
 use crate::copy::Copied;
-use crate::mirror::CleanUp;
 use crate::planned::PlannedCleanUp;
 use crate::selected::Selected;
 use oci_copy::Report;

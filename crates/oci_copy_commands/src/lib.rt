@@ -8,6 +8,7 @@
 mod answer;
 mod between;
 mod brought;
+mod clean_up;
 mod copy;
 mod destination;
 mod dry_run;

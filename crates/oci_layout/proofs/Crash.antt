@@ -4,25 +4,26 @@ use Rattle.std.specs.Prelude.{IsSome}
 use Rattle.std.specs.List.{All}
 use Rattle.std.specs.Map.{keys_of}
 use Rattle.std.specs.Str.{bytes_eq}
-use Rattle.std.proofs.lemmas.Bool.{cases_Bool}
-use Rattle.std.proofs.lemmas.List.Elements.{All-nil, All-cons, All-head, All-tail, All-weaker}
+use Rattle.std.proofs.lemmas.Bool.{cases_Bool, false_from_ne_true}
+use Rattle.std.proofs.lemmas.List.Elements.{All-nil, All-cons, All-contains, All-head, All-tail, All-weaker}
 use Rattle.std.proofs.lemmas.Slice.Eq.{bytes_eq-Decides}
 use Rattle.oci_digest.specs.Digest.{IsDigest}
-use Rattle.oci_manifest.specs.Descriptor.{Descriptor}
+use Rattle.oci_manifest.specs.Descriptor.{Descriptor, IsKey}
 use Rattle.oci_store.specs.Content.{Entry}
 use Rattle.oci_store.specs.Graph.{Node}
 use Rattle.oci_store.specs.Keyed.{value_at, has_key}
 use Rattle.oci_store.specs.Push.{AgreesAt}
 use Rattle.oci_store.specs.Tags.{Tags}
+use Rattle.oci_store.proofs.Lookups.{Contains-from_has_key}
 use Rattle.oci_layout.specs.Blobs.{blob_path, blob_at, keys_of-stored}
-use Rattle.oci_layout.specs.Crash.{NoMore, NoMoreBut, StaysAt, LeavesPut, Keeps, Spares}
-use Rattle.oci_layout.specs.Device.{Device, File}
+use Rattle.oci_layout.specs.Crash.{NoMore, NoMoreBut, StaysAt, LeavesPut, Keeps, KeepsSettled, Spares}
+use Rattle.oci_layout.specs.Device.{Device, File, Same}
 use Rattle.oci_layout.specs.Index.{index_file, layout_file}
 use Rattle.oci_layout.specs.Lasts.{Lasts}
 use Rattle.oci_layout.specs.Prunable.{IsRemoval}
 use Rattle.oci_layout.specs.declared.fault.DirFault.{DirFault}
 use Rattle.oci_layout.proofs.Files.{blob_layout, some_or}
-use Rattle.oci_layout.proofs.Prunable.{IsApart, apart-unheld, apart-other}
+use Rattle.oci_layout.proofs.Prunable.{IsApart, apart-unheld, Touches-removed}
 use Rattle.oci_layout.proofs.Stored.{HasDigest, digests_of, blob_path-injective, has_key-first, has_key-more, value_at-stored}
 
 abbrev IsThere : File → Node → Type 0
@@ -164,9 +165,17 @@ Lasts-removed old new entries tags digest answer is removal other lasts =
     Lasts-but old new entries tags (blob_path digest) removal.device.honest.0 (no_more-removed old new (blob_path digest) answer removal) (blob_layout digest) (blob_index digest) lasts
     (apart-unheld digest lasts.graph is layout.are_keys unheld)
 
--- and so does that of a file that no layout has
-pub Lasts-other : (old new : Device) (entries : List Entry) (tags : Tags) (path : List ℕ) (answer : Result Bool DirFault) → IsRemoval old new path answer
-    → ((digest : List ℕ) → IsDigest digest → path ≡ blob_path digest → ⊥) → bytes_eq path layout_file ≡ false → bytes_eq path index_file ≡ false → Lasts old entries tags → Lasts new entries tags
-Lasts-other old new entries tags path answer removal other no_layout no_index lasts =
-    Lasts-but old new entries tags path removal.device.honest.0 (no_more-removed old new path answer removal) no_layout no_index lasts
-    (apart-other path lasts.graph other lasts.layout.are_keys)
+-- a removal of a file that no held key has leaves the files of held keys as settled as they were
+pub KeepsSettled-removed : (old new : Device) (graph : List Node) (digest : List ℕ) (answer : Result Bool DirFault) → IsDigest digest → All IsKey (keys_of graph) → All (λ (k : Descriptor). k.digest ≢ digest) (keys_of graph)
+    → IsRemoval old new (blob_path digest) answer → KeepsSettled old new graph
+KeepsSettled-removed old new graph digest answer is keys unheld removal honest k held was left may =
+    let there = Contains-from_has_key graph k held in
+    let path = blob_path k.digest in
+    let other = All-contains (λ (h : Descriptor). h.digest ≢ digest) (keys_of graph) k unheld there in
+    let key = All-contains IsKey (keys_of graph) k keys there in
+    let apart = false_from_ne_true (bytes_eq (blob_path digest) path) (λ same. other (sym (blob_path-injective digest k.digest is key.is_digest ((bytes_eq-Decides (blob_path digest) path).0 same)))) in
+    was left (no_more-removed old new (blob_path digest) answer removal honest path apart left may) ∙ sym (Touches-removed old new (blob_path digest) answer removal honest path apart)
+
+-- where nothing is left of a file that was not before, and no file changed, each is as settled as it was
+pub KeepsSettled-same : (old new : Device) (graph : List Node) → (old.is_honest → Same old.file new.file) → (old.is_honest → NoMore old new) → KeepsSettled old new graph
+KeepsSettled-same old new graph same no_more honest k held was left may = was left (no_more honest (blob_path k.digest) left may) ∙ sym (same honest (blob_path k.digest))

@@ -226,6 +226,7 @@ settled_cause old new dir.Memory after = tt
 pub settled_device : (old new : Device) (fault : DirFault) → AfterSettling old new (Err fault) → AfterPuts old new (IsErrOf {T = Unit} (Err (of_device fault)) layout.Device × IsRaised old.failures new.failures)
 settled_device old new dir.Failed after = record {
   honest = after.honest;
+  link = after.link;
   reads = after.reads;
   raised = λ f. f.1;
   calm = λ less. elim (after.failed refl) [ inl unread ↦ absurd (omega (arith, less, unread.1)) | inr raised ↦ (refl, raised) ];
@@ -233,6 +234,7 @@ settled_device old new dir.Failed after = record {
 }
 settled_device old new dir.Memory after = record {
   honest = after.honest;
+  link = after.link;
   reads = after.reads;
   raised = λ f. f.1;
   calm = λ less. absurd (cc (after.calm less));

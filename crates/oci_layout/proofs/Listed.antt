@@ -1,4 +1,4 @@
--- The files of a directory in memory that are directly in a folder.
+-- The files of a directory in memory, and those that are directly in a folder.
 use Rattle.std.proofs.Common.{◌≡◌, ◌≢◌, append_assoc, ℕ, zero, suc, ◌⊎◌, inl, inr, true, List, [], ◌∷◌, ◌++◌, map, codes, length, Some, String, Global, refl, sym, ap, subst, ◌∙◌, arith}
 use Rattle.std.specs.Prelude.{◌↔◌, ◌==◌, Contains, string_bytes}
 use Rattle.std.specs.BTreeMap.{BTreeMap}
@@ -15,7 +15,7 @@ use Rattle.std.proofs.lemmas.Map.Text.{is_eq-slice_cmp}
 use Rattle.std.proofs.lemmas.Option.{slice_get_within, get_or_from_slice_get}
 use Rattle.std.proofs.lemmas.Slice.Eq.{bytes_eq-Decides}
 use Rattle.oci_layout.specs.Memory.{files_of}
-use Rattle.oci_layout.specs.Prunable.{path_in, IsName, ListsFolder}
+use Rattle.oci_layout.specs.Prunable.{path_in, IsName, ListsFiles, ListsFolder}
 
 -- ---- a slash in a text
 pub slash-found : (text : List ℕ) → list_any (λ (c : ℕ). c == 47) text ≡ true → Contains text 47
@@ -173,4 +173,44 @@ ListsFolder-found files folder found get are name size = (
         | inl found_it ↦ found_it
         | inr left ↦ absurd (omega (arith, left.2.1))
       ]),
+)
+
+-- ---- all files with their lengths
+abbrev pub lengths_of : Files → List (List ℕ × ℕ)
+lengths_of files = map (λ (f : String Global × List ℕ). (string_bytes f.0, length f.1)) files
+
+in_lengths : (files : Files) (p : List ℕ) (size : ℕ) → Contains (lengths_of files) (p, size) → (f : String Global × List ℕ) × Contains files f × (string_bytes f.0 ≡ p) × (length f.1 ≡ size)
+in_lengths [] p size c = absurd (omega (arith, c.1))
+in_lengths (f ∷ files) p size c =
+    elim (Contains-append_cases ((string_bytes f.0, length f.1) ∷ []) (lengths_of files) (p, size) c) [
+      | inl here ↦
+          let both : (string_bytes f.0, length f.1) ≡ (p, size) = only_one {X = List ℕ × ℕ} (string_bytes f.0, length f.1) (p, size) here in
+          (f, Contains-append_left (f ∷ []) files f (Contains-push [] f), ap (λ (q : List ℕ × ℕ). q.0) both, ap (λ (q : List ℕ × ℕ). q.1) both)
+      | inr later ↦ let it = in_lengths files p size later in (it.0, Contains-append_right (f ∷ []) files it.0 it.1, it.2, it.3)
+    ]
+
+to_lengths : (files : Files) (f : String Global × List ℕ) → Contains files f → Contains (lengths_of files) (string_bytes f.0, length f.1)
+to_lengths [] f c = absurd (omega (arith, c.1))
+to_lengths (g ∷ files) f c =
+    elim (Contains-append_cases (g ∷ []) files f c) [
+      | inl here ↦
+          let same : g ≡ f = only_one g f here in
+          subst (λ (h : String Global × List ℕ). Contains (lengths_of (g ∷ files)) (string_bytes h.0, length h.1)) same
+          (Contains-append_left ((string_bytes g.0, length g.1) ∷ []) (lengths_of files) (string_bytes g.0, length g.1) (Contains-push {X = List ℕ × ℕ} [] (string_bytes g.0, length g.1)))
+      | inr later ↦ Contains-append_right ((string_bytes g.0, length g.1) ∷ []) (lengths_of files) (string_bytes f.0, length f.1) (to_lengths files f later)
+    ]
+
+pub ListsFiles-all : (files : BTreeMap (String Global) (List ℕ)) (found : List (List ℕ × ℕ)) → All (λ (f : String Global × List ℕ). files_of files (string_bytes f.0) ≡ Some f.1) files.entries
+    → found ≡ lengths_of files.entries → ListsFiles (files_of files) found
+ListsFiles-all files found get are path size = (
+  λ c. (let f = in_lengths files.entries path size (subst (λ (all : List (List ℕ × ℕ)). Contains all (path, size)) are c) in
+      let at : files_of files (string_bytes f.0.0) ≡ Some f.0.1 = All-contains (λ (g : String Global × List ℕ). files_of files (string_bytes g.0) ≡ Some g.1) files.entries f.0 get f.1 in
+      (f.0.1, ap (files_of files) (sym f.2) ∙ at, f.3)),
+  λ (bytes, at, long). (let place = place_from_lookup (λ (k : String Global). is_eq (slice_cmp nat_cmp path (string_bytes k))) files.entries bytes at in
+      let k = place.1 in
+      let c : Contains files.entries (k, bytes) = (place.0, slice_get_within files.entries place.0 (k, bytes) place.2, get_or_from_slice_get files.entries place.0 (k, bytes) (k, bytes) place.2) in
+      let same : path ≡ string_bytes k = (bytes_eq-Decides path (string_bytes k)).0 (sym (is_eq-slice_cmp path (string_bytes k)) ∙ place.3) in
+      subst (λ (all : List (List ℕ × ℕ)). Contains all (path, size)) (sym are)
+      (subst (λ (p : List ℕ). Contains (lengths_of files.entries) (p, size)) (sym same)
+      (subst (λ (n : ℕ). Contains (lengths_of files.entries) (string_bytes k, n)) long (to_lengths files.entries (k, bytes) c)))),
 )

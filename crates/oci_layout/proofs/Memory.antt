@@ -53,13 +53,15 @@ memory_no_more files settled settled' torn torn' path same other removes q x is 
 -- ---- many files are settled
 
 pub settles-none : (dir : Device) → OnlySettles dir dir
-settles-none dir = record { files = λ h q. refl; no_more = λ h q x is. is; honest = (λ h. h, λ h. h); reads = refl; failures = refl }
+settles-none dir = record { files = λ h q. refl; draft = λ h q. refl; no_more = λ h q x is. is; honest = (λ h. h, λ h. h); link = refl; reads = refl; failures = refl }
 
 pub settles-both : (old mid new : Device) → OnlySettles old mid → OnlySettles mid new → OnlySettles old new
 settles-both old mid new one two = record {
   files = λ h q. two.files (one.honest.0 h) q ∙ one.files h q;
+  draft = λ h q. two.draft (one.honest.0 h) q ∙ one.draft h q;
   no_more = λ h q x is. one.no_more h q x (two.no_more (one.honest.0 h) q x is);
   honest = (λ h. two.honest.0 (one.honest.0 h), λ h. one.honest.1 (two.honest.1 h));
+  link = two.link ∙ one.link;
   reads = two.reads ∙ one.reads;
   failures = two.failures ∙ one.failures;
 }

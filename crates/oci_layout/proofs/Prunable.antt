@@ -69,15 +69,6 @@ apart-unheld digest (n ∷ graph) is keys unheld =
     (λ same. other (sym (blob_path-injective digest n.0.digest is key.is_digest ((bytes_eq-Decides (blob_path digest) (blob_path n.0.digest)).0 same)))))
     (apart-unheld digest graph is (All-tail IsKey n.0 (keys_of graph) keys) (All-tail (λ (k : Descriptor). k.digest ≢ digest) n.0 (keys_of graph) unheld))
 
--- a path that is not that of any digest
-pub apart-other : (path : List ℕ) (graph : List Node) → ((digest : List ℕ) → IsDigest digest → path ≡ blob_path digest → ⊥) → All IsKey (keys_of graph) → All (IsApart path) graph
-apart-other path [] other keys = All-nil (IsApart path)
-apart-other path (n ∷ graph) other keys =
-    All-cons (IsApart path) n graph
-    (false_from_ne_true (bytes_eq path (blob_path n.0.digest))
-    (λ same. other n.0.digest (All-head IsKey n.0 (keys_of graph) keys).is_digest ((bytes_eq-Decides path (blob_path n.0.digest)).0 same)))
-    (apart-other path graph other (All-tail IsKey n.0 (keys_of graph) keys))
-
 -- what a layout keeps true is true after the removal of another file than `oci-layout`
 pub IsLayout-removed : (old new : Device) (graph : List Node) (tags : Tags) (path : List ℕ) (answer : Result Bool DirFault) → bytes_eq path layout_file ≡ false
     → IsRemoval old new path answer → IsLayout old graph tags → IsLayout new graph tags
@@ -99,5 +90,6 @@ OnlyFile-removed device old new path answer memory apart removal =
         contents = λ honest. stored-apart was.file is.file path old.graph apart (touches honest);
         sound = rw memory.graph (λ sound. IsSound-apart was.is_honest is.is_honest was.file is.file path old.graph removal.device.honest.0 apart (touches sound.is_honest) sound);
       };
+      draft = removal.draft;
       same = removal.device;
     }

@@ -24,6 +24,7 @@ use Rattle.oci_layout.proofs.Files.{index_layout, index_blob, on_ok, on_ok-map}
 pub AfterSettling-settle : (old new : Device) (answer : Result Unit DirFault) → OnlySettles old new → (IsErrOf answer dir.Failed → old.fails_reads ≡ true) → AfterSettling old new answer
 AfterSettling-settle old new answer only fails = record {
   honest = only.honest;
+  link = only.link;
   reads = only.reads;
   failed = λ f. inl (fails f, only.failures);
   calm = λ less. absurd (omega (arith, less, only.failures));
@@ -33,6 +34,7 @@ AfterSettling-settle old new answer only fails = record {
 pub AfterSettling-put : (old new : Device) (answer : Result Unit DirFault) → AfterPuts old new (IsErrOf answer dir.Failed) → AfterSettling old new answer
 AfterSettling-put old new answer put = record {
   honest = put.honest;
+  link = put.link;
   reads = put.reads;
   failed = λ f. inr (put.raised f);
   calm = put.calm;
@@ -42,6 +44,7 @@ AfterSettling-put old new answer put = record {
 pub AfterSettling-same : (now : Device) (answer : Result Unit DirFault) → (IsErrOf answer dir.Failed → ⊥) → AfterSettling now now answer
 AfterSettling-same now answer never = record {
   honest = (λ h. h, λ h. h);
+  link = refl;
   reads = refl;
   failed = λ f. absurd (never f);
   calm = λ less. absurd (omega (arith, less));
@@ -59,6 +62,7 @@ AfterSettling-both old mid new answer one two =
     let same : mid.failures ≡ old.failures = calm_after old mid one in
     record {
       honest = (λ h. two.honest.0 (one.honest.0 h), λ h. one.honest.1 (two.honest.1 h));
+      link = two.link ∙ one.link;
       reads = two.reads ∙ one.reads;
       failed = λ f. elim (two.failed f) [
         | inl unread ↦ inl (sym one.reads ∙ unread.0, unread.1 ∙ same)
@@ -110,7 +114,7 @@ paths-more graph i k paths all h so_far =
 
 -- nothing was settled where memory ran out before
 pub OnlySettles-same : (now : Device) → OnlySettles now now
-OnlySettles-same now = record { files = λ h q. refl; no_more = λ h q x is. is; honest = (λ h. h, λ h. h); reads = refl; failures = refl }
+OnlySettles-same now = record { files = λ h q. refl; draft = λ h q. refl; no_more = λ h q x is. is; honest = (λ h. h, λ h. h); link = refl; reads = refl; failures = refl }
 
 pub SettlesFiles-none : (now : Device) (nodes : List Node) → SettlesFiles now now nodes (Err dir.Memory)
 SettlesFiles-none now nodes = record { only = OnlySettles-same now; layout = tt; blobs = tt; failed = λ f. cc f }
@@ -163,6 +167,7 @@ IsSaved-first old new nodes bytes e one = record {
   whole = λ h. inl (one.only.files h);
   left = λ h left is. inl (λ q. one.only.no_more h q (left q) (is q));
   settled = tt;
+  draft = tt;
   device = AfterSettling-settle old new (Err e) one.only one.failed;
 }
 
@@ -173,6 +178,7 @@ IsSaved-second old mid new nodes bytes e one two = record {
   whole = λ h. whole_both old.file mid.file new.file index_file bytes (one.only.files h) (two.whole (one.only.honest.0 h));
   left = λ h left is. left_either old mid new nodes bytes left h one (two.left (one.only.honest.0 h)) (two.other (one.only.honest.0 h)) is;
   settled = tt;
+  draft = tt;
   device = AfterSettling-both old mid new (Err e) (AfterSettling-settle old mid (Ok tt) one.only (λ f. cc f)) (AfterSettling-put mid new (Err e) two.device);
 }
 
@@ -206,6 +212,11 @@ late_settled old mid late new nodes bytes m three settled h left is =
     let there : new.file index_file ≡ Some bytes = rw same at (late_whole old mid late new nodes bytes m three h index_file) in
     left_new old mid late nodes bytes left h m.0 (m.1.other h') (λ q. three.no_more h'' q (left q) (is q)) (settled (left index_file) (is index_file) ∙ there)
 
+late_draft : (old mid late new : Device) (nodes : List Node) (bytes : List ℕ) → IsMid old mid late nodes bytes → OnlySettles late new → old.is_honest → Same old.draft new.draft
+late_draft old mid late new nodes bytes m three h q =
+    let h' = m.0.only.honest.0 h in
+    three.draft (m.1.device.honest.0 h') q ∙ m.1.draft h' q ∙ m.0.only.draft h q
+
 pub IsSaved-last : (old mid late new : Device) (nodes : List Node) (bytes : List ℕ) (answer : Result Unit DirFault) → SettlesFiles old mid nodes (Ok tt) → IsReplaced mid late index_file bytes (Ok tt)
     → IsSettling late new (index_file ∷ []) answer → IsSaved old new nodes bytes answer
 IsSaved-last old mid late new nodes bytes (Ok done) one two three = record {
@@ -213,6 +224,7 @@ IsSaved-last old mid late new nodes bytes (Ok done) one two three = record {
   whole = λ h. inr (late_whole old mid late new nodes bytes (one, two) three.only h);
   left = late_left old mid late new nodes bytes (one, two) three.only;
   settled = λ h. late_settled old mid late new nodes bytes (one, two) three.only (All-head (IsSettled new) index_file [] (three.settled (two.device.honest.0 (one.only.honest.0 h)))) h;
+  draft = late_draft old mid late new nodes bytes (one, two) three.only;
   device = late_device old mid late new nodes bytes (Ok done) (one, two) three;
 }
 IsSaved-last old mid late new nodes bytes (Err e) one two three = record {
@@ -220,6 +232,7 @@ IsSaved-last old mid late new nodes bytes (Err e) one two three = record {
   whole = λ h. inr (late_whole old mid late new nodes bytes (one, two) three.only h);
   left = late_left old mid late new nodes bytes (one, two) three.only;
   settled = tt;
+  draft = tt;
   device = late_device old mid late new nodes bytes (Err e) (one, two) three;
 }
 

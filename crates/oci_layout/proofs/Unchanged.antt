@@ -1,4 +1,4 @@
--- A layout some of whose files were settled: no file changed.
+-- A layout of which no file changed, as where files were settled or a draft was removed.
 use Rattle.std.proofs.Common.{◌≡◌, ℕ, List, [], Option, Some, None, sym, ap, subst, ◌∙◌}
 use Rattle.std.specs.Option.{unwrap_or}
 use Rattle.std.specs.Global.{Vec}
@@ -8,8 +8,7 @@ use Rattle.oci_manifest.specs.Subject.{HasSubject}
 use Rattle.oci_store.specs.Graph.{Node}
 use Rattle.oci_store.specs.Tags.{Tags}
 use Rattle.oci_layout.specs.Blobs.{blob_at, blob_path}
-use Rattle.oci_layout.specs.Crash.{OnlySettles}
-use Rattle.oci_layout.specs.Device.{Device}
+use Rattle.oci_layout.specs.Device.{Device, Same}
 use Rattle.oci_layout.specs.Files.{IsLayout}
 use Rattle.oci_layout.specs.Index.{layout_file}
 use Rattle.oci_layout.specs.Layout.{LayoutState, OnlyFiles, SameMemory}
@@ -17,31 +16,33 @@ use Rattle.oci_layout.specs.Subjects.{AreRemembered}
 use Rattle.oci_layout.proofs.Stored.{stored-same, IsSound-same}
 
 -- what a layout keeps true stays true
-pub IsLayout-settle : (old new : Device) (graph : List Node) (tags : Tags) → OnlySettles old new → IsLayout old graph tags → IsLayout new graph tags
-IsLayout-settle old new graph tags only is = record {
+pub IsLayout-same : (old new : Device) (graph : List Node) (tags : Tags) → (new.is_honest → old.is_honest) → (old.is_honest → Same old.file new.file) → IsLayout old graph tags → IsLayout new graph tags
+IsLayout-same old new graph tags was same is = record {
   names = is.names;
-  has_layout_file = λ honest. (let h = only.honest.1 honest in
+  has_layout_file = λ honest. (let h = was honest in
       let layout = is.has_layout_file h in
-      record { bytes = layout.bytes; is_there = only.files h layout_file ∙ layout.is_there; version = layout.version });
+      record { bytes = layout.bytes; is_there = same h layout_file ∙ layout.is_there; version = layout.version });
 }
 
-pub AreRemembered-settle : (old new : Device) (graph : List Node) (found : Option (Vec (Descriptor × Descriptor))) → OnlySettles old new → AreRemembered old graph found → AreRemembered new graph found
-AreRemembered-settle old new graph None only were = tt
-AreRemembered-settle old new graph (Some pairs) only were = λ honest k subject.
-    (let h = only.honest.1 honest in
-    let same : blob_at new.file k.digest ≡ blob_at old.file k.digest = ap (λ (o : Option (List ℕ)). unwrap_or o []) (only.files h (blob_path k.digest)) in
+pub AreRemembered-same : (old new : Device) (graph : List Node) (found : Option (Vec (Descriptor × Descriptor))) → (new.is_honest → old.is_honest) → (old.is_honest → Same old.file new.file)
+    → AreRemembered old graph found → AreRemembered new graph found
+AreRemembered-same old new graph None was files were = tt
+AreRemembered-same old new graph (Some pairs) was files were = λ honest k subject.
+    (let h = was honest in
+    let same : blob_at new.file k.digest ≡ blob_at old.file k.digest = ap (λ (o : Option (List ℕ)). unwrap_or o []) (files h (blob_path k.digest)) in
     let each = were h k subject in (
       λ at. (let s = each.0 at in (s.0, subst (λ (bytes : List ℕ). HasSubject (kind_of k.media_type) bytes subject) (sym same) s.1)),
       λ s. each.1 (s.0, subst (λ (bytes : List ℕ). HasSubject (kind_of k.media_type) bytes subject) same s.1),
     ))
 
 -- and it has the same in memory, and its contents
-pub OnlyFiles-settle : {D : Type 0} (device : D → Device) (old new : LayoutState D) → SameMemory old new → OnlySettles (device old.dir) (device new.dir) → OnlyFiles device old new
-OnlyFiles-settle device old new memory only =
+pub OnlyFiles-same : {D : Type 0} (device : D → Device) (old new : LayoutState D) → SameMemory old new → ((device old.dir).is_honest → (device new.dir).is_honest)
+    → ((device old.dir).is_honest → Same (device old.dir).file (device new.dir).file) → OnlyFiles device old new
+OnlyFiles-same device old new memory honest same =
     let was = device old.dir in
     let is = device new.dir in
     record {
       memory = memory;
-      contents = λ honest. stored-same was.file is.file old.graph (only.files honest);
-      sound = rw memory.graph (λ sound. IsSound-same was.is_honest is.is_honest was.file is.file old.graph only.honest.0 (only.files sound.is_honest) sound);
+      contents = λ h. stored-same was.file is.file old.graph (same h);
+      sound = rw memory.graph (λ sound. IsSound-same was.is_honest is.is_honest was.file is.file old.graph honest (same sound.is_honest) sound);
     }

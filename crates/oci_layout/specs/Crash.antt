@@ -4,7 +4,9 @@
 use Rattle.std.specs.Prelude.{◌≡◌, ◌↔◌, ◌⊎◌, ℕ, List, false, true, Option, Some, Result, IsSome, OnOk, IsErrOf}
 use Rattle.std.specs.List.{All}
 use Rattle.std.specs.Str.{bytes_eq}
+use Rattle.oci_manifest.specs.Descriptor.{Descriptor}
 use Rattle.oci_store.specs.Graph.{Node}
+use Rattle.oci_store.specs.Keyed.{has_key}
 use Rattle.oci_layout.specs.Blobs.{blob_path}
 use Rattle.oci_layout.specs.Device.{Device, File, Puts, Same, AfterPuts}
 use Rattle.oci_layout.specs.Index.{index_file, layout_file}
@@ -57,14 +59,18 @@ pub record IsReplaced (old new : Device) (path bytes : List ℕ) (answer : Resul
   -- a crash leaves what it could leave before, or the new bytes, and no more of any other file
   pub left : old.is_honest → OldOrNew old new path bytes
   pub other : old.is_honest → NoMoreBut old new path
-  -- besides its files only the directory's count of failed puts may change
+  -- a replacement that succeeded left no draft and removed none
+  pub draft : OnOk answer (old.is_honest → Same old.draft new.draft)
+  -- besides its files and drafts only the directory's count of failed puts may change
   pub device : AfterPuts old new (IsErrOf answer dir.Failed)
 
 -- nothing changed but what a crash may leave, and that is no more than before
 pub record OnlySettles (old new : Device) : Type 0 where
   pub files : old.is_honest → Same old.file new.file
+  pub draft : old.is_honest → Same old.draft new.draft
   pub no_more : old.is_honest → NoMore old new
   pub honest : old.is_honest ↔ new.is_honest
+  pub link : new.link ≡ old.link
   pub reads : new.fails_reads ≡ old.fails_reads
   pub failures : new.failures ≡ old.failures
 
@@ -85,6 +91,10 @@ pub record Keeps (dir : Device) (file : File) (graph : List Node) : Type 0 where
   pub layout : StaysAt dir file layout_file
   pub index : StaysAt dir file index_file
   pub blobs : All (λ (n : Node). StaysAt dir file (blob_path n.0.digest)) graph
+
+-- a crash still leaves the file of each held key as it is, if it did before
+abbrev pub KeepsSettled : Device → Device → List Node → Type 0
+KeepsSettled old new graph = old.is_honest → (k : Descriptor) → has_key graph k ≡ true → IsSettled old (blob_path k.digest) → IsSettled new (blob_path k.digest)
 
 -- a put of these bytes at the path spares these files of these keys: each key has another file, or the
 -- same bytes in it

@@ -6,7 +6,7 @@ use Rattle.oci_layout.specs.Files.{HasFiles}
 use Rattle.oci_layout.specs.Index.{layout_file, index_file, empty_index_text, HasFreshTexts}
 use Rattle.oci_layout.specs.Lasts.{Lasts}
 use Rattle.oci_layout.specs.Layout.{no_index}
-use Rattle.oci_layout.specs.Prunable.{IsReadFault}
+use Rattle.oci_layout.specs.Prunable.{IsDirFault}
 use Rattle.oci_layout.specs.Refusal.{IsCreateFault}
 use Rattle.oci_layout.specs.declared.fault.LayoutFault.{LayoutFault}
 use Rattle.oci_layout.specs.declared.fault.LayoutFault.TheVariants as fault
@@ -24,7 +24,7 @@ IsFree file = (file index_file ≡ None) ⊎ (file index_file ≡ Some empty_ind
 -- index cannot be read
 abbrev pub IsNotFree : Device → LayoutFault → Type 0
 IsNotFree dir fault.NoLayoutFile = dir.is_honest → IsFree dir.file → ⊥
-IsNotFree dir e = IsReadFault dir e
+IsNotFree dir e = IsDirFault dir e
 
 -- an empty layout was created in a directory
 pub record IsCreated (old new : Device) : Type 0 where

@@ -7,7 +7,7 @@ use Rattle.oci_manifest.specs.declared.kind.Kind.TheVariants.{Leaf}
 use Rattle.oci_store.specs.Graph.{Node}
 use Rattle.oci_store.specs.Tags.{Tags}
 use Rattle.oci_layout.specs.Blobs.{IsSound, blob_path, stored}
-use Rattle.oci_layout.specs.Device.{Device, SameDevice, Touches}
+use Rattle.oci_layout.specs.Device.{Device, Same, SameDevice, Touches}
 use Rattle.oci_layout.specs.Entries.{ReadIndex, nothing_read}
 
 -- what a layout remembers of the index that it was opened from
@@ -60,13 +60,16 @@ pub record OnlyFiles {D : Type 0} (device : D → Device) (old new : LayoutState
 pub record OnlyFile {D : Type 0} (device : D → Device) (old new : LayoutState D) (path : List ℕ) : Type 0 where
   pub other : (device old.dir).is_honest → Touches (device old.dir).file (device new.dir).file path
   pub files : OnlyFiles device old new
+  pub draft : (device old.dir).is_honest → Same (device old.dir).draft (device new.dir).draft
   -- besides its files the directory is the same
   pub same : SameDevice (device old.dir) (device new.dir)
 
--- a push changed no file but the one of its digest, and what was opened stays
+-- a push changed no file but the one of its digest, and what was opened stays; the directory's reads
+-- may fail exactly if they could before
 pub record OnlyBlob {D : Type 0} (device : D → Device) (old new : LayoutState D) (digest : List ℕ) : Type 0 where
   pub files : (device old.dir).is_honest → Touches (device old.dir).file (device new.dir).file (blob_path digest)
   pub honest : (device old.dir).is_honest ↔ (device new.dir).is_honest
+  pub reads : (device new.dir).fails_reads ≡ (device old.dir).fails_reads
   pub opened : new.opened ≡ old.opened
 
 -- only tags changed

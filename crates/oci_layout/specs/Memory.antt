@@ -1,9 +1,10 @@
 -- A directory in memory, and its fuse.
-use Rattle.std.specs.Prelude.{◌≡◌, ◌-◌, ◌/◌, ◌⊎◌, ℕ, List, [], length, take, Option, Some, IsSome, option_map, Result, Ok, Err, String, ⊤, false, refl}
+use Rattle.std.specs.Prelude.{◌≡◌, ◌↔◌, ◌-◌, ◌/◌, ◌⊎◌, ℕ, List, [], length, take, Option, Some, None, IsSome, option_map, Result, Ok, Err, OnOk, OnErr, String, ⊤, false, refl}
 use Rattle.std.specs.declared.alloc.Global.{Global}
 use Rattle.std.proofs.Common.{inl}
 use Rattle.std.specs.BTreeMap.{BTreeMap, get_by_text}
-use Rattle.oci_layout.specs.Device.{Device, File, Puts, Same}
+use Rattle.oci_digest.specs.declared.fault.NoMemory.{NoMemory}
+use Rattle.oci_layout.specs.Device.{Device, File, Puts, Same, SameDevice}
 use Rattle.oci_layout.specs.declared.fault.DirFault.{DirFault}
 use Rattle.oci_layout.specs.declared.fault.DirFault.TheVariants as dir
 use Rattle.oci_layout.specs.declared.mem_dir.MemDir.{MemDir}
@@ -25,6 +26,8 @@ MayLeave d path left = (left ≡ files_of d.files path) ⊎ (left ≡ files_of d
 abbrev pub device_of : MemDir → Device
 device_of d = record {
   file = files_of d.files;
+  draft = files_of d.drafts;
+  link = None;
   may_leave = MayLeave d;
   is_honest = ⊤;
   stays = λ honest path. inl refl;
@@ -32,11 +35,23 @@ device_of d = record {
   failures = d.failures;
 }
 
--- a directory without files that no put failed in, with this fuse
+-- a directory without files and drafts that no put failed in, with this fuse
 pub record IsNew (d : MemDir) (fuse : Option ℕ) : Type 0 where
   pub empty : d.files.entries ≡ []
+  pub drafts : d.drafts.entries ≡ []
   pub fuse_is : d.fuse ≡ fuse
   pub failures : d.failures ≡ 0
+
+-- a draft was left in a directory, by the result
+pub record LeavesDraft (old new : Device) (path bytes : List ℕ) (answer : Result Unit NoMemory) : Type 0 where
+  -- it is there, and no other draft changed
+  pub left : OnOk answer (Puts old.draft new.draft path bytes)
+  -- if memory ran out, no draft changed
+  pub refused : OnErr answer (Same old.draft new.draft)
+  -- whatever the result, no file changed, nor what a crash may leave of one
+  pub files : Same old.file new.file
+  pub stays : (q : List ℕ) (left : Option (List ℕ)) → new.may_leave q left ↔ old.may_leave q left
+  pub device : SameDevice old new
 
 -- a put succeeds only if the fuse, if there is one, still allows it, and then it allows one less; a
 -- put that the fuse stops leaves the first half of its bytes; if memory ran out, the fuse is

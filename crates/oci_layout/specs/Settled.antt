@@ -11,11 +11,12 @@ use Rattle.oci_layout.specs.Index.{index_file, layout_file}
 use Rattle.oci_layout.specs.declared.fault.DirFault.{DirFault}
 use Rattle.oci_layout.specs.declared.fault.DirFault.TheVariants as dir
 
--- what became of a directory, besides its files, where files were settled and replaced up to the
+-- what became of a directory, besides its files and drafts, where files were settled and replaced up to the
 -- first call that failed
 pub record AfterSettling (old new : Device) (answer : Result Unit DirFault) : Type 0 where
   -- it is as honest as before, and its reads may fail exactly if they could before
   pub honest : old.is_honest ↔ new.is_honest
+  pub link : new.link ≡ old.link
   pub reads : new.fails_reads ≡ old.fails_reads
   -- a file was not settled, or a replacement failed, which is counted
   pub failed : IsErrOf answer dir.Failed → ((old.fails_reads ≡ true) × (new.failures ≡ old.failures)) ⊎ IsRaised old.failures new.failures
@@ -48,6 +49,7 @@ pub record IsSaved (old new : Device) (nodes : List Node) (bytes : List ℕ) (an
   pub whole : old.is_honest → Same old.file new.file ⊎ Puts old.file new.file index_file bytes
   pub left : old.is_honest → (left : File) → IsLeft new left → IsLeft old left ⊎ LeftSaved old nodes bytes left
   pub settled : OnOk answer (old.is_honest → (left : File) → IsLeft new left → LeftSaved old nodes bytes left)
+  pub draft : OnOk answer (old.is_honest → Same old.draft new.draft)
   pub device : AfterSettling old new answer
 
 -- the effect of putting a file and then settling files, by the result

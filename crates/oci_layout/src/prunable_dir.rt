@@ -1,12 +1,12 @@
-ghost use Rattle.std.specs.Prelude.{◌≡◌, None, ⊤};
-ghost use Rattle.std.specs.List.{All};
+ghost use Rattle.std.specs.Prelude.{◌≡◌, option_map, ⊤};
 ghost use Rattle.oci_layout.specs.Device.{IsRead};
-ghost use Rattle.oci_layout.specs.Prunable.{by_name, IsRemoval, ListsFolder};
+ghost use Rattle.oci_layout.specs.Prunable.{by_name, IsDraftRemoval, IsRemoval, ListsFiles, ListsFolder};
 
 use crate::dir::Dir;
 use crate::fault::DirFault;
 
-/// A directory whose files can be listed and removed.
+/// A directory whose files and drafts can be listed and removed. A draft is no file: reads find none
+/// at its path, and `list` leaves it out.
 pub trait PrunableDir: Dir {
     /// Returns the names of the files directly in a folder, each with its length in bytes, in no
     /// order. Leaves out subfolders, and names that are not UTF-8. A link counts as a file of its
@@ -29,9 +29,8 @@ pub trait PrunableDir: Dir {
     /// - 90 `Failed` if a folder or a draft cannot be read.
     /// - 91 `Memory` if memory runs out.
     fn leftovers(&self) -> Result<Vec<(String, u64)>, DirFault>
-        ensures { IsRead (Self.device self.now) (λ drafts.
-            All (λ draft. (Self.device self.now).file draft.0 ≡ None) (by_name drafts.items))
-            result };
+        ensures { IsRead (Self.device self.now)
+            (λ drafts. ListsFiles (Self.device self.now).draft (by_name drafts.items)) result };
 
     /// Returns the first of `blobs`, `blobs/sha256` and `blobs/sha512` that is a link.
     ///
@@ -40,13 +39,10 @@ pub trait PrunableDir: Dir {
     /// - 90 `Failed` if that cannot be found out.
     /// - 91 `Memory` if memory runs out.
     fn linked(&self) -> Result<Option<&'static str>, DirFault>
-        ensures { IsRead (Self.device self.now) (λ _. ⊤) result }
-    {
-        Ok(None)
-    }
+        ensures { IsRead (Self.device self.now)
+            (λ found. option_map (λ path. path.now) found ≡ (Self.device self.now).link) result };
 
-    /// Removes a file, or a link itself. Returns false if there is none, or if it is a draft that a
-    /// process is still writing.
+    /// Removes a file, or a link itself. Returns false if there is none.
     ///
     /// # Errors
     ///
@@ -54,6 +50,16 @@ pub trait PrunableDir: Dir {
     /// - 91 `Memory` if memory runs out.
     fn remove(&mut self, path: &str) -> Result<bool, DirFault>
         ensures { IsRemoval (Self.device self.old) (Self.device self.new) path.now result };
+
+    /// Removes the draft at a path that a killed process left. Returns false if there is none, or
+    /// if a process is still writing it.
+    ///
+    /// # Errors
+    ///
+    /// - 90 `Failed` if it cannot be removed.
+    /// - 91 `Memory` if memory runs out.
+    fn remove_draft(&mut self, path: &str) -> Result<bool, DirFault>
+        ensures { IsDraftRemoval (Self.device self.old) (Self.device self.new) path.now result };
 
     /// Waits until a file and its name are on the disk, or that there is no such file. Changes
     /// nothing.

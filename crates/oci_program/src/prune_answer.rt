@@ -42,8 +42,8 @@ struct RemovedFile {
 }
 
 impl PruneAnswer {
-    /// Returns what the prune of a plan removed: the keys of the plan, and those of its files and
-    /// drafts that went.
+    /// Returns what the prune of a plan removed: the keys of the plan, if the index is saved, and those
+    /// of its files and drafts that went. If it is not saved, all keys are kept.
     ///
     /// # Errors
     ///
@@ -56,6 +56,10 @@ impl PruneAnswer {
             drafts,
         } = plan;
         let mut gone = Vec::new(alloc);
+        let (kept, removed) = match pruned.saved {
+            Ok(()) => (kept.len(), removed),
+            Err(_) => (kept.len().saturating_add(removed.len()), Vec::new(alloc)),
+        };
         add_files(alloc, &files, &pruned.files, &mut gone)?;
         add_drafts(drafts, &pruned.drafts, &mut gone)?;
         gone.sort_by(|one, other| one.path.cmp(&other.path))?;
@@ -63,7 +67,7 @@ impl PruneAnswer {
             removed,
             bytes: sum_of_lengths(&gone),
             files: gone,
-            kept: kept.len(),
+            kept,
         })
     }
 
@@ -74,6 +78,7 @@ impl PruneAnswer {
     /// Returns [`NoMemory`] if an allocation fails.
     pub fn planned(alloc: Global, plan: PrunePlan) -> Result<PruneAnswer, NoMemory> {
         let pruned = Pruned {
+            saved: Ok(()),
             files: vec![in alloc; true; plan.files.len()]?,
             drafts: vec![in alloc; true; plan.drafts.len()]?,
             fault: None,
@@ -158,8 +163,8 @@ fn sum_of_lengths(files: &[RemovedFile]) -> Sum {
 ///
 /// # Errors
 ///
-/// - 79 `NotRemoved` if that is the fault. The answer is printed and `out` is flushed before.
-/// - Any other fault of the prune. Nothing is printed.
+/// - The fault of the prune, such as 79 `NotRemoved`, or 74 `Device` if the index is not saved. The
+///   answer is printed and `out` is flushed before, unless memory ran out.
 /// - 94 `Output` if `out` cannot be written.
 /// - Out of memory, at any point.
 pub fn print_answer_with_fault<T: Display + Serialize, W: Write>(
@@ -174,11 +179,11 @@ pub fn print_answer_with_fault<T: Display + Serialize, W: Write>(
 {
     match fault {
         None => print_answer(alloc, answer, form, out),
-        Some(PruneFault::NotRemoved(path)) => {
+        Some(PruneFault::Memory) => Err(ProgramFault::Prune(PruneFault::Memory)),
+        Some(fault) => {
             print_answer(alloc, answer, form, out)?;
             out.flush().map_err(ProgramFault::of_output)?;
-            Err(ProgramFault::Prune(PruneFault::NotRemoved(path)))
+            Err(ProgramFault::Prune(fault))
         }
-        Some(fault) => Err(ProgramFault::Prune(fault)),
     }
 }

@@ -1,5 +1,5 @@
 -- What is left of a graph when only the kept keys stay.
-use Rattle.std.proofs.Common.{◌≡◌, ℕ, Bool, true, false, cond, ◌⊎◌, inl, inr, List, [], ◌∷◌, get_or, filter, Option, Some, None, is_some, refl, sym, ap, subst, ◌∙◌}
+use Rattle.std.proofs.Common.{◌≡◌, ℕ, Bool, true, false, cond, ◌⊎◌, inl, inr, List, [], ◌∷◌, get_or, length, nat_eq, filter, Option, Some, None, is_some, refl, sym, ap, subst, ◌∙◌}
 use Rattle.std.specs.Prelude.{Contains}
 use Rattle.std.specs.BTreeSet.{BTreeSet, contains}
 use Rattle.std.specs.List.{All}
@@ -118,6 +118,10 @@ closed_either graph now roots set distinct safe (inl same) closed = subst (λ (g
 closed_either graph now roots set distinct safe (inr left) closed = subst (λ (g : List Node). IsClosed g) (sym left) (closed_left graph roots set distinct safe closed)
 
 -- ---- where no key goes
+
+-- a list is not empty that was found to have elements
+pub not_empty : {X : Type 0} (xs : List X) (count : ℕ) (is_empty : Bool) → count ≡ length xs → is_empty ≡ nat_eq count 0 → is_empty ≡ false → xs ≡ [] → ⊥
+not_empty xs count is_empty counted is never none = cc (sym never ∙ is ∙ ap (λ (n : ℕ). nat_eq n 0) (counted ∙ ap length none))
 
 pub held_from_node : (graph : List Node) (n : Node) → Contains graph n → has_key graph n.0 ≡ true
 held_from_node [] n h = absurd (no_element n h)

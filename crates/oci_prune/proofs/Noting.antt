@@ -1,18 +1,17 @@
 -- The first fault of several removals.
-use Rattle.std.proofs.Common.{◌≡◌, ℕ, ◌+◌, ◌<◌, ◌⊎◌, inl, inr, List, [], ◌∷◌, ◌++◌, length, take, get_or, Option, Some, None, String, Global, string_bytes, refl, sym, subst, ◌∙◌}
+use Rattle.std.proofs.Common.{◌≡◌, ℕ, Bool, true, false, ◌+◌, ◌<◌, ◌⊎◌, inl, inr, List, [], ◌∷◌, ◌++◌, length, take, get_or, Option, Some, None, String, Global, string_bytes, refl, sym, subst, ◌∙◌}
 use Rattle.std.specs.Prelude.{IfSome}
 use Rattle.std.proofs.lemmas.Option.{IfSome_then}
-use Rattle.oci_layout.specs.Blobs.{blob_path}
 use Rattle.oci_layout.specs.Device.{Device}
 use Rattle.oci_layout.specs.Prunable.{by_name}
-use Rattle.oci_prune.specs.Pruned.{IsPathOf, IsDraftIn, IsPlanned}
+use Rattle.oci_prune.specs.Pruned.{IsDraftIn, IsPathAmong, IsPlanned, IsPlannedUnheld}
 use Rattle.oci_prune.specs.Refusal.{IsRemovalFault, Notes}
 use Rattle.oci_prune.specs.declared.fault.PruneFault.{PruneFault}
 use Rattle.oci_prune.specs.declared.fault.PruneFault.TheVariants as fault
 use Rattle.oci_prune.specs.declared.plan.PrunedFile.{PrunedFile}
 use Rattle.oci_prune.specs.declared.plan.PrunePlan.{PrunePlan}
 use Rattle.oci_prune.proofs.Elements.{next_element}
-use Rattle.oci_prune.proofs.Sparing.{Paths, Drafts, by_name-next, path_later, path_here, draft_later, draft_here}
+use Rattle.oci_prune.proofs.Sparing.{Paths, Drafts, IsPathIf, by_name-next, among_here, among_later, draft_here, draft_later, path_among}
 
 -- the fault of a removal at one of some paths, in a directory that fails as another
 pub removal_weaker : (a b : Device) (P Q : Paths) (e : PruneFault) → b.fails_reads ≡ a.fails_reads → ((path : List ℕ) → P path → Q path) → IsRemovalFault b P e → IsRemovalFault a Q e
@@ -49,20 +48,27 @@ pub only_new : (dir : Device) (P : Paths) (new : Option PruneFault) → Notes di
 only_new dir P None notes = tt
 only_new dir P (Some e) notes = elim notes.cause [ inl never ↦ cc never | inr refused ↦ refused ]
 
+unheld_planned : (plan : PrunePlan) (path : List ℕ) → IsPlannedUnheld plan path → IsPlanned plan path
+unheld_planned plan path (inl h) = inl (path_among false plan.files.items path h)
+unheld_planned plan path (inr h) = inr h
+
+-- the first fault of a prune whose index is not saved is that of a planned path
+pub unheld_fault : (dir : Device) (plan : PrunePlan) (noted : Option PruneFault) → Notes dir (IsPlannedUnheld plan) None noted → IfSome noted (IsRemovalFault dir (IsPlanned plan))
+unheld_fault dir plan noted notes =
+    IfSome_then noted (only_new dir (IsPlannedUnheld plan) noted notes) (λ e h. removal_weaker dir dir (IsPlannedUnheld plan) (IsPlanned plan) e refl (unheld_planned plan) h)
+
 -- the first fault of a prune is that of a planned path
-pub planned_fault : (old mid last : Device) (plan : PrunePlan) (noted new : Option PruneFault) → mid.fails_reads ≡ old.fails_reads → last.fails_reads ≡ mid.fails_reads → Notes mid (IsPathOf plan.files.items) None noted → Notes last (IsDraftIn (by_name plan.drafts.items)) noted new
-    → IfSome new (IsRemovalFault old (IsPlanned plan))
-planned_fault old mid last plan noted new saved removed first second =
-    let all = notes_both mid last (IsPathOf plan.files.items) (IsDraftIn (by_name plan.drafts.items)) (IsPlanned plan) None noted new removed first second (λ path h. inl h) (λ path h. inr h) in
-    IfSome_then new (only_new mid (IsPlanned plan) new all) (λ e h. removal_weaker old mid (IsPlanned plan) (IsPlanned plan) e saved (λ path p. p) h)
+pub planned_fault : (old mid : Device) (plan : PrunePlan) (noted new : Option PruneFault) → mid.fails_reads ≡ old.fails_reads → Notes old (IsPlannedUnheld plan) None noted → Notes mid (IsPathAmong true plan.files.items) noted new → IfSome new (IsRemovalFault old (IsPlanned plan))
+planned_fault old mid plan noted new reads first second =
+    only_new old (IsPlanned plan) new (notes_both old mid (IsPlannedUnheld plan) (IsPathAmong true plan.files.items) (IsPlanned plan) None noted new reads first second (unheld_planned plan) (λ path h. inl (path_among true plan.files.items path h)))
 
 -- ---- the loops
 
-pub notes_file : (a b : Device) (files : List PrunedFile) (i : ℕ) (f : PrunedFile) (old mid new : Option PruneFault) → i < length files → f ≡ get_or files i f → b.fails_reads ≡ a.fails_reads → Notes a (IsPathOf (take i files)) old mid
-    → Notes b (λ (path : List ℕ). blob_path f.digest ≡ path) mid new → Notes a (IsPathOf (take (i + 1) files)) old new
-notes_file a b files i f old mid new lt is reads first second =
-    subst (λ (fs : List PrunedFile). Notes a (IsPathOf fs) old new) (sym (next_element files i f lt is))
-    (notes_both a b (IsPathOf (take i files)) (λ (path : List ℕ). blob_path f.digest ≡ path) (IsPathOf (take i files ++ f ∷ [])) old mid new reads first second (path_later (take i files) f) (path_here (take i files) f))
+pub notes_file : (a b : Device) (is_held : Bool) (files : List PrunedFile) (i : ℕ) (f : PrunedFile) (old mid new : Option PruneFault) → i < length files → f ≡ get_or files i f → b.fails_reads ≡ a.fails_reads → Notes a (IsPathAmong is_held (take i files)) old mid
+    → Notes b (IsPathIf is_held f) mid new → Notes a (IsPathAmong is_held (take (i + 1) files)) old new
+notes_file a b is_held files i f old mid new lt is reads first second =
+    subst (λ (fs : List PrunedFile). Notes a (IsPathAmong is_held fs) old new) (sym (next_element files i f lt is))
+    (notes_both a b (IsPathAmong is_held (take i files)) (IsPathIf is_held f) (IsPathAmong is_held (take i files ++ f ∷ [])) old mid new reads first second (among_later is_held (take i files) f) (among_here is_held (take i files) f))
 
 pub notes_draft : (a b : Device) (drafts : Drafts) (i : ℕ) (d : String Global × ℕ) (old mid new : Option PruneFault) → i < length drafts → d ≡ get_or drafts i d → b.fails_reads ≡ a.fails_reads → Notes a (IsDraftIn (by_name (take i drafts))) old mid
     → Notes b (λ (path : List ℕ). string_bytes d.0 ≡ path) mid new → Notes a (IsDraftIn (by_name (take (i + 1) drafts))) old new

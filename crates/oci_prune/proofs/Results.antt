@@ -1,5 +1,5 @@
 -- What a prune has done when it ends.
-use Rattle.std.proofs.Common.{◌≡◌, ◌≢◌, ℕ, Bool, true, false, inl, inr, List, length, get_or, filter, Option, Some, None, is_some, refl, sym, ap, subst, ◌∙◌, map, not, take, zero, suc, [], ◌∷◌, Less}
+use Rattle.std.proofs.Common.{◌≡◌, ◌≢◌, ℕ, Bool, true, false, inl, inr, List, length, get_or, filter, Option, Some, None, is_some, refl, sym, ap, subst, ◌∙◌, map, not, take, replicate, zero, suc, [], ◌∷◌, ◌<◌, ◌⊎◌, Less}
 use Rattle.std.specs.Prelude.{◌↔◌, Contains, IsTrue}
 use Rattle.std.specs.BTreeSet.{BTreeSet, contains}
 use Rattle.std.specs.List.{All}
@@ -8,12 +8,13 @@ use Rattle.std.specs.Cmp.Lexicographic.{slice_cmp}
 use Rattle.std.specs.List.{slice_get}
 use Rattle.std.specs.List.Sorted.{IsStrictlySortedBy}
 use Rattle.std.specs.Ordering.{nat_cmp, is_eq}
-use Rattle.std.proofs.lemmas.List.Elements.{All-nil, All-cons, All-contains, All-weaker, Contains-get_or}
+use Rattle.std.proofs.lemmas.List.Elements.{All-nil, All-cons, All-contains, All-head, All-tail, Contains-get_or}
 use Rattle.std.proofs.lemmas.Map.Keys.{sorted_tail}
 use Rattle.std.proofs.lemmas.Map.Text.{is_eq-slice_cmp}
 use Rattle.std.proofs.lemmas.Map.Views.{All-after_first}
+use Rattle.std.proofs.lemmas.Bool.{cases_Bool}
+use Rattle.std.proofs.lemmas.Option.{same_Some, slice_get-get_or}
 use Rattle.std.proofs.lemmas.Slice.Eq.{bytes_eq-Decides}
-use Rattle.oci_digest.specs.Digest.{IsDigest}
 use Rattle.oci_manifest.specs.Descriptor.{Descriptor, key_cmp}
 use Rattle.oci_store.specs.Content.{Entry}
 use Rattle.oci_store.specs.Graph.{IsEdge, Node}
@@ -21,16 +22,18 @@ use Rattle.oci_store.specs.Keyed.{has_key}
 use Rattle.oci_store.specs.Tags.{Tags}
 use Rattle.oci_store.proofs.Lookups.{has_key-from_Contains}
 use Rattle.oci_layout.specs.Blobs.{blob_path, stored}
-use Rattle.oci_layout.specs.Device.{Device, File}
+use Rattle.oci_layout.specs.Device.{Device, File, Touches}
 use Rattle.oci_layout.specs.Index.{index_file, HasIndex}
 use Rattle.oci_layout.specs.Layout.{OpenedIndex}
 use Rattle.oci_layout.proofs.Files.{index_blob}
+use Rattle.oci_layout.proofs.Prunable.{stored-apart, IsApart, IsSound-apart}
 use Rattle.oci_layout.proofs.Stored.{blob_path-injective}
 use Rattle.oci_prune.specs.Plan.{AreUnneeded, HasDigestIn, IsSafe, NeedsFile}
-use Rattle.oci_prune.specs.Pruned.{is_gone, AreThere, AreApart, kept_of, IsPathOf, Spares, AreSameBlobs, HasOnlyNeeded}
+use Rattle.oci_prune.specs.Pruned.{is_gone, kept_of, AllAmong, AreApart, HasOnlyNeeded, IsGone, IsNone, IsOfNoKey, IsPathAmong, IsPathOf, IsThere, IsTouchedUnsaved, Spares}
 use Rattle.oci_prune.specs.declared.plan.PrunedFile.{PrunedFile}
+use Rattle.oci_prune.specs.declared.plan.PrunePlan.{PrunePlan}
 use Rattle.oci_prune.proofs.Elements.{no_element, Contains-head, Contains-tail, Contains-cons}
-use Rattle.oci_prune.proofs.Sparing.{map_same}
+use Rattle.oci_prune.proofs.Sparing.{apart_both, map_same, path_among, spares_both, spares_index}
 use Rattle.oci_prune.proofs.Leaving.{kept_value, kept_from_left, stored_left, decide_digest}
 
 abbrev Set : Type 0
@@ -45,10 +48,25 @@ unneeded_left file graph now set files are left place d lt at e within same =
     let kept = kept_from_left set graph k (subst (λ (g : List Node). has_key g k ≡ true) left held) in
     ((are.each f).0 (Contains-get_or files place d lt)).unneeded (k, inl kept, same)
 
-pub contents_left : (old mid last new : File) (graph saved rest now : List Node) (set : Set) → now ≡ rest → rest ≡ saved → saved ≡ kept_of set graph → stored new rest ≡ stored last rest → stored last saved ≡ stored mid saved → stored mid saved ≡ stored old saved
-    → stored new now ≡ filter (λ (e : Entry). contains key_cmp set e.0) (stored old graph)
-contents_left old mid last new graph saved rest now set e3 e2 e1 third second first =
-    ap (stored new) e3 ∙ third ∙ ap (stored last) e2 ∙ second ∙ first ∙ ap (stored old) e1 ∙ stored_left old set graph
+-- no held key has a file that is not held
+pub unheld_of_no_key : (file : File) (graph : List Node) (set : Set) (files : List PrunedFile) → AreUnneeded file graph set files → AllAmong false (IsOfNoKey graph) files
+unheld_of_no_key file graph set files are place d lt flag at e within same =
+    let f = get_or files place d in
+    let k = get_or (keys_of graph) at e in
+    let held : has_key graph k ≡ true = has_key-from_Contains graph k (Contains-get_or (keys_of graph) at e within) in
+    cc (sym flag ∙ ((are.each f).0 (Contains-get_or files place d lt)).held.1 (k, held, same))
+
+-- after the removal of files that no key has and the save, no key that is left needs a file that is to go
+pub unneeded_after : (file : File) (graph same left : List Node) (set : Set) (files listed : List PrunedFile) → AreUnneeded file graph set files → same ≡ graph → left ≡ kept_of set same → listed ≡ files → AllAmong true (IsOfNoKey left) listed
+unneeded_after file graph same left set files listed are first second is =
+    subst (λ (fs : List PrunedFile). AllAmong true (IsOfNoKey left) fs) (sym is)
+    (λ place d lt flag. unneeded_left file graph left set files are (second ∙ ap (λ (g : List Node). kept_of set g) first) place d lt)
+
+-- the contents after the removal of files that no key has, the save, and the removal of the others
+pub contents_left : (a b c d : File) (graph same kept now : List Node) (set : Set) → now ≡ kept → kept ≡ kept_of set same → same ≡ graph → stored d kept ≡ stored c kept → stored c kept ≡ stored b kept → stored b graph ≡ stored a graph
+    → stored d now ≡ filter (λ (e : Entry). contains key_cmp set e.0) (stored a graph)
+contents_left a b c d graph same kept now set e3 e2 e1 third second first =
+    ap (stored d) e3 ∙ third ∙ second ∙ ap (stored b) e2 ∙ stored_left b set same ∙ ap (λ (es : List Entry). filter (λ (e : Entry). contains key_cmp set e.0) es) (ap (stored b) e1 ∙ first)
 
 not_index : (digest : List ℕ) → index_file ≡ blob_path digest → ⊥
 not_index digest is = cc (sym (index_blob digest) ∙ (bytes_eq-Decides index_file (blob_path digest)).1 is)
@@ -60,10 +78,30 @@ flagged graph digest =
       | inr never ↦ (false, (λ t. cc t, λ h. absurd (never h)))
     ]
 
-pub only_needed : (old mid last new : Device) (graph saved rest now : List Node) (roots : List Descriptor) (set : Set) (files : List PrunedFile) → old.is_honest → IsSafe graph roots set → AreUnneeded old.file graph set files → now ≡ kept_of set graph
-    → Spares old mid saved (λ (path : List ℕ). index_file ≡ path) → Spares mid last rest (IsPathOf files) → All (λ (f : PrunedFile). last.file (blob_path f.digest) ≡ None) files → AreSameBlobs last new → HasOnlyNeeded new.file now
-only_needed old mid last new graph saved rest now roots set files honest safe are left first second gone same digest is never =
-    same.blobs (second.honest.0 (first.honest.0 honest)) digest is ∙ at (old.file (blob_path digest)) refl
+-- what a prune touches: the files that no key has, the index, and the other files
+pub changed_only : (a b c d : Device) (graph kept : List Node) (files : List PrunedFile) → a.is_honest → Spares a b graph (IsPathAmong false files) → Spares b c kept (λ (path : List ℕ). index_file ≡ path) → Spares c d kept (IsPathAmong true files)
+    → (path : List ℕ) → ((index_file ≡ path) ⊎ IsPathOf files path → ⊥) → d.file path ≡ a.file path
+changed_only a b c d graph kept files honest first second third path free =
+    let later = first.honest.0 honest in
+    third.other (second.honest.0 later) path (λ p. free (inr (path_among true files path p))) ∙ second.other later path (λ is. free (inl is)) ∙ first.other honest path (λ p. free (inr (path_among false files path p)))
+
+-- where the index is not saved after the removal of files that no key has, each key keeps its file
+pub spares_unsaved : (a b c : Device) (graph left : List Node) (plan : PrunePlan) → Spares a b graph (IsPathAmong false plan.files.items) → Spares b c left (λ (path : List ℕ). index_file ≡ path) → Spares a c graph (IsTouchedUnsaved plan)
+spares_unsaved a b c graph left plan first second =
+    spares_both a b c graph (IsPathAmong false plan.files.items) (λ (path : List ℕ). index_file ≡ path) (IsTouchedUnsaved plan) first
+    (spares_index b c graph touches (λ h. stored-apart b.file c.file index_file graph apart (touches h)) (λ sound. IsSound-apart b.is_honest c.is_honest b.file c.file index_file graph second.honest.0 apart (touches sound.is_honest) sound) second.honest second.reads)
+    (λ path p. inr p) (λ path is. inl is)
+  where
+    touches : b.is_honest → Touches b.file c.file index_file
+    touches h path apart_from = second.other h path (λ is. cc (sym apart_from ∙ (bytes_eq-Decides index_file path).1 is))
+
+    apart : All (IsApart index_file) graph
+    apart place d lt = index_blob (get_or graph place d).0.digest
+
+-- only the index and these files changed, and these files are gone
+pub only_needed : (old new : Device) (graph now : List Node) (roots : List Descriptor) (set : Set) (files : List PrunedFile) → IsSafe graph roots set → AreUnneeded old.file graph set files → now ≡ kept_of set graph
+    → ((path : List ℕ) → ((index_file ≡ path) ⊎ IsPathOf files path → ⊥) → new.file path ≡ old.file path) → All (IsGone new.file) files → HasOnlyNeeded new.file now
+only_needed old new graph now roots set files safe are left other gone digest is never = at (old.file (blob_path digest)) refl
   where
     free : old.file (blob_path digest) ≡ None → IsPathOf files (blob_path digest) → ⊥
     free none p =
@@ -79,28 +117,73 @@ only_needed old mid last new graph saved rest now roots set files honest safe ar
     unneeded : NeedsFile graph (λ (k : Descriptor). contains key_cmp set k ≡ true) digest → ⊥
     unneeded p = never (p.0, elim p.1 [ inl is ↦ inl (held_now p.0 is) | inr by ↦ inr (by.0, held_now by.0 by.1, edge_now by.0 p.0 by.1 by.2) ], p.2)
 
-    at : (found : Option (List ℕ)) → found ≡ old.file (blob_path digest) → last.file (blob_path digest) ≡ None
-    at None e = second.other (first.honest.0 honest) (blob_path digest) (free (sym e)) ∙ first.other honest (blob_path digest) (not_index digest) ∙ sym e
+    at : (found : Option (List ℕ)) → found ≡ old.file (blob_path digest) → new.file (blob_path digest) ≡ None
+    at None e = other (blob_path digest) (λ touched. elim touched [ inl is ↦ not_index digest is | inr p ↦ free (sym e) p ]) ∙ sym e
     at (Some bytes) e =
         let flag = flagged graph digest in
         let f : PrunedFile = record { digest = digest; length = length bytes; is_held = flag.0 } in
-        All-contains (λ (g : PrunedFile). last.file (blob_path g.digest) ≡ None) files f gone ((are.each f).1 (record { is_digest = is; there = (bytes, sym e, refl); unneeded = unneeded; held = flag.1 }))
+        All-contains (IsGone new.file) files f gone ((are.each f).1 (record { is_digest = is; there = (bytes, sym e, refl); unneeded = unneeded; held = flag.1 }))
 
--- the index is as it was saved
-pub index_stays : (mid last new : Device) (rest : List Node) (files : List PrunedFile) → mid.is_honest → Spares mid last rest (IsPathOf files) → AreSameBlobs last new → new.file index_file ≡ mid.file index_file
-index_stays mid last new rest files honest second same =
-    same.index (second.honest.0 honest) ∙ second.other honest index_file (λ p. not_index p.0.digest (sym p.2))
+-- the index is none of the files
+pub index_apart : (is_held : Bool) (files : List PrunedFile) → IsPathAmong is_held files index_file → ⊥
+index_apart is_held files p = not_index p.0.digest (sym p.3)
 
 pub has_index-stays : (old new : File) (graph now : List Node) (tags later : Tags) (opened left : OpenedIndex) → new index_file ≡ old index_file → now ≡ graph → later ≡ tags → left ≡ opened → HasIndex old graph tags opened → HasIndex new now later left
 has_index-stays old new graph now tags later opened left e g t o h = rw (g, t, o) (record { loose = h.loose; are_loose = h.are_loose; bytes = h.bytes; is_there = e ∙ h.is_there; is_index = h.is_index })
 
 -- ---- the flags of the files
 
-pub are_there : (old mid : Device) (graph saved : List Node) (set : Set) (files : List PrunedFile) → old.is_honest → AreUnneeded old.file graph set files → Spares old mid saved (λ (path : List ℕ). index_file ≡ path) → AreThere mid.file files
-are_there old mid graph saved set files honest are spares place d lt =
+pub are_there : (file : File) (graph : List Node) (set : Set) (files : List PrunedFile) → AreUnneeded file graph set files → All (IsThere file) files
+are_there file graph set files are place d lt = ap is_some (((are.each (get_or files place d)).0 (Contains-get_or files place d lt)).there.1)
+
+-- what is so of all files is so of those that are held or not
+pub among_all : (is_held : Bool) (is_so : PrunedFile → Type 0) (files : List PrunedFile) → All is_so files → AllAmong is_held is_so files
+among_all is_held is_so files all place d lt flag = all place d lt
+
+-- what is so of the files that are held, and of those that are not, is so of all
+pub all_among : (is_so : PrunedFile → Type 0) (files : List PrunedFile) → AllAmong false is_so files → AllAmong true is_so files → All is_so files
+all_among is_so files unheld held place d lt =
+    elim (cases_Bool (get_or files place d).is_held) [
+      | inl is ↦ held place d lt is
+      | inr never ↦ unheld place d lt never
+    ]
+
+-- a file that is held has not the path of one that is not
+pub not_among : (is_held : Bool) (files : List PrunedFile) (place : ℕ) (d : PrunedFile) → place < length files → AreApart files → ((get_or files place d).is_held ≡ is_held → ⊥) → IsPathAmong is_held files (blob_path (get_or files place d).digest) → ⊥
+not_among is_held files place d lt apart other p =
     let f = get_or files place d in
-    let u = (are.each f).0 (Contains-get_or files place d lt) in
-    ap is_some (spares.other honest (blob_path f.digest) (not_index f.digest) ∙ u.there.1)
+    let j = p.1.0 in
+    let at_g : slice_get files j ≡ Some p.0 = slice_get-get_or files j p.0 p.1.1 ∙ ap (λ (x : PrunedFile). Some x) p.1.2 in
+    let at_f : slice_get files place ≡ Some f = slice_get-get_or files place d lt in
+    apart_both files place j f p.0 apart at_f at_g
+    (λ same. (let is : f ≡ p.0 = same_Some f p.0 (sym at_f ∙ ap (slice_get files) same ∙ at_g) in other (ap (λ (x : PrunedFile). x.is_held) is ∙ p.2))) (sym p.3)
+
+-- what other files are, those that are held or not stay
+pub stay_among : (is_held other : Bool) (a b : Device) (graph : List Node) (files : List PrunedFile) → a.is_honest → (other ≡ is_held → ⊥) → AreApart files → Spares a b graph (IsPathAmong other files) → (is_so : Option (List ℕ) → Type 0)
+    → AllAmong is_held (λ (f : PrunedFile). is_so (a.file (blob_path f.digest))) files → AllAmong is_held (λ (f : PrunedFile). is_so (b.file (blob_path f.digest))) files
+stay_among is_held other a b graph files honest differ apart spares is_so all place d lt flag =
+    let f = get_or files place d in
+    subst is_so (sym (spares.other honest (blob_path f.digest) (not_among other files place d lt apart (λ same. differ (sym same ∙ flag))))) (all place d lt flag)
+
+-- a change of the index alone leaves each file
+pub stay_indexed : (a b : Device) (graph : List Node) (files : List PrunedFile) → a.is_honest → Spares a b graph (λ (path : List ℕ). index_file ≡ path) → (is_held : Bool) (is_so : Option (List ℕ) → Type 0)
+    → AllAmong is_held (λ (f : PrunedFile). is_so (a.file (blob_path f.digest))) files → AllAmong is_held (λ (f : PrunedFile). is_so (b.file (blob_path f.digest))) files
+stay_indexed a b graph files honest spares is_held is_so all place d lt flag = subst is_so (sym (spares.other honest (blob_path (get_or files place d).digest) (not_index (get_or files place d).digest))) (all place d lt flag)
+
+-- where no file changes, what is gone stays gone
+pub gone_still : (is_held : Bool) (a b : Device) (graph : List Node) (files : List PrunedFile) → a.is_honest → Spares a b graph IsNone → AllAmong is_held (IsGone a.file) files → AllAmong is_held (IsGone b.file) files
+gone_still is_held a b graph files honest spares gone place d lt flag = spares.other honest (blob_path (get_or files place d).digest) (λ never. never) ∙ gone place d lt flag
+
+pub flags_still : (a b : Device) (graph : List Node) (files : List PrunedFile) → a.is_honest → Spares a b graph IsNone → map (is_gone a.file) files ≡ map (is_gone b.file) files
+flags_still a b graph files honest spares =
+    map_same (is_gone a.file) (is_gone b.file) files (λ place d lt. sym (ap (λ (o : Option (List ℕ)). not (is_some o)) (spares.other honest (blob_path (get_or files place d).digest) (λ never. never))))
+
+-- where each file is there, no flag is set
+pub flags_none : (file : File) (files : List PrunedFile) → All (IsThere file) files → replicate (length files) false ≡ map (is_gone file) files
+flags_none file [] there = refl
+flags_none file (f ∷ files) there =
+    ap (λ (b : Bool). b ∷ replicate (length files) false) (sym (ap not (All-head (IsThere file) f files there)))
+    ∙ ap (λ (bs : List Bool). is_gone file f ∷ bs) (flags_none file files (All-tail (IsThere file) f files there))
 
 less_apart : (x y : List ℕ) → slice_cmp nat_cmp x y ≡ Less → x ≡ y → ⊥
 less_apart x y less same =
@@ -144,10 +227,7 @@ are_apart file graph set files are place f at earlier_place d lt same =
     Contains-take (suc n) [] h c = absurd (no_element h c)
     Contains-take (suc n) (y ∷ fs) h c = elim (Contains-cons y (take n fs) h c) [ inl is ↦ subst (λ (z : PrunedFile). Contains (y ∷ fs) z) is (Contains-head y fs) | inr later ↦ Contains-tail y fs h (Contains-take n fs h later) ]
 
--- the flags are those of the files at the end
-pub flags_stay : (last new : Device) (files : List PrunedFile) (gone : List Bool) → last.is_honest → All (λ (f : PrunedFile). IsDigest f.digest) files → AreSameBlobs last new → gone ≡ map (is_gone last.file) files → gone ≡ map (is_gone new.file) files
-flags_stay last new files gone honest digests same e =
-    e ∙ map_same (is_gone last.file) (is_gone new.file) files (All-weaker (λ (f : PrunedFile). IsDigest f.digest) (λ (f : PrunedFile). is_gone last.file f ≡ is_gone new.file f) (λ f is. sym (ap (λ (o : Option (List ℕ)). not (is_some o)) (same.blobs honest f.digest is))) files digests)
-
-pub are_digests : (file : File) (graph : List Node) (set : Set) (files : List PrunedFile) → AreUnneeded file graph set files → All (λ (f : PrunedFile). IsDigest f.digest) files
-are_digests file graph set files are place d lt = ((are.each (get_or files place d)).0 (Contains-get_or files place d lt)).is_digest
+-- a change of the index alone leaves the flags right
+pub flags_indexed : (a b : Device) (graph : List Node) (files : List PrunedFile) → a.is_honest → Spares a b graph (λ (path : List ℕ). index_file ≡ path) → map (is_gone a.file) files ≡ map (is_gone b.file) files
+flags_indexed a b graph files honest spares =
+    map_same (is_gone a.file) (is_gone b.file) files (λ place d lt. sym (ap (λ (o : Option (List ℕ)). not (is_some o)) (spares.other honest (blob_path (get_or files place d).digest) (not_index (get_or files place d).digest))))

@@ -1,11 +1,11 @@
 -- What a power cut leaves where a layout is saved or pruned.
-use Rattle.std.proofs.Common.{◌≡◌, ◌≢◌, ℕ, ◌<◌, true, ◌⊎◌, inl, inr, List, [], ◌∷◌, length, take, get_or, filter, refl, sym, ap, subst, ◌∙◌, arith}
+use Rattle.std.proofs.Common.{◌≡◌, ◌≢◌, ℕ, ◌<◌, Bool, true, ◌⊎◌, inl, inr, List, [], ◌∷◌, length, get_or, refl, sym, ap, subst, ◌∙◌, arith}
 use Rattle.std.specs.Prelude.{Contains}
 use Rattle.std.specs.BTreeSet.{BTreeSet, contains}
 use Rattle.std.specs.List.{All}
 use Rattle.std.specs.Map.{keys_of}
 use Rattle.std.proofs.lemmas.List.{take_all}
-use Rattle.std.proofs.lemmas.List.Elements.{All-contains, All-contains_itself, All-cons, All-filter, All-get_or, All-head, All-nil, All-tail, All-weaker}
+use Rattle.std.proofs.lemmas.List.Elements.{All-contains, All-contains_itself, All-cons, All-filter, All-head, All-nil, All-tail, All-weaker, Contains-get_or}
 use Rattle.oci_manifest.specs.Descriptor.{Descriptor, key_cmp}
 use Rattle.oci_store.specs.Closed.{IsClosed}
 use Rattle.oci_store.specs.Content.{Entry}
@@ -14,12 +14,12 @@ use Rattle.oci_store.specs.Keyed.{has_key, HasAll}
 use Rattle.oci_store.specs.Tags.{Tags}
 use Rattle.oci_store.proofs.Lookups.{Contains-from_has_key, has_key-same_keys}
 use Rattle.oci_layout.specs.Blobs.{blob_at, blob_path, keys_of-stored, stored, IsSound}
-use Rattle.oci_layout.specs.Crash.{IsLeft, IsSettled}
+use Rattle.oci_layout.specs.Crash.{IsLeft, IsSettled, KeepsSettled}
 use Rattle.oci_layout.specs.Device.{Device, File}
 use Rattle.oci_layout.specs.Lasts.{AreKnown, HasLayout, Lasts}
-use Rattle.oci_layout.specs.Layout.{LayoutState, OnlyFiles}
+use Rattle.oci_layout.specs.Layout.{LayoutState, OnlyFiles, SameMemory}
 use Rattle.oci_layout.proofs.Lasting.{lasting_is_left}
-use Rattle.oci_prune.specs.Pruned.{kept_of}
+use Rattle.oci_prune.specs.Pruned.{kept_of, AllAmong, IsOfNoEntry, IsOfNoKey, Spares}
 use Rattle.oci_prune.specs.Settled.{CanSettle, LeavesOneOf}
 use Rattle.oci_prune.specs.declared.plan.PrunedFile.{PrunedFile}
 use Rattle.oci_prune.proofs.Leaving.{held_from_node}
@@ -100,6 +100,25 @@ can_settle_kept {D} device old new set count entries tags dir graph counted soun
       (subst (λ (g : List Node). AreKnown (device old.dir) (length g) g entries) (sym graph) (known_kept (device old.dir) set old.graph entries can.known)));
 }
 
+-- a layout that files were removed from which no key has can be saved as before
+pub can_settle_spared : {D : Type 0} (device : D → Device) (old new : LayoutState D) (touched : List ℕ → Type 0) (entries : List Entry) (tags : Tags) → SameMemory old new → Spares (device old.dir) (device new.dir) old.graph touched
+    → KeepsSettled (device old.dir) (device new.dir) old.graph → Lasts (device new.dir) entries tags → CanSettle (device old.dir) (length old.graph) old.graph entries tags → CanSettle (device new.dir) (length new.graph) new.graph entries tags
+can_settle_spared device old new touched entries tags memory spares settled lasts can =
+    subst (λ (g : List Node). CanSettle (device new.dir) (length g) g entries tags) (sym memory.graph) (record {
+      is_sound = spares.sound can.is_sound;
+      closed = can.closed;
+      lasts = lasts;
+      known = all_known (device new.dir) old.graph entries known;
+    })
+  where
+    known : All (IsKnown (device new.dir) entries) old.graph
+    known place d lt =
+        let n = get_or old.graph place d in
+        elim (known_all (device old.dir) old.graph entries can.known place d lt) [
+          | inl was ↦ inl was
+          | inr is ↦ inr (settled can.is_sound.is_honest n.0 (held_from_node old.graph n (Contains-get_or old.graph place d lt)) is)
+        ]
+
 -- where nothing is written, what lasts is left
 pub left_unsaved : (dir : Device) (entries others : List Entry) (tags names : Tags) → Lasts dir entries tags → LeavesOneOf dir entries tags others names
 left_unsaved dir entries others tags names lasts left may = inl (lasting_is_left dir entries tags lasts left may)
@@ -109,37 +128,30 @@ left_lasting dir entries others tags names lasts left may = inr (lasting_is_left
 
 -- ---- the removal of files
 
--- no entry has the digest of the file
-abbrev pub IsApart : List Entry → PrunedFile → Type 0
-IsApart entries f = All (λ (e : Entry). e.0.digest ≢ f.digest) entries
-
 abbrev IsOther : PrunedFile → Descriptor → Type 0
 IsOther f k = k.digest ≢ f.digest
 
-abbrev AreOthers : List Node → PrunedFile → Type 0
-AreOthers graph f = All (IsOther f) (keys_of graph)
-
-apart_stored : (file : File) (f : PrunedFile) (graph : List Node) → AreOthers graph f → IsApart (stored file graph) f
+apart_stored : (file : File) (f : PrunedFile) (graph : List Node) → IsOfNoKey graph f → IsOfNoEntry (stored file graph) f
 apart_stored file f [] others = All-nil (λ (e : Entry). e.0.digest ≢ f.digest)
 apart_stored file f (n ∷ graph) others =
     All-cons (λ (e : Entry). e.0.digest ≢ f.digest) (n.0, blob_at file n.0.digest) (stored file graph) (All-head (IsOther f) n.0 (keys_of graph) others) (apart_stored file f graph (All-tail (IsOther f) n.0 (keys_of graph) others))
 
-apart_held : (f : PrunedFile) (graph : List Node) (entries : List Entry) → HasAll graph (keys_of entries) → AreOthers graph f → IsApart entries f
+apart_held : (f : PrunedFile) (graph : List Node) (entries : List Entry) → HasAll graph (keys_of entries) → IsOfNoKey graph f → IsOfNoEntry entries f
 apart_held f graph [] held others = All-nil (λ (e : Entry). e.0.digest ≢ f.digest)
 apart_held f graph (e ∷ entries) held others =
     All-cons (λ (e : Entry). e.0.digest ≢ f.digest) e entries
     (All-contains (IsOther f) (keys_of graph) e.0 others (Contains-from_has_key graph e.0 (All-head (λ (k : Descriptor). has_key graph k ≡ true) e.0 (keys_of entries) held)))
     (apart_held f graph entries (All-tail (λ (k : Descriptor). has_key graph k ≡ true) e.0 (keys_of entries) held) others)
 
-pub all_apart_stored : (file : File) (graph : List Node) (files : List PrunedFile) → All (AreOthers graph) files → All (IsApart (stored file graph)) files
-all_apart_stored file graph files others = All-weaker (AreOthers graph) (IsApart (stored file graph)) (λ f was. apart_stored file f graph was) files others
+pub among_apart_stored : (is_held : Bool) (file : File) (graph : List Node) (files : List PrunedFile) → AllAmong is_held (IsOfNoKey graph) files → AllAmong is_held (IsOfNoEntry (stored file graph)) files
+among_apart_stored is_held file graph files others place d lt flag = apart_stored file (get_or files place d) graph (others place d lt flag)
 
-pub all_apart_held : (graph : List Node) (entries : List Entry) (files : List PrunedFile) → HasAll graph (keys_of entries) → All (AreOthers graph) files → All (IsApart entries) files
-all_apart_held graph entries files held others = All-weaker (AreOthers graph) (IsApart entries) (λ f was. apart_held f graph entries held was) files others
+pub among_apart_held : (is_held : Bool) (graph : List Node) (entries : List Entry) (files : List PrunedFile) → HasAll graph (keys_of entries) → AllAmong is_held (IsOfNoKey graph) files → AllAmong is_held (IsOfNoEntry entries) files
+among_apart_held is_held graph entries files held others place d lt flag = apart_held (get_or files place d) graph entries held (others place d lt flag)
 
 -- one of the files
-pub apart_at : (entries : List Entry) (files : List PrunedFile) (i : ℕ) (f : PrunedFile) → i < length files → f ≡ get_or files i f → All (IsApart entries) files → IsApart entries f
-apart_at entries files i f lt is apart = subst (λ (g : PrunedFile). IsApart entries g) (sym is) (All-get_or (IsApart entries) files i f lt apart)
+pub among_at : (is_held : Bool) (is_so : PrunedFile → Type 0) (files : List PrunedFile) (i : ℕ) (f : PrunedFile) → i < length files → f ≡ get_or files i f → AllAmong is_held is_so files → f.is_held ≡ is_held → is_so f
+among_at is_held is_so files i f lt is all = subst (λ (g : PrunedFile). g.is_held ≡ is_held → is_so g) (sym is) (all i f lt)
 
 -- no file goes, or one does
 pub none_or_some : {X : Type 0} (xs : List X) → (xs ≡ []) ⊎ (xs ≢ [])

@@ -1,5 +1,5 @@
 -- What a prune keeps and removes.
-use Rattle.std.specs.Prelude.{◌≡◌, ◌↔◌, ◌⊎◌, ℕ, Bool, true, false, List, [], ◌++◌, map, None, Contains, IsTrue}
+use Rattle.std.specs.Prelude.{◌≡◌, ◌↔◌, ◌⊎◌, ℕ, Bool, true, false, List, [], ◌++◌, map, Contains, IsTrue}
 use Rattle.std.specs.BTreeSet.{BTreeSet, contains}
 use Rattle.std.specs.Cmp.Lexicographic.{slice_cmp}
 use Rattle.std.specs.List.{All}
@@ -14,7 +14,7 @@ use Rattle.oci_store.specs.State.{State}
 use Rattle.oci_layout.specs.Blobs.{blob_path}
 use Rattle.oci_layout.specs.Device.{Device, File}
 use Rattle.oci_layout.specs.Layout.{LayoutState}
-use Rattle.oci_layout.specs.Prunable.{HasLength, by_name}
+use Rattle.oci_layout.specs.Prunable.{HasLength, ListsFiles, by_name}
 use Rattle.oci_layout.specs.Saved.{shadowed_keys}
 use Rattle.oci_prune.specs.Belongs.{AllKnown, AreMembers}
 use Rattle.oci_prune.specs.Subjects.{Refers}
@@ -77,14 +77,20 @@ pub record AreUnneeded (file : File) (graph : List Node) (kept : BTreeSet Descri
   pub order : IsStrictlySortedBy (slice_cmp nat_cmp) (map (λ (f : PrunedFile). f.digest) files)
 
 -- a plan for a layout in a directory: it keeps the roots and what they reach, and removes the other
--- keys and the files that nothing kept needs
+-- keys, the files that nothing kept needs, and the drafts
 pub record IsPrunePlan (dir : Device) (graph : List Node) (roots : List Descriptor) (plan : PrunePlan) : Type 0 where
   pub safe : IsSafe graph roots plan.kept
   pub rooted : All (λ k. contains key_cmp plan.kept k ≡ true) roots
   pub removed : AreRemoved graph plan.kept plan.removed.items
   pub files : dir.is_honest → AreUnneeded dir.file graph plan.kept plan.files.items
-  -- no file of the layout is a draft
-  pub drafts : dir.is_honest → All (λ (draft : List ℕ × ℕ). dir.file draft.0 ≡ None) (by_name plan.drafts.items)
+  pub drafts : dir.is_honest → ListsFiles dir.draft (by_name plan.drafts.items)
+
+-- a plan that keeps each key, and removes the drafts alone
+pub record IsLeftoverPlan (dir : Device) (graph : List Node) (plan : PrunePlan) : Type 0 where
+  pub kept : (k : Descriptor) → (contains key_cmp plan.kept k ≡ true) ↔ (has_key graph k ≡ true)
+  pub removed : plan.removed.items ≡ []
+  pub files : plan.files.items ≡ []
+  pub drafts : dir.is_honest → ListsFiles dir.draft (by_name plan.drafts.items)
 
 -- a plan of a prune of what a store will be, whose files are in a directory: the kept keys belong to
 -- the roots, and the other keys and the files that nothing kept needs are removed

@@ -1,12 +1,15 @@
 -- What a prune leaves of a layout.
-use Rattle.std.specs.Prelude.{◌≡◌, ◌≢◌, ◌↔◌, ◌⊎◌, ℕ, Bool, true, not, List, [], filter, take, slice_get, Option, Some, None, is_some, IsSome, Contains}
+use Rattle.std.specs.Prelude.{◌≡◌, ◌≢◌, ◌↔◌, ◌⊎◌, ℕ, Bool, true, false, not, List, [], filter, take, slice_get, Option, Some, None, is_some, IsSome, Contains, Result, IfOk, OnOk}
 use Rattle.std.specs.BTreeSet.{BTreeSet, contains}
 use Rattle.std.specs.List.{All}
+use Rattle.std.specs.Map.{keys_of}
 use Rattle.oci_digest.specs.Digest.{IsDigest}
 use Rattle.oci_manifest.specs.Descriptor.{Descriptor, key_cmp}
+use Rattle.oci_store.specs.Content.{Entry}
 use Rattle.oci_store.specs.Graph.{Node, Reaches}
 use Rattle.oci_store.specs.Keyed.{value_at, has_key}
 use Rattle.oci_layout.specs.Blobs.{blob_path, stored, IsSound}
+use Rattle.oci_layout.specs.Crash.{KeepsSettled}
 use Rattle.oci_layout.specs.Device.{Device, File}
 use Rattle.oci_layout.specs.Index.{index_file, HasIndex}
 use Rattle.oci_layout.specs.Layout.{LayoutState, SameMemory}
@@ -16,6 +19,7 @@ use Rattle.oci_prune.specs.Refusal.{Notes}
 use Rattle.oci_prune.specs.declared.fault.PruneFault.{PruneFault}
 use Rattle.oci_prune.specs.declared.plan.PrunedFile.{PrunedFile}
 use Rattle.oci_prune.specs.declared.plan.PrunePlan.{PrunePlan}
+use Rattle.oci_prune.specs.declared.run.Pruned.{Pruned}
 
 -- the kept keys of a graph, each with the keys that it lists
 abbrev pub kept_of : BTreeSet Descriptor → List Node → List Node
@@ -29,13 +33,34 @@ KeepsReached old new roots = (k : Descriptor) → Reaches old roots k → value_
 abbrev pub IsPathOf : List PrunedFile → List ℕ → Type 0
 IsPathOf files path = (f : PrunedFile) × Contains files f × (blob_path f.digest ≡ path)
 
+-- the path is that of one of these files; of one that a held key has if the flag is true, and else of
+-- one that none has
+abbrev pub IsPathAmong : Bool → List PrunedFile → List ℕ → Type 0
+IsPathAmong is_held files path = (f : PrunedFile) × Contains files f × (f.is_held ≡ is_held) × (blob_path f.digest ≡ path)
+
+-- each of these files that a held key has is so if the flag is true, and else each that none has
+abbrev pub AllAmong : Bool → (PrunedFile → Type 0) → List PrunedFile → Type 0
+AllAmong is_held is_so files = All (λ (f : PrunedFile). f.is_held ≡ is_held → is_so f) files
+
 -- whether the file of a digest is gone
 abbrev pub is_gone : File → PrunedFile → Bool
 is_gone file f = not (is_some (file (blob_path f.digest)))
 
--- each of these files is there
-abbrev pub AreThere : File → List PrunedFile → Type 0
-AreThere file files = All (λ (f : PrunedFile). IsSome (file (blob_path f.digest))) files
+-- there is a file of the digest
+abbrev pub IsThere : File → PrunedFile → Type 0
+IsThere file f = IsSome (file (blob_path f.digest))
+
+-- there is no file of the digest
+abbrev pub IsGone : File → PrunedFile → Type 0
+IsGone file f = file (blob_path f.digest) ≡ None
+
+-- no key of the graph has the digest
+abbrev pub IsOfNoKey : List Node → PrunedFile → Type 0
+IsOfNoKey graph f = All (λ (k : Descriptor). k.digest ≢ f.digest) (keys_of graph)
+
+-- no entry has the digest
+abbrev pub IsOfNoEntry : List Entry → PrunedFile → Type 0
+IsOfNoEntry entries f = All (λ (e : Entry). e.0.digest ≢ f.digest) entries
 
 -- no file of the list has the path of an earlier one
 abbrev pub AreApart : List PrunedFile → Type 0
@@ -44,6 +69,14 @@ AreApart files = (place : ℕ) (f : PrunedFile) → slice_get files place ≡ So
 -- the path is that of one of these drafts
 abbrev pub IsDraftIn : List (List ℕ × ℕ) → List ℕ → Type 0
 IsDraftIn drafts path = (draft : List ℕ × ℕ) × Contains drafts draft × (draft.0 ≡ path)
+
+-- these drafts are gone
+abbrev pub AreDraftsGone : File → List (List ℕ × ℕ) → Type 0
+AreDraftsGone drafts listed = All (λ (draft : List ℕ × ℕ). drafts draft.0 ≡ None) listed
+
+-- no draft came
+abbrev pub HasNoMoreDrafts : Device → Device → Type 0
+HasNoMoreDrafts old new = old.is_honest → (path : List ℕ) → old.draft path ≡ None → new.draft path ≡ None
 
 -- no digest has a file unless a key of the graph needs it
 abbrev pub HasOnlyNeeded : File → List Node → Type 0
@@ -57,26 +90,36 @@ pub record Spares (old new : Device) (graph : List Node) (touched : List ℕ →
   pub honest : old.is_honest ↔ new.is_honest
   pub reads : new.fails_reads ≡ old.fails_reads
 
--- removals of files at such paths, which no held key needs, from a layout; the first fault is kept
-pub record Removal {D : Type 0} (device : D → Device) (old new : LayoutState D) (is_one : List ℕ → Type 0) (before after : Option PruneFault) : Type 0 where
+-- Removals from a layout: of files at the touched paths, which no held key needs, and of drafts. The
+-- first fault is kept, and is that of a named path.
+pub record Removal {D : Type 0} (device : D → Device) (old new : LayoutState D) (touched named : List ℕ → Type 0) (before after : Option PruneFault) : Type 0 where
   pub memory : SameMemory old new
-  pub spared : Spares (device old.dir) (device new.dir) old.graph is_one
+  pub spared : Spares (device old.dir) (device new.dir) old.graph touched
+  pub settled : KeepsSettled (device old.dir) (device new.dir) old.graph
+  pub drafts : HasNoMoreDrafts (device old.dir) (device new.dir)
   pub fault : after ≡ None → before ≡ None
-  pub notes : Notes (device old.dir) is_one before after
+  pub notes : Notes (device old.dir) named before after
   pub failures : (device new.dir).failures ≡ (device old.dir).failures
+
+-- no path
+abbrev pub IsNone : List ℕ → Type 0
+IsNone path = ⊥
 
 -- the path is that of a file or a draft that a plan removes
 abbrev pub IsPlanned : PrunePlan → List ℕ → Type 0
 IsPlanned plan path = IsPathOf plan.files.items path ⊎ IsDraftIn (by_name plan.drafts.items) path
 
--- the path is that of the index, or planned
-abbrev pub IsTouchedBy : PrunePlan → List ℕ → Type 0
-IsTouchedBy plan path = (index_file ≡ path) ⊎ IsPlanned plan path
+-- the path is that of a planned file that no held key has, or of a planned draft
+abbrev pub IsPlannedUnheld : PrunePlan → List ℕ → Type 0
+IsPlannedUnheld plan path = IsPathAmong false plan.files.items path ⊎ IsDraftIn (by_name plan.drafts.items) path
 
--- the files of digests and the index are unchanged
-pub record AreSameBlobs (old new : Device) : Type 0 where
-  pub blobs : old.is_honest → (digest : List ℕ) → IsDigest digest → new.file (blob_path digest) ≡ old.file (blob_path digest)
-  pub index : old.is_honest → new.file index_file ≡ old.file index_file
+-- the path is that of the index, or of a planned file
+abbrev pub IsTouchedBy : PrunePlan → List ℕ → Type 0
+IsTouchedBy plan path = (index_file ≡ path) ⊎ IsPathOf plan.files.items path
+
+-- the path is that of the index, or of a planned file that no held key has
+abbrev pub IsTouchedUnsaved : PrunePlan → List ℕ → Type 0
+IsTouchedUnsaved plan path = (index_file ≡ path) ⊎ IsPathAmong false plan.files.items path
 
 -- ---- the save before the removals
 
@@ -91,9 +134,13 @@ pub record OnlyIndex {D : Type 0} (device : D → Device) (old new : LayoutState
   pub spared : Spares (device old.dir) (device new.dir) new.graph (λ path. index_file ≡ path)
   pub sound : IsSound (device old.dir).is_honest (device old.dir).file old.graph → IsSound (device new.dir).is_honest (device new.dir).file new.graph
 
--- the kept keys are held and saved; if no key goes, nothing changed
+-- the kept keys are held and saved, and no draft came
 pub record IsSaved {D : Type 0} (device : D → Device) (old new : LayoutState D) (plan : PrunePlan) : Type 0 where
   pub kept : new.graph ≡ kept_of plan.kept old.graph
   pub index : plan.removed.items ≢ [] → (device old.dir).is_honest → HasIndex (device new.dir).file new.graph new.tags new.opened
-  pub unwritten : plan.removed.items ≡ [] → new ≡ old
   pub failures : (device new.dir).failures ≡ (device old.dir).failures
+  pub drafts : HasNoMoreDrafts (device old.dir) (device new.dir)
+
+-- what holds if a prune was carried out and the index is saved
+abbrev pub OnSaved : Result Pruned PruneFault → Type 0 → Type 0
+OnSaved answer holds = IfOk answer (λ done. OnOk done.saved holds)

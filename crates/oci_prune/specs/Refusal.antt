@@ -65,7 +65,7 @@ IsFirstUnheld graph opened k =
 -- damaged manifest, or else its first entry that is no descriptor, a link, or a fault of a read
 abbrev pub IsCheckFault : Device → List Node → OpenedIndex → PruneFault → Type 0
 IsCheckFault dir graph opened (fault.Unknown k) = IsFirstUnheld graph opened k
-IsCheckFault dir graph opened (fault.LinkedBlobs path) = Unit {0}
+IsCheckFault dir graph opened (fault.LinkedBlobs path) = dir.is_honest → dir.link ≡ Some path.now
 IsCheckFault dir graph opened (fault.Layout (layout.BadIndex e)) = IsFirstUnreadable (said opened.content).entries (layout.BadIndex e)
 IsCheckFault dir graph opened e = IsDeviceFault (dir.fails_reads ≡ true) e
 
@@ -75,7 +75,7 @@ abbrev pub IsFaultAfter : Device → OpenedIndex → State → List Descriptor �
 IsFaultAfter dir opened after roots keeps fault.NoTags = ⊥
 IsFaultAfter dir opened after roots keeps (fault.Unknown k) =
     IsFirstUnheld after.nodes opened k ⊎ (after.is_honest → IsUnknown after.nodes roots (RefersIf keeps after) k)
-IsFaultAfter dir opened after roots keeps (fault.LinkedBlobs path) = Unit {0}
+IsFaultAfter dir opened after roots keeps (fault.LinkedBlobs path) = dir.is_honest → dir.link ≡ Some path.now
 IsFaultAfter dir opened after roots keeps (fault.Layout layout.Device) = dir.fails_reads ≡ true
 IsFaultAfter dir opened after roots keeps (fault.Layout (layout.BadIndex e)) = IsFirstUnreadable (said opened.content).entries (layout.BadIndex e)
 IsFaultAfter dir opened after roots keeps e = IsSubjectFault after (λ k. (keeps ≡ true) × (has_key after.nodes k ≡ true)) e

@@ -161,7 +161,7 @@ fn held_among<S: Source>(alloc: Global, source: &S, keys: &[Key]) -> Result<Vec<
 }
 
 /// Adds keys to a set.
-fn add_keys(keys: &[Key], set: &mut BTreeSet<Key>) -> Result<(), NoMemory>
+pub(crate) fn add_keys(keys: &[Key], set: &mut BTreeSet<Key>) -> Result<(), NoMemory>
     ensures { OnOk result ((k : Descriptor) → (contains key_cmp set.new k ≡ true)
         ↔ ((contains key_cmp set.old k ≡ true) ⊎ Contains keys.now k)) }
 {

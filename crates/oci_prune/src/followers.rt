@@ -1,20 +1,8 @@
-ghost use Rattle.std.specs.Prelude.{◌≡◌, ◌++◌, ◌∷◌, ◌||◌, not, [], List, ℕ, take, filter, IfOk, OnOk, string_bytes};
+ghost use Rattle.std.specs.Prelude.{◌≡◌, ◌||◌, not, List, ℕ, take, filter, IfOk, OnOk, string_bytes};
 ghost use Rattle.std.specs.BTreeSet.{contains_text};
 ghost use Rattle.std.specs.Str.{IsAscii};
 ghost use Rattle.oci_store.specs.Tags.{by_bytes};
-ghost use Rattle.oci_prune.specs.Attached.{
-  AreFollowers,
-  AreIndependent,
-  HasStems,
-  IsStemAdded,
-  cut,
-  dashed,
-  follows_one,
-  independent_tags,
-  is_stem_at,
-  is_stem_of,
-  stem,
-};
+ghost use Rattle.oci_prune.specs.Attached.{AreFollowers, AreIndependent, HasStems, IsStemAdded, cut, dashed, follows_one, independent_tags, is_stem_at, is_stem_of, stem};
 
 use crate::held::held_keys;
 use crate::referrers::put;

@@ -18,8 +18,10 @@
 //! [`plan_prune_keeping`] keeps given keys too, with what belongs to them. [`plan_prune_after`] plans
 //! the prune of what a copy would leave, before there is one.
 //!
-//! [`prune`] does what is planned. It saves the index first and then removes files, so whenever it
-//! is stopped, every tag and all that it reaches is there, and the next prune goes on.
+//! [`prune`] does what is planned. It removes the files that no held key has, saves the index and
+//! then removes the other files, so whenever it is stopped, every tag and all that it reaches is
+//! there, and the next prune goes on. [`plan_leftovers`] and [`prune_leftovers`] remove the drafts
+//! that killed processes left, and nothing else.
 //!
 //! What the tags reach is kept whatever the files of the layout have become. That exactly the kept
 //! keys stay, each with its bytes, and that no blob is left that they do not need, assumes that the
@@ -43,6 +45,7 @@ mod followers;
 mod held;
 mod kept;
 mod laws;
+mod leftovers;
 mod members;
 mod plan;
 mod referrers;
@@ -57,6 +60,7 @@ pub use belonging::{Belonging, belonging_of};
 pub use fault::PruneFault;
 pub use followers::independent_tags;
 pub use laws::{belonging_is_reached, kept_is_reached};
+pub use leftovers::{plan_leftovers, prune_leftovers};
 pub use plan::{PrunePlan, PrunedFile, plan_prune, plan_prune_after, plan_prune_keeping};
 pub use run::{Pruned, prune};
 pub use typed::{belonging_of_types, referrers_of_types};

@@ -105,6 +105,8 @@ pub fn plan_prune<D: PrunableDir>(
         (manifests_of layout.now.opened.damaged)) }
     ensures readable { OnOk result
         (unreadable_places (said layout.now.opened.content).entries ≡ []) }
+    ensures unlinked { OnOk result ((D.device layout.now.dir).is_honest
+        → (D.device layout.now.dir).link ≡ None) }
     ensures first { layout.now.tags ≡ [] → IfErr result (λ e. (e ≡ PruneFault.NoTags)
         ⊎ (e ≡ PruneFault.Memory)) }
     ensures second { layout.now.tags ≢ [] → layout.now.opened.absent ≢ []
@@ -155,6 +157,8 @@ pub fn plan_prune_keeping<D: PrunableDir>(
         (manifests_of layout.now.opened.damaged)) }
     ensures readable { OnOk result
         (unreadable_places (said layout.now.opened.content).entries ≡ []) }
+    ensures unlinked { OnOk result ((D.device layout.now.dir).is_honest
+        → (D.device layout.now.dir).link ≡ None) }
     ensures first { layout.now.tags ≡ [] → IfErr result (λ e. (e ≡ PruneFault.NoTags)
         ⊎ (e ≡ PruneFault.Memory)) }
     ensures second { layout.now.tags ≢ [] → layout.now.opened.absent ≢ []
@@ -216,6 +220,8 @@ pub fn plan_prune_after<S: Dir, D: PrunableDir>(
         (manifests_of layout.now.opened.damaged)) }
     ensures readable { OnOk result
         (unreadable_places (said layout.now.opened.content).entries ≡ []) }
+    ensures unlinked { OnOk result ((D.device layout.now.dir).is_honest
+        → (D.device layout.now.dir).link ≡ None) }
     ensures cause { IfErr result (IsFaultAfter (D.device layout.now.dir) layout.now.opened
         (after_copy (⟦<Layout<S> as Store>⟧.state source.now) arriving.now
         (⟦<Layout<D> as Store>⟧.state layout.now)) roots.now keeps_referrers) }

@@ -1,10 +1,8 @@
-ghost use Rattle.std.specs.Prelude.{◌≡◌, ◌≢◌, ◌⊎◌, List, None, Some, IsSome, IfSome, IfOk, map, length, string_bytes};
-ghost use Rattle.std.specs.List.{All};
-ghost use Rattle.std.specs.Map.{keys_of};
+ghost use Rattle.std.specs.Prelude.{◌≡◌, ◌⊎◌, List, None, Some, IfSome, IfOk, length, map, string_bytes};
 ghost use Rattle.oci_layout.specs.Blobs.{blob_path};
 ghost use Rattle.oci_layout.specs.Lasts.{Lasts};
 ghost use Rattle.oci_layout.specs.Prunable.{by_name};
-ghost use Rattle.oci_prune.specs.Pruned.{is_gone, AreThere, AreApart, IsPathOf, IsDraftIn, AreSameBlobs, Removal};
+ghost use Rattle.oci_prune.specs.Pruned.{is_gone, AllAmong, AreApart, AreDraftsGone, IsDraftIn, IsGone, IsNone, IsOfNoEntry, IsOfNoKey, IsPathAmong, IsThere, Removal};
 ghost use Rattle.oci_prune.specs.Refusal.{IsNotRemoved};
 ghost use Rattle.oci_store.specs.Content.{Entry};
 ghost use Rattle.oci_store.specs.Tags.{Tags};
@@ -15,59 +13,70 @@ use oci_digest::NoMemory;
 use oci_layout::{Layout, LayoutFault, PrunableDir};
 use std::alloc::Global;
 
-/// Removes files that no held key needs, and notes which of them were removed, and the first fault.
+/// Removes those of some files that a held key has, or those that none has, and notes which of them
+/// were removed, and the first fault. No key of the layout needs them.
 pub(crate) fn remove_files<D: PrunableDir>(
     alloc: Global,
     layout: &mut Layout<D>,
     files: &[PrunedFile],
+    are_held: bool,
     gone: &mut Vec<bool>,
     fault: &mut Option<PruneFault>,
 )
-    requires unneeded { (D.device layout.old.dir).is_honest → All (λ f. All
-        (λ k. k.digest ≢ f.digest) (keys_of layout.old.graph)) files.now }
+    requires unneeded { (D.device layout.old.dir).is_honest
+        → AllAmong are_held (IsOfNoKey layout.old.graph) files.now }
     requires there { (D.device layout.old.dir).is_honest
-        → AreThere (D.device layout.old.dir).file files.now }
+        → AllAmong are_held (IsThere (D.device layout.old.dir).file) files.now }
     requires apart { (D.device layout.old.dir).is_honest → AreApart files.now }
     requires noted { length gone.old.items ≡ length files.now }
-    ensures removal { Removal D.device layout.old layout.new (IsPathOf files.now)
-        fault.old fault.new }
-    ensures removed { fault.new ≡ None → (D.device layout.old.dir).is_honest → All
-        (λ f. (D.device layout.new.dir).file (blob_path f.digest) ≡ None) files.now }
+    ensures removal { Removal D.device layout.old layout.new (IsPathAmong are_held files.now)
+        (IsPathAmong are_held files.now) fault.old fault.new }
+    ensures removed { fault.new ≡ None → (D.device layout.old.dir).is_honest
+        → AllAmong are_held (IsGone (D.device layout.new.dir).file) files.now }
     ensures flags { (D.device layout.old.dir).is_honest
+        → gone.old.items ≡ map (is_gone (D.device layout.old.dir).file) files.now
         → gone.new.items ≡ map (is_gone (D.device layout.new.dir).file) files.now }
     ensures noted { length gone.new.items ≡ length files.now }
     ensures lasts { (entries : List Entry) (tags : Tags)
-        → All (λ f. All (λ e. e.0.digest ≢ f.digest) entries) files.now
+        → AllAmong are_held (IsOfNoEntry entries) files.now
         → Lasts (D.device layout.old.dir) entries tags
         → Lasts (D.device layout.new.dir) entries tags }
 {
     for place in 0..files.len() {
-        gone[place] = remove_file(alloc, layout, &files[place], fault);
+        gone[place] = remove_file(alloc, layout, &files[place], are_held, gone[place], fault);
     }
 }
 
-/// Removes a file that no held key needs, and notes the fault if it is the first one. Returns
-/// whether the file was removed.
+/// Removes a file if a held key has it, or if none has, as the flag says, and notes the fault if it is
+/// the first one. Returns whether the file was removed, now or before.
 fn remove_file<D: PrunableDir>(
     alloc: Global,
     layout: &mut Layout<D>,
     file: &PrunedFile,
+    are_held: bool,
+    was_removed: bool,
     fault: &mut Option<PruneFault>,
 ) -> bool
-    requires unneeded { (D.device layout.old.dir).is_honest → All
-        (λ k. k.digest ≢ file.now.digest) (keys_of layout.old.graph) }
+    requires unneeded { (D.device layout.old.dir).is_honest → file.now.is_held ≡ are_held
+        → IsOfNoKey layout.old.graph file.now }
     ensures removal { Removal D.device layout.old layout.new
-        (λ path. blob_path file.now.digest ≡ path) fault.old fault.new }
+        (λ path. (file.now.is_held ≡ are_held) × (blob_path file.now.digest ≡ path))
+        (λ path. (file.now.is_held ≡ are_held) × (blob_path file.now.digest ≡ path))
+        fault.old fault.new }
     ensures removed { fault.new ≡ None → (D.device layout.old.dir).is_honest
-        → (D.device layout.new.dir).file (blob_path file.now.digest) ≡ None }
+        → file.now.is_held ≡ are_held → IsGone (D.device layout.new.dir).file file.now }
     ensures flag { (D.device layout.old.dir).is_honest
-        → IsSome ((D.device layout.old.dir).file (blob_path file.now.digest))
+        → (file.now.is_held ≡ are_held → IsThere (D.device layout.old.dir).file file.now)
+        → was_removed ≡ is_gone (D.device layout.old.dir).file file.now
         → result ≡ is_gone (D.device layout.new.dir).file file.now }
     ensures lasts { (entries : List Entry) (tags : Tags)
-        → All (λ e. e.0.digest ≢ file.now.digest) entries
+        → (file.now.is_held ≡ are_held → IsOfNoEntry entries file.now)
         → Lasts (D.device layout.old.dir) entries tags
         → Lasts (D.device layout.new.dir) entries tags }
 {
+    if file.is_held != are_held {
+        return was_removed;
+    }
     match layout.remove_blob(&file.digest) {
         Ok(found) => found,
         Err(refused) => {
@@ -78,7 +87,7 @@ fn remove_file<D: PrunableDir>(
 }
 
 /// Removes drafts that killed processes left, and notes which of them were removed, and the first
-/// fault.
+/// fault. No file of the layout is changed.
 pub(crate) fn remove_drafts<D: PrunableDir>(
     alloc: Global,
     layout: &mut Layout<D>,
@@ -87,9 +96,10 @@ pub(crate) fn remove_drafts<D: PrunableDir>(
     fault: &mut Option<PruneFault>,
 )
     requires noted { length gone.old.items ≡ length drafts.now }
-    ensures removal { Removal D.device layout.old layout.new (IsDraftIn (by_name drafts.now))
-        fault.old fault.new }
-    ensures files { AreSameBlobs (D.device layout.old.dir) (D.device layout.new.dir) }
+    ensures removal { Removal D.device layout.old layout.new IsNone
+        (IsDraftIn (by_name drafts.now)) fault.old fault.new }
+    ensures removed { fault.new ≡ None → (D.device layout.old.dir).is_honest
+        → AreDraftsGone (D.device layout.new.dir).draft (by_name drafts.now) }
     ensures noted { length gone.new.items ≡ length drafts.now }
     ensures lasts { (entries : List Entry) (tags : Tags)
         → Lasts (D.device layout.old.dir) entries tags
@@ -108,9 +118,10 @@ fn remove_draft<D: PrunableDir>(
     path: &str,
     fault: &mut Option<PruneFault>,
 ) -> bool
-    ensures removal { Removal D.device layout.old layout.new (λ touched. path.now ≡ touched)
+    ensures removal { Removal D.device layout.old layout.new IsNone (λ named. path.now ≡ named)
         fault.old fault.new }
-    ensures files { AreSameBlobs (D.device layout.old.dir) (D.device layout.new.dir) }
+    ensures removed { fault.new ≡ None → (D.device layout.old.dir).is_honest
+        → (D.device layout.new.dir).draft path.now ≡ None }
     ensures lasts { (entries : List Entry) (tags : Tags)
         → Lasts (D.device layout.old.dir) entries tags
         → Lasts (D.device layout.new.dir) entries tags }

@@ -1,4 +1,4 @@
-ghost use Rattle.std.specs.Prelude.{◌≡◌, ◌≢◌, ◌⊎◌, ◌↔◌, [], true, None, ℕ, List, filter, map, length, IfSome, IfOk, IfErr, OnOk, OnErr};
+ghost use Rattle.std.specs.Prelude.{◌≡◌, ◌≢◌, ◌⊎◌, ◌↔◌, [], true, false, None, Some, Err, ℕ, List, filter, map, replicate, length, IfSome, IfOk, IfErr, IsOk, OnOk, OnErr};
 ghost use Rattle.std.specs.BTreeSet.{contains};
 ghost use Rattle.std.specs.List.{All};
 ghost use Rattle.oci_manifest.specs.Descriptor.{key_cmp};
@@ -10,8 +10,9 @@ ghost use Rattle.oci_store.specs.Tags.{Tags};
 ghost use Rattle.oci_layout.specs.Blobs.{IsSound, stored};
 ghost use Rattle.oci_layout.specs.Index.{index_file, HasIndex};
 ghost use Rattle.oci_layout.specs.Lasts.{Lasts};
-ghost use Rattle.oci_prune.specs.Plan.{AreRemoved, IsPrunePlan, roots_of};
-ghost use Rattle.oci_prune.specs.Pruned.{is_gone, kept_of, HasOnlyNeeded, IsPlanned, IsSaved, IsTouchedBy, KeepsReached, OnlyIndex, Spares, StaysOrDrops};
+ghost use Rattle.oci_layout.specs.Prunable.{by_name};
+ghost use Rattle.oci_prune.specs.Plan.{AreRemoved, AreUnneeded, IsPrunePlan, roots_of};
+ghost use Rattle.oci_prune.specs.Pruned.{is_gone, kept_of, AllAmong, AreDraftsGone, HasOnlyNeeded, IsGone, IsPathAmong, IsPlanned, IsPlannedUnheld, IsSaved, IsTouchedBy, IsTouchedUnsaved, KeepsReached, OnlyIndex, OnSaved, Removal, Spares, StaysOrDrops};
 ghost use Rattle.oci_prune.specs.Refusal.{IsDeviceFault, IsRemovalFault, MayNotSave};
 ghost use Rattle.oci_prune.specs.Settled.{CanSettle, LeavesOneOf};
 
@@ -26,6 +27,9 @@ use std::alloc::Global;
 /// What a prune removed.
 #[derive(Drop)]
 pub struct Pruned {
+    /// Why the index is not saved without the keys that go, if it is not: 74 `Device`, or 89 `Memory`.
+    /// The files of these keys are then still there.
+    pub saved: Result<(), PruneFault>,
     /// Whether each file of the plan was removed, in the order of the plan.
     pub files: Vec<bool>,
     /// Whether each draft of the plan was removed, in the order of the plan.
@@ -34,27 +38,71 @@ pub struct Pruned {
     pub fault: Option<PruneFault>,
 }
 
-/// Prunes a layout by a plan of it: drops the keys that are not kept, saves the index and waits
-/// until it is on the disk, and then removes the files and drafts of the plan. If no key goes, the
-/// index is not written.
+impl Pruned {
+    /// Returns what was removed, if the index is saved, or need not be.
+    ///
+    /// # Errors
+    ///
+    /// Why it is not saved: 74 `Device`, or 89 `Memory`.
+    pub fn into_saved(self) -> Result<Pruned, PruneFault>
+        ensures same { IfOk result (λ done. done ≡ self) }
+        ensures saved { OnOk result (IsOk self.saved) }
+        ensures unsaved { IfErr result (λ e. self.saved ≡ Err e) }
+    {
+        let Pruned {
+            saved,
+            files,
+            drafts,
+            fault,
+        } = self;
+        match saved {
+            Ok(()) => Ok(Pruned {
+                saved: Ok(()),
+                files,
+                drafts,
+                fault,
+            }),
+            Err(unsaved) => Err(unsaved),
+        }
+    }
+
+    /// Returns why not all that was planned was removed, if so: why the index is not saved, or else the
+    /// first fault of a removal.
+    pub fn into_fault(self) -> Option<PruneFault>
+        ensures saved { IsOk self.saved → result ≡ self.fault }
+        ensures unsaved { IfErr self.saved (λ e. result ≡ Some e) }
+    {
+        match self.into_saved() {
+            Ok(done) => done.fault,
+            Err(unsaved) => Some(unsaved),
+        }
+    }
+}
+
+/// Prunes a layout by a plan of it. Removes the files that no held key has, and the drafts. Then drops
+/// the keys that are not kept, saves the index and waits until it is on the disk, and removes the
+/// files of these keys. If no key goes, the index is not written.
+///
+/// No index needs what is removed first, so on a full disk it makes room for the new one.
 ///
 /// A power cut at any moment leaves the layout that was saved before, or the pruned one. The layout
 /// has to hold all that was saved before, and each file of a key that was not has to be on the disk,
 /// as after [`settle_blobs`](oci_layout::Layout::settle_blobs).
 ///
 /// A file that cannot be removed does not keep the others from being removed.
-/// [`Pruned::fault`](crate::Pruned) has the first such fault.
+/// [`Pruned::fault`](crate::Pruned) has the first such fault. If the index cannot be saved,
+/// [`Pruned::saved`](crate::Pruned) has the fault: 74 `Device` if `index.json` could not be written,
+/// or if it is not known whether it is on the disk, and 89 `Memory`. The file of each key that was
+/// held is then there. The layout in memory holds the same keys as before, or only the kept ones.
+/// `index.json` has its old bytes or the kept keys. After a failed sync the old ones may be back if
+/// the machine stops. The next prune syncs it again before it removes a file.
 ///
 /// # Errors
 ///
-/// - 74 `Device` if `index.json` could not be written, or if it is not known whether it is on the
-///   disk.
-/// - 89 `Memory` if memory runs out.
+/// - 74 `Device` if it is not known whether the index that is there is on the disk.
+/// - 89 `Memory` if memory runs out before anything is removed.
 ///
-/// No blob and no draft is then removed, and every tag and all that it reaches is held. The layout
-/// in memory holds the same keys as before, or only the kept ones. `index.json` has its old bytes or
-/// the kept keys. After a failed sync the old ones may be back if the machine stops. The next prune
-/// syncs it again before it removes a file.
+/// Nothing is then changed.
 pub fn prune<D: PrunableDir>(
     alloc: Global,
     layout: &mut Layout<D>,
@@ -78,28 +126,34 @@ pub fn prune<D: PrunableDir>(
     ensures honest { (D.device layout.old.dir).is_honest ↔ (D.device layout.new.dir).is_honest }
 
     // The kept keys with their bytes stay, and nothing else.
-    ensures kept { OnOk result (layout.new.graph ≡ kept_of plan.now.kept layout.old.graph) }
-    ensures contents { OnOk result ((D.device layout.old.dir).is_honest
+    ensures kept { OnSaved result (layout.new.graph ≡ kept_of plan.now.kept layout.old.graph) }
+    ensures contents { OnSaved result ((D.device layout.old.dir).is_honest
         → stored (D.device layout.new.dir).file layout.new.graph
         ≡ filter (λ e. contains key_cmp plan.now.kept e.0)
         (stored (D.device layout.old.dir).file layout.old.graph)) }
-    ensures files { IfOk result (λ done. done.fault ≡ None → (D.device layout.old.dir).is_honest
+    ensures files { IfOk result (λ done. IsOk done.saved → done.fault ≡ None
+        → (D.device layout.old.dir).is_honest
         → HasOnlyNeeded (D.device layout.new.dir).file layout.new.graph) }
+    ensures drafts { IfOk result (λ done. IsOk done.saved → done.fault ≡ None
+        → (D.device layout.old.dir).is_honest
+        → AreDraftsGone (D.device layout.new.dir).draft (by_name plan.now.drafts.items)) }
     ensures other { (D.device layout.old.dir).is_honest → (path : List ℕ)
         → (IsTouchedBy plan.now path → ⊥)
         → (D.device layout.new.dir).file path ≡ (D.device layout.old.dir).file path }
-    ensures index { OnOk result (plan.now.removed.items ≢ [] → (D.device layout.old.dir).is_honest
-        → HasIndex (D.device layout.new.dir).file layout.new.graph layout.new.tags
-        layout.new.opened) }
-    ensures unwritten { OnOk result (plan.now.removed.items ≡ []
-        → (D.device layout.old.dir).is_honest
-        → (D.device layout.new.dir).file index_file ≡ (D.device layout.old.dir).file index_file) }
-    ensures failures { OnOk result ((D.device layout.new.dir).failures
+    ensures index { OnSaved result (plan.now.removed.items ≢ []
+        → (D.device layout.old.dir).is_honest → HasIndex (D.device layout.new.dir).file
+        layout.new.graph layout.new.tags layout.new.opened) }
+    ensures unwritten { plan.now.removed.items ≡ [] → (D.device layout.old.dir).is_honest
+        → (D.device layout.new.dir).file index_file ≡ (D.device layout.old.dir).file index_file }
+    ensures failures { OnSaved result ((D.device layout.new.dir).failures
         ≡ (D.device layout.old.dir).failures) }
 
-    // If the index is not saved, no other file changes.
-    ensures refused { OnErr result (Spares (D.device layout.old.dir) (D.device layout.new.dir)
-        layout.new.graph (λ path. index_file ≡ path)) }
+    // If the index is not saved, each key that was held keeps its file.
+    ensures unsaved { IfOk result (λ done. OnErr done.saved (Spares (D.device layout.old.dir)
+        (D.device layout.new.dir) layout.old.graph (IsTouchedUnsaved plan.now))) }
+    ensures unsaved_cause { IfOk result (λ done. IfErr done.saved (IsDeviceFault
+        (MayNotSave (D.device layout.old.dir) (D.device layout.new.dir)))) }
+    ensures refused { OnErr result (layout.new ≡ layout.old) }
     ensures cause { IfErr result (IsDeviceFault (MayNotSave (D.device layout.old.dir)
         (D.device layout.new.dir))) }
     ensures faults { IfOk result (λ done. IfSome done.fault
@@ -114,9 +168,10 @@ pub fn prune<D: PrunableDir>(
         (length layout.old.graph) layout.old.graph entries tags
         → HasAll layout.old.graph (keys_of entries) → LeavesOneOf (D.device layout.new.dir)
         entries tags (⟦<Layout<D> as Store>⟧.state layout.new).entries layout.new.tags }
-    ensures lasts { OnOk result (plan.now.removed.items ≢ [] → (entries : List Entry)
+    ensures lasts { OnSaved result (plan.now.removed.items ≢ [] → (entries : List Entry)
         (tags : Tags) → CanSettle (D.device layout.old.dir) (length layout.old.graph)
-        layout.old.graph entries tags → Lasts (D.device layout.new.dir)
+        layout.old.graph entries tags → HasAll layout.old.graph (keys_of entries)
+        → Lasts (D.device layout.new.dir)
         (⟦<Layout<D> as Store>⟧.state layout.new).entries layout.new.tags) }
     ensures stays { OnOk result (plan.now.removed.items ≡ [] → (entries : List Entry)
         (tags : Tags) → HasAll layout.old.graph (keys_of entries)
@@ -128,22 +183,81 @@ pub fn prune<D: PrunableDir>(
     // The contract of `count` states that no key occurs twice, from which the clause `closed`
     // follows.
     let _ = layout.count();
-    save_kept(layout, plan)?;
-    let mut fault = None;
-    remove_files(alloc, layout, &plan.files, &mut files, &mut fault);
-    remove_drafts(alloc, layout, &plan.drafts, &mut drafts, &mut fault);
-    Ok(Pruned {
-        files,
-        drafts,
-        fault,
-    })
+    sync_index(layout, plan)?;
+    let mut fault = remove_unheld(alloc, layout, plan, &mut files, &mut drafts);
+    match save_kept(layout, plan) {
+        Ok(()) => {
+            remove_files(alloc, layout, &plan.files, true, &mut files, &mut fault);
+            Ok(Pruned {
+                saved: Ok(()),
+                files,
+                drafts,
+                fault,
+            })
+        }
+        Err(refused) => Ok(Pruned {
+            saved: Err(refused),
+            files,
+            drafts,
+            fault,
+        }),
+    }
 }
 
 /// Returns as many flags that are false.
-fn flags(alloc: Global, count: usize) -> Result<Vec<bool>, NoMemory>
-    ensures { IfOk result (λ flags. length flags.items ≡ count) }
+pub(crate) fn flags(alloc: Global, count: usize) -> Result<Vec<bool>, NoMemory>
+    ensures { IfOk result (λ flags. flags.items ≡ replicate count false) }
 {
     Ok(vec![in alloc; false; count]?)
+}
+
+/// Waits until the index of a layout is on the disk, if the plan removes a file. A prune that was
+/// killed may have replaced it shortly before.
+fn sync_index<D: PrunableDir>(layout: &Layout<D>, plan: &PrunePlan) -> Result<(), PruneFault>
+    ensures { IfErr result (IsDeviceFault (MayNotSave (D.device layout.now.dir)
+        (D.device layout.now.dir))) }
+{
+    if !plan.files.is_empty() {
+        layout.sync()?;
+    }
+    Ok(())
+}
+
+/// Removes the files of a plan that no held key has, and its drafts, and notes which of them were
+/// removed. Returns the first fault.
+///
+/// No entry of the index needs them, so they go before it is saved.
+fn remove_unheld<D: PrunableDir>(
+    alloc: Global,
+    layout: &mut Layout<D>,
+    plan: &PrunePlan,
+    files: &mut Vec<bool>,
+    drafts: &mut Vec<bool>,
+) -> Option<PruneFault>
+    requires planned { (D.device layout.old.dir).is_honest
+        → AreUnneeded (D.device layout.old.dir).file layout.old.graph plan.now.kept
+        plan.now.files.items }
+    requires files { length files.old.items ≡ length plan.now.files.items }
+    requires drafts { length drafts.old.items ≡ length plan.now.drafts.items }
+    ensures removal { Removal D.device layout.old layout.new
+        (IsPathAmong false plan.now.files.items) (IsPlannedUnheld plan.now) None result }
+    ensures removed { result ≡ None → (D.device layout.old.dir).is_honest
+        → AllAmong false (IsGone (D.device layout.new.dir).file) plan.now.files.items }
+    ensures gone { result ≡ None → (D.device layout.old.dir).is_honest
+        → AreDraftsGone (D.device layout.new.dir).draft (by_name plan.now.drafts.items) }
+    ensures flags { (D.device layout.old.dir).is_honest
+        → files.old.items ≡ map (is_gone (D.device layout.old.dir).file) plan.now.files.items
+        → files.new.items ≡ map (is_gone (D.device layout.new.dir).file) plan.now.files.items }
+    ensures files { length files.new.items ≡ length plan.now.files.items }
+    ensures drafts { length drafts.new.items ≡ length plan.now.drafts.items }
+    ensures lasts { (entries : List Entry) (tags : Tags)
+        → HasAll layout.old.graph (keys_of entries) → Lasts (D.device layout.old.dir) entries tags
+        → Lasts (D.device layout.new.dir) entries tags }
+{
+    let mut fault = None;
+    remove_files(alloc, layout, &plan.files, false, files, &mut fault);
+    remove_drafts(alloc, layout, &plan.drafts, drafts, &mut fault);
+    fault
 }
 
 /// Drops the keys that are not kept from a layout, and saves its index. Does not write it if all
@@ -156,6 +270,7 @@ fn save_kept<D: PrunableDir>(layout: &mut Layout<D>, plan: &PrunePlan) -> Result
     ensures stays { StaysOrDrops plan.now.kept layout.old layout.new }
     ensures only { OnlyIndex D.device layout.old layout.new }
     ensures saved { OnOk result (IsSaved D.device layout.old layout.new plan.now) }
+    ensures unwritten { plan.now.removed.items ≡ [] → layout.new ≡ layout.old }
     ensures cause { IfErr result (IsDeviceFault (MayNotSave (D.device layout.old.dir)
         (D.device layout.new.dir))) }
     ensures left { (entries : List Entry) (tags : Tags) → CanSettle (D.device layout.old.dir)
@@ -170,10 +285,6 @@ fn save_kept<D: PrunableDir>(layout: &mut Layout<D>, plan: &PrunePlan) -> Result
         (stored (D.device layout.new.dir).file layout.new.graph) layout.new.tags) }
 {
     if plan.removed.is_empty() {
-        // An earlier prune may have been killed between its save and its sync.
-        if !plan.files.is_empty() {
-            layout.sync()?;
-        }
         return Ok(());
     }
     layout.retain(&plan.kept)?;

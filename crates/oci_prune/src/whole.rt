@@ -1,4 +1,4 @@
-ghost use Rattle.std.specs.Prelude.{◌≡◌, IfOk, IfErr};
+ghost use Rattle.std.specs.Prelude.{◌≡◌, None, IfOk, IfErr, OnOk};
 ghost use Rattle.std.specs.Option.{option_copied};
 ghost use Rattle.oci_store.specs.Keyed.{first_missing, has_key};
 ghost use Rattle.oci_layout.specs.Layout.{manifests_of};
@@ -18,6 +18,8 @@ pub(crate) fn check_whole<S: Source, D: PrunableDir>(
     layout: &Layout<D>,
 ) -> Result<(), PruneFault>
     ensures whole { ChecksWhole (S.state store.now).nodes layout.now.opened result }
+    ensures unlinked { OnOk result ((D.device layout.now.dir).is_honest
+        → (D.device layout.now.dir).link ≡ None) }
     ensures cause { IfErr result (IsCheckFault (D.device layout.now.dir)
         (S.state store.now).nodes layout.now.opened) }
 {

@@ -4,13 +4,16 @@ use oci_layout::{Layout, Lockable, PrunableDir};
 use oci_program::{
     Form, Outcome, ProgramFault, PruneAnswer, check_is_layout, lock_folder, print_answer_with_fault,
 };
-use oci_prune::{PruneFault, plan_prune, prune};
+use oci_prune::{
+    PruneFault, PrunePlan, Pruned, plan_leftovers, plan_prune, prune, prune_leftovers,
+};
 use std::alloc::Global;
 use std::io::Write;
 use std::rt::Files;
 
 /// `prune FOLDER`: removes from the layout in a directory what no tag needs, and prints in this
-/// form what was removed. The directory is the words' folder, which is locked from before the
+/// form what was removed. With `--leftovers` it removes only the files that killed copies left, and
+/// needs no tag. The directory is the words' folder, which is locked from before the
 /// layout is opened until after the last file is removed. With `--dry-run` nothing is locked or
 /// changed, and the same is printed. `F` is [`ProgramFault`] or another type that is made from one.
 /// A power cut at any moment leaves the layout with all that it had, or with what its tags need.
@@ -20,9 +23,10 @@ use std::rt::Files;
 /// With all but 74, 79 and 94 nothing is changed.
 ///
 /// - 70 to 74 if the directory has no layout, or it cannot be read; 74 also if the folder cannot be
-///   locked, if `index.json` cannot be written, or if it is not known whether it is on the disk.
+///   locked, if `index.json` cannot be written, or if it is not known whether it is on the disk. If
+///   the new `index.json` is not saved, what went before is printed: files that no held blob has.
 /// - 99 `Locked` if another process has the lock, and the words say not to wait.
-/// - 97 `NoTags` if the layout has no tag.
+/// - 97 `NoTags` if the layout has no tag. This and the next three not with `--leftovers`.
 /// - 96 `Unknown` if it is not known what a manifest needs, since it is missing or damaged.
 /// - 98 `LinkedBlobs` if a folder of blobs is a link.
 /// - 88 `Fetch` and 77 `BadManifest` if a held manifest cannot be read.
@@ -58,7 +62,7 @@ fn plan_folder<D: PrunableDir + Drop>(
     words: &PruneWords<'_>,
 ) -> Result<PruneAnswer, ProgramFault> {
     let layout = Layout::open_as_is(alloc, dir)?;
-    let plan = plan_prune(alloc, &layout, words.keeps_referrers)?;
+    let plan = plan_by(alloc, &layout, words)?;
     Ok(PruneAnswer::planned(alloc, plan)?)
 }
 
@@ -73,8 +77,45 @@ fn prune_folder<R: Files<File: Lockable> + AllocGlobal, D: PrunableDir + Drop, X
     check_is_layout(&dir)?;
     let _lock = lock_folder(rt, words.folder, dir.first_failure(), words.waits, err)?;
     let mut layout = open_settled(rt.alloc(), dir)?;
-    let plan = plan_prune(rt.alloc(), &layout, words.keeps_referrers)?;
-    let pruned = prune(rt.alloc(), &mut layout, &plan)?;
+    let (plan, pruned) = if words.only_leftovers {
+        remove_leftovers(rt.alloc(), &mut layout)?
+    } else {
+        remove_unneeded(rt.alloc(), &mut layout, words.keeps_referrers)?
+    };
     let answer = PruneAnswer::of(rt.alloc(), plan, &pruned)?;
-    Ok((answer, pruned.fault))
+    Ok((answer, pruned.into_fault()))
+}
+
+/// Plans the prune of a layout that the words ask for.
+fn plan_by<D: PrunableDir>(
+    alloc: Global,
+    layout: &Layout<D>,
+    words: &PruneWords<'_>,
+) -> Result<PrunePlan, PruneFault> {
+    if words.only_leftovers {
+        plan_leftovers(alloc, layout)
+    } else {
+        plan_prune(alloc, layout, words.keeps_referrers)
+    }
+}
+
+/// Removes from a layout what killed processes left. Returns the plan, and what was removed.
+fn remove_leftovers<D: PrunableDir>(
+    alloc: Global,
+    layout: &mut Layout<D>,
+) -> Result<(PrunePlan, Pruned), PruneFault> {
+    let plan = plan_leftovers(alloc, layout)?;
+    let pruned = prune_leftovers(alloc, layout, &plan)?;
+    Ok((plan, pruned))
+}
+
+/// Removes from a layout what no tag needs. Returns the plan, and what was removed.
+fn remove_unneeded<D: PrunableDir>(
+    alloc: Global,
+    layout: &mut Layout<D>,
+    keeps_referrers: bool,
+) -> Result<(PrunePlan, Pruned), PruneFault> {
+    let plan = plan_prune(alloc, layout, keeps_referrers)?;
+    let pruned = prune(alloc, layout, &plan)?;
+    Ok((plan, pruned))
 }

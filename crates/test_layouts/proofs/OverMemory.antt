@@ -1,5 +1,5 @@
 -- A directory over one in memory, with another premise and another count of failures.
-use Rattle.std.proofs.Common.{ℕ, List, true, Result, Ok, Err, refl}
+use Rattle.std.proofs.Common.{ℕ, List, true, None, Result, Ok, Err, refl}
 use Rattle.std.specs.Prelude.{IsErrOf}
 use Rattle.oci_layout.specs.Crash.{IsReplaced, IsSettling}
 use Rattle.oci_layout.specs.Device.{Device, AfterPuts}
@@ -12,6 +12,8 @@ use Rattle.oci_layout.specs.declared.mem_dir.MemDir.{MemDir}
 abbrev pub over : MemDir → Type 0 → ℕ → Device
 over d honest failures = record {
   file = (device_of d).file;
+  draft = (device_of d).draft;
+  link = None;
   may_leave = (device_of d).may_leave;
   is_honest = honest;
   stays = λ honest path. (device_of d).stays tt path;
@@ -25,12 +27,12 @@ Failed answer = IsErrOf answer dir.Failed
 pub settles-over : (old new : MemDir) (honest : Type 0) (failures : ℕ) (paths : List (List ℕ)) (answer : Result Unit DirFault) → IsSettling (device_of old) (device_of new) paths answer
     → IsSettling (over old honest failures) (over new honest failures) paths answer
 settles-over old new honest failures paths (Ok done) s = record {
-  only = record { files = λ h. s.only.files tt; no_more = λ h. s.only.no_more tt; honest = (λ h. h, λ h. h); reads = refl; failures = refl };
+  only = record { files = λ h. s.only.files tt; draft = λ h. s.only.draft tt; no_more = λ h. s.only.no_more tt; honest = (λ h. h, λ h. h); link = refl; reads = refl; failures = refl };
   settled = λ h. s.settled tt;
   failed = λ f. refl;
 }
 settles-over old new honest failures paths (Err e) s = record {
-  only = record { files = λ h. s.only.files tt; no_more = λ h. s.only.no_more tt; honest = (λ h. h, λ h. h); reads = refl; failures = refl };
+  only = record { files = λ h. s.only.files tt; draft = λ h. s.only.draft tt; no_more = λ h. s.only.no_more tt; honest = (λ h. h, λ h. h); link = refl; reads = refl; failures = refl };
   settled = tt;
   failed = λ f. refl;
 }
@@ -43,6 +45,7 @@ replaces-over old new honest before after path bytes is device = record {
   whole = λ h. is.whole tt;
   left = λ h. is.left tt;
   other = λ h. is.other tt;
+  draft = λ h. is.draft tt;
   device = device;
 }
 
@@ -54,5 +57,6 @@ fails-over old new honest before after path bytes e told memory is device = reco
   whole = λ h. is.whole tt;
   left = λ h. is.left tt;
   other = λ h. is.other tt;
+  draft = tt;
   device = device;
 }

@@ -2,3 +2,4 @@ mod belonging;
 mod by_tag;
 mod layouts;
 mod random;
+mod removals;

@@ -5,7 +5,8 @@ const EXAMPLES_OF_PRUNE: &str = "\
 Examples:
   ocicp prune --dry-run mirror       prints what a prune would remove
   ocicp prune mirror                 removes what no tag needs
-  ocicp prune --no-referrers mirror  also removes signatures and SBOMs that no tag reaches";
+  ocicp prune --no-referrers mirror  also removes signatures and SBOMs that no tag reaches
+  ocicp prune --leftovers mirror     removes only the files that killed copies left";
 
 /// `untag [--no-wait] [--no-sync] FOLDER TAG`
 pub(crate) const UNTAG: CommandText = CommandText {
@@ -41,7 +42,7 @@ pub(crate) fn untag_arguments() -> [Argument; 6] {
     ]
 }
 
-/// `prune [--dry-run] [--no-referrers] [--no-wait] [--no-sync] FOLDER`
+/// `prune [--dry-run] [--no-referrers | --leftovers] [--no-wait] [--no-sync] FOLDER`
 pub(crate) const PRUNE: CommandText = CommandText {
     name: "prune",
     about: "Removes the blobs of a layout that no tag needs, to free their space",
@@ -56,21 +57,24 @@ pub(crate) const PRUNE: CommandText = CommandText {
          a type that `copy` does not read, such as Docker's schema 1, counts as a blob that lists nothing.\n\n\
          All other blobs are removed, with their entries in `index.json`. A file in `blobs/sha256` or \
          `blobs/sha512` whose name is a digest stays only if a kept blob has that digest, or a blob that \
-         one lists. Files that a killed copy left are removed, and all other files stay.\n\n\
+         one lists. Files that a killed copy left are removed, and all other files stay. With --leftovers \
+         only files that killed copies left are removed, also if the layout has no tags.\n\n\
          Prints `removed` with the digest, the size and the media type of each blob that is removed, and \
          `removed-file` with the path and the length of each other file. The last line counts the blobs \
          `kept` and `removed`, and all `files` that are removed, with their `bytes`.\n\n\
-         Refused, before anything is changed: a layout without tags (97); a damaged manifest, or a \
+         Refused, before anything is changed, but not with --leftovers: a layout without tags (97); a damaged manifest, or a \
          missing blob that is an entry of `index.json` or a manifest that a kept manifest lists (96), \
          since it is not known what it needs; an entry of `index.json` that is no descriptor (73); a \
          folder `blobs`, `blobs/sha256` or `blobs/sha512` that is \
          a symbolic link (98), since another layout may need the blobs there; a manifest whose file cannot be \
          read. FOLDER is not created, and cannot be an archive (95).\n\n\
-         `index.json` is saved first, and is on the disk before a file is removed, unless --no-sync is \
-         given. If the prune is then killed, or a file cannot be removed (79), no tag has lost anything, \
-         and the next prune removes the rest. If a blob is removed, `index.json` is written anew, without \
-         the entries of removed blobs. The other entries keep all that other tools wrote into them, such as \
-         `platform` and annotations.\n\n\
+         Files that no blob of the layout has go first, since `index.json` does not need them; on a full disk \
+         they make room. Then `index.json` is saved, if a blob is removed, and is on the disk before a file \
+         of such a blob goes, unless --no-sync is given. If the prune is killed, or a file cannot be \
+         removed (79), no tag has lost anything, and the next prune removes the rest. If `index.json` cannot \
+         be saved (74), all blobs stay, and what went is printed. \
+         `index.json` is written anew, without the entries of removed blobs. The other entries keep all that \
+         other tools wrote into them, such as `platform` and annotations.\n\n\
          Locks FOLDER, but not for --dry-run. While another process on the same machine has the lock, it \
          waits.",
     ),
@@ -79,7 +83,7 @@ pub(crate) const PRUNE: CommandText = CommandText {
 };
 
 /// The arguments of `prune`.
-pub(crate) fn prune_arguments() -> [Argument; 7] {
+pub(crate) fn prune_arguments() -> [Argument; 8] {
     [
         flag(
             "dry-run",
@@ -89,12 +93,24 @@ pub(crate) fn prune_arguments() -> [Argument; 7] {
             "no-referrers",
             "Removes also the referrers of kept blobs that no tag reaches, such as signatures and SBOMs",
         ),
+        leftovers(),
         hint(),
         json(),
         no_wait(),
         no_sync(),
         folder(),
     ]
+}
+
+/// `--leftovers`
+fn leftovers() -> Argument {
+    Argument {
+        conflicts: &["no-referrers"],
+        ..flag(
+            "leftovers",
+            "Removes only the files that killed copies left, also if the layout has no tags",
+        )
+    }
 }
 
 /// `FOLDER`

@@ -253,7 +253,7 @@ where
     /// Writes the file with this path. An `index.json` that is there already keeps its mode, its
     /// group and its owner, as far as the system lets.
     pub(crate) fn write(&self, path: &str, bytes: &[u8]) -> Result<(), DirFault> {
-        let place = self.place(path)?;
+        let place = self.file_place(path)?;
         let beside = match path {
             "index.json" => Beside::like(self.rt, self.first, &place, bytes)?,
             _ => Beside::with(self.rt, self.first, &place, bytes)?,

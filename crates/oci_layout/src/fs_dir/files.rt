@@ -63,7 +63,8 @@ pub(crate) fn part_of_file<R: Files + AllocGlobal>(
     Ok(bytes)
 }
 
-/// Reads a regular file, or the one that a link leads to, if it has this length. Opens nothing else.
+/// Reads a regular file, or the one that a link leads to, if it has this length. Opens nothing
+/// else.
 pub(crate) fn file_of_length<R: Files + AllocGlobal>(
     rt: &R,
     place: &str,

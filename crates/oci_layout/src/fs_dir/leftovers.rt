@@ -7,7 +7,7 @@ use std::{fs, io};
 
 /// A folder of a layout where files are written.
 #[derive(Clone, Copy)]
-enum Room {
+pub(crate) enum Room {
     Top,
     Sha256,
     Sha512,
@@ -33,13 +33,35 @@ impl Room {
     }
 
     /// Returns whether this is the name of a file that was written beside such a file.
-    fn is_leftover(self, name: &str) -> bool {
+    pub(crate) fn is_leftover(self, name: &str) -> bool {
         let Some(numbered) = name.strip_suffix(".new") else {
             return false;
         };
         match numbered.rsplit_once('.') {
             Some((file, number)) => self.is_name(file) && is_hexadecimal(number, 16),
             None => false,
+        }
+    }
+
+    /// Returns the folder in which a path, from the folder of the layout, is that of such a file.
+    pub(crate) fn of_leftover(path: &str) -> Option<Room> {
+        let (room, name) = match path.rsplit_once('/') {
+            None => (Room::Top, path),
+            Some((folder, name)) => (Room::of_blobs(folder)?, name),
+        };
+        if room.is_leftover(name) {
+            Some(room)
+        } else {
+            None
+        }
+    }
+
+    /// Returns the folder of blobs at a path.
+    pub(crate) fn of_blobs(path: &str) -> Option<Room> {
+        match path {
+            "blobs/sha256" => Some(Room::Sha256),
+            "blobs/sha512" => Some(Room::Sha512),
+            _ => None,
         }
     }
 }
@@ -149,8 +171,25 @@ where
     remove_free(rt, path_below(rt, folder, path)?.as_str())
 }
 
+/// Removes a file in one folder of a layout if it is free and that folder is no link. Returns
+/// whether it was removed.
+pub(crate) fn remove_leftover<R: Files + AllocGlobal>(
+    rt: &R,
+    folder: &str,
+    room: Room,
+    place: &str,
+) -> io::Result<bool>
+where
+    R::File: Lockable,
+{
+    if is_linked(rt, folder, room)? {
+        return Ok(false);
+    }
+    remove_free(rt, place)
+}
+
 /// Removes a file if it is free. Returns whether it was removed.
-pub(crate) fn remove_free<R: Files>(rt: &R, place: &str) -> io::Result<bool>
+fn remove_free<R: Files>(rt: &R, place: &str) -> io::Result<bool>
 where
     R::File: Lockable,
 {

@@ -1,5 +1,6 @@
 use crate::fault::DirFault;
 use crate::fs_dir::FsDir;
+use crate::fs_dir::leftovers::Room;
 use oci_digest::NoMemory;
 use std::alloc::Global;
 use std::collections::BTreeSet;
@@ -12,6 +13,23 @@ impl<'r, R: Files + AllocGlobal> FsDir<'r, R> {
             return Err(DirFault::Failed);
         }
         Ok(self.below(path)?)
+    }
+
+    /// Returns the path of a file that is read, or `None` at the path of a draft, where none is.
+    pub(crate) fn read_place(&self, path: &str) -> Result<Option<String>, DirFault> {
+        if Room::of_leftover(path).is_some() {
+            return Ok(None);
+        }
+        Ok(Some(self.place(path)?))
+    }
+
+    /// Returns the path of a file that is written or removed. Fails at the path of a draft, and at
+    /// that of a folder of blobs, where a link may stand.
+    pub(crate) fn file_place(&self, path: &str) -> Result<String, DirFault> {
+        if Room::of_leftover(path).is_some() || is_blob_folder(path) {
+            return Err(DirFault::Failed);
+        }
+        self.place(path)
     }
 
     /// Returns a path below the folder.
@@ -38,6 +56,11 @@ pub(crate) fn path_of_folder(folder: &str) -> &str {
         "" => ".",
         folder => folder,
     }
+}
+
+/// Returns whether a path is that of a folder of blobs.
+fn is_blob_folder(path: &str) -> bool {
+    matches!(path, "blobs" | "blobs/sha256" | "blobs/sha512")
 }
 
 /// Returns whether a path stays below the folder that it starts from.

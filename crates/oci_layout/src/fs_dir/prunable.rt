@@ -1,7 +1,7 @@
 use crate::fault::DirFault;
 use crate::fs_dir::FsDir;
 use crate::fs_dir::files::{failed, is_absence};
-use crate::fs_dir::leftovers::{first_link, free_leftovers, remove_free};
+use crate::fs_dir::leftovers::{Room, first_link, free_leftovers, remove_leftover};
 use crate::fs_dir::lock::Lockable;
 use crate::fs_dir::paths::path_of_folder;
 use crate::fs_dir::settling::Syncs;
@@ -16,10 +16,10 @@ impl<'r, R: Files + AllocGlobal + RandomSource> PrunableDir for FsDir<'r, R>
 where
     R::File: Lockable,
 {
-    /// Leaves out all that is neither a regular file nor a link.
+    /// Leaves out all that is neither a regular file nor a link, and drafts.
     fn list(&self, folder: &str) -> Result<Vec<(String, u64)>, DirFault> {
         let place = self.place(folder)?;
-        match files_in(self.rt, &place) {
+        match files_in(self.rt, &place, Room::of_blobs(folder)) {
             Ok(files) => Ok(files),
             Err(error) if is_absence(&error) => Ok(Vec::new(self.rt.alloc())),
             Err(error) => Err(failed(self.first, &place, error)),
@@ -44,12 +44,28 @@ where
         }
     }
 
-    /// Fails for anything that is neither a regular file nor a link.
+    /// Fails for anything that is neither a regular file nor a link, and at the path of a draft or
+    /// of a folder of blobs.
     fn remove(&mut self, path: &str) -> Result<bool, DirFault> {
-        let place = self.place(path)?;
+        let place = self.file_place(path)?;
         // (if another program writes it again, it has to be synced)
         self.on_disk.remove(path);
         match removed(self.rt, &place) {
+            Ok(()) => Ok(true),
+            Err(error) if is_absence(&error) => Ok(false),
+            Err(error) => Err(failed(self.first, &place, error)),
+        }
+    }
+
+    /// Removes only a file that [`leftovers`](PrunableDir::leftovers) may list: at any other path
+    /// it touches nothing.
+    fn remove_draft(&mut self, path: &str) -> Result<bool, DirFault> {
+        let Some(room) = Room::of_leftover(path) else {
+            return Ok(false);
+        };
+        let place = self.place(path)?;
+        let folder = path_of_folder(self.folder.as_str());
+        match remove_leftover(self.rt, folder, room, &place) {
             Ok(found) => Ok(found),
             Err(error) if is_absence(&error) => Ok(false),
             Err(error) => Err(failed(self.first, &place, error)),
@@ -66,11 +82,17 @@ where
     }
 }
 
-/// Returns the names of the files and links in a folder, each with its own length.
-fn files_in<R: Files + AllocGlobal>(rt: &R, place: &str) -> io::Result<Vec<(String, u64)>> {
+/// Returns the names of the files and links in a folder, each with its own length. Leaves out the
+/// drafts, if it is a folder of blobs.
+fn files_in<R: Files + AllocGlobal>(
+    rt: &R,
+    place: &str,
+    room: Option<Room>,
+) -> io::Result<Vec<(String, u64)>> {
     let mut files = Vec::new(rt.alloc());
     for entry in fs::read_dir(&rt, place)? {
         match entry {
+            Ok(entry) if is_draft(room, entry.file_name()) => {}
             Ok(entry) => {
                 if let Some(length) = own_length(rt, entry.path().as_str())? {
                     files.push((String::from_str(rt.alloc(), entry.file_name())?, length))?;
@@ -83,6 +105,14 @@ fn files_in<R: Files + AllocGlobal>(rt: &R, place: &str) -> io::Result<Vec<(Stri
     Ok(files)
 }
 
+/// Returns whether a file of a folder has the name of a draft.
+fn is_draft(room: Option<Room>, name: &str) -> bool {
+    match room {
+        Some(room) => room.is_leftover(name),
+        None => false,
+    }
+}
+
 /// Returns the length of a file or a link. Returns `None` for anything else, and if it was removed.
 fn own_length<R: Files>(rt: &R, place: &str) -> io::Result<Option<u64>> {
     match fs::symlink_metadata(rt, place) {
@@ -93,21 +123,13 @@ fn own_length<R: Files>(rt: &R, place: &str) -> io::Result<Option<u64>> {
     }
 }
 
-/// Removes a file or a link. Returns false if it is a draft that is locked: then a process is still
-/// writing it.
-fn removed<R: Files>(rt: &R, place: &str) -> io::Result<bool>
-where
-    R::File: Lockable,
-{
+/// Removes a file or a link.
+fn removed<R: Files>(rt: &R, place: &str) -> io::Result<()> {
     let found = fs::symlink_metadata(rt, place)?;
     if !found.is_file() && !found.is_symlink() {
         return Err(io::Error::from(ErrorKind::InvalidInput));
     }
-    if found.is_file() && place.ends_with(".new") {
-        return remove_free(rt, place);
-    }
-    fs::remove_file(rt, place)?;
-    Ok(true)
+    fs::remove_file(rt, place)
 }
 
 /// Syncs a regular file, if there is one, and then the folder that has it.

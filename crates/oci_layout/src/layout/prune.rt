@@ -1,4 +1,4 @@
-ghost use Rattle.std.specs.Prelude.{◌≡◌, ◌≢◌, ◌↔◌, ◌∷◌, ◌++◌, [], ℕ, List, true, false, is_some, None, IfOk, OnOk, IfErr, MatchOption};
+ghost use Rattle.std.specs.Prelude.{◌≡◌, ◌≢◌, ◌↔◌, ◌∷◌, ◌++◌, [], List, true, false, is_some, option_map, IfOk, OnOk, IfErr, MatchOption};
 ghost use Rattle.std.specs.BTreeMap.{IsOrdered};
 ghost use Rattle.std.specs.Cmp.Lexicographic.{slice_cmp};
 ghost use Rattle.std.specs.List.{All};
@@ -10,11 +10,11 @@ ghost use Rattle.oci_store.specs.Content.{Entry};
 ghost use Rattle.oci_store.specs.Keyed.{has_key};
 ghost use Rattle.oci_store.specs.Tags.{Tags};
 ghost use Rattle.oci_layout.specs.Blobs.{blob_path};
-ghost use Rattle.oci_layout.specs.Device.{Finds};
-ghost use Rattle.oci_layout.specs.Index.{index_file, layout_file};
+ghost use Rattle.oci_layout.specs.Crash.{KeepsSettled};
+ghost use Rattle.oci_layout.specs.Device.{Finds, Same, SameDevice};
 ghost use Rattle.oci_layout.specs.Lasts.{Lasts};
-ghost use Rattle.oci_layout.specs.Layout.{OnlyFile};
-ghost use Rattle.oci_layout.specs.Prunable.{by_name, AreBlobs, IsNotRemoved, IsReadFault, Notes, Removes, is_draft_path};
+ghost use Rattle.oci_layout.specs.Layout.{OnlyFile, OnlyFiles};
+ghost use Rattle.oci_layout.specs.Prunable.{by_name, AreBlobs, IsDirFault, IsDraftNotRemoved, IsNotRemoved, ListsFiles, Notes, Removes};
 
 use crate::fault::LayoutFault;
 use crate::layout::Layout;
@@ -36,7 +36,7 @@ impl<D: PrunableDir> Layout<D> {
     pub fn blobs(&self) -> Result<Vec<(Digest, u64)>, LayoutFault>
         ensures { Finds (D.device self.now.dir)
             (λ blobs. AreBlobs (D.device self.now.dir).file blobs.items)
-            (IsReadFault (D.device self.now.dir)) result }
+            (IsDirFault (D.device self.now.dir)) result }
     {
         blobs_in(self.alloc, &self.dir)
     }
@@ -63,6 +63,8 @@ impl<D: PrunableDir> Layout<D> {
         ensures held { (k : Descriptor) → has_key self.old.graph k ≡ true → k.digest ≡ digest.now
             → self.new ≡ self.old }
         ensures only { OnlyFile D.device self.old self.new (blob_path digest.now) }
+        ensures settled { KeepsSettled (D.device self.old.dir) (D.device self.new.dir)
+            self.old.graph }
         ensures lasts { (entries : List Entry) (tags : Tags)
             → All (λ e. e.0.digest ≢ digest.now) entries
             → Lasts (D.device self.old.dir) entries tags
@@ -89,9 +91,9 @@ impl<D: PrunableDir> Layout<D> {
     /// - 74 `Device` if a folder or a draft could not be read.
     /// - 76 `Memory` if memory runs out.
     pub fn leftovers(&self) -> Result<Vec<(String, u64)>, LayoutFault>
-        ensures { Finds (D.device self.now.dir) (λ drafts.
-            All (λ draft. (D.device self.now.dir).file draft.0 ≡ None) (by_name drafts.items))
-            (IsReadFault (D.device self.now.dir)) result }
+        ensures { Finds (D.device self.now.dir)
+            (λ drafts. ListsFiles (D.device self.now.dir).draft (by_name drafts.items))
+            (IsDirFault (D.device self.now.dir)) result }
     {
         match self.dir.leftovers() {
             Ok(drafts) => Ok(drafts),
@@ -99,41 +101,33 @@ impl<D: PrunableDir> Layout<D> {
         }
     }
 
-    /// Removes a draft that a killed process left. Returns false if there is none at the path, if a
-    /// process is still writing it, or if the path does not end in `.new`, as that of each draft
-    /// does.
+    /// Removes the draft at a path that a killed process left. Returns false if there is none, or
+    /// if a process is still writing it. Changes no file of the layout, whatever the result.
     ///
     /// # Errors
     ///
     /// - 74 `Device` if it could not be removed.
     /// - 76 `Memory` if memory runs out.
     ///
-    /// No file of the layout is changed, whatever the result.
+    /// No draft is then changed.
     pub fn remove_leftover(&mut self, path: &str) -> Result<bool, LayoutFault>
         ensures removed { OnOk result ((D.device self.old.dir).is_honest
-            → is_draft_path path.now ≡ true
-            → Removes (D.device self.old.dir).file (D.device self.new.dir).file path.now) }
-        ensures found { IfOk result (λ found. (D.device self.old.dir).is_honest → found ≡ true
-            → is_some ((D.device self.old.dir).file path.now) ≡ true) }
-        ensures blobs { (D.device self.old.dir).is_honest → (digest : List ℕ) → IsDigest digest
-            → (D.device self.new.dir).file (blob_path digest)
-            ≡ (D.device self.old.dir).file (blob_path digest) }
-        ensures index { (D.device self.old.dir).is_honest
-            → (D.device self.new.dir).file index_file ≡ (D.device self.old.dir).file index_file }
-        ensures only { OnlyFile D.device self.old self.new path.now }
+            → Removes (D.device self.old.dir).draft (D.device self.new.dir).draft path.now) }
+        ensures found { IfOk result (λ found. (D.device self.old.dir).is_honest
+            → found ≡ is_some ((D.device self.old.dir).draft path.now)) }
+        ensures files { (D.device self.old.dir).is_honest
+            → Same (D.device self.old.dir).file (D.device self.new.dir).file }
+        ensures only { OnlyFiles D.device self.old self.new }
+        ensures device { SameDevice (D.device self.old.dir) (D.device self.new.dir) }
+        ensures settled { KeepsSettled (D.device self.old.dir) (D.device self.new.dir)
+            self.old.graph }
         ensures lasts { (entries : List Entry) (tags : Tags)
             → Lasts (D.device self.old.dir) entries tags
             → Lasts (D.device self.new.dir) entries tags }
-        ensures refused { IfErr result (IsNotRemoved (D.device self.old.dir)
+        ensures refused { IfErr result (IsDraftNotRemoved (D.device self.old.dir)
             (D.device self.new.dir)) }
     {
-        if !is_draft(path) {
-            return Ok(false);
-        }
-        // The contract of `len` states that the keys are valid, so their files are not drafts.
-        let _ = self.graph.len();
-        self.subjects = None;
-        match self.dir.remove(path) {
+        match self.dir.remove_draft(path) {
             Ok(found) => Ok(found),
             Err(fault) => Err(LayoutFault::from(fault)),
         }
@@ -147,7 +141,9 @@ impl<D: PrunableDir> Layout<D> {
     /// - 74 `Device` if that could not be found out.
     /// - 76 `Memory` if memory runs out.
     pub fn linked(&self) -> Result<Option<&'static str>, LayoutFault>
-        ensures cause { IfErr result (IsReadFault (D.device self.now.dir)) }
+        ensures { Finds (D.device self.now.dir)
+            (λ found. option_map (λ path. path.now) found ≡ (D.device self.now.dir).link)
+            (IsDirFault (D.device self.now.dir)) result }
     {
         match self.dir.linked() {
             Ok(linked) => Ok(linked),
@@ -162,7 +158,7 @@ impl<D: PrunableDir> Layout<D> {
     /// - 74 `Device` if that is not known, as when the disk failed.
     /// - 76 `Memory` if memory runs out.
     pub fn sync(&self) -> Result<(), LayoutFault>
-        ensures cause { IfErr result (IsReadFault (D.device self.now.dir)) }
+        ensures cause { IfErr result (IsDirFault (D.device self.now.dir)) }
     {
         match self.dir.sync("index.json") {
             Ok(()) => Ok(()),
@@ -183,21 +179,10 @@ fn is_held(graph: &Graph, digest: &Digest) -> bool
     graph.least_with(digest).is_some()
 }
 
-/// Returns whether a path is that of a draft, which ends in `.new`.
-fn is_draft(path: &str) -> bool
-    ensures exact { result ≡ is_draft_path path.now }
-    ensures layout { path.now ≡ layout_file → result ≡ false }
-    ensures index { path.now ≡ index_file → result ≡ false }
-    ensures blobs { (digest : List ℕ) → IsDigest digest → path.now ≡ blob_path digest
-        → result ≡ false }
-{
-    path.as_bytes().ends_with(b".new")
-}
-
 /// Returns the digests that files are named by, each with the length of its file.
 fn blobs_in<D: PrunableDir>(alloc: Global, dir: &D) -> Result<Vec<(Digest, u64)>, LayoutFault>
     ensures { Finds (D.device dir.now) (λ blobs. AreBlobs (D.device dir.now).file blobs.items)
-        (IsReadFault (D.device dir.now)) result }
+        (IsDirFault (D.device dir.now)) result }
 {
     let mut sizes = BTreeMap::new(alloc);
     let files = dir.list("blobs/sha256")?;

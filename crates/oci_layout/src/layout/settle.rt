@@ -44,8 +44,8 @@ impl<D: Dir> Layout<D> {
         }
     }
 
-    /// Waits until `oci-layout` and `index.json` are on the disk, as they are now. A process that was
-    /// killed may have replaced them shortly before the layout was opened. Changes nothing.
+    /// Waits until `oci-layout` and `index.json` are on the disk, as they are now. A process that
+    /// was killed may have replaced them shortly before the layout was opened. Changes nothing.
     ///
     /// # Errors
     ///

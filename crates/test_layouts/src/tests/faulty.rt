@@ -132,11 +132,13 @@ impl FaultyDir {
 }
 
 impl Dir for FaultyDir {
-    ghost use Rattle.std.specs.Prelude.{true};
+    ghost use Rattle.std.specs.Prelude.{true, None};
     ghost use Rattle.oci_layout.specs.Memory.{device_of};
 
     ghost device = { λ d. record {
       file = (device_of d.dir).file;
+      draft = (device_of d.dir).draft;
+      link = None;
       may_leave = (device_of d.dir).may_leave;
       is_honest = d.change ≡ None;
       stays = λ honest path. (device_of d.dir).stays tt path;

@@ -39,6 +39,10 @@ pub(crate) enum FolderStep<'a> {
     Link(&'a str),
     /// Result: whether it is a link, `true` or `false`.
     IsLink,
+    /// Writes the file with this text, and creates its folders. Result: `written`.
+    Write(&'a str),
+    /// Result: whether there is such a file, `true` or `false`.
+    IsThere,
     /// Removes the file. Result: `removed`.
     Remove,
     /// Reads the file in the folder with the empty path.
@@ -148,6 +152,8 @@ fn at_path<R: Host>(rt: &R, path: &str, step: FolderStep<'_>) -> Result<String, 
         FolderStep::Count => counted(rt, path),
         FolderStep::Link(target) => link(rt, path, target),
         FolderStep::IsLink => is_link(rt, path),
+        FolderStep::Write(text) => write(rt, path, text),
+        FolderStep::IsThere => is_there(rt, path),
         FolderStep::Remove => remove(rt, path),
         FolderStep::ReadInCurrent => read_in_current(rt, path),
         FolderStep::RemoveLeftovers => remove_leftovers(rt, path),
@@ -177,6 +183,20 @@ fn link<R: Host>(rt: &R, path: &str, target: &str) -> Result<String, Fail> {
 fn is_link<R: Host>(rt: &R, path: &str) -> Result<String, Fail> {
     let is_link = fs::symlink_metadata(rt, path)?.is_symlink();
     Ok(format!(in rt.alloc(); "{is_link}")?)
+}
+
+/// Writes a file, and creates its folders.
+pub(crate) fn write<R: Host>(rt: &R, path: &str, text: &str) -> Result<String, Fail> {
+    if let Some((folder, _)) = path.rsplit_once('/') {
+        fs::create_dir_all(rt, folder)?;
+    }
+    fs::write(rt, path, text.as_bytes())?;
+    Ok(String::from_str(rt.alloc(), "written")?)
+}
+
+fn is_there<R: Host>(rt: &R, path: &str) -> Result<String, Fail> {
+    let is_there = fs::exists(rt, path)?;
+    Ok(format!(in rt.alloc(); "{is_there}")?)
 }
 
 fn remove<R: Host>(rt: &R, path: &str) -> Result<String, Fail> {

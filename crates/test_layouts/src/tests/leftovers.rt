@@ -3,7 +3,7 @@
 
 use crate::tests::drafting::DraftStep::KeepBesideRemoval;
 use crate::tests::files::FileStep::{Draft, Exists, Put};
-use crate::tests::files::FolderStep::{Count, IsLink, Link, RemoveLeftovers};
+use crate::tests::files::FolderStep::{Count, IsLink, IsThere, Link, RemoveLeftovers, Write};
 use crate::tests::host::Host;
 use crate::tests::steps::Step::{At, In};
 use crate::tests::steps::{Ground, Row, assert_run};
@@ -83,16 +83,26 @@ static FILES: [(&str, bool); 30] = [
     ("below/index.json.0123456789abcdef.new", false),
 ];
 
+/// Writes a file into a folder, removes its leftovers, and compares whether the file is gone.
 fn assert_removed<R: Host + Threads + Wait + Abort>(
     rt: &R,
     file: &str,
     is_removed: bool,
 ) -> Result<(), Fail> {
-    let exists = if is_removed { "false" } else { "true" };
+    let path = format!(in rt.alloc(); "leftovers/{file}")?;
+    assert_removed_at(rt, path.as_str(), is_removed)
+}
+
+fn assert_removed_at<R: Host + Threads + Wait + Abort>(
+    rt: &R,
+    path: &str,
+    is_removed: bool,
+) -> Result<(), Fail> {
+    let is_there = if is_removed { "false" } else { "true" };
     let rows = [
-        Row(In(file, Put("a")), "put"),
+        Row(At(path, Write("a")), "written"),
         Row(At("leftovers", RemoveLeftovers), "removed"),
-        Row(In(file, Exists), exists),
+        Row(At(path, IsThere), is_there),
     ];
     assert_run(rt, Ground::Folder("leftovers"), &rows)
 }
@@ -107,44 +117,46 @@ fn leftovers_of_a_folder(rt: HostRuntime) -> Result<(), Fail> {
 }
 
 const IN_SHA256: &str =
-    "blobs/sha256/6e340b9cffb37a989ca544e6bb780a2c78901d3fb33738768511a30617afa01d.0123456789abcdef.new";
+    "linked/blobs/sha256/6e340b9cffb37a989ca544e6bb780a2c78901d3fb33738768511a30617afa01d.0123456789abcdef.new";
 
 const IN_SHA512: &str =
-    "blobs/sha512/b8244d028981d693af7b456af8efa4cad63d282e19ff14942c246e50d9351d22704a802a71c3580b6370de4ceb293c324a8423342557d4e5c38438f0e36910ee.0123456789abcdef.new";
+    "linked/blobs/sha512/b8244d028981d693af7b456af8efa4cad63d282e19ff14942c246e50d9351d22704a802a71c3580b6370de4ceb293c324a8423342557d4e5c38438f0e36910ee.0123456789abcdef.new";
 
 /// The files in the folder behind the links.
 const IN_OTHER: &str =
-    "other/sha256/6e340b9cffb37a989ca544e6bb780a2c78901d3fb33738768511a30617afa01d.0123456789abcdef.new";
+    "linked/other/sha256/6e340b9cffb37a989ca544e6bb780a2c78901d3fb33738768511a30617afa01d.0123456789abcdef.new";
 
 const IN_NO_ROOM: &str =
-    "other/b8244d028981d693af7b456af8efa4cad63d282e19ff14942c246e50d9351d22704a802a71c3580b6370de4ceb293c324a8423342557d4e5c38438f0e36910ee.0123456789abcdef.new";
+    "linked/other/b8244d028981d693af7b456af8efa4cad63d282e19ff14942c246e50d9351d22704a802a71c3580b6370de4ceb293c324a8423342557d4e5c38438f0e36910ee.0123456789abcdef.new";
+
+const INDEX: &str = "linked/index.json.0123456789abcdef.new";
 
 const BLOBS_LINKED: &[Row] = &[
-    Row(In(IN_OTHER, Put("a")), "put"),
-    Row(In("index.json.0123456789abcdef.new", Put("a")), "put"),
+    Row(At(IN_OTHER, Write("a")), "written"),
+    Row(At(INDEX, Write("a")), "written"),
     Row(At("linked/blobs", Link("other")), "linked"),
-    Row(In(IN_SHA256, Exists), "true"),
+    Row(At(IN_SHA256, IsThere), "true"),
     Row(At("linked", RemoveLeftovers), "removed"),
-    Row(In(IN_SHA256, Exists), "true"),
-    Row(In("index.json.0123456789abcdef.new", Exists), "false"),
+    Row(At(IN_SHA256, IsThere), "true"),
+    Row(At(INDEX, IsThere), "false"),
 ];
 
 const SHA256_LINKED: &[Row] = &[
-    Row(In(IN_OTHER, Put("a")), "put"),
-    Row(In(IN_SHA512, Put("a")), "put"),
+    Row(At(IN_OTHER, Write("a")), "written"),
+    Row(At(IN_SHA512, Write("a")), "written"),
     Row(At("linked/blobs/sha256", Link("../other/sha256")), "linked"),
     Row(At("linked", RemoveLeftovers), "removed"),
-    Row(In(IN_SHA256, Exists), "true"),
-    Row(In(IN_SHA512, Exists), "false"),
+    Row(At(IN_SHA256, IsThere), "true"),
+    Row(At(IN_SHA512, IsThere), "false"),
 ];
 
 const SHA512_LINKED: &[Row] = &[
-    Row(In(IN_NO_ROOM, Put("a")), "put"),
-    Row(In(IN_SHA256, Put("a")), "put"),
+    Row(At(IN_NO_ROOM, Write("a")), "written"),
+    Row(At(IN_SHA256, Write("a")), "written"),
     Row(At("linked/blobs/sha512", Link("../other")), "linked"),
     Row(At("linked", RemoveLeftovers), "removed"),
-    Row(In(IN_SHA512, Exists), "true"),
-    Row(In(IN_SHA256, Exists), "false"),
+    Row(At(IN_SHA512, IsThere), "true"),
+    Row(At(IN_SHA256, IsThere), "false"),
 ];
 
 /// Nothing is removed through a link in the place of a folder of blobs. Leftovers elsewhere are
@@ -157,6 +169,9 @@ fn leftovers_behind_links(rt: HostRuntime) -> Result<(), Fail> {
     Ok(())
 }
 
+const IN_KINDS: &str =
+    "kinds/blobs/sha256/6e340b9cffb37a989ca544e6bb780a2c78901d3fb33738768511a30617afa01d.0123456789abcdef.new";
+
 const OTHER_KINDS: &[Row] = &[
     Row(In("index.json.0123456789abcdef.new/file", Put("a")), "put"),
     Row(In("file", Put("a")), "put"),
@@ -164,11 +179,11 @@ const OTHER_KINDS: &[Row] = &[
         At("kinds/oci-layout.0123456789abcdef.new", Link("file")),
         "linked",
     ),
-    Row(In(IN_SHA256, Put("a")), "put"),
+    Row(At(IN_KINDS, Write("a")), "written"),
     Row(At("kinds", RemoveLeftovers), "removed"),
     Row(In("index.json.0123456789abcdef.new/file", Exists), "true"),
     Row(At("kinds/oci-layout.0123456789abcdef.new", IsLink), "true"),
-    Row(In(IN_SHA256, Exists), "false"),
+    Row(At(IN_KINDS, IsThere), "false"),
 ];
 
 /// A folder or a link with such a name stays: only a regular file can be a leftover.

@@ -1,5 +1,6 @@
 //! Tags, keys, blobs and drafts that are removed, in memory and in a folder.
 
+use crate::tests::files::write;
 use crate::tests::host::Host;
 use crate::tests::layouts::{created, listed, opened, push_samples, save_named, summary};
 use crate::tests::texts::{assert_told, blob};
@@ -141,11 +142,11 @@ fn absent_entry(rt: HostRuntime) -> Result<(), Fail> {
     Ok(fs::remove_dir_all(&rt, "absent")?)
 }
 
-/// Puts a draft at a path, and creates a layout. Lists and removes the draft.
-fn cleaned<D: PrunableDir + Drop>(alloc: Global, mut dir: D, path: &str) -> Result<String, Fail> {
-    dir.put(path, b"abc")?;
-    let mut layout = created(alloc, dir)?;
-    told_of_cleaned(alloc, &mut layout, path)
+/// Writes a draft in a folder, and creates a layout there. Lists and removes the draft.
+fn cleaned<R: Host>(rt: &R) -> Result<String, Fail> {
+    write(rt, "cleaned/index.json.0123456789abcdef.new", "abc")?;
+    let mut layout = created(rt.alloc(), FsDir::new(rt, "cleaned")?)?;
+    told_of_cleaned(rt.alloc(), &mut layout, DRAFT)
 }
 
 /// Lists and removes the draft at a path. Tries to remove the index as one.
@@ -165,30 +166,70 @@ fn told_of_cleaned<D: PrunableDir>(
 const DRAFT: &str = "index.json.0123456789abcdef.new";
 
 fn assert_cleaned<R: Host + Abort>(rt: &R) -> Result<(), Fail> {
-    let told = cleaned(rt.alloc(), FsDir::new(rt, "cleaned")?, DRAFT)?;
+    let told = cleaned(rt)?;
     assert_told(
         rt,
         &"a folder",
         told.as_str(),
         "index.json.0123456789abcdef.new 3; true false false none",
     )?;
+    let told = spared(rt.alloc(), FsDir::new(rt, "cleaned")?, "index.json.new")?;
+    assert_told(rt, &"another file", told.as_str(), "false true")?;
     rt::Files::symlink(rt, "..", "cleaned/blobs")?;
-    let told = unlinked(rt.alloc(), FsDir::new(rt, "cleaned")?)?;
-    assert_told(rt, &"a link", told.as_str(), "blobs true none")
+    let told = told_of_link(rt.alloc(), FsDir::new(rt, "cleaned")?)?;
+    assert_told(rt, &"a link", told.as_str(), "blobs false false blobs")
 }
 
-/// Removes the link in the place of `blobs`.
-fn unlinked<D: PrunableDir + Drop>(alloc: Global, mut dir: D) -> Result<String, Fail> {
+/// Puts a file, and tries to remove it as a draft. Returns whether it was removed, and whether it is
+/// there.
+fn spared<D: PrunableDir + Drop>(alloc: Global, mut dir: D, path: &str) -> Result<String, Fail> {
+    dir.put(path, b"abc")?;
+    let removed = dir.remove_draft(path)?;
+    let there = dir.exists(path)?;
+    Ok(format!(in alloc; "{removed} {there}")?)
+}
+
+/// Tries to remove the link in the place of `blobs`, and to put a file there. Returns what is
+/// linked, whether each was done, and what is linked then.
+fn told_of_link<D: PrunableDir + Drop>(alloc: Global, mut dir: D) -> Result<String, Fail> {
     let before = dir.linked()?.unwrap_or("none");
-    let found = dir.remove("blobs")?;
+    let removed = dir.remove("blobs").is_ok();
+    let put = dir.put("blobs", b"abc").is_ok();
     let after = dir.linked()?.unwrap_or("none");
-    Ok(format!(in alloc; "{before} {found} {after}")?)
+    Ok(format!(in alloc; "{before} {removed} {put} {after}")?)
 }
 
-/// A draft is listed and removed, and the index is not. A link is found and itself removed.
+/// A draft is listed and removed, and the index is not. A link in the place of `blobs` is found, and
+/// stays.
 #[test]
 fn cleaned_folder(rt: HostRuntime) -> Result<(), Fail> {
     let _ = fs::remove_dir_all(&rt, "cleaned");
     assert_cleaned(&rt)?;
     Ok(fs::remove_dir_all(&rt, "cleaned")?)
+}
+
+/// Leaves a draft in a directory in memory, creates a layout there, and pushes `{}`.
+fn layout_with_draft(alloc: Global, path: &str) -> Result<Layout<MemDir>, Fail> {
+    let mut dir = MemDir::new(alloc);
+    dir.leave_draft(path, b"abc")?;
+    let mut layout = created(alloc, dir)?;
+    push_samples(alloc, &mut layout, &[Empty])?;
+    Ok(layout)
+}
+
+/// A draft in memory is listed with its length and removed once. The index and the blob stay.
+#[test]
+fn cleaned_memory(rt: HostRuntime) -> Result<(), Fail> {
+    let mut layout = layout_with_draft(rt.alloc(), DRAFT)?;
+    let told = told_of_cleaned(rt.alloc(), &mut layout, DRAFT)?;
+    assert_told(
+        &rt,
+        &"the draft",
+        told.as_str(),
+        "index.json.0123456789abcdef.new 3; true false false none",
+    )?;
+    let drafts = leftovers_of(rt.alloc(), &layout)?;
+    assert_told(&rt, &"the drafts after it", drafts.as_str(), "")?;
+    let blobs = blobs_of(rt.alloc(), &layout)?;
+    assert_told(&rt, &"the blobs", blobs.as_str(), "<digest Empty> 2;")
 }

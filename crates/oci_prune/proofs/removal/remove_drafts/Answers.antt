@@ -1,9 +1,9 @@
-use Rattle.std.proofs.Common.{◌≡◌, ◌∙◌, ℕ, List, String, Global, string_bytes, sym, ap, subst}
+use Rattle.std.proofs.Common.{◌≡◌, ◌∙◌, ℕ, List, None, String, Global, string_bytes, sym, ap, subst}
 use Rattle.std.proofs.lemmas.List.{length-set}
-use Rattle.oci_prune.specs.Pruned.{Spares}
+use Rattle.oci_prune.specs.Pruned.{IsNone}
 use Rattle.oci_prune.specs.Refusal.{Notes}
 use Rattle.oci_prune.proofs.Noting.{notes_draft}
-use Rattle.oci_prune.proofs.Sparing.{same_memory_both, spares_draft, same_blobs_both}
+use Rattle.oci_prune.proofs.Sparing.{drafts_gone, same_memory_both, settled_both, spares_again}
 use Rattle.oci_prune.proofs.removal.remove_drafts.Goals as goal
 
 pub loop-place-preserved : goal.loop-place-preserved
@@ -12,18 +12,22 @@ loop-place-preserved g c =
     let a = g.D.Dir.device c.args.layout.now.dir in
     let b = g.D.Dir.device c.loop-place.layout.dir in
     let d = g.D.Dir.device c.remove_draft.new.layout.dir in
+    let did = c.remove_draft.ensures in
     let text = c.as_str.ensures.value ∙ ap (λ (d : String Global × ℕ). string_bytes d.0) (sym c.index-drafts-place.is) in
-    let spared = subst (λ (text : List ℕ). Spares b d c.loop-place.layout.graph (λ (path : List ℕ). text ≡ path)) text c.remove_draft.ensures.removal.spared in
-    let notes = subst (λ (text : List ℕ). Notes b (λ (path : List ℕ). text ≡ path) c.loop-place.fault c.remove_draft.new.fault) text c.remove_draft.ensures.removal.notes in
+    let notes = subst (λ (text : List ℕ). Notes b (λ (path : List ℕ). text ≡ path) c.loop-place.fault c.remove_draft.new.fault) text did.removal.notes in
     record {
       removal = record {
-        memory = same_memory_both c.args.layout.now c.loop-place.layout c.remove_draft.new.layout w.removal.memory c.remove_draft.ensures.removal.memory;
-        spared = spares_draft a b d c.args.layout.now.graph c.loop-place.layout.graph c.args.drafts.now c.loop-place.place c.index-drafts-place.result c.loop-place-test.true c.index-drafts-place.is w.removal.spared w.removal.memory.graph spared;
-        fault = λ none. w.removal.fault (c.remove_draft.ensures.removal.fault none);
+        memory = same_memory_both c.args.layout.now c.loop-place.layout c.remove_draft.new.layout w.removal.memory did.removal.memory;
+        spared = spares_again a b d c.args.layout.now.graph c.loop-place.layout.graph IsNone w.removal.spared w.removal.memory.graph did.removal.spared;
+        settled = settled_both a b d c.args.layout.now.graph c.loop-place.layout.graph w.removal.spared.honest.0 w.removal.memory.graph w.removal.settled did.removal.settled;
+        drafts = λ honest path none. did.removal.drafts (w.removal.spared.honest.0 honest) path (w.removal.drafts honest path none);
+        fault = λ none. w.removal.fault (did.removal.fault none);
         notes = notes_draft a b c.args.drafts.now c.loop-place.place c.index-drafts-place.result c.args.fault.now c.loop-place.fault c.remove_draft.new.fault c.loop-place-test.true c.index-drafts-place.is w.removal.spared.reads w.removal.notes notes;
-        failures = c.remove_draft.ensures.removal.failures ∙ w.removal.failures;
+        failures = did.removal.failures ∙ w.removal.failures;
       };
-      files = same_blobs_both a b d w.removal.spared.honest.0 w.files c.remove_draft.ensures.files;
+      removed = λ none honest.
+          drafts_gone b d c.args.drafts.now c.loop-place.place c.index-drafts-place.result c.loop-place-test.true c.index-drafts-place.is (did.removal.drafts (w.removal.spared.honest.0 honest))
+          (subst (λ (text : List ℕ). d.draft text ≡ None) text (did.removed none (w.removal.spared.honest.0 honest))) (w.removed (did.removal.fault none) honest);
       noted = length-set c.loop-place.gone.items c.loop-place.place c.remove_draft.result ∙ w.noted;
-      lasts = λ entries tags was. c.remove_draft.ensures.lasts entries tags (w.lasts entries tags was);
+      lasts = λ entries tags was. did.lasts entries tags (w.lasts entries tags was);
     }

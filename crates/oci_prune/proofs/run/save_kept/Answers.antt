@@ -6,7 +6,7 @@ use Rattle.oci_layout.specs.Blobs.{IsSound}
 use Rattle.oci_layout.specs.Index.{index_file}
 use Rattle.oci_layout.proofs.Loose.{empty_list}
 use Rattle.oci_prune.specs.Pruned.{Spares}
-use Rattle.oci_prune.proofs.Leaving.{whole_left}
+use Rattle.oci_prune.proofs.Leaving.{not_empty, whole_left}
 use Rattle.oci_prune.proofs.Plans.{tags_kept}
 use Rattle.oci_prune.proofs.Settling.{can_settle_kept, lasts_saved, left_saved}
 use Rattle.oci_prune.proofs.Sparing.{spares_index}
@@ -20,8 +20,8 @@ returns-then-is_empty-clause-saved g c =
     record {
       kept = whole_left c.args.layout.now.graph c.args.plan.now.kept removed.items c.requires.removed none;
       index = λ some. absurd (some none);
-      unwritten = λ _. refl;
       failures = refl;
+      drafts = λ honest path gone. gone;
     }
 
 pub retain-requires : goal.retain-requires
@@ -59,3 +59,18 @@ returns-clause-lasts g c = λ some entries tags can closed.
     let count = c.count-count.result in
     lasts_saved g.D.Dir.device kept c.save_settled.new.self count c.in_ok-save_settled.ensures.only c.in_ok-save_settled.ensures.lasts entries tags
     (can_settle_kept g.D.Dir.device c.args.layout.now kept c.args.plan.now.kept count entries tags c.in_ok-retain.ensures.dir c.in_ok-retain.ensures.retained c.count-count.ensures.count c.in_ok-retain.ensures.sound closed can)
+
+pub returns-in_err-retain-clause-unwritten : goal.returns-in_err-retain-clause-unwritten
+returns-in_err-retain-clause-unwritten g c = λ none.
+    let removed = c.args.plan.now.removed in
+    absurd (not_empty removed.items (vec_len removed) c.is_empty.result (omega (arith, removed.ok.0)) c.is_empty.ensures c.if-is_empty.false none)
+
+pub returns-in_err-save_settled-clause-unwritten : goal.returns-in_err-save_settled-clause-unwritten
+returns-in_err-save_settled-clause-unwritten g c = λ none.
+    let removed = c.args.plan.now.removed in
+    absurd (not_empty removed.items (vec_len removed) c.is_empty.result (omega (arith, removed.ok.0)) c.is_empty.ensures c.if-is_empty.false none)
+
+pub returns-clause-unwritten : goal.returns-clause-unwritten
+returns-clause-unwritten g c = λ none.
+    let removed = c.args.plan.now.removed in
+    absurd (not_empty removed.items (vec_len removed) c.is_empty.result (omega (arith, removed.ok.0)) c.is_empty.ensures c.if-is_empty.false none)

@@ -5,7 +5,7 @@ use Rattle.oci_manifest.specs.Descriptor.{Descriptor}
 use Rattle.oci_store.proofs.Lookups.{Contains-from_has_key}
 use Rattle.oci_layout.specs.Blobs.{blob_path}
 use Rattle.oci_layout.specs.Prunable.{IsRemoval}
-use Rattle.oci_layout.proofs.Crash.{Lasts-removed}
+use Rattle.oci_layout.proofs.Crash.{KeepsSettled-removed, Lasts-removed}
 use Rattle.oci_layout.proofs.Files.{blob_layout}
 use Rattle.oci_layout.proofs.Prunable.{OnlyFile-removed, apart-unheld, IsLayout-removed}
 use Rattle.oci_layout.proofs.layout.Layout.remove_blob.Goals as goal
@@ -62,3 +62,19 @@ returns-clause-lasts g c =
     let new = g.D.Dir.device c.remove.new.self in
     let removal : IsRemoval old new (blob_path c.args.digest.now) c.remove.result = rw (c.deref.ensures, c.in_ok-path.ensures) at c.remove.ensures in
     rw (← c.self.view_is) (λ entries tags. Lasts-removed old new entries tags c.args.digest.now c.remove.result c.is_held.ensures.digest removal)
+
+pub returns-in-Ok-clause-settled : goal.returns-in-Ok-clause-settled
+returns-in-Ok-clause-settled g c =
+    let s = c.self.inside in
+    let old = g.D.Dir.device s.dir in
+    let new = g.D.Dir.device c.remove.new.self in
+    let removal : IsRemoval old new (blob_path c.args.digest.now) c.remove.result = rw (c.deref.ensures, c.in_ok-path.ensures) at c.remove.ensures in
+    rw (← c.self.view_is) (KeepsSettled-removed old new s.graph c.args.digest.now c.remove.result c.is_held.ensures.digest c.is_held.ensures.keys (c.is_held.ensures.held.0 c.if-is_held.false) removal)
+
+pub returns-clause-settled : goal.returns-clause-settled
+returns-clause-settled g c =
+    let s = c.self.inside in
+    let old = g.D.Dir.device s.dir in
+    let new = g.D.Dir.device c.remove.new.self in
+    let removal : IsRemoval old new (blob_path c.args.digest.now) c.remove.result = rw (c.deref.ensures, c.in_ok-path.ensures) at c.remove.ensures in
+    rw (← c.self.view_is) (KeepsSettled-removed old new s.graph c.args.digest.now c.remove.result c.is_held.ensures.digest c.is_held.ensures.keys (c.is_held.ensures.held.0 c.if-is_held.false) removal)

@@ -13,8 +13,10 @@ returns-clause-only c =
     let removes = btree_map_updates_text path d.torn c.remove.new.self None c.remove.ensures.updates in
     record {
       files = λ h q. refl;
+      draft = λ h q. refl;
       no_more = λ h q x is. memory_no_more (files_of d.files) (files_of d.settled) copied (files_of d.torn) torn path c.in_ok-copy_file.ensures.same c.copy_file.ensures.other removes q x is;
       honest = (λ h. h, λ h. h);
+      link = refl;
       reads = refl;
       failures = refl;
     }

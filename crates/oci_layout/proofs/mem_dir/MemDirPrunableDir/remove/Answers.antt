@@ -13,6 +13,7 @@ returns-clause-removal c =
       found = λ honest. (rw c.remove-removed.ensures.value at c.is_some.ensures);
       refused = tt;
       left = λ honest q x is. memory_removed (files_of d.files) (files_of c.remove-removed.new.self) (files_of d.settled) (files_of d.torn) c.args.path.now removes q x is;
+      draft = λ honest q. refl;
       failed = λ e. cc e;
-      device = record { honest = (λ h. h, λ h. h); reads = refl; failures = refl };
+      device = record { honest = (λ h. h, λ h. h); link = refl; reads = refl; failures = refl };
     }

@@ -16,15 +16,33 @@ use Rattle.oci_prune.specs.Pruned.{kept_of, KeepsReached}
 use Rattle.oci_prune.proofs.Leaving.{reached_left, whole_left}
 use Rattle.oci_copy_commands.specs.Mirror.{HoldsOnlyReached}
 use Rattle.oci_copy_commands.proofs.Exact.{only_reached}
-use Rattle.oci_copy_commands.proofs.Refusals.{prune_refused, settled_refused}
+use Rattle.oci_prune.specs.Refusal.{IsDeviceFault, MayNotSave}
+use Rattle.oci_copy_commands.proofs.Refusals.{if_error, on_error, on_saved, prune_refused, settled_refused}
 use Rattle.oci_copy_commands.proofs.Cleaning.{can_settle_cleaned, can_settle_whole}
-use Rattle.oci_copy_commands.proofs.mirror.prune_and_save.Goals as goal
-use Rattle.oci_copy_commands.proofs.mirror.prune_and_save.Goals.{else-is_empty-via-else-is_empty, else-is_empty-via-then-is_empty+in-Ok-1}
+use Rattle.oci_copy_commands.proofs.clean_up.prune_and_save.Goals as goal
+use Rattle.oci_copy_commands.proofs.clean_up.prune_and_save.Goals.{else-is_empty-via-else-is_empty, else-is_empty-via-then-is_empty+in-Ok-1}
 
 pub returns-in-Err-prune-clause-refused : goal.returns-in-Err-prune-clause-refused
 returns-in-Err-prune-clause-refused g c =
     let device = g.D.Dir.device in
-    rw c.fault_of-in-Err-prune.ensures (prune_refused (λ (e : CopyFault). e ≡ copy.Memory) c.args.is_exact c.args.roots.now (device c.args.destination.now.dir) (device c.prune.new.layout.dir) c.prune.new.layout c.in-Err-prune.ensures.refused.reads c.in-Err-prune.fault c.in-Err-prune.ensures.cause)
+    rw c.fault_of-in-Err-prune.ensures (prune_refused (λ (e : CopyFault). e ≡ copy.Memory) c.args.is_exact c.args.roots.now (device c.args.destination.now.dir) (device c.prune.new.layout.dir) c.prune.new.layout
+    (ap (λ (l : LayoutState g.row.D.Denot). (device l.dir).fails_reads) c.in-Err-prune.ensures.refused) c.in-Err-prune.fault c.in-Err-prune.ensures.cause)
+
+pub returns-in-Err-into_saved-clause-refused : goal.returns-in-Err-into_saved-clause-refused
+returns-in-Err-into_saved-clause-refused g c =
+    let device = g.D.Dir.device in
+    let old = device c.args.destination.now.dir in
+    let new = c.prune.new.layout in
+    let did = c.in-Ok-prune.ensures in
+    let unsaved = c.in-Err-into_saved.ensures in
+    let spares = on_error c.in-Ok-prune.pruned.saved c.in-Err-into_saved.fault did.unsaved unsaved.unsaved in
+    rw c.fault_of-in-Err-into_saved.ensures (prune_refused (λ (e : CopyFault). e ≡ copy.Memory) c.args.is_exact c.args.roots.now old (device new.dir) new spares.reads c.in-Err-into_saved.fault
+    (if_error c.in-Ok-prune.pruned.saved c.in-Err-into_saved.fault (IsDeviceFault (MayNotSave old (device new.dir))) did.unsaved_cause unsaved.unsaved))
+
+pub returns-in-Err-into_saved-clause-left : goal.returns-in-Err-into_saved-clause-left
+returns-in-Err-into_saved-clause-left g c = λ entries tags can settled.
+    let old = c.args.destination.now in
+    c.in-Ok-prune.ensures.left entries tags (can_settle_cleaned (g.D.Dir.device old.dir) c.args.from old.graph entries tags can settled) can.held
 
 pub returns-clause-refused : goal.returns-clause-refused
 returns-clause-refused g c =
@@ -40,8 +58,8 @@ returns-2-clause-stays g c =
     let kept = c.in-Ok.plan.kept in
     let left : c.else-is_empty.destination.graph ≡ kept_of kept old.graph =
     elim c.else-is_empty.branch [
-      | else-is_empty-via-else-is_empty w ↦ ap (λ (l : LayoutState g.row.D.Denot). l.graph) w.destination-is ∙ c.in-Ok-prune.ensures.kept
-      | else-is_empty-via-then-is_empty+in-Ok-1 w ↦ ap (λ (l : LayoutState g.row.D.Denot). l.graph) w.destination-is ∙ w.save_settled.ensures.only.memory.graph ∙ c.in-Ok-prune.ensures.kept
+      | else-is_empty-via-else-is_empty w ↦ ap (λ (l : LayoutState g.row.D.Denot). l.graph) w.destination-is ∙ on_saved c.in-Ok-prune.pruned.saved c.in-Ok-prune.ensures.kept c.in-Ok-into_saved.ensures.saved
+      | else-is_empty-via-then-is_empty+in-Ok-1 w ↦ ap (λ (l : LayoutState g.row.D.Denot). l.graph) w.destination-is ∙ w.save_settled.ensures.only.memory.graph ∙ on_saved c.in-Ok-prune.pruned.saved c.in-Ok-prune.ensures.kept c.in-Ok-into_saved.ensures.saved
     ] in
     subst (λ (graph : List Node). KeepsReached old.graph graph keys) (sym left) (reached_left old.graph keys kept c.in-Ok.ensures.safe)
 
@@ -53,8 +71,8 @@ returns-2-clause-only g c exact =
     let store = meaning (g.D.Dir.device old.dir) old.graph old.tags in
     let left : c.else-is_empty.destination.graph ≡ kept_of kept old.graph =
     elim c.else-is_empty.branch [
-      | else-is_empty-via-else-is_empty w ↦ ap (λ (l : LayoutState g.row.D.Denot). l.graph) w.destination-is ∙ c.in-Ok-prune.ensures.kept
-      | else-is_empty-via-then-is_empty+in-Ok-1 w ↦ ap (λ (l : LayoutState g.row.D.Denot). l.graph) w.destination-is ∙ w.save_settled.ensures.only.memory.graph ∙ c.in-Ok-prune.ensures.kept
+      | else-is_empty-via-else-is_empty w ↦ ap (λ (l : LayoutState g.row.D.Denot). l.graph) w.destination-is ∙ on_saved c.in-Ok-prune.pruned.saved c.in-Ok-prune.ensures.kept c.in-Ok-into_saved.ensures.saved
+      | else-is_empty-via-then-is_empty+in-Ok-1 w ↦ ap (λ (l : LayoutState g.row.D.Denot). l.graph) w.destination-is ∙ w.save_settled.ensures.only.memory.graph ∙ on_saved c.in-Ok-prune.pruned.saved c.in-Ok-prune.ensures.kept c.in-Ok-into_saved.ensures.saved
     ] in
     let are : AreKept old.graph keys (RefersIf false store) kept = rw exact at c.in-Ok.ensures.kept (λ keeps. cc keeps) in
     subst (λ (graph : List Node). HoldsOnlyReached graph keys) (sym left) (only_reached old.graph keys kept store c.in-Ok.ensures.safe are)
@@ -73,7 +91,7 @@ returns-clause-left g c = λ entries tags can settled.
     let did = c.in-Ok-prune.ensures in
     let none : removed.items ≡ [] = empty_list removed.items (let e = eqb-true (vec_len removed) 0 (sym c.is_empty.ensures ∙ c.if-is_empty.true) in omega (arith, e, removed.ok.0)) in
     left_saved device pruned c.save_settled.new.self c.args.from c.in-Err-save_settled.ensures.only c.in-Err-save_settled.ensures.left entries tags
-    (can_settle_whole (device pruned.dir) c.args.from pruned.graph old.graph entries tags (did.kept ∙ sym (whole_left old.graph c.in-Ok.plan.kept removed.items c.in-Ok.ensures.planned.removed none)) (did.sound can.is_sound) (did.closed can.closed) (did.stays none entries tags can.held can.lasts) can.first)
+    (can_settle_whole (device pruned.dir) c.args.from pruned.graph old.graph entries tags (on_saved c.in-Ok-prune.pruned.saved did.kept c.in-Ok-into_saved.ensures.saved ∙ sym (whole_left old.graph c.in-Ok.plan.kept removed.items c.in-Ok.ensures.planned.removed none)) (did.sound can.is_sound) (did.closed can.closed) (did.stays none entries tags can.held can.lasts) can.first)
 
 pub returns-2-clause-left : goal.returns-2-clause-left
 returns-2-clause-left g c = λ entries tags can settled.
@@ -88,7 +106,7 @@ returns-2-clause-left g c = λ entries tags can settled.
       | else-is_empty-via-then-is_empty+in-Ok-1 w ↦
           let none : removed.items ≡ [] = empty_list removed.items (let e = eqb-true (vec_len removed) 0 (sym c.is_empty.ensures ∙ w.if-is_empty.true) in omega (arith, e, removed.ok.0)) in
           subst Leaves (sym w.destination-is) (left_saved device pruned w.save_settled.new.self c.args.from w.save_settled.ensures.only w.save_settled.ensures.left entries tags
-          (can_settle_whole (device pruned.dir) c.args.from pruned.graph old.graph entries tags (did.kept ∙ sym (whole_left old.graph c.in-Ok.plan.kept removed.items c.in-Ok.ensures.planned.removed none)) (did.sound can.is_sound) (did.closed can.closed) (did.stays none entries tags can.held can.lasts) can.first))
+          (can_settle_whole (device pruned.dir) c.args.from pruned.graph old.graph entries tags (on_saved c.in-Ok-prune.pruned.saved did.kept c.in-Ok-into_saved.ensures.saved ∙ sym (whole_left old.graph c.in-Ok.plan.kept removed.items c.in-Ok.ensures.planned.removed none)) (did.sound can.is_sound) (did.closed can.closed) (did.stays none entries tags can.held can.lasts) can.first))
     ]
 
 -- the second clause of the save, after Ok, is `lasts`
@@ -103,9 +121,9 @@ returns-2-clause-lasts g c = λ entries tags can settled.
     elim c.else-is_empty.branch [
       | else-is_empty-via-else-is_empty w ↦
           let some : removed.items ≢ [] = λ none. (let e : vec_len removed ≡ 0 = (let n = ap length none in omega (arith, n, removed.ok.0)) in cc (sym w.if-is_empty.false ∙ c.is_empty.ensures ∙ ap (λ (n : ℕ). nat_eq n 0) e)) in
-          subst Stays (sym w.destination-is) (did.lasts some entries tags (can_settle_cleaned (device old.dir) c.args.from old.graph entries tags can settled))
+          subst Stays (sym w.destination-is) (on_saved c.in-Ok-prune.pruned.saved did.lasts c.in-Ok-into_saved.ensures.saved some entries tags (can_settle_cleaned (device old.dir) c.args.from old.graph entries tags can settled) can.held)
       | else-is_empty-via-then-is_empty+in-Ok-1 w ↦
           let none : removed.items ≡ [] = empty_list removed.items (let e = eqb-true (vec_len removed) 0 (sym c.is_empty.ensures ∙ w.if-is_empty.true) in omega (arith, e, removed.ok.0)) in
           subst Stays (sym w.destination-is) (lasts_saved device pruned w.save_settled.new.self c.args.from w.save_settled.ensures.only w.in-Ok-1.ensures.1.0 entries tags
-          (can_settle_whole (device pruned.dir) c.args.from pruned.graph old.graph entries tags (did.kept ∙ sym (whole_left old.graph c.in-Ok.plan.kept removed.items c.in-Ok.ensures.planned.removed none)) (did.sound can.is_sound) (did.closed can.closed) (did.stays none entries tags can.held can.lasts) can.first))
+          (can_settle_whole (device pruned.dir) c.args.from pruned.graph old.graph entries tags (on_saved c.in-Ok-prune.pruned.saved did.kept c.in-Ok-into_saved.ensures.saved ∙ sym (whole_left old.graph c.in-Ok.plan.kept removed.items c.in-Ok.ensures.planned.removed none)) (did.sound can.is_sound) (did.closed can.closed) (did.stays none entries tags can.held can.lasts) can.first))
     ]

@@ -15,7 +15,7 @@ use Rattle.oci_copy_commands.proofs.Goals.{of_more_roots}
 use Rattle.oci_copy_commands.proofs.Mirrored.{same_layout, tagged_stay}
 use Rattle.oci_copy_commands.proofs.NamedRoots.{brought_named}
 use Rattle.oci_copy_commands.proofs.Cleaning.{are_settled_same, can_clean_up_same}
-use Rattle.oci_copy_commands.proofs.mirror.clean_up.Goals as goal
+use Rattle.oci_copy_commands.proofs.clean_up.clean_up.Goals as goal
 
 pub returns-in-Ok-clause-pruned : goal.returns-in-Ok-clause-pruned
 returns-in-Ok-clause-pruned g c =

@@ -7,7 +7,7 @@ use Rattle.oci_layout.specs.Layout.{OpenedIndex}
 use Rattle.oci_prune.proofs.Settling.{left_unsaved}
 use Rattle.oci_copy_commands.specs.Selected.{IsOfRoot}
 use Rattle.oci_copy_commands.proofs.Cleaning.{are_settled_now, can_clean_up_settled}
-use Rattle.oci_copy_commands.proofs.mirror.settle_and_clean_up.Goals as goal
+use Rattle.oci_copy_commands.proofs.clean_up.settle_and_clean_up.Goals as goal
 
 pub returns-in-Ok-clause-pruned : goal.returns-in-Ok-clause-pruned
 returns-in-Ok-clause-pruned g c =
