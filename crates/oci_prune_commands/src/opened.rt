@@ -1,3 +1,6 @@
+ghost use Rattle.std.specs.Prelude.{IfOk};
+ghost use Rattle.oci_prune_commands.specs.Untagged.{IsOpenedSettled};
+
 use oci_layout::{Dir, Layout};
 use oci_program::ProgramFault;
 use std::alloc::Global;
@@ -10,10 +13,9 @@ use std::alloc::Global;
 /// - 70 to 74 if the directory has no layout, or it cannot be read, or its index is no object with a
 ///   list `manifests`; 74 also if it is not known whether the index is on the disk.
 /// - Out of memory, at any point.
-pub(crate) fn open_settled<D: Dir + Drop>(
-    alloc: Global,
-    dir: D,
-) -> Result<Layout<D>, ProgramFault> {
+pub(crate) fn open_settled<D: Dir + Drop>(alloc: Global, dir: D) -> Result<Layout<D>, ProgramFault>
+    ensures { IfOk result (IsOpenedSettled D.device dir) }
+{
     let mut layout = Layout::open_as_is(alloc, dir)?;
     match layout.settle_index() {
         Ok(()) => Ok(layout),

@@ -5,15 +5,19 @@ ghost use Rattle.std.specs.Prelude.{
   length,
   map,
   option_map,
+  string_bytes,
+  Option,
   slice_get,
   Some,
   IfErr,
   IfOk,
   OnOk,
 };
+ghost use Rattle.std.specs.Io.KnownBytes.{Appends};
+ghost use Rattle.oci_manifest.specs.Descriptor.{Descriptor};
 ghost use Rattle.oci_layout.specs.Brought.{Forgets};
 ghost use Rattle.oci_layout.specs.Device.{Touches};
-ghost use Rattle.oci_layout.specs.Entries.{entry_of, said, text_of};
+ghost use Rattle.oci_layout.specs.Entries.{entry_of, said, text_of, IndexEntry as EntryOfIndex};
 ghost use Rattle.oci_layout.specs.Index.{index_file, HasIndex};
 ghost use Rattle.oci_layout.specs.Lasts.{Lasts};
 ghost use Rattle.oci_layout.specs.Refusal.{IsSettledFault};
@@ -23,11 +27,17 @@ ghost use Rattle.oci_store.specs.Content.{Entry};
 ghost use Rattle.oci_store.specs.Tags.{Tags, tag_at, without_tag};
 ghost use Rattle.oci_prune_commands.specs.Named.{entries_named};
 ghost use Rattle.oci_prune_commands.specs.Refusal.{IsRefusedUntag};
+ghost use Rattle.oci_prune_commands.specs.Untagged.{
+  untagged_lines,
+  IsUntagged,
+  IsUntagRun,
+  LosesName,
+};
 
 use crate::opened::open_settled;
 use oci_command_line::UntagWords;
 use oci_digest::NoMemory;
-use oci_layout::{Dir, IndexEntry, Layout, Lockable};
+use oci_layout::{Dir, FolderLock, IndexEntry, Layout, Lockable};
 use oci_manifest::Key;
 use oci_program::{Form, Outcome, ProgramFault, check_is_layout, lock_folder, print_answer};
 use oci_store::{Dest, RefFault, Store, Untagger};
@@ -69,7 +79,16 @@ pub fn run_untag<
     form: Form,
     out: &mut W,
     err: &mut X,
-) -> Result<Outcome, F> {
+) -> Result<Outcome, F>
+    ensures good { IfOk result (λ outcome. outcome ≡ Outcome.Good) }
+
+    // The layout in the directory was opened, and left without the tag, and all else stays. As
+    // lines, the answer is that of each entry that went.
+    ensures untagged { OnOk result ((key : Option Descriptor) × (keys : List (Option Descriptor))
+        × IsUntagRun D.device dir words.now.tag.now key keys
+        × (form ≡ Form.Lines → Appends (W.contents out.old) (W.contents out.new)
+        (untagged_lines keys))) }
+{
     let untagged = untag_folder(rt, dir, words, err)?;
     Ok(print_answer(rt.alloc(), &untagged, form, out)?)
 }
@@ -87,14 +106,34 @@ struct Untagged {
 }
 
 impl Display for Untagged {
+    ghost use Rattle.std.specs.Prelude.{Some};
+    ghost use Rattle.oci_prune_commands.specs.Untagged.{untagged_lines};
+
+    ghost output = { λ u. Some (untagged_lines u.descriptors.items) };
+
     fn fmt<W: fmt::Write>(&self, f: &mut fmt::Formatter<W>) -> fmt::Result {
         for key in &self.descriptors {
-            match key {
-                Some(key) => writeln!(f, "untagged {key}")?,
-                None => writeln!(f, "untagged -")?,
-            }
+            write!(f, "{}", GoneEntry(key))?;
         }
         Ok(())
+    }
+}
+
+/// An entry that went, by its key. `Display` prints its line.
+#[derive(Clone, Copy)]
+struct GoneEntry<'k>(&'k Option<Key>);
+
+impl Display for GoneEntry<'_> {
+    ghost use Rattle.std.specs.Prelude.{Some};
+    ghost use Rattle.oci_prune_commands.specs.Untagged.{untagged_line};
+
+    ghost output = { λ e. Some (untagged_line e.0.now) };
+
+    fn fmt<W: fmt::Write>(&self, f: &mut fmt::Formatter<W>) -> fmt::Result {
+        match self.0 {
+            Some(key) => writeln!(f, "untagged {key}"),
+            None => writeln!(f, "untagged -"),
+        }
     }
 }
 
@@ -104,23 +143,68 @@ fn untag_folder<R: Files<File: Lockable> + AllocGlobal, D: Dir + Drop, X: Write>
     dir: D,
     words: &UntagWords<'_>,
     err: &mut X,
-) -> Result<Untagged, ProgramFault> {
-    let tag = String::from_str(rt.alloc(), words.tag)?;
+) -> Result<Untagged, ProgramFault>
+    ensures tag { IfOk result (λ answer. string_bytes answer.tag ≡ words.now.tag.now) }
+    ensures untagged { IfOk result (λ answer. IsUntagRun D.device dir words.now.tag.now
+        answer.descriptor answer.descriptors.items) }
+{
     check_is_layout(&dir)?;
-    let _lock = lock_folder(rt, words.folder, dir.first_failure(), words.waits, err)?;
-    let mut layout = open_settled(rt.alloc(), dir)?;
-    let named = entries_named(rt.alloc(), &layout, words.tag)?;
-    let descriptor = match untag_and_save(&mut layout, words.tag) {
-        Err(ProgramFault::Reference(RefFault::UnknownReference)) => {
-            forget_and_save(&mut layout, &named)?
-        }
-        untagged => Some(untagged?),
-    };
+    let lock = lock_folder(rt, words.folder, dir.first_failure(), words.waits, err)?;
+    untag_under_lock(rt.alloc(), dir, words.tag, &lock)
+}
+
+/// Opens the layout in a locked folder, and removes a tag from it.
+fn untag_under_lock<R: Files + AllocGlobal, D: Dir + Drop>(
+    alloc: Global,
+    dir: D,
+    tag: &str,
+    _lock: &FolderLock<R>,
+) -> Result<Untagged, ProgramFault>
+    ensures tag { IfOk result (λ answer. string_bytes answer.tag ≡ tag.now) }
+    ensures untagged { IfOk result (λ answer. IsUntagRun D.device dir tag.now answer.descriptor
+        answer.descriptors.items) }
+{
+    let mut layout = open_settled(alloc, dir)?;
+    untag_layout(alloc, &mut layout, tag)
+}
+
+/// Removes a tag from a layout, or forgets the entries of a name that is no tag. Saves the layout.
+fn untag_layout<D: Dir>(
+    alloc: Global,
+    layout: &mut Layout<D>,
+    tag: &str,
+) -> Result<Untagged, ProgramFault>
+    ensures tag { IfOk result (λ answer. string_bytes answer.tag ≡ tag.now) }
+    ensures untagged { IfOk result (λ answer. IsUntagged D.device tag.now layout.old layout.new
+        answer.descriptor answer.descriptors.items) }
+{
+    let name = String::from_str(alloc, tag)?;
+    let named = entries_named(alloc, layout, tag)?;
+    let descriptors = keys_of(alloc, &named)?;
+    let descriptor = remove_name(layout, tag, &named)?;
     Ok(Untagged {
-        tag,
+        tag: name,
         descriptor,
-        descriptors: keys_of(rt.alloc(), &named)?,
+        descriptors,
     })
+}
+
+/// Removes a tag, or forgets the entries of a name that is no tag, which are these. Returns the key
+/// that the name had.
+fn remove_name<D: Dir>(
+    layout: &mut Layout<D>,
+    name: &str,
+    named: &[IndexEntry],
+) -> Result<Option<Key>, ProgramFault>
+    requires { map entry_of named.now
+        ≡ entries_named name.now (said layout.old.opened.content).entries }
+    ensures { IfOk result (LosesName D.device name.now layout.old layout.new) }
+{
+    match untag_and_save(layout, name) {
+        Ok(key) => Ok(Some(key)),
+        Err(ProgramFault::Reference(RefFault::UnknownReference)) => forget_and_save(layout, named),
+        Err(fault) => Err(fault),
+    }
 }
 
 /// Returns the entries that a layout remembers with a name, in the order of the index.
@@ -145,7 +229,8 @@ fn entries_named<D: Dir>(
 
 /// Returns the keys of entries. An entry that is no descriptor has none.
 fn keys_of(alloc: Global, entries: &[IndexEntry]) -> Result<Vec<Option<Key>>, NoMemory>
-    ensures { IfOk result (λ keys. keys.items ≡ map (λ e. e.key) entries.now) }
+    ensures { IfOk result (λ keys. keys.items
+        ≡ map (λ (e : EntryOfIndex). e.key) (map entry_of entries.now)) }
 {
     let mut keys = Vec::new(alloc);
     for entry in entries {
@@ -190,6 +275,7 @@ pub fn untag_and_save<D: Dir>(layout: &mut Layout<D>, tag: &str) -> Result<Key, 
         → HasIndex (D.device layout.new.dir).file layout.old.graph
         (without_tag layout.old.tags tag.now) layout.old.opened) }
     ensures graph { layout.new.graph ≡ layout.old.graph }
+    ensures opened { OnOk result (layout.new.opened ≡ layout.old.opened) }
     ensures other { (D.device layout.old.dir).is_honest
         → Touches (D.device layout.old.dir).file (D.device layout.new.dir).file index_file }
     ensures refused { IfErr result (IsRefusedUntag layout.old.tags tag.now
