@@ -60,6 +60,11 @@ abbrev pub IsRefusalStatus : Form → ProgramFault → ℕ → Type 0
 IsRefusalStatus form.Lines e status = status ≡ status_of (ending.Fault e)
 IsRefusalStatus form.Json e status = (status ≡ status_of (ending.Fault e)) ⊎ (status ≡ 3)
 
+-- the status of a run that ended before its command: 2 if its command line is invalid, and otherwise that of its fault
+abbrev pub IsEndingStatus : Form → Ending → ℕ → Type 0
+IsEndingStatus form (ending.Fault e) status = IsRefusalStatus form e status
+IsEndingStatus form other status = status ≡ 2
+
 -- the status of a run that was not refused: 1 if it found something wrong
 abbrev pub status_of_done : Outcome → ℕ
 status_of_done outcome.Good = 0

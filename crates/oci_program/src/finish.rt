@@ -1,5 +1,5 @@
-ghost use Rattle.std.specs.Prelude.{◌≡◌, ◌≤◌, ◌⊎◌, false, Ok, IfErr, IfOk, OnOk};
-ghost use Rattle.oci_program.specs.Status.{IsRefusalStatus, is_memory, status_of, status_of_done};
+ghost use Rattle.std.specs.Prelude.{◌≡◌, ◌≤◌, ◌⊎◌, false, Ok, IfErr, IfOk, OnErr, OnOk};
+ghost use Rattle.oci_program.specs.Status.{IsEndingStatus, IsRefusalStatus, is_memory, status_of_done};
 
 use crate::answer::{Form, document_line};
 use crate::ending::Ending;
@@ -9,6 +9,7 @@ use crate::refusal::Refusal;
 use crate::refusal_document::RefusalDocument;
 use crate::refused_path::Sides;
 use std::alloc::Global;
+use std::io;
 use std::io::Write;
 
 /// The line of a refusal for lack of memory, which is written without any.
@@ -51,14 +52,29 @@ pub fn finish_run<'w, W: Write, X: Write>(
     ensures refused { IfErr done (λ fault. IsRefusalStatus form fault result.status) }
 {
     match done {
-        Ok(outcome) => match out.flush() {
-            Ok(()) => Ended {
-                status: outcome.status(),
-                refusal: None,
-            },
-            Err(error) => refused(alloc, ProgramFault::of_output(error), form, sides, err),
-        },
+        Ok(outcome) => end_done(alloc, outcome, out.flush(), form, sides, err),
         Err(fault) => refused(alloc, fault, form, sides, err),
+    }
+}
+
+/// Ends a run whose command was done, by the result of the flush of its output.
+fn end_done<'w, X: Write>(
+    alloc: Global,
+    outcome: Outcome,
+    flushed: io::Result<()>,
+    form: Form,
+    sides: &Sides<'w>,
+    err: &mut X,
+) -> Ended<'w>
+    ensures done { OnOk flushed (result.status ≡ status_of_done outcome) }
+    ensures lost { OnErr flushed ((result.status ≡ 1) ⊎ (result.status ≡ 3)) }
+{
+    match flushed {
+        Ok(()) => Ended {
+            status: outcome.status(),
+            refusal: None,
+        },
+        Err(error) => refused(alloc, ProgramFault::of_output(error), form, sides, err),
     }
 }
 
@@ -66,7 +82,7 @@ pub fn finish_run<'w, W: Write, X: Write>(
 /// the exit status, which is 3 if memory runs out while the document of a fault is made.
 pub fn end_early<X: Write>(alloc: Global, ending: Ending, form: Form, err: &mut X) -> u8
     ensures status { result ≤ 3 }
-    ensures ending { (result ≡ status_of ending) ⊎ ((form ≡ Form.Json) × (result ≡ 3)) }
+    ensures ending { IsEndingStatus form ending result }
 {
     match ending {
         Ending::Fault(fault) => refused(alloc, fault, form, &Sides::none(), err).status,
@@ -84,8 +100,6 @@ fn refused<'w, X: Write>(
 ) -> Ended<'w>
     ensures status { (result.status ≡ 1) ⊎ (result.status ≡ 3) }
     ensures refused { IsRefusalStatus form fault result.status }
-    ensures ending { (result.status ≡ status_of (Ending.Fault fault))
-        ⊎ ((form ≡ Form.Json) × (result.status ≡ 3)) }
 {
     let refusal = fault.refusal(alloc, sides);
     let status = match form {
