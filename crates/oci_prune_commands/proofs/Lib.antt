@@ -1,1 +1,2 @@
 mod Untagging
+pub mod Pruning

@@ -1,3 +1,4 @@
 pub mod Named
 pub mod Refusal
 pub mod Untagged
+pub mod PrunedLayout

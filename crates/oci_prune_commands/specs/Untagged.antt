@@ -1,11 +1,11 @@
 -- What `untag` does to the layout in a directory, and what it answers.
-use Rattle.std.specs.Prelude.{◌≡◌, ◌⊎◌, ◌-◌, ◌++◌, ℕ, List, codes, flat_map, length, map, slice_get, Option, Some, None}
+use Rattle.std.specs.Prelude.{◌≡◌, ◌⊎◌, ◌-◌, ◌++◌, ℕ, List, codes, flat_map, length, slice_get, Option, Some, None}
 use Rattle.oci_manifest.specs.Descriptor.{Descriptor, key_text}
 use Rattle.oci_layout.specs.Blobs.{stored}
 use Rattle.oci_layout.specs.Brought.{Forgets}
 use Rattle.oci_layout.specs.Crash.{IsSettled, OnlySettles}
 use Rattle.oci_layout.specs.Device.{Device, Touches}
-use Rattle.oci_layout.specs.Entries.{IndexEntry, said}
+use Rattle.oci_layout.specs.Entries.{said}
 use Rattle.oci_layout.specs.Index.{HasIndex, index_file, layout_file}
 use Rattle.oci_layout.specs.Lasts.{Lasts}
 use Rattle.oci_layout.specs.Layout.{LayoutState}

@@ -1,8 +1,12 @@
+ghost use Rattle.std.specs.Prelude.{◌≡◌, false, None, IfOk, OnOk};
+ghost use Rattle.oci_prune_commands.specs.PrunedLayout.{IsPrunedBy, IsPruneRun, KeepsNeeded, LosesLeftovers};
+
 use crate::opened::open_settled;
 use oci_command_line::PruneWords;
-use oci_layout::{Layout, Lockable, PrunableDir};
+use oci_layout::{FolderLock, Layout, Lockable, PrunableDir};
 use oci_program::{
-    Form, Outcome, ProgramFault, PruneAnswer, check_is_layout, lock_folder, print_answer_with_fault,
+    Form, Outcome, ProgramFault, PruneAnswer, check_is_layout, lock_folder, print_answer,
+    print_answer_with_fault,
 };
 use oci_prune::{
     PruneFault, PrunePlan, Pruned, plan_leftovers, plan_prune, prune, prune_leftovers,
@@ -46,12 +50,18 @@ pub fn run_prune<
     form: Form,
     out: &mut W,
     err: &mut X,
-) -> Result<Outcome, F> {
-    let (answer, fault) = if words.is_dry {
-        (plan_folder(rt.alloc(), dir, words)?, None)
-    } else {
-        prune_folder(rt, dir, words, err)?
-    };
+) -> Result<Outcome, F>
+    ensures good { IfOk result (λ outcome. outcome ≡ Outcome.Good) }
+
+    // Without `--dry-run` the layout in the directory was opened, and pruned as the words ask for.
+    ensures pruned { words.now.is_dry ≡ false
+        → OnOk result (IsPruneRun D.device dir words.now) }
+{
+    if words.is_dry {
+        let planned = plan_folder(rt.alloc(), dir, words)?;
+        return Ok(print_answer(rt.alloc(), &planned, form, out)?);
+    }
+    let (answer, fault) = prune_folder(rt, dir, words, err)?;
     Ok(print_answer_with_fault(rt.alloc(), &answer, fault, form, out)?)
 }
 
@@ -73,17 +83,43 @@ fn prune_folder<R: Files<File: Lockable> + AllocGlobal, D: PrunableDir + Drop, X
     dir: D,
     words: &PruneWords<'_>,
     err: &mut X,
-) -> Result<(PruneAnswer, Option<PruneFault>), ProgramFault> {
+) -> Result<(PruneAnswer, Option<PruneFault>), ProgramFault>
+    ensures { IfOk result (λ done. done.1 ≡ None → IsPruneRun D.device dir words.now) }
+{
     check_is_layout(&dir)?;
-    let _lock = lock_folder(rt, words.folder, dir.first_failure(), words.waits, err)?;
-    let mut layout = open_settled(rt.alloc(), dir)?;
-    let (plan, pruned) = if words.only_leftovers {
-        remove_leftovers(rt.alloc(), &mut layout)?
-    } else {
-        remove_unneeded(rt.alloc(), &mut layout, words.keeps_referrers)?
-    };
-    let answer = PruneAnswer::of(rt.alloc(), plan, &pruned)?;
+    let lock = lock_folder(rt, words.folder, dir.first_failure(), words.waits, err)?;
+    prune_under_lock(rt.alloc(), dir, words, &lock)
+}
+
+/// Opens the layout in a locked folder, and prunes it.
+fn prune_under_lock<R: Files + AllocGlobal, D: PrunableDir + Drop>(
+    alloc: Global,
+    dir: D,
+    words: &PruneWords<'_>,
+    _lock: &FolderLock<R>,
+) -> Result<(PruneAnswer, Option<PruneFault>), ProgramFault>
+    ensures { IfOk result (λ done. done.1 ≡ None → IsPruneRun D.device dir words.now) }
+{
+    let mut layout = open_settled(alloc, dir)?;
+    let (plan, pruned) = prune_layout(alloc, &mut layout, words)?;
+    let answer = PruneAnswer::of(alloc, plan, &pruned)?;
     Ok((answer, pruned.into_fault()))
+}
+
+/// Prunes a layout as the words ask for. Returns the plan, and what was removed.
+fn prune_layout<D: PrunableDir>(
+    alloc: Global,
+    layout: &mut Layout<D>,
+    words: &PruneWords<'_>,
+) -> Result<(PrunePlan, Pruned), PruneFault>
+    ensures { IfOk result (λ done. IsPrunedBy D.device words.now layout.old layout.new
+        done.0 done.1) }
+{
+    if words.only_leftovers {
+        remove_leftovers(alloc, layout)
+    } else {
+        remove_unneeded(alloc, layout, words.keeps_referrers)
+    }
 }
 
 /// Plans the prune of a layout that the words ask for.
@@ -103,7 +139,9 @@ fn plan_by<D: PrunableDir>(
 fn remove_leftovers<D: PrunableDir>(
     alloc: Global,
     layout: &mut Layout<D>,
-) -> Result<(PrunePlan, Pruned), PruneFault> {
+) -> Result<(PrunePlan, Pruned), PruneFault>
+    ensures { IfOk result (λ done. LosesLeftovers D.device layout.old layout.new done.0 done.1) }
+{
     let plan = plan_leftovers(alloc, layout)?;
     let pruned = prune_leftovers(alloc, layout, &plan)?;
     Ok((plan, pruned))
@@ -114,7 +152,10 @@ fn remove_unneeded<D: PrunableDir>(
     alloc: Global,
     layout: &mut Layout<D>,
     keeps_referrers: bool,
-) -> Result<(PrunePlan, Pruned), PruneFault> {
+) -> Result<(PrunePlan, Pruned), PruneFault>
+    ensures { IfOk result (λ done. KeepsNeeded D.device keeps_referrers layout.old layout.new
+        done.0 done.1) }
+{
     let plan = plan_prune(alloc, layout, keeps_referrers)?;
     let pruned = prune(alloc, layout, &plan)?;
     Ok((plan, pruned))
