@@ -16,7 +16,8 @@
 //! `parts` (contents that are read in parts), `arrivals` (the calls for each part that is read),
 //! `drafts` (files that are written in parts), `numbered` (the random numbers in their names),
 //! `leftovers` (their removal), `removals` (tags, keys, blobs and drafts that are removed),
-//! `locks` (the lock of a folder) and `large` (contents larger than one part, copied by workers).
+//! `locks` (the lock of a folder), `replaced` (folders that are moved or replaced before they are
+//! locked) and `large` (contents larger than one part, copied by workers).
 //!
 //! Most tests are lists of steps, each with its expected result as text. `steps` takes them, with
 //! `layouts` (steps with a layout), `files` (steps with files), `drafting` (steps with drafts) and

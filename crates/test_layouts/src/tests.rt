@@ -24,6 +24,7 @@ mod parts;
 mod pushes;
 mod referrers;
 mod removals;
+mod replaced;
 mod round_trips;
 mod steps;
 mod texts;
