@@ -1,6 +1,6 @@
 -- The promises of a copy between layouts still hold after its tags are set and it is saved.
 use Rattle.std.proofs.Common.{◌≡◌, ◌⊎◌, inl, inr, ℕ, List, Result, Ok, Err, refl, sym, subst, arith}
-use Rattle.std.specs.Prelude.{⊤, ◌<◌, ◌^◌, ◌-◌, IsOk, IfErr, IfOk, OnOk}
+use Rattle.std.specs.Prelude.{⊤, ◌<◌, ◌≤◌, ◌^◌, ◌-◌, IsOk, IfErr, IfOk, OnOk}
 use Rattle.std.proofs.lemmas.Bool.{false≢true}
 use Rattle.std.proofs.lemmas.Result.{IfOk-at_ok, on_ok_weaker}
 use Rattle.oci_manifest.specs.Descriptor.{Descriptor}
@@ -25,6 +25,11 @@ use Rattle.oci_copy_commands.specs.Refusal.{IsRefusedBetween}
 pub after_report : {X E F : Type 0} {P Q : X → Type 0} (copied : Result X E) (saved : Result X F) → ((x : X) → P x → Q x) → IfOk saved (λ it. copied ≡ Ok it) → IfOk copied P → IfOk saved Q
 after_report {P = P} copied (Ok x) gives same holds = gives x (IfOk-at_ok P same holds)
 after_report copied (Err e) gives same holds = same
+
+-- a copy that succeeded, with its save, has at most 64 workers
+pub workers_after : {X F : Type 0} (workers : ℕ) (cause : CopyFault → Type 0) (copied : Result X CopyFault) (saved : Result X F) → IsAnswerByWorkers workers cause copied → IfOk saved (λ it. copied ≡ Ok it) → OnOk saved (workers ≤ 64)
+workers_after workers cause copied (Ok x) answers same = subst (IsAnswerByWorkers workers cause) same answers
+workers_after workers cause copied (Err e) answers same = same
 
 -- a copy that succeeded has few enough workers for a cause of its own; a refused one has its cause
 pub refused_with : {X : Type 0} (workers : ℕ) (cause : CopyFault → Type 0) → cause fault.Memory → (copied : Result X CopyFault) → IsAnswerByWorkers workers cause copied

@@ -7,3 +7,4 @@ pub mod Refusal
 pub mod Selected
 pub mod PlannedMirror
 pub mod Settled
+pub mod Run

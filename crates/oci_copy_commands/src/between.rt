@@ -67,6 +67,7 @@ where
     requires { IsPlanOf (⟦<Layout<S> as Store>⟧.state source.now) options.now
         (⟦<Layout<D> as Store>⟧.state destination) selected.now.0 plan.now }
     ensures held { OnOk result.1 (HasAll result.0.graph selected.now.0) }
+    ensures workers { OnOk result.1 (options.now.workers ≤ 64) }
     ensures begins { BeginsWith destination.graph result.0.graph }
     ensures came { HoldsWhatCame destination.graph result.0.graph }
     ensures checked { BringsOnlyChecked destination.graph result.0.graph }

@@ -2,6 +2,7 @@ ghost use Rattle.std.specs.Prelude.{◌≡◌, true, IfOk, OnOk};
 ghost use Rattle.oci_copy_commands.specs.Goal.{patterns_of};
 ghost use Rattle.oci_copy_commands.specs.Mirror.{is_exact, HasGoal, IsWholeSource};
 ghost use Rattle.oci_copy_commands.specs.Pattern.{texts_of};
+ghost use Rattle.oci_copy_commands.specs.Run.{existing_of, options_of};
 
 use crate::Host;
 use crate::answer::CopyAnswer;
@@ -266,15 +267,23 @@ fn patterns_of<'w>(selection: &'w Selection<'w>) -> &'w [&'w str]
 }
 
 /// The options of a copy that its words name.
-pub(crate) fn options_of(words: &CopyWords<'_>) -> Options {
-    let existing = if words.descends {
+pub(crate) fn options_of(words: &CopyWords<'_>) -> Options
+    ensures { result ≡ options_of words.now }
+{
+    Options {
+        workers: words.workers,
+        existing: existing_of(words.descends),
+        ..Options::default()
+    }
+}
+
+/// How a copy treats a key that the destination has.
+fn existing_of(descends: bool) -> Existing
+    ensures { result ≡ existing_of descends }
+{
+    if descends {
         Existing::Descend
     } else {
         Existing::Skip
-    };
-    Options {
-        workers: words.workers,
-        existing,
-        ..Options::default()
     }
 }

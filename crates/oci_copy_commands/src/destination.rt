@@ -1,3 +1,6 @@
+ghost use Rattle.std.specs.Prelude.{IfOk};
+ghost use Rattle.oci_copy_commands.specs.Run.{IsCreatedIn, IsFound, IsReady, IsSettledFrom};
+
 use oci_layout::{Dir, FirstFailure, FolderLock, Layout, LayoutFault, Lockable};
 use oci_program::ProgramFault;
 use std::alloc::Global;
@@ -56,19 +59,40 @@ pub(crate) fn make_blobs_folder<R: Files + AllocGlobal>(
 pub(crate) fn open_or_create<D: Dir + Drop>(
     alloc: Global,
     dir: D,
-) -> Result<Layout<D>, ProgramFault> {
-    let opened = match Layout::open_as_is(alloc, dir) {
-        Err((dir, LayoutFault::NoLayoutFile)) => Layout::create_if_free(alloc, dir),
-        opened => opened,
-    };
-    match opened {
+) -> Result<Layout<D>, ProgramFault>
+    ensures { IfOk result (IsReady D.device dir) }
+{
+    match find(alloc, dir) {
         Ok(layout) => settled(layout),
+        Err(fault) => Err(fault),
+    }
+}
+
+/// Opens the layout in a directory as it is, or creates one, as [`open_or_create`] does.
+fn find<D: Dir + Drop>(alloc: Global, dir: D) -> Result<Layout<D>, ProgramFault>
+    ensures { IfOk result (IsFound D.device dir) }
+{
+    match Layout::open_as_is(alloc, dir) {
+        Ok(layout) => Ok(layout),
+        Err((dir, LayoutFault::NoLayoutFile)) => create(alloc, dir),
+        Err((_dir, fault)) => Err(ProgramFault::Destination(fault)),
+    }
+}
+
+/// Creates a layout in a directory, if there is no index that the creation would replace.
+fn create<D: Dir + Drop>(alloc: Global, dir: D) -> Result<Layout<D>, ProgramFault>
+    ensures { IfOk result (IsCreatedIn D.device dir) }
+{
+    match Layout::create_if_free(alloc, dir) {
+        Ok(layout) => Ok(layout),
         Err((_dir, fault)) => Err(ProgramFault::Destination(fault)),
     }
 }
 
 /// Returns a layout once its index is on the disk.
-fn settled<D: Dir + Drop>(layout: Layout<D>) -> Result<Layout<D>, ProgramFault> {
+fn settled<D: Dir + Drop>(layout: Layout<D>) -> Result<Layout<D>, ProgramFault>
+    ensures { IfOk result (IsSettledFrom D.device layout) }
+{
     let mut layout = layout;
     match layout.settle_index() {
         Ok(()) => Ok(layout),

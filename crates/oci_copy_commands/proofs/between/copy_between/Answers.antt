@@ -8,7 +8,7 @@ use Rattle.oci_layout.specs.Files.{HasFiles}
 use Rattle.oci_layout.specs.Meaning.{meaning}
 use Rattle.oci_layout.proofs.Crosses.{layout_send, layout_sync}
 use Rattle.oci_layout.proofs.Law.{keys_of_one_digest}
-use Rattle.oci_copy_commands.proofs.Saved.{after_report, sound_after, came_after, checked_after, met_after, report_after, copied_after, reached_after, files_after, refused_after}
+use Rattle.oci_copy_commands.proofs.Saved.{after_report, sound_after, came_after, checked_after, met_after, report_after, copied_after, reached_after, files_after, refused_after, workers_after}
 use Rattle.oci_copy_commands.proofs.Settled.{lasts_between, left_between}
 use Rattle.oci_copy_commands.proofs.between.copy_between.Goals as goal
 
@@ -20,6 +20,11 @@ returns-clause-report g c =
     let grows = rw (c.roots-roots.ensures, only.dir, only.graph, only.tags) at left.ensures.grows in
     after_report left.result.1 c.finish.result.1 (λ report copy. report_after (keys_of_one_digest (g.S.Dir.device from.dir).file from.graph) grows c.finish.ensures.saved c.args.options.now.existing report copy.reported)
     c.finish.ensures.report (rw (c.roots-roots.ensures, only.dir, only.graph, only.tags) at left.ensures.copied)
+
+pub returns-clause-workers : goal.returns-clause-workers
+returns-clause-workers g c =
+    let left = c.copy_plan-destination in
+    workers_after c.args.options.now.workers _ left.result.1 c.finish.result.1 left.ensures.refused c.finish.ensures.report
 
 pub returns-clause-copied : goal.returns-clause-copied
 returns-clause-copied g c =
