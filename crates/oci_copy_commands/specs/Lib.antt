@@ -8,3 +8,4 @@ pub mod Selected
 pub mod PlannedMirror
 pub mod Settled
 pub mod Run
+pub mod Mem

@@ -1,6 +1,7 @@
-ghost use Rattle.std.specs.Prelude.{IfOk};
-ghost use Rattle.oci_digest.specs.Digest.{Verifies};
+ghost use Rattle.std.specs.Prelude.{◌≡◌, IfOk};
+ghost use Rattle.oci_digest.specs.Digest.{digest_by, Verifies};
 ghost use Rattle.oci_store.specs.Content.{Matches};
+ghost use Rattle.oci_copy_commands.specs.Mem.{algorithm_of, type_of, IsDigestedBy};
 
 use bytes::Bytes;
 use oci_command_line::Algorithm;
@@ -15,7 +16,8 @@ use std::{fs, io};
 
 /// The digest of some bytes by an algorithm.
 fn digest_of(algorithm: Algorithm, bytes: &[u8]) -> Digest
-    ensures { Verifies result bytes.now }
+    ensures verifies { Verifies result bytes.now }
+    ensures by { result ≡ digest_by (algorithm_of algorithm) bytes.now }
 {
     match algorithm {
         Algorithm::Sha256 => Digest::of(bytes),
@@ -42,7 +44,11 @@ impl Item {
         item: &str,
         algorithm: Algorithm,
         first: &FirstFailure,
-    ) -> Result<Item, ProgramFault> {
+    ) -> Result<Item, ProgramFault>
+        ensures same { IfOk result (λ it. it.content.0 ≡ it.key) }
+        ensures entry_type { IfOk result (λ it. it.key.media_type ≡ type_of item.now) }
+        ensures digest { IfOk result (λ it. IsDigestedBy (algorithm_of algorithm) it.content) }
+    {
         match item.split_once('=') {
             Some((media_type, path)) => {
                 let bytes = read_file(rt, path, first)?;
@@ -58,7 +64,11 @@ impl Item {
         media_type: &str,
         bytes: Vec<u8>,
         algorithm: Algorithm,
-    ) -> Result<Item, ProgramFault> {
+    ) -> Result<Item, ProgramFault>
+        ensures same { IfOk result (λ it. it.content.0 ≡ it.key) }
+        ensures entry_type { IfOk result (λ it. it.key.media_type ≡ media_type.now) }
+        ensures digest { IfOk result (λ it. IsDigestedBy (algorithm_of algorithm) it.content) }
+    {
         let key = key_of(alloc, media_type, &bytes, algorithm)?;
         let content = Bytes::from_vec(bytes)?;
         let content = CheckedContent::of_matching(&key, content)?;
@@ -73,7 +83,10 @@ fn key_of(
     bytes: &[u8],
     algorithm: Algorithm,
 ) -> Result<Key, ProgramFault>
-    ensures { IfOk result (λ key. Matches key bytes.now) }
+    ensures matches { IfOk result (λ key. Matches key bytes.now) }
+    ensures entry_type { IfOk result (λ key. key.media_type ≡ media_type.now) }
+    ensures digest { IfOk result (λ key. key.digest
+        ≡ digest_by (algorithm_of algorithm) bytes.now) }
 {
     let media_type = String::from_str(alloc, media_type)?;
     let digest = digest_of(algorithm, bytes);

@@ -1,8 +1,15 @@
+ghost use Rattle.std.specs.Prelude.{◌≤◌, IfOk, IfSome, OnOk};
+ghost use Rattle.oci_plan.specs.declared.gathering.Existing.TheVariants.{Skip};
+ghost use Rattle.oci_store.specs.Contents.{no_contents};
+ghost use Rattle.oci_copy.specs.Memory.{IsMemoryCopy};
+ghost use Rattle.oci_copy_commands.specs.Mem.{algorithm_of, PushesItem};
+
 use crate::item::Item;
 use oci_command_line::{Algorithm, MemWords};
 use oci_copy::{CopyFault, Options, Report, copy_memory, copy_memory_by_workers};
 use oci_layout::FirstFailure;
 use oci_manifest::Key;
+use oci_plan::Existing;
 use oci_pool::NoHooks;
 use oci_program::{Form, Outcome, ProgramFault, print_answer};
 use oci_store::{ClosedStore, MemoryStore};
@@ -61,6 +68,11 @@ struct MemAnswer<'m> {
 }
 
 impl<'m> Display for MemAnswer<'m> {
+    ghost use Rattle.std.specs.Prelude.{Some};
+    ghost use Rattle.oci_copy_commands.specs.Mem.{mem_text};
+
+    ghost output = { λ answer. Some (mem_text answer.blobs.items answer.report) };
+
     fn fmt<W: fmt::Write>(&self, f: &mut fmt::Formatter<W>) -> fmt::Result {
         for key in &self.blobs {
             writeln!(f, "{key}")?;
@@ -92,7 +104,9 @@ fn push_item<R: Files + AllocGlobal>(
     item: &str,
     algorithm: Algorithm,
     first: &FirstFailure,
-) -> Result<Key, ProgramFault> {
+) -> Result<Key, ProgramFault>
+    ensures { IfOk result (PushesItem (algorithm_of algorithm) item.now store.old store.new) }
+{
     let Item { key, content } = Item::read(rt, item, algorithm, first)?;
     store.push_content(content)?;
     Ok(key)
@@ -104,15 +118,19 @@ fn copy_roots<R: AllocGlobal + Threads + Wait + Sync>(
     source: &MemoryStore,
     roots: &[Key],
     workers: Option<u32>,
-) -> (ClosedStore, Result<Report, CopyFault>) {
+) -> (ClosedStore, Result<Report, CopyFault>)
+    ensures copied { IfOk result.1 (IsMemoryCopy Skip source.now roots.now no_contents result.0) }
+    ensures workers { OnOk result.1 (IfSome workers (λ n. n ≤ 64)) }
+{
     let alloc = rt.alloc();
     let empty = ClosedStore::new(alloc);
-    let mut options = Options::default();
+    let options = Options {
+        workers: workers.unwrap_or(0),
+        max_metadata_bytes: 0,
+        existing: Existing::Skip,
+    };
     match workers {
-        Some(workers) => {
-            options.workers = workers;
-            copy_memory_by_workers(rt, alloc, source, empty, roots, &options, &NoHooks)
-        }
+        Some(_) => copy_memory_by_workers(rt, alloc, source, empty, roots, &options, &NoHooks),
         None => copy_memory(alloc, source, empty, roots, &options),
     }
 }
