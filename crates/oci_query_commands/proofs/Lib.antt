@@ -1,3 +1,5 @@
 pub mod Verified
 pub mod Answered
 pub mod Listers
+pub mod Intact
+pub mod Corrupt

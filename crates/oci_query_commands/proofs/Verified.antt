@@ -1,59 +1,51 @@
--- What `verify` reads: keys whose files match them.
-use Rattle.std.proofs.Common.{◌≡◌, ℕ, ◌+◌, ◌<◌, true, not, Bor, List, [], ◌∷◌, ◌++◌, map, take, get_or, length, slice_get, option_map, Option, Some, None, IsSome, is_some, refl, sym, ap, subst, ◌∙◌}
+-- What `verify` finds, and what is wrong with a layout.
+use Rattle.std.proofs.Common.{◌≡◌, ℕ, Bool, true, false, cond, not, Bor, inl, inr, List, [], ◌∷◌, map, Option, Some, None, IsSome, refl, sym, ap, subst, ◌∙◌}
+use Rattle.std.specs.Prelude.{◌↔◌, Contains, Result, Ok, Err, IfOk}
 use Rattle.std.specs.BTreeSet.{BTreeSet, contains}
 use Rattle.std.specs.List.{All, filter}
 use Rattle.std.specs.Option.{unwrap_or}
-use Rattle.std.proofs.lemmas.List.Elements.{All-nil, All-cons, All-head, All-tail, All-more}
-use Rattle.std.proofs.lemmas.Option.{slice_get-get_or}
+use Rattle.std.proofs.lemmas.Bool.{cases_Bool}
+use Rattle.std.proofs.lemmas.List.Elements.{All-nil, All-cons, All-head, All-tail, All-weaker, All-contains_itself, Contains-append_left, Contains-push}
 use Rattle.oci_layout.specs.Blobs.{blob_path, blob_at, HasMatchingFiles}
-use Rattle.oci_layout.specs.Meaning.{meaning}
 use Rattle.oci_layout.specs.Device.{Device, File}
 use Rattle.oci_layout.specs.Layout.{OpenedIndex}
 use Rattle.oci_layout.specs.Opened.{IsOpenedAsIs}
-use Rattle.oci_layout.proofs.Stored.{has_key-stored, value_at-stored}
+use Rattle.oci_layout.proofs.Loose.{no_element}
 use Rattle.oci_layout.proofs.Walk.{held_there}
-use Rattle.oci_manifest.specs.Descriptor.{Descriptor, Matches, key_cmp}
+use Rattle.oci_manifest.specs.Descriptor.{Descriptor, Matches, is_among, key_cmp}
+use Rattle.oci_prune.proofs.Leaving.{held_from_node}
+use Rattle.oci_store.specs.Closed.{IsClosed}
 use Rattle.oci_store.specs.Graph.{Node}
 use Rattle.oci_store.specs.Keyed.{has_key}
 use Rattle.oci_store.specs.Tags.{Tags}
-use Rattle.oci_query_commands.specs.Verified.{HasNone, IsIntact, AreIntact, IsWhole, IsVerified}
+use Rattle.oci_store.proofs.Lookups.{found, All-value_at}
+use Rattle.oci_query_commands.specs.Answered.{AreReadable}
+use Rattle.oci_query_commands.specs.Intact.{is_matching, HasFiles}
+use Rattle.oci_query_commands.specs.Verified.{AreCorrupt, AreIntact, FindsNothing, IsWhole, IsVerified}
+use Rattle.oci_digest.specs.declared.fault.NoMemory.{NoMemory}
+use Rattle.oci_query_commands.specs.declared.verify.Findings.{Findings}
+use Rattle.oci_query_commands.specs.declared.verify.Open.{Open}
+use Rattle.oci_query_commands.proofs.Intact.{Decides-is_match}
 
--- the file of an intact key matches it
-blob_matches : (dir : Device) (graph : List Node) (tags : Tags) (k : Descriptor) → IsIntact (meaning dir graph tags) k → dir.is_honest → Matches k (blob_at dir.file k.digest)
-blob_matches dir graph tags k h honest =
-    let it = h honest in
-    let held : has_key graph k ≡ true = sym (has_key-stored dir.file graph k) ∙ ap is_some it.1 in
-    let same : it.0 ≡ blob_at dir.file k.digest = cc (sym it.1 ∙ value_at-stored dir.file graph k held) in
-    subst (λ (bytes : List ℕ). Matches k bytes) same it.2
-
--- one key more is intact
-pub AreIntact-more : (dir : Device) (graph : List Node) (tags : Tags) (i : ℕ) (k : Descriptor) → i < length graph → option_map (λ (n : Node). n.0) (slice_get graph i) ≡ Some k
-    → AreIntact dir (take i graph) → IsIntact (meaning dir graph tags) k → AreIntact dir (take (i + 1) graph)
-AreIntact-more dir graph tags i k lt at before h honest =
-    let P = λ (n : Node). Matches n.0 (blob_at dir.file n.0.digest) in
-    let d : Node = (k, []) in
-    let same : (get_or graph i d).0 ≡ k = cc (sym (ap (λ (o : Option Node). option_map (λ (n : Node). n.0) o) (slice_get-get_or graph i d lt)) ∙ at) in
-    All-more P graph i d lt (before honest) (subst (λ (x : Descriptor). Matches x (blob_at dir.file x.digest)) (sym same) (blob_matches dir graph tags k h honest))
-
-abbrev HasFile : File → Node → Type 0
-HasFile file n = IsSome (file (blob_path n.0.digest))
+abbrev IsThere : File → Node → Type 0
+IsThere file n = IsSome (file (blob_path n.0.digest))
 
 abbrev FileMatches : File → Node → Type 0
 FileMatches file n = (bytes : List ℕ) × (file (blob_path n.0.digest) ≡ Some bytes) × Matches n.0 bytes
 
 -- the bytes of a file that is there and matches its key
-found : (k : Descriptor) (o : Option (List ℕ)) → IsSome o → Matches k (unwrap_or o []) → (bytes : List ℕ) × (o ≡ Some bytes) × Matches k bytes
-found k (Some bytes) there matching = (bytes, refl, matching)
-found k None there matching = cc there
+there_and_right : (k : Descriptor) (o : Option (List ℕ)) → IsSome o → Matches k (unwrap_or o []) → (bytes : List ℕ) × (o ≡ Some bytes) × Matches k bytes
+there_and_right k (Some bytes) there matching = (bytes, refl, matching)
+there_and_right k None there matching = cc there
 
 -- files that are there and match their keys
-all_match : (file : File) (graph : List Node) → All (HasFile file) graph → All (λ (n : Node). Matches n.0 (blob_at file n.0.digest)) graph → HasMatchingFiles file graph
+all_match : (file : File) (graph : List Node) → All (IsThere file) graph → All (λ (n : Node). Matches n.0 (blob_at file n.0.digest)) graph → HasMatchingFiles file graph
 all_match file [] there matching = All-nil (FileMatches file)
 all_match file (n ∷ graph) there matching =
     let P = λ (n : Node). Matches n.0 (blob_at file n.0.digest) in
     All-cons (FileMatches file) n graph
-    (found n.0 (file (blob_path n.0.digest)) (All-head (HasFile file) n graph there) (All-head P n graph matching))
-    (all_match file graph (All-tail (HasFile file) n graph there) (All-tail P n graph matching))
+    (there_and_right n.0 (file (blob_path n.0.digest)) (All-head (IsThere file) n graph there) (All-head P n graph matching))
+    (all_match file graph (All-tail (IsThere file) n graph there) (All-tail P n graph matching))
 
 -- a layout that was opened and is whole is verified
 pub IsVerified-whole : (dir : Device) (graph : List Node) (tags : Tags) (index : OpenedIndex) → dir.is_honest → IsOpenedAsIs dir.file graph tags index → IsWhole dir graph index → IsVerified dir
@@ -66,24 +58,99 @@ IsVerified-whole dir graph tags index honest opened whole = record {
   entries = whole.entries;
   undamaged = whole.undamaged;
   matching = all_match dir.file graph
-      (subst (λ (g : List Node). All (HasFile dir.file) g) (sym opened.read.walked.held) (held_there true dir.file opened.read.walked.visited))
+      (subst (λ (g : List Node). All (IsThere dir.file) g) (sym opened.read.walked.held) (held_there true dir.file opened.read.walked.visited))
       (whole.intact honest);
   closed = whole.closed;
 }
 
--- ---- what is not damaged
--- without damage all absent keys are found
-all_others : (set : BTreeSet Descriptor) → HasNone set → (keys : List Descriptor) → filter (λ (k : Descriptor). not (contains key_cmp set k)) keys ≡ keys
-all_others set none [] = refl
-all_others set none (k ∷ keys) = rw (none k) (ap (λ (ks : List Descriptor). k ∷ ks) (all_others set none keys))
+-- after a layout was opened, the file of each held key is there
+pub HasFiles-opened : (dir : Device) (graph : List Node) (tags : Tags) (index : OpenedIndex) → dir.is_honest → IsOpenedAsIs dir.file graph tags index → HasFiles dir graph
+HasFiles-opened dir graph tags index honest opened =
+    (honest, subst (λ (g : List Node). All (IsThere dir.file) g) (sym opened.read.walked.held) (held_there true dir.file opened.read.walked.visited))
 
-nothing : (keys : List (Bor Descriptor)) → keys ≡ [] → map (λ (k : Bor Descriptor). k.now) keys ≡ []
-nothing keys h = ap (map (λ (k : Bor Descriptor). k.now)) h
+-- ---- nothing is found exactly if nothing is wrong
+nothing_in : {X : Type 0} (xs : List X) → ((x : X) → Contains xs x → ⊥) → xs ≡ []
+nothing_in [] none = refl
+nothing_in (x ∷ xs) none = absurd (none x (Contains-append_left (x ∷ []) xs x (Contains-push [] x)))
 
-pub none_absent : (set : BTreeSet Descriptor) (absent : List Descriptor) (others : List (Bor Descriptor)) → HasNone set → map (λ (k : Bor Descriptor). k.now) others ≡ filter (λ (k : Descriptor). not (contains key_cmp set k)) absent → others ≡ [] → absent ≡ []
-none_absent set absent others none are empty = sym (all_others set none absent) ∙ sym are ∙ nothing others empty
+all_kept : (keys : List Descriptor) → filter (λ (k : Descriptor). not (is_among [] k)) keys ≡ keys
+all_kept [] = refl
+all_kept (k ∷ keys) = ap (λ (ks : List Descriptor). k ∷ ks) (all_kept keys)
 
--- nothing was added to what is empty, and it was empty before
-pub none_before : (old new : List (Bor Descriptor)) (more : List Descriptor) → map (λ (k : Bor Descriptor). k.now) new ≡ map (λ (k : Bor Descriptor). k.now) old ++ more → new ≡ [] → (old ≡ []) × (more ≡ [])
-none_before [] new more added empty = (refl, sym added ∙ nothing new empty)
-none_before (k ∷ old) new more added empty = cc (sym (nothing new empty) ∙ added)
+none_mapped : (keys : List (Bor Descriptor)) → map (λ (k : Bor Descriptor). k.now) keys ≡ [] → keys ≡ []
+none_mapped [] h = refl
+none_mapped (k ∷ keys) h = cc h
+
+-- what `verify` states of its findings
+abbrev AreAbsent : OpenedIndex → List (Bor Descriptor) → Type 0
+AreAbsent index absent = map (λ (k : Bor Descriptor). k.now) absent ≡ filter (λ (k : Descriptor). not (is_among index.damaged k)) index.absent
+
+matches_all : (file : File) (graph : List Node) (damaged : List Descriptor) → AreCorrupt file graph damaged [] → All (λ (n : Node). Matches n.0 (blob_at file n.0.digest)) graph
+matches_all file graph damaged are =
+    All-weaker (Contains graph) (λ (n : Node). Matches n.0 (blob_at file n.0.digest)) matches graph (All-contains_itself graph)
+  where
+    matches : (n : Node) → Contains graph n → Matches n.0 (blob_at file n.0.digest)
+    matches n there =
+        elim (cases_Bool (is_matching file n.0)) [
+          | inl is ↦ (Decides-is_match n.0 (blob_at file n.0.digest)).0 is
+          | inr is_not ↦ absurd (no_element n.0 ((are.each n.0).1 (inr (held_from_node graph n there, is_not))))
+        ]
+
+IsWhole-nothing : (dir : Device) (graph : List Node) (index : OpenedIndex) (f : Findings) → AreReadable index → AreAbsent index f.absent.items → AreCorrupt dir.file graph index.damaged f.corrupt.items
+    → (f.open ≡ None → index.damaged ≡ [] → IsClosed graph) → FindsNothing f → IsWhole dir graph index
+IsWhole-nothing dir graph index f readable absent corrupt known nothing =
+    let are : AreCorrupt dir.file graph index.damaged [] = subst (λ (keys : List Descriptor). AreCorrupt dir.file graph index.damaged keys) nothing.1 corrupt in
+    let undamaged : index.damaged ≡ [] = nothing_in index.damaged (λ k there. no_element k ((are.each k).1 (inl there))) in
+    record {
+      readable = readable;
+      entries = sym (all_kept index.absent)
+          ∙ ap (λ (damaged : List Descriptor). filter (λ (k : Descriptor). not (is_among damaged k)) index.absent) (sym undamaged)
+          ∙ sym absent ∙ ap (map (λ (k : Bor Descriptor). k.now)) nothing.0;
+      undamaged = undamaged;
+      intact = λ honest. matches_all dir.file graph index.damaged are;
+      closed = known nothing.2 undamaged;
+    }
+
+nothing-IsWhole : (dir : Device) (graph : List Node) (index : OpenedIndex) (f : Findings) → dir.is_honest → AreAbsent index f.absent.items → AreCorrupt dir.file graph index.damaged f.corrupt.items
+    → (IsClosed graph → f.open ≡ None) → IsWhole dir graph index → FindsNothing f
+nothing-IsWhole dir graph index f honest absent corrupt closed whole = (
+  none_mapped f.absent.items (absent ∙ ap (filter (λ (k : Descriptor). not (is_among index.damaged k))) whole.entries),
+  nothing_in f.corrupt.items right,
+  closed whole.closed,
+)
+  where
+    right : (k : Descriptor) → Contains f.corrupt.items k → ⊥
+    right k there =
+        elim ((corrupt.each k).0 there) [
+          | inl damaged ↦ no_element k (subst (λ (ks : List Descriptor). Contains ks k) whole.undamaged damaged)
+          | inr held ↦
+              let it = found graph k held.0 in
+              let matching : Matches k (blob_at dir.file k.digest) = All-value_at (λ (n : Node). Matches n.0 (blob_at dir.file n.0.digest)) graph k it.0 (whole.intact honest) it.1 in
+              cc (sym ((Decides-is_match k (blob_at dir.file k.digest)).1 matching) ∙ held.1)
+        ]
+
+pub whole_iff : (dir : Device) (graph : List Node) (index : OpenedIndex) (f : Findings) → HasFiles dir graph → AreReadable index → AreAbsent index f.absent.items
+    → (HasFiles dir graph → AreCorrupt dir.file graph index.damaged f.corrupt.items) → (f.open ≡ None → index.damaged ≡ [] → IsClosed graph) → (IsClosed graph → f.open ≡ None)
+    → FindsNothing f ↔ IsWhole dir graph index
+whole_iff dir graph index f has readable absent corrupt known closed = (
+  λ nothing. IsWhole-nothing dir graph index f readable absent (corrupt has) known nothing,
+  λ whole. nothing-IsWhole dir graph index f has.0 absent (corrupt has) closed whole,
+)
+
+-- ---- the keys that are not damaged
+kept_same : (p q : Descriptor → Bool) → ((k : Descriptor) → p k ≡ q k) → (keys : List Descriptor) → filter p keys ≡ filter q keys
+kept_same p q same [] = refl
+kept_same p q same (k ∷ keys) =
+    ap (λ (b : Bool). cond b (k ∷ filter p keys) (filter p keys)) (same k)
+    ∙ ap (λ (rest : List Descriptor). cond (q k) (k ∷ rest) rest) (kept_same p q same keys)
+
+pub absent_are : (set : BTreeSet Descriptor) (damaged keys absent : List Descriptor) (others : List (Bor Descriptor)) → ((k : Descriptor) → contains key_cmp set k ≡ is_among damaged k)
+    → map (λ (k : Bor Descriptor). k.now) others ≡ filter (λ (k : Descriptor). not (contains key_cmp set k)) keys → keys ≡ absent → map (λ (k : Bor Descriptor). k.now) others ≡ filter (λ (k : Descriptor). not (is_among damaged k)) absent
+absent_are set damaged keys absent others among are same =
+    are ∙ kept_same (λ (k : Descriptor). not (contains key_cmp set k)) (λ (k : Descriptor). not (is_among damaged k)) (λ k. ap not (among k)) keys
+    ∙ ap (filter (λ (k : Descriptor). not (is_among damaged k))) same
+
+-- ---- closed graphs
+pub never_closed : (r : Result (Option Open) NoMemory) (graph : List Node) → (IsClosed graph → ⊥) → IfOk r (λ (answer : Option Open). IsClosed graph → answer ≡ None)
+never_closed (Ok answer) graph never = λ closed. absurd (never closed)
+never_closed (Err e) graph never = tt

@@ -2,3 +2,4 @@ pub mod Verified
 pub mod Answered
 pub mod Named
 pub mod Listed
+pub mod Intact

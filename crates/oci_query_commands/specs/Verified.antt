@@ -1,23 +1,24 @@
 -- Layouts in which `verify` finds nothing wrong (OCI image specification 1.1, image-layout.md).
-use Rattle.std.specs.Prelude.{◌≡◌, ℕ, Bool, true, false, List, [], Some, None}
+use Rattle.std.specs.Prelude.{◌≡◌, ◌↔◌, ◌⊎◌, Bool, true, false, List, [], None, Contains}
 use Rattle.std.specs.BTreeSet.{BTreeSet, contains}
 use Rattle.std.specs.List.{All}
+use Rattle.std.specs.List.Sorted.{IsStrictlySortedBy}
 use Rattle.oci_command_line.specs.declared.request.Query.{Query}
 use Rattle.oci_command_line.specs.declared.request.Query.TheVariants as query
 use Rattle.oci_layout.specs.Blobs.{blob_at, HasMatchingFiles}
-use Rattle.oci_layout.specs.Device.{Device}
+use Rattle.oci_layout.specs.Device.{Device, File}
 use Rattle.oci_layout.specs.Layout.{OpenedIndex}
 use Rattle.oci_layout.specs.Opened.{IsOpenedAsIs}
 use Rattle.oci_manifest.specs.Descriptor.{Descriptor, key_cmp}
 use Rattle.oci_store.specs.Closed.{IsClosed}
 use Rattle.oci_store.specs.Content.{Matches}
 use Rattle.oci_store.specs.Graph.{Node}
-use Rattle.oci_store.specs.Keyed.{value_at}
-use Rattle.oci_store.specs.State.{State}
+use Rattle.oci_store.specs.Keyed.{has_key}
 use Rattle.oci_store.specs.Tags.{Tags}
 use Rattle.oci_program.specs.declared.outcome.Outcome.{Outcome}
 use Rattle.oci_program.specs.declared.outcome.Outcome.TheVariants as outcome
 use Rattle.oci_query_commands.specs.Answered.{AreReadable}
+use Rattle.oci_query_commands.specs.Intact.{is_matching}
 use Rattle.oci_query_commands.specs.declared.verify.Findings.{Findings}
 
 -- whether the command is `verify`
@@ -28,6 +29,10 @@ is_verify other = false
 -- the outcome of a command is that of a `verify` which finds nothing
 abbrev pub IsGoodVerify : Query → Outcome → Type 0
 IsGoodVerify query found = (is_verify query ≡ true) × (found ≡ outcome.Good)
+
+-- the outcome of a command is that of a `verify` which finds something
+abbrev pub IsFaultyVerify : Query → Outcome → Type 0
+IsFaultyVerify query found = (is_verify query ≡ true) × (found ≡ outcome.Faulty)
 
 -- a layout can be opened in a directory, and nothing is wrong with it: each entry of its index is a
 -- descriptor and has its file, no file is damaged, the file of each held key is there and matches
@@ -45,10 +50,6 @@ pub record IsVerified (dir : Device) : Type 0 where
 
 -- ---- a layout that was opened
 
--- the bytes that an honest store has for a key match it
-abbrev pub IsIntact : State → Descriptor → Type 0
-IsIntact store k = store.is_honest → (bytes : List ℕ) × (value_at store.entries k ≡ Some bytes) × Matches k bytes
-
 -- the bytes of its file in an honest directory match each held key
 abbrev pub AreIntact : Device → List Node → Type 0
 AreIntact dir graph = dir.is_honest → All (λ (n : Node). Matches n.0 (blob_at dir.file n.0.digest)) graph
@@ -61,6 +62,20 @@ pub record IsWhole (dir : Device) (graph : List Node) (index : OpenedIndex) : Ty
   pub undamaged : index.damaged ≡ []
   pub intact : AreIntact dir graph
   pub closed : IsClosed graph
+
+-- a layout can be opened in a directory, and something is wrong with it
+pub record IsFaulty (dir : Device) : Type 0 where
+  pub graph : List Node
+  pub tags : Tags
+  pub index : OpenedIndex
+  pub opened : IsOpenedAsIs dir.file graph tags index
+  pub wrong : IsWhole dir graph index → ⊥
+
+-- these are the keys with damaged files, and the held keys whose files do not match them, each once,
+-- in key order
+pub record AreCorrupt (file : File) (graph : List Node) (damaged : List Descriptor) (keys : List Descriptor) : Type 0 where
+  pub each : (k : Descriptor) → Contains keys k ↔ (Contains damaged k ⊎ ((has_key graph k ≡ true) × (is_matching file k ≡ false)))
+  pub order : IsStrictlySortedBy key_cmp keys
 
 -- no key is absent or corrupt, and none lists a key without a file
 abbrev pub FindsNothing : Findings → Type 0

@@ -8,6 +8,7 @@
 //! manifest. `verify` reports each damaged file, and then refuses each such entry.
 #![tactic(auto)]
 
+mod file_check;
 mod left_out;
 mod listing;
 mod named;

@@ -1,6 +1,7 @@
-ghost use Rattle.std.specs.Prelude.{◌≡◌, true, IfOk, OnOk};
+ghost use Rattle.std.specs.Prelude.{◌≡◌, ◌↔◌, true, IfOk, OnOk};
 ghost use Rattle.oci_query_commands.specs.Answered.{is_of_all, IsReadable, LeavesNothingOut};
-ghost use Rattle.oci_query_commands.specs.Verified.{IsGoodVerify, IsVerified, IsWhole};
+ghost use Rattle.oci_query_commands.specs.Intact.{HasFiles};
+ghost use Rattle.oci_query_commands.specs.Verified.{is_verify, IsFaulty, IsFaultyVerify, IsGoodVerify, IsVerified, IsWhole};
 
 use crate::left_out::{print_answer_of_all, print_findings_of_all};
 use crate::listing::{Predecessors, Resolved, Tags};
@@ -55,9 +56,11 @@ pub fn run_query<
     F: From<ProgramFault>,
 >(rt: &R, dir: D, query: &Query<'_>, form: Form, out: &mut W, err: &mut X) -> Result<Outcome, F>
     // If the directory returns what was written into it, the outcome of `verify` is `Good` only if
-    // nothing is wrong with the layout.
+    // nothing is wrong with the layout, and `Faulty` only if something is.
     ensures verified { IfOk result (λ outcome. IsGoodVerify query.now outcome
         → (D.device dir).is_honest → IsVerified (D.device dir)) }
+    ensures faulty { IfOk result (λ outcome. IsFaultyVerify query.now outcome
+        → (D.device dir).is_honest → IsFaulty (D.device dir)) }
 
     // And `tags`, `predecessors`, and `tree` with referrers are done only if each entry of the index
     // is a descriptor, and no manifest is damaged.
@@ -80,8 +83,9 @@ fn answer_from<R: AllocGlobal + Clock + Wait, D: Dir, W: Write, X: Write>(
     out: &mut W,
     err: &mut X,
 ) -> Result<Outcome, ProgramFault>
-    ensures verified { IfOk result (λ outcome. IsGoodVerify query.now outcome
-        → IsWhole (D.device layout.now.dir) layout.now.graph layout.now.opened) }
+    ensures verified { IfOk result (λ outcome. is_verify query.now ≡ true
+        → HasFiles (D.device layout.now.dir) layout.now.graph → (outcome ≡ Outcome.Good)
+        ↔ IsWhole (D.device layout.now.dir) layout.now.graph layout.now.opened) }
     ensures answered { OnOk result (is_of_all query.now ≡ true
         → LeavesNothingOut (D.device layout.now.dir) layout.now.opened) }
 {
@@ -141,7 +145,7 @@ fn print_tree<D: Dir, W: Write, X: Write>(
 }
 
 /// Prints what is wrong with a layout, and refuses its entries that are no descriptors. Returns
-/// `Good` only if nothing is wrong.
+/// `Good` exactly if nothing is wrong.
 fn print_findings<R: AllocGlobal + Clock + Wait, D: Dir, W: Write, X: Write>(
     rt: &R,
     layout: &Layout<D>,
@@ -150,8 +154,9 @@ fn print_findings<R: AllocGlobal + Clock + Wait, D: Dir, W: Write, X: Write>(
     out: &mut W,
     err: &mut X,
 ) -> Result<Outcome, ProgramFault>
-    ensures { IfOk result (λ outcome. outcome ≡ Outcome.Good
-        → IsWhole (D.device layout.now.dir) layout.now.graph layout.now.opened) }
+    ensures { IfOk result (λ outcome. HasFiles (D.device layout.now.dir) layout.now.graph
+        → (outcome ≡ Outcome.Good)
+        ↔ IsWhole (D.device layout.now.dir) layout.now.graph layout.now.opened) }
 {
     let findings = verify(rt, layout, shows_progress, err)?;
     let outcome = findings.outcome();

@@ -1,16 +1,17 @@
-ghost use Rattle.std.specs.Prelude.{◌≡◌, ◌++◌, ◌∷◌, [], false, not, filter, map, None, IfOk, OnOk};
+ghost use Rattle.std.specs.Prelude.{◌≡◌, ◌↔◌, ◌⊎◌, ◌+◌, ◌-◌, ◌^◌, ◌++◌, ◌∷◌, [], true, false, length, min, not, filter, map, None, IfOk, OnOk};
 ghost use Rattle.std.specs.BTreeSet.{contains};
 ghost use Rattle.oci_manifest.specs.Descriptor.{Descriptor, is_among, key_cmp};
 ghost use Rattle.oci_store.specs.Closed.{IsClosed};
-ghost use Rattle.oci_query_commands.specs.Answered.{AreReadable};
-ghost use Rattle.oci_query_commands.specs.Verified.{AreIntact, FindsNothing, HasNone, IsIntact, IsWhole};
+ghost use Rattle.oci_query_commands.specs.Intact.{is_matching, HasFile, HasFiles};
+ghost use Rattle.oci_query_commands.specs.Verified.{AreCorrupt, FindsNothing, HasNone};
 
+use crate::file_check::is_corrupt;
 use crate::listing::name_of;
 use oci_digest::NoMemory;
 use oci_layout::{Dir, IndexEntry, Layout};
-use oci_manifest::{Key, Kind};
+use oci_manifest::Key;
 use oci_program::{Amount, Outcome, ProgramFault, ProgressLine, Tagged};
-use oci_store::{Dest, Drafting, FetchFault, GraphSource, PartWatcher, Source, fetch_into};
+use oci_store::{Dest, GraphSource, PartWatcher, keys_of_set};
 use serde::Serialize;
 use std::alloc::Global;
 use std::collections::{BTreeMap, BTreeSet};
@@ -26,7 +27,7 @@ pub(crate) struct Findings<'l> {
     /// The key of each entry of `index.json` without a file, in the order of the entries.
     absent: Vec<&'l Key>,
     /// The keys whose files are damaged or do not match them, in key order.
-    corrupt: Vec<&'l Key>,
+    corrupt: Vec<Key>,
     /// The first key that lists a key without a file, with that key.
     open: Option<Open>,
     /// The tag and the key of each entry that has both and whose tag a later entry has, in the order
@@ -47,7 +48,7 @@ impl Findings<'_> {
     /// Returns `Good` if nothing is wrong: no key is absent or corrupt, and none lists a key without
     /// a file.
     pub(crate) fn outcome(&self) -> Outcome
-        ensures { result ≡ Outcome.Good → FindsNothing self.now }
+        ensures { (result ≡ Outcome.Good) ↔ FindsNothing self.now }
     {
         if self.absent.is_empty() && self.corrupt.is_empty() && self.open.is_none() {
             Outcome::Good
@@ -92,8 +93,16 @@ pub(crate) fn verify<'l, R: AllocGlobal + Clock + Wait, D: Dir, X: Write>(
     shows_progress: bool,
     err: &mut X,
 ) -> Result<Findings<'l>, ProgramFault>
-    ensures { IfOk result (λ findings. FindsNothing findings → AreReadable layout.now.opened
-        → IsWhole (D.device layout.now.dir) layout.now.graph layout.now.opened) }
+    ensures absent { IfOk result (λ findings. map (λ key. key.now) findings.absent.items
+        ≡ filter (λ k. not (is_among layout.now.opened.damaged k)) layout.now.opened.absent) }
+    ensures corrupt { IfOk result (λ findings. HasFiles (D.device layout.now.dir) layout.now.graph
+        → AreCorrupt (D.device layout.now.dir).file layout.now.graph layout.now.opened.damaged
+        findings.corrupt.items) }
+    ensures open { IfOk result (λ findings. findings.open ≡ None → layout.now.opened.damaged ≡ []
+        → IsClosed layout.now.graph) }
+    ensures closed { IfOk result (λ findings. IsClosed layout.now.graph → findings.open ≡ None) }
+    ensures held { IfOk result (λ findings. findings.held
+        ≡ min (length layout.now.graph + length layout.now.opened.damaged) (2 ^ 64 - 1)) }
 {
     let alloc = rt.alloc();
     let progress = Progress::new(rt, err, layout, shows_progress);
@@ -154,112 +163,52 @@ fn add_unless<'l>(
 }
 
 /// Returns the damaged keys, and the held keys whose files do not match them, in key order.
-fn corrupt_keys<'l, D: Dir, R: Clock + Wait, X: Write>(
+fn corrupt_keys<D: Dir, R: Clock + Wait, X: Write>(
     alloc: Global,
-    layout: &'l Layout<D>,
+    layout: &Layout<D>,
     progress: &Progress<'_, R, X>,
-) -> Result<Vec<&'l Key>, ProgramFault>
-    ensures intact { IfOk result (λ corrupt. corrupt.items ≡ []
-        → AreIntact (D.device layout.now.dir) layout.now.graph) }
-    ensures undamaged { IfOk result (λ corrupt. corrupt.items ≡ []
-        → layout.now.opened.damaged ≡ []) }
+) -> Result<Vec<Key>, ProgramFault>
+    ensures { IfOk result (λ corrupt. HasFiles (D.device layout.now.dir) layout.now.graph
+        → AreCorrupt (D.device layout.now.dir).file layout.now.graph layout.now.opened.damaged
+        corrupt.items) }
 {
-    let mut corrupt = Vec::new(alloc);
+    let mut corrupt = set_of(alloc, layout.damaged())?;
     for place in 0..layout.count() {
         let Some(key) = layout.key(place) else {
             unreachable!();
         };
         add_if_corrupt(layout, key, &mut corrupt, progress)?;
     }
-    add_all(layout.damaged(), &mut corrupt)?;
-    corrupt.sort()?;
-    Ok(corrupt)
-}
-
-/// Adds some keys to these.
-fn add_all<'l>(more: &'l [Key], keys: &mut Vec<&'l Key>) -> Result<(), NoMemory>
-    ensures { OnOk result (map (λ key. key.now) keys.new.items
-        ≡ map (λ key. key.now) keys.old.items ++ more.now) }
-{
-    for key in more {
-        keys.push(key)?;
-    }
-    Ok(())
+    let keys = keys_of_set(alloc, &corrupt)?;
+    Ok(keys)
 }
 
 /// Adds a held key to these if its file does not match it.
-fn add_if_corrupt<'l, A: Source, R: Clock + Wait, X: Write>(
-    source: &A,
-    key: &'l Key,
-    corrupt: &mut Vec<&'l Key>,
+fn add_if_corrupt<D: Dir, R: Clock + Wait, X: Write>(
+    layout: &Layout<D>,
+    key: &Key,
+    corrupt: &mut BTreeSet<Key>,
     progress: &Progress<'_, R, X>,
 ) -> Result<(), ProgramFault>
-    ensures { OnOk result (corrupt.new.items ≡ []
-        → (corrupt.old.items ≡ []) × IsIntact (A.state source.now) key.now) }
+    ensures { OnOk result (HasFile (D.device layout.now.dir) key.now → (k : Descriptor)
+        → (contains key_cmp corrupt.new k ≡ true) ↔ ((contains key_cmp corrupt.old k ≡ true)
+        ⊎ ((k ≡ key.now) × (is_matching (D.device layout.now.dir).file key.now ≡ false)))) }
 {
-    if is_corrupt(source, key, progress)? {
-        corrupt.push(key)?;
-    }
+    let is_corrupt = is_corrupt(layout, key, progress)?;
     progress.key_checked();
+    if !is_corrupt {
+        return Ok(());
+    }
+    corrupt.insert(key.try_clone()?)?;
     Ok(())
-}
-
-/// Returns whether the file of a key does not match it, or is gone.
-fn is_corrupt<A: Source, R: Clock + Wait, X: Write>(
-    source: &A,
-    key: &Key,
-    progress: &Progress<'_, R, X>,
-) -> Result<bool, ProgramFault>
-    ensures { IfOk result (λ corrupt. corrupt ≡ false → IsIntact (A.state source.now) key.now) }
-{
-    match check_file(source, key, progress) {
-        Ok(()) => Ok(false),
-        Err(FetchFault::Corrupt) => Ok(true),
-        Err(fault) => Err(ProgramFault::Fetch(fault)),
-    }
-}
-
-/// Reads the file of a key and checks it against the key. A leaf may be large, so it is read in
-/// parts that are not kept. Manifests are small.
-fn check_file<A: Source, R: Clock + Wait, X: Write>(
-    source: &A,
-    key: &Key,
-    progress: &Progress<'_, R, X>,
-) -> Result<(), FetchFault>
-    ensures { OnOk result (IsIntact (A.state source.now) key.now) }
-{
-    if source.may_fail(key) && is_leaf(key) {
-        return fetch_into(source, key, &mut Discard, progress);
-    }
-    let content = source.fetch(key)?;
-    progress.part_arrived(content.len());
-    Ok(())
-}
-
-/// Returns whether a key lists nothing.
-fn is_leaf(key: &Key) -> bool {
-    Kind::of(key.media_type()) == Kind::Leaf
-}
-
-/// A draft that discards all bytes.
-#[derive(Drop)]
-struct Discard;
-
-impl Drafting for Discard {
-    ghost use Rattle.std.specs.Prelude.{⊤};
-
-    ghost drafted = { λ d bytes. ⊤ };
-
-    fn append(&mut self, _part: &[u8]) -> Result<(), NoMemory> {
-        Ok(())
-    }
 }
 
 /// Returns the first key that lists a key which is neither held nor damaged, with the first such
 /// key.
 fn open_key<D: Dir>(layout: &Layout<D>, damaged: &BTreeSet<Key>) -> Result<Option<Open>, NoMemory>
-    ensures { IfOk result (λ found. found ≡ None → HasNone damaged.now
+    ensures open { IfOk result (λ found. found ≡ None → HasNone damaged.now
         → IsClosed layout.now.graph) }
+    ensures closed { IfOk result (λ found. IsClosed layout.now.graph → found ≡ None) }
 {
     let Some((holder, missing)) = layout.missing()? else {
         return Ok(None);
