@@ -15,7 +15,7 @@ _ocicp() {
       flags='--hint --json --no-wait --no-sync --help' kinds=(folder tag)
       ;;
     prune)
-      flags='--dry-run --no-referrers --hint --json --no-wait --no-sync --help' kinds=(folder)
+      flags='--dry-run --no-referrers --leftovers --hint --json --no-wait --no-sync --help' kinds=(folder)
       ;;
     tags)
       flags='--all --hint --json --help' kinds=(folder)
