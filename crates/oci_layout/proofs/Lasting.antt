@@ -1,6 +1,6 @@
 -- What lasts is left, and what was saved lasts.
 use Rattle.std.proofs.Common.{◌≡◌, ℕ, true, ◌⊎◌, inl, inr, List, [], ◌∷◌, take, drop, Bool, cond, Option, Some, Ok, Err, Result, refl, sym, ap, subst, ◌∙◌, arith}
-use Rattle.std.specs.Prelude.{◌<◌, IsSome, Contains, IsErrOf}
+use Rattle.std.specs.Prelude.{IsSome, Contains, IsErrOf}
 use Rattle.std.specs.List.{All}
 use Rattle.std.specs.Map.{keys_of}
 use Rattle.std.specs.Str.{bytes_eq}

@@ -1,26 +1,21 @@
 -- The digests that the files of folders are named by.
-use Rattle.std.proofs.Common.{◌≡◌, ℕ, zero, suc, ◌+◌, ◌-◌, ◌<◌, ◌≤◌, inl, inr, Bool, true, false, cond, List, [], ◌∷◌, ◌++◌, take, drop, codes, length, get_or, Option, Some, None, is_some, Equal, String, Global, refl, sym, ap, subst, ◌∙◌, arith}
+use Rattle.std.proofs.Common.{◌≡◌, ℕ, zero, suc, ◌+◌, ◌-◌, ◌<◌, inl, inr, Bool, true, false, cond, List, [], ◌∷◌, ◌++◌, take, codes, length, get_or, Option, Some, None, is_some, Equal, String, Global, refl, sym, ap, subst, ◌∙◌, arith}
 use Rattle.std.specs.Prelude.{Contains, IsSome, string_bytes}
 use Rattle.std.specs.BTreeMap.{BTreeMap, Updates, IsOrdered, is_at}
 use Rattle.std.specs.Cmp.Lexicographic.{slice_cmp}
-use Rattle.std.specs.List.{All, ends_with}
 use Rattle.std.specs.Ordering.{nat_cmp, is_eq}
-use Rattle.std.proofs.lemmas.Bool.{cases_Bool, false_from_ne_true}
-use Rattle.std.proofs.lemmas.Bool.Decides.{Decides-eqb}
-use Rattle.std.proofs.Math.Dec.{eqb}
+use Rattle.std.proofs.lemmas.Bool.{cases_Bool}
 use Rattle.std.proofs.lemmas.Cmp.{nat_list_cmp_total}
-use Rattle.std.proofs.lemmas.List.{take_more, map-append, drop-append-le}
-use Rattle.std.proofs.Math.ListN.{length-append, length-drop}
+use Rattle.std.proofs.lemmas.List.{take_more, map-append}
 use Rattle.std.proofs.lemmas.List.Elements.{All-contains, Contains-append_cases, Contains-append_left, Contains-append_right, Contains-push}
 use Rattle.std.proofs.lemmas.Map.Text.{is_eq-slice_cmp}
 use Rattle.std.proofs.lemmas.Map.Views.{btree_map_get_iff}
-use Rattle.std.proofs.lemmas.Slice.Eq.{bytes_eq-Decides, ends_is}
+use Rattle.std.proofs.lemmas.Slice.Eq.{bytes_eq-Decides}
 use Rattle.oci_digest.specs.Algorithm.{Algorithm, sha256, sha512, name_of, IsEncodedBy}
 use Rattle.oci_digest.specs.Digest.{IsDigest}
 use Rattle.oci_digest.specs.Grammar.{is_lower_hex, IsLowerHex}
 use Rattle.oci_layout.specs.Blobs.{blob_path}
 use Rattle.oci_layout.specs.Device.{File}
-use Rattle.oci_layout.specs.Index.{index_file, layout_file}
 use Rattle.oci_layout.specs.Prunable.{by_name, path_in, size_in, AreBlobs, HasLength, IsName, IsNamedBy, ListsFolder, Notes}
 
 abbrev Sizes : Type 0
