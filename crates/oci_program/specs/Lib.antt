@@ -1,3 +1,4 @@
 pub mod Status
 pub mod Reference
 pub mod Platform
+pub mod Pruned

@@ -1,4 +1,7 @@
-ghost use Rattle.std.specs.Prelude.{◌≡◌, None, IfOk, OnOk};
+ghost use Rattle.std.specs.Prelude.{◌≡◌, None, Some, IfOk, IfSome, OnOk};
+ghost use Rattle.std.specs.Fmt.{DisplaysOnOk};
+ghost use Rattle.std.specs.Io.KnownBytes.{Appends};
+ghost use Rattle.oci_program.specs.Pruned.{counts_line, file_line, file_lines, ShowsPlan, ShowsPruned};
 
 use crate::answer::{Form, print_answer};
 use crate::fault::ProgramFault;
@@ -48,7 +51,9 @@ impl PruneAnswer {
     /// # Errors
     ///
     /// Returns [`NoMemory`] if an allocation fails.
-    pub fn of(alloc: Global, plan: PrunePlan, pruned: &Pruned) -> Result<PruneAnswer, NoMemory> {
+    pub fn of(alloc: Global, plan: PrunePlan, pruned: &Pruned) -> Result<PruneAnswer, NoMemory>
+        ensures { IfOk result (ShowsPruned plan pruned.now) }
+    {
         let PrunePlan {
             kept,
             removed,
@@ -76,7 +81,9 @@ impl PruneAnswer {
     /// # Errors
     ///
     /// Returns [`NoMemory`] if an allocation fails.
-    pub fn planned(alloc: Global, plan: PrunePlan) -> Result<PruneAnswer, NoMemory> {
+    pub fn planned(alloc: Global, plan: PrunePlan) -> Result<PruneAnswer, NoMemory>
+        ensures { IfOk result (ShowsPlan plan) }
+    {
         let pruned = Pruned {
             saved: Ok(()),
             files: vec![in alloc; true; plan.files.len()]?,
@@ -86,29 +93,52 @@ impl PruneAnswer {
         PruneAnswer::of(alloc, plan, &pruned)
     }
 
-    /// Prints a line for each draft, and for each file that no held key had.
-    fn fmt_files<W: fmt::Write>(&self, f: &mut fmt::Formatter<W>) -> fmt::Result {
-        for file in &self.files {
-            if !file.is_held {
-                writeln!(f, "removed-file {} {}", file.path, file.length)?;
-            }
-        }
-        Ok(())
-    }
-}
-
-impl Display for PruneAnswer {
-    fn fmt<W: fmt::Write>(&self, f: &mut fmt::Formatter<W>) -> fmt::Result {
-        for key in &self.removed {
-            writeln!(f, "removed {key}")?;
-        }
-        self.fmt_files(f)?;
+    /// Prints the line of the counts.
+    fn fmt_counts<W: fmt::Write>(&self, f: &mut fmt::Formatter<W>) -> fmt::Result
+        ensures { DisplaysOnOk W.write_str_gives f.old result (Some (counts_line self.now)) f.new }
+    {
         let (kept, removed) = (self.kept, self.removed.len());
         let (files, bytes) = (self.files.len(), self.bytes);
         writeln!(
             f,
             "kept {kept} removed {removed} files {files} bytes {bytes}"
         )
+    }
+}
+
+impl Display for PruneAnswer {
+    ghost use Rattle.oci_program.specs.Pruned.{prune_text};
+
+    ghost output = { λ a. Some (prune_text a) };
+
+    fn fmt<W: fmt::Write>(&self, f: &mut fmt::Formatter<W>) -> fmt::Result {
+        for key in &self.removed {
+            writeln!(f, "removed {key}")?;
+        }
+        fmt_files(&self.files, f)?;
+        self.fmt_counts(f)
+    }
+}
+
+/// Prints a line for each draft, and for each file that no held key had.
+fn fmt_files<W: fmt::Write>(files: &[RemovedFile], f: &mut fmt::Formatter<W>) -> fmt::Result
+    ensures { DisplaysOnOk W.write_str_gives f.old result (Some (file_lines files.now)) f.new }
+{
+    for file in files {
+        file.fmt_unheld(f)?;
+    }
+    Ok(())
+}
+
+impl RemovedFile {
+    /// Prints the line of the file, if no held key had it.
+    fn fmt_unheld<W: fmt::Write>(&self, f: &mut fmt::Formatter<W>) -> fmt::Result
+        ensures { DisplaysOnOk W.write_str_gives f.old result (Some (file_line self.now)) f.new }
+    {
+        if self.is_held {
+            return Ok(());
+        }
+        writeln!(f, "removed-file {} {}", self.path, self.length)
     }
 }
 
@@ -176,6 +206,8 @@ pub fn print_answer_with_fault<T: Display + Serialize, W: Write>(
 ) -> Result<Outcome, ProgramFault>
     ensures whole { OnOk result (fault ≡ None) }
     ensures good { IfOk result (λ outcome. outcome ≡ Outcome.Good) }
+    ensures lines { form ≡ Form.Lines → OnOk result (IfSome (T.output answer.now)
+        (Appends (W.contents out.old) (W.contents out.new))) }
 {
     match fault {
         None => print_answer(alloc, answer, form, out),

@@ -8,6 +8,11 @@ use std::fmt;
 pub struct Sum(pub u128);
 
 impl fmt::Display for Sum {
+    ghost use Rattle.std.specs.Prelude.{Some};
+    ghost use Rattle.std.specs.Fmt.{decimal};
+
+    ghost output = { λ sum. Some (decimal sum.0) };
+
     fn fmt<W: fmt::Write>(&self, f: &mut fmt::Formatter<W>) -> fmt::Result {
         write!(f, "{}", self.0)
     }

@@ -1,5 +1,15 @@
-ghost use Rattle.std.specs.Prelude.{◌≡◌, false, None, IfOk, OnOk};
-ghost use Rattle.oci_prune_commands.specs.PrunedLayout.{IsPrunedBy, IsPruneRun, KeepsNeeded, LosesLeftovers};
+ghost use Rattle.std.specs.Prelude.{◌≡◌, true, false, None, IfOk, OnOk};
+ghost use Rattle.std.specs.Io.KnownBytes.{Appends};
+ghost use Rattle.oci_program.specs.Pruned.{prune_text};
+ghost use Rattle.oci_program.specs.declared.prune_answer.PruneAnswer.{PruneAnswer};
+ghost use Rattle.oci_prune_commands.specs.PrunedLayout.{
+  IsDryPrune,
+  IsPlannedBy,
+  IsPrunedBy,
+  IsPruneRun,
+  KeepsNeeded,
+  LosesLeftovers,
+};
 
 use crate::opened::open_settled;
 use oci_command_line::PruneWords;
@@ -20,7 +30,8 @@ use std::rt::Files;
 /// needs no tag. The directory is the words' folder, which is locked from before the
 /// layout is opened until after the last file is removed. With `--dry-run` nothing is locked or
 /// changed, and the same is printed. `F` is [`ProgramFault`] or another type that is made from one.
-/// A power cut at any moment leaves the layout with all that it had, or with what its tags need.
+/// A power cut at any moment leaves the layout with all that it had, or with what its tags need; this
+/// is a clause of [`prune`](oci_prune::prune), its core.
 ///
 /// # Errors
 ///
@@ -53,9 +64,14 @@ pub fn run_prune<
 ) -> Result<Outcome, F>
     ensures good { IfOk result (λ outcome. outcome ≡ Outcome.Good) }
 
-    // Without `--dry-run` the layout in the directory was opened, and pruned as the words ask for.
-    ensures pruned { words.now.is_dry ≡ false
-        → OnOk result (IsPruneRun D.device dir words.now) }
+    // Without `--dry-run` the layout in the directory was opened, and pruned as the words ask for. As
+    // lines, the answer is what was removed, or what would be.
+    ensures pruned { words.now.is_dry ≡ false → OnOk result ((answer : PruneAnswer)
+        × IsPruneRun D.device dir words.now answer × (form ≡ Form.Lines
+        → Appends (W.contents out.old) (W.contents out.new) (prune_text answer))) }
+    ensures planned { words.now.is_dry ≡ true → OnOk result ((answer : PruneAnswer)
+        × IsDryPrune D.device dir words.now answer × (form ≡ Form.Lines
+        → Appends (W.contents out.old) (W.contents out.new) (prune_text answer))) }
 {
     if words.is_dry {
         let planned = plan_folder(rt.alloc(), dir, words)?;
@@ -70,7 +86,9 @@ fn plan_folder<D: PrunableDir + Drop>(
     alloc: Global,
     dir: D,
     words: &PruneWords<'_>,
-) -> Result<PruneAnswer, ProgramFault> {
+) -> Result<PruneAnswer, ProgramFault>
+    ensures { IfOk result (IsDryPrune D.device dir words.now) }
+{
     let layout = Layout::open_as_is(alloc, dir)?;
     let plan = plan_by(alloc, &layout, words)?;
     Ok(PruneAnswer::planned(alloc, plan)?)
@@ -84,7 +102,8 @@ fn prune_folder<R: Files<File: Lockable> + AllocGlobal, D: PrunableDir + Drop, X
     words: &PruneWords<'_>,
     err: &mut X,
 ) -> Result<(PruneAnswer, Option<PruneFault>), ProgramFault>
-    ensures { IfOk result (λ done. done.1 ≡ None → IsPruneRun D.device dir words.now) }
+    ensures { IfOk result (λ done. done.1 ≡ None → IsPruneRun D.device dir words.now
+        done.0) }
 {
     check_is_layout(&dir)?;
     let lock = lock_folder(rt, words.folder, dir.first_failure(), words.waits, err)?;
@@ -98,7 +117,8 @@ fn prune_under_lock<R: Files + AllocGlobal, D: PrunableDir + Drop>(
     words: &PruneWords<'_>,
     _lock: &FolderLock<R>,
 ) -> Result<(PruneAnswer, Option<PruneFault>), ProgramFault>
-    ensures { IfOk result (λ done. done.1 ≡ None → IsPruneRun D.device dir words.now) }
+    ensures { IfOk result (λ done. done.1 ≡ None → IsPruneRun D.device dir words.now
+        done.0) }
 {
     let mut layout = open_settled(alloc, dir)?;
     let (plan, pruned) = prune_layout(alloc, &mut layout, words)?;
@@ -127,7 +147,9 @@ fn plan_by<D: PrunableDir>(
     alloc: Global,
     layout: &Layout<D>,
     words: &PruneWords<'_>,
-) -> Result<PrunePlan, PruneFault> {
+) -> Result<PrunePlan, PruneFault>
+    ensures { IfOk result (IsPlannedBy D.device words.now layout.now) }
+{
     if words.only_leftovers {
         plan_leftovers(alloc, layout)
     } else {

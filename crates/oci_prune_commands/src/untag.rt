@@ -53,7 +53,8 @@ use std::rt::Files;
 /// directory is the words' folder, which is locked from before the layout is opened until after it is
 /// saved. Prints in this form the keys of the entries that had the tag; the last one is the key that
 /// it named. An entry that is no descriptor has none. `F` is [`ProgramFault`] or another type that is
-/// made from one. A power cut at any moment leaves the layout with the tag or without it.
+/// made from one. A power cut at any moment leaves the layout with the tag or without it; this is a
+/// clause of [`untag_and_save`], its core.
 ///
 /// # Errors
 ///

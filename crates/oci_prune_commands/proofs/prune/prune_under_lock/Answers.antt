@@ -15,4 +15,5 @@ returns g c none =
       pruned = c.in_ok-plan.ensures;
       saved = saved;
       whole = sym (c.into_fault.ensures.saved saved) ∙ none;
+      shown = c.in_ok-answer.ensures;
     }
