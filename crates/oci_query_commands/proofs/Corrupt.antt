@@ -10,7 +10,6 @@ use Rattle.oci_layout.specs.Device.{File}
 use Rattle.oci_layout.proofs.Loose.{keys-more, no_element}
 use Rattle.oci_manifest.specs.Descriptor.{Descriptor, is_among, key_cmp}
 use Rattle.oci_store.specs.Graph.{Node}
-use Rattle.oci_store.specs.Keyed.{has_key}
 use Rattle.oci_store.proofs.KeyOrder.{key_cmp_total, key_cmp_exact}
 use Rattle.oci_store.proofs.Lookups.{has_key-from_Contains, Contains-from_has_key}
 use Rattle.oci_store.proofs.Membership.{Contains-from_among, among_from_Contains}

@@ -3,3 +3,5 @@ pub mod Answered
 pub mod Listers
 pub mod Intact
 pub mod Corrupt
+pub mod AllTags
+pub mod Found

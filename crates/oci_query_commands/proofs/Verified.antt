@@ -1,6 +1,6 @@
 -- What `verify` finds, and what is wrong with a layout.
-use Rattle.std.proofs.Common.{◌≡◌, ℕ, Bool, true, false, cond, not, Bor, inl, inr, List, [], ◌∷◌, map, Option, Some, None, IsSome, refl, sym, ap, subst, ◌∙◌}
-use Rattle.std.specs.Prelude.{◌↔◌, Contains, Result, Ok, Err, IfOk}
+use Rattle.std.proofs.Common.{◌≡◌, ℕ, Bool, true, cond, not, Bor, inl, inr, List, [], ◌∷◌, map, Option, Some, None, IsSome, refl, sym, ap, subst, ◌∙◌}
+use Rattle.std.specs.Prelude.{◌↔◌, Contains}
 use Rattle.std.specs.BTreeSet.{BTreeSet, contains}
 use Rattle.std.specs.List.{All, filter}
 use Rattle.std.specs.Option.{unwrap_or}
@@ -14,17 +14,15 @@ use Rattle.oci_layout.proofs.Loose.{no_element}
 use Rattle.oci_layout.proofs.Walk.{held_there}
 use Rattle.oci_manifest.specs.Descriptor.{Descriptor, Matches, is_among, key_cmp}
 use Rattle.oci_prune.proofs.Leaving.{held_from_node}
-use Rattle.oci_store.specs.Closed.{IsClosed}
 use Rattle.oci_store.specs.Graph.{Node}
-use Rattle.oci_store.specs.Keyed.{has_key}
 use Rattle.oci_store.specs.Tags.{Tags}
 use Rattle.oci_store.proofs.Lookups.{found, All-value_at}
 use Rattle.oci_query_commands.specs.Answered.{AreReadable}
+use Rattle.oci_query_commands.specs.Found.{AreFindings}
 use Rattle.oci_query_commands.specs.Intact.{is_matching, HasFiles}
-use Rattle.oci_query_commands.specs.Verified.{AreCorrupt, AreIntact, FindsNothing, IsWhole, IsVerified}
-use Rattle.oci_digest.specs.declared.fault.NoMemory.{NoMemory}
+use Rattle.oci_query_commands.specs.Verified.{AreCorrupt, FindsNothing, IsWhole, IsVerified}
 use Rattle.oci_query_commands.specs.declared.verify.Findings.{Findings}
-use Rattle.oci_query_commands.specs.declared.verify.Open.{Open}
+use Rattle.oci_query_commands.proofs.Found.{closed-from_found, found-from_closed}
 use Rattle.oci_query_commands.proofs.Intact.{Decides-is_match}
 
 abbrev IsThere : File → Node → Type 0
@@ -81,10 +79,6 @@ none_mapped : (keys : List (Bor Descriptor)) → map (λ (k : Bor Descriptor). k
 none_mapped [] h = refl
 none_mapped (k ∷ keys) h = cc h
 
--- what `verify` states of its findings
-abbrev AreAbsent : OpenedIndex → List (Bor Descriptor) → Type 0
-AreAbsent index absent = map (λ (k : Bor Descriptor). k.now) absent ≡ filter (λ (k : Descriptor). not (is_among index.damaged k)) index.absent
-
 matches_all : (file : File) (graph : List Node) (damaged : List Descriptor) → AreCorrupt file graph damaged [] → All (λ (n : Node). Matches n.0 (blob_at file n.0.digest)) graph
 matches_all file graph damaged are =
     All-weaker (Contains graph) (λ (n : Node). Matches n.0 (blob_at file n.0.digest)) matches graph (All-contains_itself graph)
@@ -96,45 +90,41 @@ matches_all file graph damaged are =
           | inr is_not ↦ absurd (no_element n.0 ((are.each n.0).1 (inr (held_from_node graph n there, is_not))))
         ]
 
-IsWhole-nothing : (dir : Device) (graph : List Node) (index : OpenedIndex) (f : Findings) → AreReadable index → AreAbsent index f.absent.items → AreCorrupt dir.file graph index.damaged f.corrupt.items
-    → (f.open ≡ None → index.damaged ≡ [] → IsClosed graph) → FindsNothing f → IsWhole dir graph index
-IsWhole-nothing dir graph index f readable absent corrupt known nothing =
-    let are : AreCorrupt dir.file graph index.damaged [] = subst (λ (keys : List Descriptor). AreCorrupt dir.file graph index.damaged keys) nothing.1 corrupt in
-    let undamaged : index.damaged ≡ [] = nothing_in index.damaged (λ k there. no_element k ((are.each k).1 (inl there))) in
+IsWhole-nothing : (dir : Device) (graph : List Node) (index : OpenedIndex) (f : Findings) → HasFiles dir graph → AreReadable index → AreFindings dir graph index f → FindsNothing f → IsWhole dir graph index
+IsWhole-nothing dir graph index f has readable are nothing =
+    let corrupt : AreCorrupt dir.file graph index.damaged [] = subst (λ (keys : List Descriptor). AreCorrupt dir.file graph index.damaged keys) nothing.1 (are.corrupt has) in
+    let undamaged : index.damaged ≡ [] = nothing_in index.damaged (λ k there. no_element k ((corrupt.each k).1 (inl there))) in
     record {
       readable = readable;
       entries = sym (all_kept index.absent)
           ∙ ap (λ (damaged : List Descriptor). filter (λ (k : Descriptor). not (is_among damaged k)) index.absent) (sym undamaged)
-          ∙ sym absent ∙ ap (map (λ (k : Bor Descriptor). k.now)) nothing.0;
+          ∙ sym are.absent ∙ ap (map (λ (k : Bor Descriptor). k.now)) nothing.0;
       undamaged = undamaged;
-      intact = λ honest. matches_all dir.file graph index.damaged are;
-      closed = known nothing.2 undamaged;
+      intact = λ honest. matches_all dir.file graph index.damaged corrupt;
+      closed = closed-from_found graph index.damaged f.open are.without_file nothing.2 undamaged;
     }
 
-nothing-IsWhole : (dir : Device) (graph : List Node) (index : OpenedIndex) (f : Findings) → dir.is_honest → AreAbsent index f.absent.items → AreCorrupt dir.file graph index.damaged f.corrupt.items
-    → (IsClosed graph → f.open ≡ None) → IsWhole dir graph index → FindsNothing f
-nothing-IsWhole dir graph index f honest absent corrupt closed whole = (
-  none_mapped f.absent.items (absent ∙ ap (filter (λ (k : Descriptor). not (is_among index.damaged k))) whole.entries),
+nothing-IsWhole : (dir : Device) (graph : List Node) (index : OpenedIndex) (f : Findings) → HasFiles dir graph → AreFindings dir graph index f → IsWhole dir graph index → FindsNothing f
+nothing-IsWhole dir graph index f has are whole = (
+  none_mapped f.absent.items (are.absent ∙ ap (filter (λ (k : Descriptor). not (is_among index.damaged k))) whole.entries),
   nothing_in f.corrupt.items right,
-  closed whole.closed,
+  found-from_closed graph index.damaged f.open are.without_file whole.closed,
 )
   where
     right : (k : Descriptor) → Contains f.corrupt.items k → ⊥
     right k there =
-        elim ((corrupt.each k).0 there) [
+        elim (((are.corrupt has).each k).0 there) [
           | inl damaged ↦ no_element k (subst (λ (ks : List Descriptor). Contains ks k) whole.undamaged damaged)
           | inr held ↦
               let it = found graph k held.0 in
-              let matching : Matches k (blob_at dir.file k.digest) = All-value_at (λ (n : Node). Matches n.0 (blob_at dir.file n.0.digest)) graph k it.0 (whole.intact honest) it.1 in
+              let matching : Matches k (blob_at dir.file k.digest) = All-value_at (λ (n : Node). Matches n.0 (blob_at dir.file n.0.digest)) graph k it.0 (whole.intact has.0) it.1 in
               cc (sym ((Decides-is_match k (blob_at dir.file k.digest)).1 matching) ∙ held.1)
         ]
 
-pub whole_iff : (dir : Device) (graph : List Node) (index : OpenedIndex) (f : Findings) → HasFiles dir graph → AreReadable index → AreAbsent index f.absent.items
-    → (HasFiles dir graph → AreCorrupt dir.file graph index.damaged f.corrupt.items) → (f.open ≡ None → index.damaged ≡ [] → IsClosed graph) → (IsClosed graph → f.open ≡ None)
-    → FindsNothing f ↔ IsWhole dir graph index
-whole_iff dir graph index f has readable absent corrupt known closed = (
-  λ nothing. IsWhole-nothing dir graph index f readable absent (corrupt has) known nothing,
-  λ whole. nothing-IsWhole dir graph index f has.0 absent (corrupt has) closed whole,
+pub whole_iff : (dir : Device) (graph : List Node) (index : OpenedIndex) (f : Findings) → HasFiles dir graph → AreReadable index → AreFindings dir graph index f → FindsNothing f ↔ IsWhole dir graph index
+whole_iff dir graph index f has readable are = (
+  λ nothing. IsWhole-nothing dir graph index f has readable are nothing,
+  λ whole. nothing-IsWhole dir graph index f has are whole,
 )
 
 -- ---- the keys that are not damaged
@@ -149,8 +139,3 @@ pub absent_are : (set : BTreeSet Descriptor) (damaged keys absent : List Descrip
 absent_are set damaged keys absent others among are same =
     are ∙ kept_same (λ (k : Descriptor). not (contains key_cmp set k)) (λ (k : Descriptor). not (is_among damaged k)) (λ k. ap not (among k)) keys
     ∙ ap (filter (λ (k : Descriptor). not (is_among damaged k))) same
-
--- ---- closed graphs
-pub never_closed : (r : Result (Option Open) NoMemory) (graph : List Node) → (IsClosed graph → ⊥) → IfOk r (λ (answer : Option Open). IsClosed graph → answer ≡ None)
-never_closed (Ok answer) graph never = λ closed. absurd (never closed)
-never_closed (Err e) graph never = tt

@@ -1,6 +1,5 @@
 -- Layouts in which `verify` finds nothing wrong (OCI image specification 1.1, image-layout.md).
 use Rattle.std.specs.Prelude.{◌≡◌, ◌↔◌, ◌⊎◌, Bool, true, false, List, [], None, Contains}
-use Rattle.std.specs.BTreeSet.{BTreeSet, contains}
 use Rattle.std.specs.List.{All}
 use Rattle.std.specs.List.Sorted.{IsStrictlySortedBy}
 use Rattle.oci_command_line.specs.declared.request.Query.{Query}
@@ -80,7 +79,3 @@ pub record AreCorrupt (file : File) (graph : List Node) (damaged : List Descript
 -- no key is absent or corrupt, and none lists a key without a file
 abbrev pub FindsNothing : Findings → Type 0
 FindsNothing findings = (findings.absent.items ≡ []) × (findings.corrupt.items ≡ []) × (findings.open ≡ None)
-
--- a set has no key
-abbrev pub HasNone : BTreeSet Descriptor → Type 0
-HasNone set = (k : Descriptor) → contains key_cmp set k ≡ false

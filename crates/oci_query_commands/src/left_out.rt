@@ -1,4 +1,5 @@
-ghost use Rattle.std.specs.Prelude.{◌≡◌, ◌≢◌, true, None, [], OnOk};
+ghost use Rattle.std.specs.Prelude.{◌≡◌, ◌≢◌, true, None, [], IfSome, OnOk};
+ghost use Rattle.std.specs.Io.KnownBytes.{Appends};
 ghost use Rattle.oci_layout.specs.Layout.{manifests_of};
 ghost use Rattle.oci_query_commands.specs.Answered.{AreReadable, AreUndamaged, LeavesNothingOut};
 
@@ -26,6 +27,8 @@ struct AnswerOfAll<T> {
 }
 
 impl<T: Display> Display for AnswerOfAll<T> {
+    ghost output = { λ all. T.output all.answer };
+
     fn fmt<W: fmt::Write>(&self, f: &mut fmt::Formatter<W>) -> fmt::Result {
         self.answer.fmt(f)
     }
@@ -52,7 +55,9 @@ pub(crate) fn print_answer_of_all<D: Dir, T: Display + Serialize + Drop, W: Writ
     out: &mut W,
     err: &mut X,
 ) -> Result<Outcome, ProgramFault>
-    ensures { OnOk result (LeavesNothingOut (D.device layout.now.dir) layout.now.opened) }
+    ensures whole { OnOk result (LeavesNothingOut (D.device layout.now.dir) layout.now.opened) }
+    ensures lines { form ≡ Form.Lines → OnOk result (IfSome (T.output answer)
+        (Appends (W.contents out.old) (W.contents out.new))) }
 {
     let damaged = layout.damaged_manifests()?;
     print_answer_without(alloc, layout, answer, damaged, form, out, err)
@@ -72,7 +77,9 @@ pub(crate) fn print_findings_of_all<D: Dir, T: Display + Serialize + Drop, W: Wr
     out: &mut W,
     err: &mut X,
 ) -> Result<Outcome, ProgramFault>
-    ensures { OnOk result (AreReadable layout.now.opened) }
+    ensures readable { OnOk result (AreReadable layout.now.opened) }
+    ensures lines { form ≡ Form.Lines → OnOk result (IfSome (T.output answer)
+        (Appends (W.contents out.old) (W.contents out.new))) }
 {
     print_answer_without(alloc, layout, answer, Vec::new(alloc), form, out, err)
 }
@@ -90,6 +97,8 @@ fn print_answer_without<D: Dir, T: Display + Serialize + Drop, W: Write, X: Writ
 ) -> Result<Outcome, ProgramFault>
     ensures readable { OnOk result (AreReadable layout.now.opened) }
     ensures undamaged { OnOk result (AreUndamaged (D.device layout.now.dir) damaged.items) }
+    ensures lines { form ≡ Form.Lines → OnOk result (IfSome (T.output answer)
+        (Appends (W.contents out.old) (W.contents out.new))) }
 {
     let unreadable = layout.unreadable()?;
     let answer = AnswerOfAll {

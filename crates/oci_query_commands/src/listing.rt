@@ -1,7 +1,13 @@
-ghost use Rattle.std.specs.Prelude.{map, option_copied, IfOk};
+ghost use Rattle.std.specs.Prelude.{◌≡◌, ◌↔◌, ◌⊎◌, ◌∷◌, ◌++◌, [], true, map, filter, Some, Contains, option_copied, IfErr, IfOk, OnOk};
+ghost use Rattle.std.specs.BTreeSet.{contains};
+ghost use Rattle.oci_layout.specs.Entries.{entry_of};
 ghost use Rattle.oci_layout.specs.Meaning.{meaning};
-ghost use Rattle.oci_query_commands.specs.Listed.{ArePredecessors, ArePredecessorsOf};
-ghost use Rattle.oci_query_commands.specs.Named.{IsNamed};
+ghost use Rattle.oci_layout.specs.Saved.{no_name, unnamed_keys};
+ghost use Rattle.oci_manifest.specs.Descriptor.{Descriptor, key_cmp};
+ghost use Rattle.oci_store.specs.Keyed.{has_key};
+ghost use Rattle.oci_store.specs.Tags.{by_bytes};
+ghost use Rattle.oci_query_commands.specs.Listed.{listing_of, named_listing, unnamed_listing, ArePredecessors, ArePredecessorsOf, AreTags};
+ghost use Rattle.oci_query_commands.specs.Named.{IsNamed, IsNamedFault};
 
 use crate::named::named_key;
 use oci_digest::NoMemory;
@@ -9,7 +15,7 @@ use oci_layout::{Dir, IndexEntry, Layout};
 use oci_manifest::Key;
 use oci_program::{ProgramFault, resolve};
 use oci_prune::referrers_of_types;
-use oci_store::{GraphSource, Source, keys_of_set};
+use oci_store::{Dest, GraphSource, keys_of_set};
 use serde::Serialize;
 use std::alloc::Global;
 use std::collections::BTreeSet;
@@ -22,7 +28,7 @@ pub(crate) struct Tags {
     tags: Vec<Listed>,
 }
 
-/// A key with its tag, or without one. `Display` prints `-` in the place of no tag.
+/// A key with its tag, or without one. `Display` prints their line, with `-` in the place of no tag.
 #[derive(Drop, Serialize)]
 struct Listed {
     tag: Option<String>,
@@ -36,68 +42,125 @@ impl Tags {
         alloc: Global,
         layout: &Layout<D>,
         lists_all: bool,
-    ) -> Result<Tags, NoMemory> {
-        let mut tags = Vec::new(alloc);
-        for (tag, descriptor) in layout.tags()? {
-            tags.push(Listed {
-                tag: Some(tag),
-                descriptor,
-            })?;
+    ) -> Result<Tags, NoMemory>
+        ensures { IfOk result (λ found. AreTags layout.now.graph layout.now.tags layout.now.opened
+            lists_all (map listing_of found.tags.items)) }
+    {
+        let pairs = layout.tags()?;
+        let mut tags = named(alloc, pairs)?;
+        if !lists_all {
+            return Ok(Tags { tags });
         }
-        if lists_all {
-            add_unnamed(alloc, layout, &mut tags)?;
-        }
+        let unnamed = unnamed_keys(alloc, layout.entries())?;
+        let keys = keys_of_set(alloc, &unnamed)?;
+        add_held(layout, keys, &mut tags)?;
         Ok(Tags { tags })
     }
 }
 
-/// Adds the held keys of the entries that have no name, in key order.
-fn add_unnamed<D: Dir>(
-    alloc: Global,
-    layout: &Layout<D>,
-    tags: &mut Vec<Listed>,
-) -> Result<(), NoMemory> {
-    let unnamed = unnamed_keys(alloc, layout)?;
-    for descriptor in keys_of_set(alloc, &unnamed)? {
-        tags.push(Listed {
-            tag: None,
+/// Returns tags as they are listed.
+fn named(alloc: Global, tags: Vec<(String, Key)>) -> Result<Vec<Listed>, NoMemory>
+    ensures { IfOk result (λ listed. map listing_of listed.items
+        ≡ map named_listing (by_bytes tags.items)) }
+{
+    let mut listed = Vec::new(alloc);
+    for (tag, descriptor) in tags {
+        listed.push(Listed {
+            tag: Some(tag),
             descriptor,
         })?;
+    }
+    Ok(listed)
+}
+
+/// Adds those of these keys that are held, without a tag.
+fn add_held<D: Dir>(
+    layout: &Layout<D>,
+    keys: Vec<Key>,
+    listed: &mut Vec<Listed>,
+) -> Result<(), NoMemory>
+    ensures { OnOk result (map listing_of listed.new.items ≡ map listing_of listed.old.items
+        ++ map unnamed_listing (filter (has_key layout.now.graph) keys.items)) }
+{
+    for key in keys {
+        add_if_held(layout, key, listed)?;
     }
     Ok(())
 }
 
-/// Returns the held keys of the entries that have no name.
-fn unnamed_keys<D: Dir>(alloc: Global, layout: &Layout<D>) -> Result<BTreeSet<Key>, NoMemory> {
+/// Adds a key without a tag if it is held.
+fn add_if_held<D: Dir>(
+    layout: &Layout<D>,
+    key: Key,
+    listed: &mut Vec<Listed>,
+) -> Result<(), NoMemory>
+    ensures { OnOk result (map listing_of listed.new.items ≡ map listing_of listed.old.items
+        ++ map unnamed_listing (filter (has_key layout.now.graph) (key ∷ []))) }
+{
+    if !layout.has(&key) {
+        return Ok(());
+    }
+    listed.push(Listed {
+        tag: None,
+        descriptor: key,
+    })?;
+    Ok(())
+}
+
+/// Returns the keys of the entries that have no name.
+fn unnamed_keys(alloc: Global, entries: &[IndexEntry]) -> Result<BTreeSet<Key>, NoMemory>
+    ensures { IfOk result (λ set. (k : Descriptor) → (contains key_cmp set k ≡ true)
+        ↔ Contains (unnamed_keys (map entry_of entries.now)) k) }
+{
     let mut unnamed = BTreeSet::new(alloc);
-    for entry in layout.entries() {
-        let Some(key) = &entry.key else {
-            continue;
-        };
-        if name_of(entry).is_none() && layout.exists(key) {
-            unnamed.insert(key.try_clone()?)?;
-        }
+    for entry in entries {
+        add_unnamed(entry, &mut unnamed)?;
     }
     Ok(unnamed)
 }
 
-/// Returns the name of an entry. An empty text is none.
-pub(crate) fn name_of(entry: &IndexEntry) -> Option<&str> {
-    match &entry.name {
-        Some(name) if !name.is_empty() => Some(name.as_str()),
-        _ => None,
+/// Adds the key of an entry, if that has one, and no name.
+fn add_unnamed(entry: &IndexEntry, unnamed: &mut BTreeSet<Key>) -> Result<(), NoMemory>
+    ensures { OnOk result ((k : Descriptor) → (contains key_cmp unnamed.new k ≡ true)
+        ↔ ((contains key_cmp unnamed.old k ≡ true)
+        ⊎ (((entry_of entry.now).key ≡ Some k) × (no_name (entry_of entry.now).name ≡ true)))) }
+{
+    if entry.has_name() {
+        return Ok(());
     }
+    let Some(key) = &entry.key else {
+        return Ok(());
+    };
+    unnamed.insert(key.try_clone()?)?;
+    Ok(())
 }
 
 impl fmt::Display for Tags {
+    ghost use Rattle.std.specs.Prelude.{Some};
+    ghost use Rattle.oci_query_commands.specs.Lines.{listed_lines};
+
+    ghost output = { λ found. Some (listed_lines found.tags.items) };
+
     fn fmt<W: fmt::Write>(&self, f: &mut fmt::Formatter<W>) -> fmt::Result {
-        for Listed { tag, descriptor } in &self.tags {
-            match tag {
-                Some(tag) => writeln!(f, "{tag} {descriptor}")?,
-                None => writeln!(f, "- {descriptor}")?,
-            }
+        for listed in &self.tags {
+            write!(f, "{listed}")?;
         }
         Ok(())
+    }
+}
+
+impl fmt::Display for Listed {
+    ghost use Rattle.std.specs.Prelude.{Some};
+    ghost use Rattle.oci_query_commands.specs.Lines.{listed_line};
+
+    ghost output = { λ listed. Some (listed_line listed) };
+
+    fn fmt<W: fmt::Write>(&self, f: &mut fmt::Formatter<W>) -> fmt::Result {
+        let descriptor = &self.descriptor;
+        match &self.tag {
+            Some(tag) => writeln!(f, "{tag} {descriptor}"),
+            None => writeln!(f, "- {descriptor}"),
+        }
     }
 }
 
@@ -114,8 +177,10 @@ impl Resolved {
         reference: &str,
         platform: Option<&str>,
     ) -> Result<Resolved, ProgramFault>
-        ensures { IfOk result (λ resolved. IsNamed (D.device layout.now.dir) layout.now.graph
+        ensures named { IfOk result (λ resolved. IsNamed (D.device layout.now.dir) layout.now.graph
             layout.now.tags reference.now (option_copied platform.entry) resolved.descriptor) }
+        ensures refused { IfErr result (IsNamedFault (D.device layout.now.dir) layout.now
+            reference.now (option_copied platform.entry)) }
     {
         Ok(Resolved {
             descriptor: named_key(layout, reference, platform)?,
@@ -124,6 +189,11 @@ impl Resolved {
 }
 
 impl fmt::Display for Resolved {
+    ghost use Rattle.std.specs.Prelude.{Some};
+    ghost use Rattle.oci_query_commands.specs.Lines.{key_line};
+
+    ghost output = { λ resolved. Some (key_line resolved.descriptor) };
+
     fn fmt<W: fmt::Write>(&self, f: &mut fmt::Formatter<W>) -> fmt::Result {
         writeln!(f, "{}", self.descriptor)
     }
@@ -180,6 +250,11 @@ fn predecessors_of<D: Dir>(
 }
 
 impl fmt::Display for Predecessors {
+    ghost use Rattle.std.specs.Prelude.{Some};
+    ghost use Rattle.oci_query_commands.specs.Lines.{key_lines};
+
+    ghost output = { λ found. Some (key_lines found.predecessors.items) };
+
     fn fmt<W: fmt::Write>(&self, f: &mut fmt::Formatter<W>) -> fmt::Result {
         for key in &self.predecessors {
             writeln!(f, "{key}")?;

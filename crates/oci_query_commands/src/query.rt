@@ -1,6 +1,12 @@
-ghost use Rattle.std.specs.Prelude.{◌≡◌, ◌↔◌, true, IfOk, OnOk};
+ghost use Rattle.std.specs.Prelude.{◌≡◌, ◌↔◌, true, map, option_copied, IfOk, OnOk};
+ghost use Rattle.oci_layout.specs.Meaning.{meaning};
 ghost use Rattle.oci_query_commands.specs.Answered.{is_of_all, IsReadable, LeavesNothingOut};
+ghost use Rattle.oci_query_commands.specs.Found.{AreFindings};
 ghost use Rattle.oci_query_commands.specs.Intact.{HasFiles};
+ghost use Rattle.oci_query_commands.specs.Lines.{findings_text, key_line, key_lines, listing_lines};
+ghost use Rattle.oci_query_commands.specs.Listed.{ArePredecessorsOf, AreTags};
+ghost use Rattle.oci_query_commands.specs.Named.{IsNamed};
+ghost use Rattle.oci_query_commands.specs.Printed.{Prints, PrintsAnswer, PrintsAnswerOf};
 ghost use Rattle.oci_query_commands.specs.Verified.{is_verify, IsFaulty, IsFaultyVerify, IsGoodVerify, IsVerified, IsWhole};
 
 use crate::left_out::{print_answer_of_all, print_findings_of_all};
@@ -66,6 +72,10 @@ pub fn run_query<
     // is a descriptor, and no manifest is damaged.
     ensures answered { OnOk result (is_of_all query.now ≡ true
         → (D.device dir).is_honest → IsReadable (D.device dir)) }
+
+    // As lines, a command other than `tree` that is done has printed exactly its answer.
+    ensures printed { form ≡ Form.Lines → OnOk result ((D.device dir).is_honest
+        → PrintsAnswerOf (D.device dir) query.now (W.contents out.old) (W.contents out.new)) }
 {
     let layout = match Layout::open_as_is(rt.alloc(), dir) {
         Ok(layout) => layout,
@@ -88,25 +98,19 @@ fn answer_from<R: AllocGlobal + Clock + Wait, D: Dir, W: Write, X: Write>(
         ↔ IsWhole (D.device layout.now.dir) layout.now.graph layout.now.opened) }
     ensures answered { OnOk result (is_of_all query.now ≡ true
         → LeavesNothingOut (D.device layout.now.dir) layout.now.opened) }
+    ensures printed { form ≡ Form.Lines → OnOk result (PrintsAnswer (D.device layout.now.dir)
+        layout.now.graph layout.now.tags layout.now.opened query.now (W.contents out.old)
+        (W.contents out.new)) }
 {
     let alloc = rt.alloc();
     match query {
-        Query::Tags { lists_all } => {
-            let tags = Tags::of(alloc, layout, *lists_all)?;
-            print_answer_of_all(alloc, layout, tags, form, out, err)
-        }
+        Query::Tags { lists_all } => print_tags(alloc, layout, *lists_all, form, out, err),
         Query::Resolve {
             reference,
             platform,
-        } => print_answer(
-            alloc,
-            &Resolved::of(layout, reference, *platform)?,
-            form,
-            out,
-        ),
+        } => print_resolved(alloc, layout, reference, *platform, form, out),
         Query::Predecessors { reference, types } => {
-            let predecessors = Predecessors::of(alloc, layout, reference, types)?;
-            print_answer_of_all(alloc, layout, predecessors, form, out, err)
+            print_predecessors(alloc, layout, reference, types, form, out, err)
         }
         Query::Tree {
             reference,
@@ -120,6 +124,61 @@ fn answer_from<R: AllocGlobal + Clock + Wait, D: Dir, W: Write, X: Write>(
             print_findings(rt, layout, *shows_progress, form, out, err)
         }
     }
+}
+
+/// Prints the tags of a layout, and if it `lists_all`, the keys without a tag.
+fn print_tags<D: Dir, W: Write, X: Write>(
+    alloc: Global,
+    layout: &Layout<D>,
+    lists_all: bool,
+    form: Form,
+    out: &mut W,
+    err: &mut X,
+) -> Result<Outcome, ProgramFault>
+    ensures whole { OnOk result (LeavesNothingOut (D.device layout.now.dir) layout.now.opened) }
+    ensures printed { form ≡ Form.Lines → OnOk result (Prints
+        (AreTags layout.now.graph layout.now.tags layout.now.opened lists_all) listing_lines
+        (W.contents out.old) (W.contents out.new)) }
+{
+    let tags = Tags::of(alloc, layout, lists_all)?;
+    print_answer_of_all(alloc, layout, tags, form, out, err)
+}
+
+/// Prints the key that a reference names, perhaps for a platform.
+fn print_resolved<D: Dir, W: Write>(
+    alloc: Global,
+    layout: &Layout<D>,
+    reference: &str,
+    platform: Option<&str>,
+    form: Form,
+    out: &mut W,
+) -> Result<Outcome, ProgramFault>
+    ensures { form ≡ Form.Lines → OnOk result (Prints
+        (IsNamed (D.device layout.now.dir) layout.now.graph layout.now.tags reference.now
+        (option_copied platform.entry)) key_line (W.contents out.old) (W.contents out.new)) }
+{
+    let resolved = Resolved::of(layout, reference, platform)?;
+    print_answer(alloc, &resolved, form, out)
+}
+
+/// Prints the keys that list the key of a reference; with types, its referrers of these.
+fn print_predecessors<D: Dir, W: Write, X: Write>(
+    alloc: Global,
+    layout: &Layout<D>,
+    reference: &str,
+    types: &[&str],
+    form: Form,
+    out: &mut W,
+    err: &mut X,
+) -> Result<Outcome, ProgramFault>
+    ensures whole { OnOk result (LeavesNothingOut (D.device layout.now.dir) layout.now.opened) }
+    ensures printed { form ≡ Form.Lines → OnOk result (Prints
+        (ArePredecessorsOf (meaning (D.device layout.now.dir) layout.now.graph layout.now.tags)
+        reference.now (map (λ t. t.now) types.now)) key_lines
+        (W.contents out.old) (W.contents out.new)) }
+{
+    let predecessors = Predecessors::of(alloc, layout, reference, types)?;
+    print_answer_of_all(alloc, layout, predecessors, form, out, err)
 }
 
 /// Prints the tree of a key. Its referrers may be any manifests of the layout.
@@ -154,9 +213,12 @@ fn print_findings<R: AllocGlobal + Clock + Wait, D: Dir, W: Write, X: Write>(
     out: &mut W,
     err: &mut X,
 ) -> Result<Outcome, ProgramFault>
-    ensures { IfOk result (λ outcome. HasFiles (D.device layout.now.dir) layout.now.graph
+    ensures outcome { IfOk result (λ outcome. HasFiles (D.device layout.now.dir) layout.now.graph
         → (outcome ≡ Outcome.Good)
         ↔ IsWhole (D.device layout.now.dir) layout.now.graph layout.now.opened) }
+    ensures printed { form ≡ Form.Lines → OnOk result (Prints
+        (AreFindings (D.device layout.now.dir) layout.now.graph layout.now.opened)
+        findings_text (W.contents out.old) (W.contents out.new)) }
 {
     let findings = verify(rt, layout, shows_progress, err)?;
     let outcome = findings.outcome();

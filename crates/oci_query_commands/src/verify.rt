@@ -1,12 +1,18 @@
-ghost use Rattle.std.specs.Prelude.{◌≡◌, ◌↔◌, ◌⊎◌, ◌+◌, ◌-◌, ◌^◌, ◌++◌, ◌∷◌, [], true, false, length, min, not, filter, map, None, IfOk, OnOk};
+ghost use Rattle.std.specs.Prelude.{◌≡◌, ◌↔◌, ◌⊎◌, ◌++◌, ◌∷◌, [], if◌then◌else◌, true, false, not, filter, flat_map, map, List, Some, option_and_then, option_map, string_bytes, string_cmp, String, IfOk, OnOk};
+ghost use Rattle.std.specs.BTreeMap.{get};
 ghost use Rattle.std.specs.BTreeSet.{contains};
+ghost use Rattle.std.specs.Fmt.{WritesOnOk};
+ghost use Rattle.std.specs.declared.alloc.Global.{Global};
+ghost use Rattle.oci_layout.specs.Entries.{entry_of, text_of, IndexEntry as EntryOfIndex};
+ghost use Rattle.oci_layout.specs.Saved.{is_name, is_place, last_place, HasLastPlaces};
 ghost use Rattle.oci_manifest.specs.Descriptor.{Descriptor, is_among, key_cmp};
-ghost use Rattle.oci_store.specs.Closed.{IsClosed};
+ghost use Rattle.oci_store.specs.Keyed.{value_at};
+ghost use Rattle.oci_query_commands.specs.Found.{first_without_file, has_file, pair_of, shadowed_in, tagged_if, tagged_of, without_file, AreFindings};
 ghost use Rattle.oci_query_commands.specs.Intact.{is_matching, HasFile, HasFiles};
-ghost use Rattle.oci_query_commands.specs.Verified.{AreCorrupt, FindsNothing, HasNone};
+ghost use Rattle.oci_query_commands.specs.Lines.{absent_line, corrupt_line, open_text, shadowed_line};
+ghost use Rattle.oci_query_commands.specs.Verified.{AreCorrupt, FindsNothing};
 
 use crate::file_check::is_corrupt;
-use crate::listing::name_of;
 use oci_digest::NoMemory;
 use oci_layout::{Dir, IndexEntry, Layout};
 use oci_manifest::Key;
@@ -59,27 +65,56 @@ impl Findings<'_> {
 }
 
 impl Display for Findings<'_> {
+    ghost use Rattle.std.specs.Prelude.{Some};
+    ghost use Rattle.oci_query_commands.specs.Lines.{findings_text};
+
+    ghost output = { λ findings. Some (findings_text findings) };
+
     fn fmt<W: fmt::Write>(&self, f: &mut fmt::Formatter<W>) -> fmt::Result {
-        print_each("absent", &self.absent, f)?;
-        print_each("corrupt", &self.corrupt, f)?;
-        if let Some(Open { holder, missing }) = &self.open {
-            writeln!(f, "open {holder} {missing}")?;
-        }
-        for Tagged { tag, descriptor } in &self.shadowed {
-            writeln!(f, "shadowed {tag} {descriptor}")?;
-        }
+        print_absent(&self.absent, f)?;
+        print_corrupt(&self.corrupt, f)?;
+        print_open(&self.open, f)?;
+        print_shadowed(&self.shadowed, f)?;
         writeln!(f, "held {}", self.held)
     }
 }
 
-/// Prints each key on a line of its own, after a word.
-fn print_each<T: Display, W: fmt::Write>(
-    word: &str,
-    keys: &[T],
-    f: &mut fmt::Formatter<W>,
-) -> fmt::Result {
+/// Prints the line of each absent key.
+fn print_absent<W: fmt::Write>(keys: &[&Key], f: &mut fmt::Formatter<W>) -> fmt::Result
+    ensures { WritesOnOk W.write_str_gives f.old result (flat_map absent_line keys.now) f.new }
+{
     for key in keys {
-        writeln!(f, "{word} {key}")?;
+        writeln!(f, "absent {key}")?;
+    }
+    Ok(())
+}
+
+/// Prints the line of each corrupt key.
+fn print_corrupt<W: fmt::Write>(keys: &[Key], f: &mut fmt::Formatter<W>) -> fmt::Result
+    ensures { WritesOnOk W.write_str_gives f.old result (flat_map corrupt_line keys.now) f.new }
+{
+    for key in keys {
+        writeln!(f, "corrupt {key}")?;
+    }
+    Ok(())
+}
+
+/// Prints the line of a key that lists a key without a file, if there is one.
+fn print_open<W: fmt::Write>(open: &Option<Open>, f: &mut fmt::Formatter<W>) -> fmt::Result
+    ensures { WritesOnOk W.write_str_gives f.old result (open_text open.now) f.new }
+{
+    match open {
+        Some(Open { holder, missing }) => writeln!(f, "open {holder} {missing}"),
+        None => Ok(()),
+    }
+}
+
+/// Prints the line of each entry whose tag a later entry has.
+fn print_shadowed<W: fmt::Write>(entries: &[Tagged], f: &mut fmt::Formatter<W>) -> fmt::Result
+    ensures { WritesOnOk W.write_str_gives f.old result (flat_map shadowed_line entries.now) f.new }
+{
+    for Tagged { tag, descriptor } in entries {
+        writeln!(f, "shadowed {tag} {descriptor}")?;
     }
     Ok(())
 }
@@ -93,16 +128,8 @@ pub(crate) fn verify<'l, R: AllocGlobal + Clock + Wait, D: Dir, X: Write>(
     shows_progress: bool,
     err: &mut X,
 ) -> Result<Findings<'l>, ProgramFault>
-    ensures absent { IfOk result (λ findings. map (λ key. key.now) findings.absent.items
-        ≡ filter (λ k. not (is_among layout.now.opened.damaged k)) layout.now.opened.absent) }
-    ensures corrupt { IfOk result (λ findings. HasFiles (D.device layout.now.dir) layout.now.graph
-        → AreCorrupt (D.device layout.now.dir).file layout.now.graph layout.now.opened.damaged
-        findings.corrupt.items) }
-    ensures open { IfOk result (λ findings. findings.open ≡ None → layout.now.opened.damaged ≡ []
-        → IsClosed layout.now.graph) }
-    ensures closed { IfOk result (λ findings. IsClosed layout.now.graph → findings.open ≡ None) }
-    ensures held { IfOk result (λ findings. findings.held
-        ≡ min (length layout.now.graph + length layout.now.opened.damaged) (2 ^ 64 - 1)) }
+    ensures { IfOk result (AreFindings (D.device layout.now.dir) layout.now.graph
+        layout.now.opened) }
 {
     let alloc = rt.alloc();
     let progress = Progress::new(rt, err, layout, shows_progress);
@@ -203,27 +230,13 @@ fn add_if_corrupt<D: Dir, R: Clock + Wait, X: Write>(
     Ok(())
 }
 
-/// Returns the first key that lists a key which is neither held nor damaged, with the first such
-/// key.
+/// Returns the first held key that lists a key which is neither held nor damaged, with the first
+/// such key.
 fn open_key<D: Dir>(layout: &Layout<D>, damaged: &BTreeSet<Key>) -> Result<Option<Open>, NoMemory>
-    ensures open { IfOk result (λ found. found ≡ None → HasNone damaged.now
-        → IsClosed layout.now.graph) }
-    ensures closed { IfOk result (λ found. IsClosed layout.now.graph → found ≡ None) }
+    ensures { IfOk result (λ found. option_map pair_of found
+        ≡ first_without_file (has_file layout.now.graph (contains key_cmp damaged.now))
+        layout.now.graph) }
 {
-    let Some((holder, missing)) = layout.missing()? else {
-        return Ok(None);
-    };
-    if damaged.contains(&missing) {
-        return next_open_key(layout, damaged);
-    }
-    Ok(Some(Open { holder, missing }))
-}
-
-/// Returns the same, where the first missing key is damaged.
-fn next_open_key<D: Dir>(
-    layout: &Layout<D>,
-    damaged: &BTreeSet<Key>,
-) -> Result<Option<Open>, NoMemory> {
     for place in 0..layout.count() {
         let Some(holder) = layout.key(place) else {
             unreachable!();
@@ -243,50 +256,120 @@ fn missing_key<D: Dir>(
     layout: &Layout<D>,
     holder: &Key,
     damaged: &BTreeSet<Key>,
-) -> Result<Option<Key>, NoMemory> {
+) -> Result<Option<Key>, NoMemory>
+    ensures { IfOk result (λ found. found ≡ option_and_then
+        (without_file (has_file layout.now.graph (contains key_cmp damaged.now)))
+        (value_at layout.now.graph holder.now)) }
+{
     let Some(listed) = layout.successors(holder)? else {
         return Ok(None);
     };
-    for key in listed {
-        if !layout.has(&key) && !damaged.contains(&key) {
-            return Ok(Some(key));
+    missing_of(layout, &listed, damaged)
+}
+
+/// Returns the first of these keys that is neither held nor damaged.
+fn missing_of<D: Dir>(
+    layout: &Layout<D>,
+    keys: &[Key],
+    damaged: &BTreeSet<Key>,
+) -> Result<Option<Key>, NoMemory>
+    ensures { IfOk result (λ found. found
+        ≡ without_file (has_file layout.now.graph (contains key_cmp damaged.now)) keys.now) }
+{
+    for key in keys {
+        if !has_file(layout, key, damaged) {
+            return Ok(Some(key.try_clone()?));
         }
     }
     Ok(None)
 }
 
+/// Returns whether a key is held or damaged.
+fn has_file<D: Dir>(layout: &Layout<D>, key: &Key, damaged: &BTreeSet<Key>) -> bool
+    ensures { result ≡ has_file layout.now.graph (contains key_cmp damaged.now) key.now }
+{
+    layout.has(key) || damaged.contains(key)
+}
+
 /// Returns the name and the key of each entry that has a key and whose name a later entry has, in
 /// the order of the entries.
-fn shadowed_entries(alloc: Global, entries: &[IndexEntry]) -> Result<Vec<Tagged>, NoMemory> {
+fn shadowed_entries(alloc: Global, entries: &[IndexEntry]) -> Result<Vec<Tagged>, NoMemory>
+    ensures { IfOk result (λ shadowed. map tagged_of shadowed.items
+        ≡ shadowed_in (map entry_of entries.now)) }
+{
     let last_places = last_places(alloc, entries)?;
     let mut shadowed = Vec::new(alloc);
     for (place, entry) in entries.iter().enumerate() {
-        let Some(name) = name_of(entry) else {
-            continue;
-        };
-        let Some(key) = &entry.key else {
-            continue;
-        };
-        if last_places.get(name) == Some(&place) {
-            continue;
-        }
-        shadowed.push(Tagged {
-            tag: String::from_str(alloc, name)?,
-            descriptor: key.try_clone()?,
-        })?;
+        add_unless_last(entry, place, &last_places, &mut shadowed)?;
     }
     Ok(shadowed)
 }
 
+/// Adds the name and the key of an entry that has both, unless its place is the last one of the
+/// name.
+fn add_unless_last(
+    entry: &IndexEntry,
+    place: usize,
+    last_places: &BTreeMap<String, usize>,
+    shadowed: &mut Vec<Tagged>,
+) -> Result<(), NoMemory>
+    ensures { OnOk result ((entries : List EntryOfIndex) → HasLastPlaces last_places.now entries
+        → map tagged_of shadowed.new.items ≡ map tagged_of shadowed.old.items
+        ++ tagged_if (λ name. not (is_place place (last_place name entries)))
+        entry.now.key (text_of entry.now.name)) }
+{
+    let Some(name) = &entry.name else {
+        return Ok(());
+    };
+    let Some(key) = &entry.key else {
+        return Ok(());
+    };
+    if name.is_empty() || is_last(last_places, name, place) {
+        return Ok(());
+    }
+    shadowed.push(Tagged {
+        tag: name.clone()?,
+        descriptor: key.try_clone()?,
+    })?;
+    Ok(())
+}
+
+/// Returns whether this is the last place of a name.
+fn is_last(last_places: &BTreeMap<String, usize>, name: &String, place: usize) -> bool
+    ensures { result ≡ is_place place (get string_cmp last_places.now name.now) }
+{
+    match last_places.get(name) {
+        Some(last) => *last == place,
+        None => false,
+    }
+}
+
 /// Returns the place of the last entry of each name.
-fn last_places(alloc: Global, entries: &[IndexEntry]) -> Result<BTreeMap<String, usize>, NoMemory> {
+fn last_places(alloc: Global, entries: &[IndexEntry]) -> Result<BTreeMap<String, usize>, NoMemory>
+    ensures { IfOk result (λ places. HasLastPlaces places (map entry_of entries.now)) }
+{
     let mut places = BTreeMap::new(alloc);
     for (place, entry) in entries.iter().enumerate() {
-        if let Some(name) = name_of(entry) {
-            places.insert(String::from_str(alloc, name)?, place)?;
-        }
+        set_place(&mut places, &entry.name, place)?;
     }
     Ok(places)
+}
+
+/// Sets the place of a name, if there is one.
+fn set_place(
+    places: &mut BTreeMap<String, usize>,
+    name: &Option<String>,
+    place: usize,
+) -> Result<(), NoMemory>
+    ensures { OnOk result ((other : String Global) → get string_cmp places.new other
+        ≡ (if is_name (string_bytes other) (text_of name.now) then Some place
+        else get string_cmp places.old other)) }
+{
+    let Some(name) = name else {
+        return Ok(());
+    };
+    places.insert(name.clone()?, place)?;
+    Ok(())
 }
 
 /// Counts the keys that were checked and their bytes on a line on the terminal, if it is shown. Of

@@ -1,10 +1,11 @@
 use Rattle.oci_query_commands.proofs.Verified.{whole_iff}
 use Rattle.oci_query_commands.proofs.query.print_findings.Goals as goal
 
-pub returns : goal.returns
-returns g c = λ has.
+pub returns-clause-outcome : goal.returns-clause-outcome
+returns-clause-outcome g c = λ has.
     let layout = c.args.layout.now in
-    let found = c.in_ok-findings.ensures in
-    let iff = whole_iff (g.D.Dir.device layout.dir) layout.graph layout.opened c.in_ok-findings.findings has c.in_ok-print_findings_of_all.ensures
-    found.absent found.corrupt found.open found.closed in
+    let iff = whole_iff (g.D.Dir.device layout.dir) layout.graph layout.opened c.in_ok-findings.findings has c.in_ok-print_findings_of_all.ensures.readable c.in_ok-findings.ensures in
     (λ good. iff.0 (c.outcome-outcome.ensures.0 good), λ whole. c.outcome-outcome.ensures.1 (iff.1 whole))
+
+pub returns-clause-printed : goal.returns-clause-printed
+returns-clause-printed g c = λ lines. (c.in_ok-findings.findings, c.in_ok-findings.ensures, c.in_ok-print_findings_of_all.ensures.lines lines)

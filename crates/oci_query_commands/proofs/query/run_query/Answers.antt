@@ -1,6 +1,7 @@
 use Rattle.std.proofs.Common.{sym, subst, ◌∙◌}
 use Rattle.oci_query_commands.specs.Answered.{LeavesNothingOut}
 use Rattle.oci_query_commands.specs.Intact.{HasFiles}
+use Rattle.oci_query_commands.specs.Printed.{PrintsAnswer}
 use Rattle.oci_query_commands.specs.Verified.{IsWhole}
 use Rattle.oci_query_commands.proofs.Answered.{IsReadable-opened}
 use Rattle.oci_query_commands.proofs.Verified.{HasFiles-opened, IsVerified-whole}
@@ -29,4 +30,11 @@ returns g c =
       answered = λ asks honest.
           IsReadable-opened (device c.args.dir) layout.graph layout.tags layout.opened honest (opened.opened honest)
           (subst (λ d. LeavesNothingOut (device d) layout.opened) opened.same (answer.answered asks));
+      printed = λ lines honest. record {
+        graph = layout.graph;
+        tags = layout.tags;
+        index = layout.opened;
+        opened = opened.opened honest;
+        answer = subst (λ d. PrintsAnswer (device d) layout.graph layout.tags layout.opened c.args.query.now (g.W.Write.contents c.args.out.now) (g.W.Write.contents c.answer_from.new.out)) opened.same (answer.printed lines);
+      };
     }
