@@ -13,3 +13,6 @@ mod Selections
 mod Settled
 mod Cleaning
 mod PlannedCopies
+mod Items
+mod Printed
+mod Runs

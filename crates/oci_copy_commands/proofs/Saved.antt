@@ -26,10 +26,10 @@ pub after_report : {X E F : Type 0} {P Q : X → Type 0} (copied : Result X E) (
 after_report {P = P} copied (Ok x) gives same holds = gives x (IfOk-at_ok P same holds)
 after_report copied (Err e) gives same holds = same
 
--- a copy that succeeded, with its save, has at most 64 workers
-pub workers_after : {X F : Type 0} (workers : ℕ) (cause : CopyFault → Type 0) (copied : Result X CopyFault) (saved : Result X F) → IsAnswerByWorkers workers cause copied → IfOk saved (λ it. copied ≡ Ok it) → OnOk saved (workers ≤ 64)
-workers_after workers cause copied (Ok x) answers same = subst (IsAnswerByWorkers workers cause) same answers
-workers_after workers cause copied (Err e) answers same = same
+-- a copy that succeeded, with what came after it, has at most 64 workers
+pub workers_after : {X Y F : Type 0} (workers : ℕ) (cause : CopyFault → Type 0) (copied : Result X CopyFault) (done : Result Y F) (report_of : Y → X) → IsAnswerByWorkers workers cause copied → IfOk done (λ it. copied ≡ Ok (report_of it)) → OnOk done (workers ≤ 64)
+workers_after workers cause copied (Ok y) report_of answers same = subst (IsAnswerByWorkers workers cause) same answers
+workers_after workers cause copied (Err e) report_of answers same = same
 
 -- a copy that succeeded has few enough workers for a cause of its own; a refused one has its cause
 pub refused_with : {X : Type 0} (workers : ℕ) (cause : CopyFault → Type 0) → cause fault.Memory → (copied : Result X CopyFault) → IsAnswerByWorkers workers cause copied

@@ -7,5 +7,6 @@ pub mod Refusal
 pub mod Selected
 pub mod PlannedMirror
 pub mod Settled
+pub mod Printed
 pub mod Run
 pub mod Mem

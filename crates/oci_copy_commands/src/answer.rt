@@ -1,3 +1,14 @@
+ghost use Rattle.std.specs.Prelude.{◌≡◌, IfOk};
+ghost use Rattle.oci_store.specs.Tags.{by_bytes};
+ghost use Rattle.oci_copy_commands.specs.Printed.{
+  fault_in,
+  tags_of,
+  IsCleanUpAnswer,
+  IsCopyAnswer,
+  IsPlannedCleanUpAnswer,
+  IsRemovedAnswer,
+};
+
 use crate::clean_up::CleanUp;
 use crate::copy::Copied;
 use crate::planned::PlannedCleanUp;
@@ -37,16 +48,13 @@ impl CopyAnswer {
         alloc: Global,
         selected: Selected,
         done: Copied,
-    ) -> Result<(CopyAnswer, Option<PruneFault>), NoMemory> {
+    ) -> Result<(CopyAnswer, Option<PruneFault>), NoMemory>
+        ensures answer { IfOk result (λ it. IsCopyAnswer selected done it.0) }
+        ensures fault { IfOk result (λ it. it.1 ≡ fault_in done.removed) }
+    {
         let Copied { report, removed } = done;
         let copied = tagged(alloc, selected.into_tags())?;
-        let (removed, fault) = match removed {
-            Some(removed) => {
-                let (removed, fault) = CleanUpAnswer::of(alloc, removed)?;
-                (Some(removed), fault)
-            }
-            None => (None, None),
-        };
+        let (removed, fault) = removed_answer(alloc, removed)?;
         let answer = CopyAnswer {
             copied,
             report,
@@ -56,7 +64,29 @@ impl CopyAnswer {
     }
 }
 
+/// Returns the answer for what was removed, and the fault of the prune, if it has one.
+fn removed_answer(
+    alloc: Global,
+    removed: Option<CleanUp>,
+) -> Result<(Option<CleanUpAnswer>, Option<PruneFault>), NoMemory>
+    ensures answer { IfOk result (λ it. IsRemovedAnswer removed it.0) }
+    ensures fault { IfOk result (λ it. it.1 ≡ fault_in removed) }
+{
+    match removed {
+        Some(removed) => {
+            let (answer, fault) = CleanUpAnswer::of(alloc, removed)?;
+            Ok((Some(answer), fault))
+        }
+        None => Ok((None, None)),
+    }
+}
+
 impl Display for CopyAnswer {
+    ghost use Rattle.std.specs.Prelude.{Some};
+    ghost use Rattle.oci_copy_commands.specs.Printed.{copy_text};
+
+    ghost output = { λ a. Some (copy_text a) };
+
     fn fmt<W: fmt::Write>(&self, f: &mut fmt::Formatter<W>) -> fmt::Result {
         for tagged in &self.copied {
             writeln!(f, "copied {}", tagged.descriptor)?;
@@ -87,10 +117,10 @@ impl CleanUpAnswer {
     /// # Errors
     ///
     /// Returns [`NoMemory`] if an allocation fails.
-    fn of(
-        alloc: Global,
-        removed: CleanUp,
-    ) -> Result<(CleanUpAnswer, Option<PruneFault>), NoMemory> {
+    fn of(alloc: Global, removed: CleanUp) -> Result<(CleanUpAnswer, Option<PruneFault>), NoMemory>
+        ensures answer { IfOk result (λ it. IsCleanUpAnswer removed it.0) }
+        ensures fault { IfOk result (λ it. it.1 ≡ removed.pruned.fault) }
+    {
         let CleanUp {
             untagged,
             plan,
@@ -108,10 +138,9 @@ impl CleanUpAnswer {
     /// # Errors
     ///
     /// Returns [`NoMemory`] if an allocation fails.
-    pub(crate) fn planned(
-        alloc: Global,
-        planned: PlannedCleanUp,
-    ) -> Result<CleanUpAnswer, NoMemory> {
+    pub(crate) fn planned(alloc: Global, planned: PlannedCleanUp) -> Result<CleanUpAnswer, NoMemory>
+        ensures { IfOk result (IsPlannedCleanUpAnswer planned) }
+    {
         let PlannedCleanUp { untagged, plan } = planned;
         Ok(CleanUpAnswer {
             untagged: tagged(alloc, untagged)?,
@@ -121,6 +150,11 @@ impl CleanUpAnswer {
 }
 
 impl Display for CleanUpAnswer {
+    ghost use Rattle.std.specs.Prelude.{Some};
+    ghost use Rattle.oci_copy_commands.specs.Printed.{clean_up_text};
+
+    ghost output = { λ a. Some (clean_up_text a) };
+
     fn fmt<W: fmt::Write>(&self, f: &mut fmt::Formatter<W>) -> fmt::Result {
         for Tagged { tag, descriptor } in &self.untagged {
             writeln!(f, "untagged {tag} {descriptor}")?;
@@ -130,7 +164,9 @@ impl Display for CleanUpAnswer {
 }
 
 /// These tags, each with the key that it names.
-fn tagged(alloc: Global, tags: Vec<(String, Key)>) -> Result<Vec<Tagged>, NoMemory> {
+fn tagged(alloc: Global, tags: Vec<(String, Key)>) -> Result<Vec<Tagged>, NoMemory>
+    ensures { IfOk result (λ tagged. tags_of tagged.items ≡ by_bytes tags.items) }
+{
     let mut tagged = Vec::new(alloc);
     for (tag, descriptor) in tags {
         tagged.push(Tagged { tag, descriptor })?;

@@ -1,8 +1,22 @@
-ghost use Rattle.std.specs.Prelude.{◌≡◌, true, IfOk, OnOk};
-ghost use Rattle.oci_copy_commands.specs.Goal.{patterns_of};
+ghost use Rattle.std.specs.Prelude.{◌≡◌, true, false, None, IfOk, OnOk};
+ghost use Rattle.std.specs.Io.KnownBytes.{Appends};
 ghost use Rattle.oci_copy_commands.specs.Mirror.{is_exact, HasGoal, IsWholeSource};
 ghost use Rattle.oci_copy_commands.specs.Pattern.{texts_of};
-ghost use Rattle.oci_copy_commands.specs.Run.{existing_of, options_of};
+ghost use Rattle.oci_copy.specs.Planned.{IsPlanOf};
+ghost use Rattle.oci_copy_commands.specs.Goal.{patterns_of, Fits};
+ghost use Rattle.oci_copy_commands.specs.Printed.{copy_text, plan_text};
+ghost use Rattle.oci_copy_commands.specs.Run.{
+  existing_of,
+  options_of,
+  IsAnsweredDryRun,
+  IsAnsweredRun,
+  IsCopyMade,
+  IsMadeBy,
+  IsMadeIn,
+  IsMirrorMade,
+};
+ghost use Rattle.oci_copy_commands.specs.declared.answer.CopyAnswer.{CopyAnswer as Answer};
+ghost use Rattle.oci_copy_commands.specs.declared.dry_run.PlanAnswer.{PlanAnswer};
 
 use crate::Host;
 use crate::answer::CopyAnswer;
@@ -17,10 +31,11 @@ use crate::selected::Selected;
 use crate::whole::check_source;
 use oci_command_line::{CopyWords, Selection};
 use oci_copy::{Options, Report, plan_copy};
-use oci_layout::{Dir, FolderLock, Layout, PrunableDir};
-use oci_plan::Existing;
+use oci_layout::{Dir, FolderLock, Layout, MemDir, PrunableDir};
+use oci_plan::{Existing, Plan};
 use oci_program::{Form, Outcome, ProgramFault, make_and_lock_folder, print_answer_with_fault};
 use oci_prune::PruneFault;
+use oci_store::Store;
 use std::alloc::Global;
 use std::io::Write;
 
@@ -96,6 +111,17 @@ pub fn run_copy<
 where
     S::Draft: Send,
     D::Draft: Send,
+    // Without `--dry-run` the copy was made that the words ask for. As lines, the text of its answer
+    // was printed.
+    ensures copied { words.now.is_dry ≡ false → OnOk result ((answer : Answer) × IsAnsweredRun
+        S.device D.device words.now source destination answer × (form ≡ Form.Lines
+        → Appends (W.contents out.old) (W.contents out.new) (copy_text answer))) }
+
+    // With it that copy was planned. As lines, the text of the plan's answer was printed.
+    ensures planned { words.now.is_dry ≡ true → OnOk result ((answer : PlanAnswer)
+        × IsAnsweredDryRun S.device D.device ⟦<MemDir as Dir>⟧.device words.now source
+        destination answer × (form ≡ Form.Lines → Appends (W.contents out.old) (W.contents out.new)
+        (plan_text answer))) }
 {
     if words.is_dry {
         return Ok(show_plan(rt.alloc(), source, destination, words, form, out)?);
@@ -125,6 +151,8 @@ fn copy_layout<R: Host, S: Dir + Drop + Sync, D: PrunableDir + Drop + Send, X: W
 where
     S::Draft: Send,
     D::Draft: Send,
+    ensures { IfOk result (λ it. it.1 ≡ None → IsAnsweredRun S.device D.device words.now source
+        destination it.0) }
 {
     let source = Layout::open_as_is(rt.alloc(), source)?;
     let selected = Selected::of(rt.alloc(), &source, words)?;
@@ -170,6 +198,8 @@ where
     S::Draft: Send,
     D::Draft: Send,
     requires whole { words.now.prunes ≡ true → IsWholeSource (is_exact words.now) source.now }
+    ensures { IfOk result (IsMadeIn S.device D.device words.now source.now selected.now
+        destination) }
 {
     let lock = make_and_lock_folder(
         rt,
@@ -197,45 +227,102 @@ where
     S::Draft: Send,
     D::Draft: Send,
     requires whole { words.now.prunes ≡ true → IsWholeSource (is_exact words.now) source.now }
+    ensures { IfOk result (IsMadeBy S.device D.device words.now source.now selected.now
+        destination) }
 {
     let options = options_of(words);
     let goal = goal_of(rt.alloc(), &mut destination, selected, words)?;
     let plan = plan_copy(rt.alloc(), source, &destination, selected.roots(), &options)?;
     remove_leftovers(rt, lock)?;
     let progress = Progress::new(rt, err, words.shown, &plan);
-    let copied = match &goal {
-        Some(goal) => {
-            let (_mirrored, copied) = mirror(
-                rt,
-                source,
-                destination,
-                &plan,
-                selected,
-                goal,
-                is_exact(words),
-                &options,
-                &progress,
-            );
-            copied
-        }
-        None => {
-            let (_saved, copied) = copy_between(
-                rt,
-                source,
-                destination,
-                &plan,
-                selected,
-                &options,
-                &progress,
-            );
-            copied.map(|report| Copied {
-                report,
-                removed: None,
-            })
-        }
-    };
+    match &goal {
+        Some(goal) => mirror_and_end(
+            rt,
+            source,
+            destination,
+            &plan,
+            selected,
+            goal,
+            is_exact(words),
+            &options,
+            &progress,
+        ),
+        None => copy_and_end(
+            rt,
+            source,
+            destination,
+            &plan,
+            selected,
+            &options,
+            &progress,
+        ),
+    }
+}
+
+/// Makes a planned mirror, and then ends its progress line.
+fn mirror_and_end<R: Host, S: Dir + Sync, D: PrunableDir + Drop + Send, X: Write + Send>(
+    rt: &R,
+    source: &Layout<S>,
+    destination: Layout<D>,
+    plan: &Plan,
+    selected: &Selected,
+    goal: &Goal,
+    is_exact: bool,
+    options: &Options,
+    progress: &Progress<'_, R, X>,
+) -> Result<Copied, ProgramFault>
+where
+    S::Draft: Send,
+    D::Draft: Send,
+    requires planned { IsPlanOf (⟦<Layout<S> as Store>⟧.state source.now) options.now
+        (⟦<Layout<D> as Store>⟧.state destination) selected.now.0 plan.now }
+    requires whole { IsWholeSource is_exact source.now }
+    requires fits { Fits destination selected.now.0 goal.now.0 }
+    ensures { IfOk result (IsMirrorMade S.device D.device options.now is_exact source.now
+        selected.now goal.now destination) }
+{
+    let (_left, mirrored) = mirror(
+        rt,
+        source,
+        destination,
+        plan,
+        selected,
+        goal,
+        is_exact,
+        options,
+        progress,
+    );
     progress.end();
-    copied
+    mirrored
+}
+
+/// Makes a planned copy, and then ends its progress line.
+fn copy_and_end<R: Host, S: Dir + Sync, D: PrunableDir + Drop + Send, X: Write + Send>(
+    rt: &R,
+    source: &Layout<S>,
+    destination: Layout<D>,
+    plan: &Plan,
+    selected: &Selected,
+    options: &Options,
+    progress: &Progress<'_, R, X>,
+) -> Result<Copied, ProgramFault>
+where
+    S::Draft: Send,
+    D::Draft: Send,
+    requires { IsPlanOf (⟦<Layout<S> as Store>⟧.state source.now) options.now
+        (⟦<Layout<D> as Store>⟧.state destination) selected.now.0 plan.now }
+    ensures { IfOk result (IsCopyMade S.device D.device options.now source.now selected.now
+        destination) }
+{
+    let (_left, copied) = copy_between(rt, source, destination, plan, selected, options, progress);
+    progress.end();
+    match copied {
+        Ok(report) => Ok(Copied {
+            report,
+            removed: None,
+        }),
+        Err(fault) => Err(fault),
+    }
 }
 
 /// Prepares the destination of a copy for a mirror, and returns the goal of that, if the copy prunes.
@@ -245,8 +332,9 @@ pub(crate) fn goal_of<D: PrunableDir>(
     selected: &Selected,
     words: &CopyWords<'_>,
 ) -> Result<Option<Goal>, ProgramFault>
-    ensures { IfOk result (HasGoal D.device words.now (selected.now.0, selected.now.1)
+    ensures goal { IfOk result (HasGoal D.device words.now (selected.now.0, selected.now.1)
         destination.old destination.new) }
+    ensures same { words.now.prunes ≡ false → destination.new ≡ destination.old }
 {
     if !words.prunes {
         return Ok(None);

@@ -1,5 +1,36 @@
-ghost use Rattle.std.specs.Prelude.{◌≡◌, true};
+ghost use Rattle.std.specs.Prelude.{
+  ◌≡◌,
+  ◌⊎◌,
+  ◌^◌,
+  ◌-◌,
+  [],
+  true,
+  length,
+  min,
+  Some,
+  IfOk,
+  OnOk,
+};
+ghost use Rattle.std.specs.Fmt.{DisplaysOnOk};
+ghost use Rattle.std.specs.Io.KnownBytes.{Appends};
+ghost use Rattle.oci_plan.specs.Plan.{keys_before};
+ghost use Rattle.oci_layout.specs.Refusal.{IsOpenAsIsFault};
 ghost use Rattle.oci_copy_commands.specs.Mirror.{is_exact, IsWholeSource};
+ghost use Rattle.oci_copy_commands.specs.Printed.{
+  keys_in,
+  plan_counts,
+  plan_text,
+  sum_of_sizes,
+  IsPlanAnswer,
+  IsPlannedRemovedAnswer,
+};
+ghost use Rattle.oci_copy_commands.specs.Run.{
+  IsAnsweredDryRun,
+  IsPlannedBy,
+  IsPlannedIn,
+  IsPlannedWithout,
+};
+ghost use Rattle.oci_copy_commands.specs.declared.dry_run.PlanAnswer.{PlanAnswer as Answer};
 
 use crate::answer::CleanUpAnswer;
 use crate::copy::{check_source_if, goal_of, is_exact, options_of};
@@ -60,7 +91,11 @@ pub(crate) fn show_plan<S: Dir + Drop, D: PrunableDir + Drop, W: Write>(
     words: &CopyWords<'_>,
     form: Form,
     out: &mut W,
-) -> Result<Outcome, ProgramFault> {
+) -> Result<Outcome, ProgramFault>
+    ensures { OnOk result ((answer : Answer) × IsAnsweredDryRun S.device D.device
+        ⟦<MemDir as Dir>⟧.device words.now source destination answer × (form ≡ Form.Lines
+        → Appends (W.contents out.old) (W.contents out.new) (plan_text answer))) }
+{
     let source = Layout::open_as_is(alloc, source)?;
     let selected = Selected::of(alloc, &source, words)?;
     check_source_if(words.prunes, is_exact(words), &source)?;
@@ -78,16 +113,35 @@ fn plan_into_folder<S: Dir, D: PrunableDir + Drop>(
     words: &CopyWords<'_>,
 ) -> Result<(Plan, Option<PlannedCleanUp>), ProgramFault>
     requires whole { words.now.prunes ≡ true → IsWholeSource (is_exact words.now) source.now }
+    ensures { IfOk result (λ planned. IsPlannedIn S.device D.device words.now source.now
+        selected.now destination planned ⊎ IsPlannedWithout S.device D.device
+        ⟦<MemDir as Dir>⟧.device words.now source.now selected.now destination planned) }
 {
     match Layout::open_as_is(alloc, destination) {
         Ok(destination) => plan_into(alloc, source, destination, selected, words),
         Err((dir, LayoutFault::NoLayoutFile)) => {
-            check_is_free(&dir, words.prunes)?;
-            let empty = empty_layout(alloc)?;
-            plan_into(alloc, source, empty, selected, words)
+            plan_without(alloc, source, dir, selected, words)
         }
         Err((_dir, fault)) => Err(ProgramFault::Destination(fault)),
     }
+}
+
+/// Plans a copy into a directory that has no layout, as into an empty one.
+fn plan_without<S: Dir, D: PrunableDir + Drop>(
+    alloc: Global,
+    source: &Layout<S>,
+    destination: D,
+    selected: &Selected,
+    words: &CopyWords<'_>,
+) -> Result<(Plan, Option<PlannedCleanUp>), ProgramFault>
+    requires whole { words.now.prunes ≡ true → IsWholeSource (is_exact words.now) source.now }
+    requires absent { IsOpenAsIsFault (D.device destination) LayoutFault.NoLayoutFile }
+    ensures { IfOk result (IsPlannedWithout S.device D.device ⟦<MemDir as Dir>⟧.device words.now
+        source.now selected.now destination) }
+{
+    check_is_free(&destination, words.prunes)?;
+    let empty = empty_layout(alloc)?;
+    plan_into(alloc, source, empty, selected, words)
 }
 
 /// Refuses a directory in which no layout could be created, or if the copy prunes, one with a link to
@@ -105,7 +159,10 @@ fn check_is_free<D: PrunableDir>(dir: &D, prunes: bool) -> Result<(), ProgramFau
 }
 
 /// Creates an empty layout in memory, which counts for a destination that is not a layout yet.
-fn empty_layout(alloc: Global) -> Result<Layout<MemDir>, ProgramFault> {
+fn empty_layout(alloc: Global) -> Result<Layout<MemDir>, ProgramFault>
+    ensures graph { IfOk result (λ layout. layout.graph ≡ []) }
+    ensures tags { IfOk result (λ layout. layout.tags ≡ []) }
+{
     match Layout::create(alloc, MemDir::new(alloc)) {
         Ok(layout) => Ok(layout),
         Err((_dir, fault)) => Err(ProgramFault::Destination(fault)),
@@ -121,23 +178,30 @@ fn plan_into<S: Dir, D: PrunableDir + Drop>(
     words: &CopyWords<'_>,
 ) -> Result<(Plan, Option<PlannedCleanUp>), ProgramFault>
     requires whole { words.now.prunes ≡ true → IsWholeSource (is_exact words.now) source.now }
+    ensures { IfOk result (IsPlannedBy S.device D.device words.now source.now selected.now
+        destination) }
 {
     let options = options_of(words);
-    let Some(goal) = goal_of(alloc, &mut destination, selected, words)? else {
-        let plan = plan_copy(alloc, source, &destination, selected.roots(), &options)?;
-        return Ok((plan, None));
-    };
-    let exact = is_exact(words);
-    let (plan, clean_up) = plan_mirror(
-        alloc,
-        source,
-        &destination,
-        selected,
-        &goal,
-        exact,
-        &options,
-    )?;
-    Ok((plan, Some(clean_up)))
+    let goal = goal_of(alloc, &mut destination, selected, words)?;
+    match &goal {
+        Some(goal) => {
+            let exact = is_exact(words);
+            let (plan, clean_up) = plan_mirror(
+                alloc,
+                source,
+                &destination,
+                selected,
+                goal,
+                exact,
+                &options,
+            )?;
+            Ok((plan, Some(clean_up)))
+        }
+        None => {
+            let plan = plan_copy(alloc, source, &destination, selected.roots(), &options)?;
+            Ok((plan, None))
+        }
+    }
 }
 
 /// What a copy would push, and with `--prune` what it would remove.
@@ -160,34 +224,71 @@ struct PlanAnswer<'p> {
 }
 
 impl<'p> PlanAnswer<'p> {
+    /// Returns what a plan would push, and what would be removed.
+    ///
+    /// # Errors
+    ///
+    /// Returns [`NoMemory`] if an allocation fails.
     fn of(
         alloc: Global,
         plan: &'p Plan,
         clean_up: Option<PlannedCleanUp>,
-    ) -> Result<PlanAnswer<'p>, NoMemory> {
-        let mut blobs: Vec<&'p Key> = Vec::new(alloc);
-        let mut bytes = 0u128;
-        for place in 0..plan.len() {
-            if let Some(key) = plan.key_in_order(place) {
-                blobs.push(key)?;
-                bytes = bytes.saturating_add(u128::from(key.size()));
-            }
-        }
+    ) -> Result<PlanAnswer<'p>, NoMemory>
+        ensures { IfOk result (IsPlanAnswer plan.now clean_up) }
+    {
+        let blobs = keys_in_order(alloc, plan)?;
+        let bytes = sum_of_sizes(&blobs);
         Ok(PlanAnswer {
             blobs,
             planned: plan.len(),
-            bytes: Sum(bytes),
+            bytes,
             skipped: plan.skipped().len(),
             prune: answer_of(alloc, clean_up)?,
         })
     }
+
+    /// Prints the line of the counts.
+    fn fmt_counts<W: fmt::Write>(&self, f: &mut fmt::Formatter<W>) -> fmt::Result
+        ensures { DisplaysOnOk W.write_str_gives f.old result (Some (plan_counts self.now)) f.new }
+    {
+        let (planned, bytes, skipped) = (self.planned, self.bytes, self.skipped);
+        writeln!(f, "planned {planned} bytes {bytes} skipped {skipped}")
+    }
+}
+
+/// Returns the keys of a plan in its order.
+fn keys_in_order(alloc: Global, plan: &Plan) -> Result<Vec<&Key>, NoMemory>
+    ensures { IfOk result (λ keys. keys_in keys.items
+        ≡ keys_before (length plan.now.keys) plan.now) }
+{
+    let mut keys: Vec<&Key> = Vec::new(alloc);
+    for place in 0..plan.len() {
+        let Some(key) = plan.key_in_order(place) else {
+            unreachable!()
+        };
+        keys.push(key)?;
+    }
+    Ok(keys)
+}
+
+/// Returns the sum of the sizes of keys, or the greatest number if the sum is greater.
+fn sum_of_sizes(keys: &[&Key]) -> Sum
+    ensures { result.0 ≡ min (sum_of_sizes keys.now) (2 ^ 128 - 1) }
+{
+    let mut bytes = 0u128;
+    for key in keys {
+        bytes = bytes.saturating_add(u128::from(key.size()));
+    }
+    Sum(bytes)
 }
 
 /// Returns the answer of what would be removed.
 fn answer_of(
     alloc: Global,
     clean_up: Option<PlannedCleanUp>,
-) -> Result<Option<CleanUpAnswer>, NoMemory> {
+) -> Result<Option<CleanUpAnswer>, NoMemory>
+    ensures { IfOk result (IsPlannedRemovedAnswer clean_up) }
+{
     match clean_up {
         Some(clean_up) => Ok(Some(CleanUpAnswer::planned(alloc, clean_up)?)),
         None => Ok(None),
@@ -195,12 +296,16 @@ fn answer_of(
 }
 
 impl<'p> Display for PlanAnswer<'p> {
+    ghost use Rattle.std.specs.Prelude.{Some};
+    ghost use Rattle.oci_copy_commands.specs.Printed.{plan_text};
+
+    ghost output = { λ a. Some (plan_text a) };
+
     fn fmt<W: fmt::Write>(&self, f: &mut fmt::Formatter<W>) -> fmt::Result {
         for key in &self.blobs {
             writeln!(f, "{key}")?;
         }
-        let (planned, bytes, skipped) = (self.planned, self.bytes, self.skipped);
-        writeln!(f, "planned {planned} bytes {bytes} skipped {skipped}")?;
+        self.fmt_counts(f)?;
         match &self.prune {
             Some(prune) => write!(f, "{prune}"),
             None => Ok(()),

@@ -1,8 +1,12 @@
-ghost use Rattle.std.specs.Prelude.{◌≤◌, IfOk, IfSome, OnOk};
+ghost use Rattle.std.specs.Prelude.{◌≡◌, ◌≤◌, List, IfOk, IfSome, OnOk};
+ghost use Rattle.std.specs.Borrow.{Bor};
+ghost use Rattle.std.specs.Io.KnownBytes.{Appends};
+ghost use Rattle.oci_manifest.specs.Descriptor.{Descriptor};
 ghost use Rattle.oci_plan.specs.declared.gathering.Existing.TheVariants.{Skip};
 ghost use Rattle.oci_store.specs.Contents.{no_contents};
 ghost use Rattle.oci_copy.specs.Memory.{IsMemoryCopy};
-ghost use Rattle.oci_copy_commands.specs.Mem.{algorithm_of, PushesItem};
+ghost use Rattle.oci_copy.specs.declared.report.Report.{Report};
+ghost use Rattle.oci_copy_commands.specs.Mem.{algorithm_of, mem_text, AreItems, AreSortedKeys, IsMemRun, PushesItem};
 
 use crate::item::Item;
 use oci_command_line::{Algorithm, MemWords};
@@ -45,9 +49,12 @@ pub fn run_mem<R: Files + AllocGlobal + Threads + Wait + Sync, W: Write>(
     first: &FirstFailure,
     form: Form,
     out: &mut W,
-) -> Result<Outcome, ProgramFault> {
-    let mut source = MemoryStore::new(rt.alloc());
-    let roots = push_items(rt, &mut source, words, first)?;
+) -> Result<Outcome, ProgramFault>
+    ensures { OnOk result ((blobs : List (Bor Descriptor)) × (report : Report)
+        × IsMemRun words.now blobs report × (form ≡ Form.Lines → Appends (W.contents out.old)
+        (W.contents out.new) (mem_text blobs report))) }
+{
+    let (source, roots) = push_items(rt, words, first)?;
     let (copied, report) = copy_roots(rt, &source, &roots, words.workers);
     let answer = MemAnswer {
         report: report?,
@@ -81,20 +88,24 @@ impl<'m> Display for MemAnswer<'m> {
     }
 }
 
-/// Pushes the files of the items, in their order, and returns the key of the last one.
+/// Pushes the files of the items into an empty store, in their order, and returns it with the key of
+/// the last one.
 fn push_items<R: Files + AllocGlobal>(
     rt: &R,
-    store: &mut MemoryStore,
     words: &MemWords<'_>,
     first: &FirstFailure,
-) -> Result<Vec<Key>, ProgramFault> {
+) -> Result<(MemoryStore, Vec<Key>), ProgramFault>
+    ensures { IfOk result (λ it. AreItems (algorithm_of words.now.algorithm)
+        words.now.items.items it.0 it.1.items) }
+{
+    let mut store = MemoryStore::new(rt.alloc());
     let mut last = Vec::new(rt.alloc());
     for item in &words.items {
-        let key = push_item(rt, store, item, words.algorithm, first)?;
+        let key = push_item(rt, &mut store, item, words.algorithm, first)?;
         last.clear();
         last.push(key)?;
     }
-    Ok(last)
+    Ok((store, last))
 }
 
 /// Pushes the file of an item, and returns its key.
@@ -136,12 +147,15 @@ fn copy_roots<R: AllocGlobal + Threads + Wait + Sync>(
 }
 
 /// The keys of a store, in key order.
-fn sorted_keys(alloc: Global, store: &MemoryStore) -> Result<Vec<&Key>, ProgramFault> {
+fn sorted_keys(alloc: Global, store: &MemoryStore) -> Result<Vec<&Key>, ProgramFault>
+    ensures { IfOk result (λ keys. AreSortedKeys store.now.entries keys.items) }
+{
     let mut keys: Vec<&Key> = Vec::new(alloc);
     for place in 0..store.len() {
-        if let Some((key, _)) = store.entry(place) {
-            keys.push(key)?;
-        }
+        let Some((key, _)) = store.entry(place) else {
+            unreachable!();
+        };
+        keys.push(key)?;
     }
     keys.sort()?;
     Ok(keys)

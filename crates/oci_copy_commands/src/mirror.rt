@@ -1,4 +1,4 @@
-ghost use Rattle.std.specs.Prelude.{◌≡◌, ◌≢◌, ◌⊎◌, List, [], true, Ok, Err, Some, map, Contains, IsOk, IfOk, IfErr, OnOk, OnErr};
+ghost use Rattle.std.specs.Prelude.{◌≡◌, ◌≢◌, ◌≤◌, ◌⊎◌, List, [], true, Ok, Err, Some, None, map, Contains, IsOk, IfOk, IfErr, OnOk, OnErr};
 ghost use Rattle.std.specs.List.{All};
 ghost use Rattle.std.specs.Map.{values_of};
 ghost use Rattle.oci_store.specs.Closed.{IsClosed};
@@ -68,6 +68,8 @@ pub(crate) fn prepare_destination<D: PrunableDir>(
     ensures absent { OnOk result (destination.new.opened.absent ≡ []) }
     ensures damaged { OnOk result (destination.new.tags ≢ []
         → HasAll destination.new.graph (manifests_of destination.new.opened.damaged)) }
+    ensures unlinked { OnOk result ((D.device destination.new.dir).is_honest
+        → (D.device destination.new.dir).link ≡ None) }
     ensures only { OnlyIndex destination.old destination.new }
 {
     let kept = kept_tags(alloc, destination, selected, patterns, is_exact)?;
@@ -103,6 +105,8 @@ fn check_destination<D: PrunableDir>(
         → HasAll destination.now.graph (manifests_of destination.now.opened.damaged)) }
     ensures known { OnOk result (destination.now.tags ≢ []
         → IsKnown D.device is_exact destination.now keys.now) }
+    ensures unlinked { OnOk result ((D.device destination.now.dir).is_honest
+        → (D.device destination.now.dir).link ≡ None) }
 {
     if let Some(key) = destination.absent().first() {
         return Err(ProgramFault::Prune(PruneFault::Unknown(key.try_clone()?)));
@@ -117,7 +121,10 @@ fn check_destination<D: PrunableDir>(
 }
 
 /// Refuses a layout with a link to a folder of blobs.
-fn check_unlinked<D: PrunableDir>(layout: &Layout<D>) -> Result<(), ProgramFault> {
+fn check_unlinked<D: PrunableDir>(layout: &Layout<D>) -> Result<(), ProgramFault>
+    ensures { OnOk result ((D.device layout.now.dir).is_honest
+        → (D.device layout.now.dir).link ≡ None) }
+{
     match layout.linked() {
         Ok(None) => Ok(()),
         Ok(Some(folder)) => Err(ProgramFault::Prune(PruneFault::LinkedBlobs(folder))),
@@ -185,6 +192,8 @@ where
         (⟦<Layout<D> as Store>⟧.state destination) selected.now.0 plan.now }
     requires whole { IsWholeSource is_exact source.now }
     requires fits { Fits destination selected.now.0 goal.now.0 }
+
+    ensures workers { OnOk result.1 (options.now.workers ≤ 64) }
 
     // After a mirror the destination has exactly the tags of the goal, and what they need.
     ensures tags { OnOk result.1 (result.0.tags ≡ set_tags [] goal.now.1) }

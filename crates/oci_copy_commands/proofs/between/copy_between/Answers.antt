@@ -24,7 +24,7 @@ returns-clause-report g c =
 pub returns-clause-workers : goal.returns-clause-workers
 returns-clause-workers g c =
     let left = c.copy_plan-destination in
-    workers_after c.args.options.now.workers _ left.result.1 c.finish.result.1 left.ensures.refused c.finish.ensures.report
+    workers_after c.args.options.now.workers _ left.result.1 c.finish.result.1 (λ (r : Report). r) left.ensures.refused c.finish.ensures.report
 
 pub returns-clause-copied : goal.returns-clause-copied
 returns-clause-copied g c =

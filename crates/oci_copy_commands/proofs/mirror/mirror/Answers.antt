@@ -14,8 +14,14 @@ use Rattle.oci_copy.proofs.Roots.{on_ok_from}
 use Rattle.oci_copy_commands.proofs.Goals.{goal_held, some_stay}
 use Rattle.oci_copy_commands.proofs.Mirrored.{both_give, contents_after, err_gives, held_stay, mirrored, reached_kept, report_gives}
 use Rattle.oci_copy_commands.proofs.Refusals.{after_refused, mirror_refused}
+use Rattle.oci_copy_commands.proofs.Saved.{workers_after}
 use Rattle.oci_copy_commands.proofs.Cleaning.{lasts_mirrored, left_mirrored}
 use Rattle.oci_copy_commands.proofs.mirror.mirror.Goals as goal
+
+pub returns-clause-workers : goal.returns-clause-workers
+returns-clause-workers g c =
+    let left = c.copy_plan-destination in
+    workers_after c.args.options.now.workers _ left.result.1 c.finish.result.1 (λ (done : Copied). done.report) left.ensures.refused c.finish.ensures.report
 
 pub returns-clause-brought : goal.returns-clause-brought
 returns-clause-brought g c = rw c.take_index-index.ensures.taken at c.finish.ensures.brought

@@ -1,0 +1,9 @@
+use Rattle.std.proofs.Common.{take}
+use Rattle.std.specs.Fmt.{HasWritten, IsPlainFormatter}
+use Rattle.std.specs.List.{flat_map}
+use Rattle.oci_copy_commands.specs.Printed.{planned_line}
+use Rattle.oci_copy_commands.proofs.dry_run.PlanAnswerDisplay.fmt.Given as goal
+
+-- the lines of the keys so far
+abbrev pub invariant-loop-key : goal.invariant-loop-key
+invariant-loop-key g l = IsPlainFormatter l.fn.f → HasWritten g.W.Write.write_str_gives l.fn.f (flat_map planned_line (take l.key-index l.self.blobs.items)) l.f
