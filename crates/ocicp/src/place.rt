@@ -1,3 +1,6 @@
+ghost use Rattle.std.specs.Prelude.{◌≡◌, IfOk};
+ghost use Rattle.ocicp.specs.Run.{IsPlaceAt};
+
 use crate::sides::Failures;
 use oci_archive::{ReadAt, TarDir};
 use oci_command_line::CopyWords;
@@ -28,7 +31,9 @@ impl<'r, R: Files<File: ReadAt> + AllocGlobal> Place<'r, R> {
         rt: &'r R,
         path: &str,
         first: &'r FirstFailure,
-    ) -> Result<Place<'r, R>, ProgramFault> {
+    ) -> Result<Place<'r, R>, ProgramFault>
+        ensures { IfOk result (IsPlaceAt path.now) }
+    {
         if !is_file(rt, path) {
             return Ok(Place::Folder(FsDir::noting(rt, path, first)?));
         }
@@ -55,7 +60,10 @@ pub(crate) fn open_copy<'r, R: Files<File: ReadAt> + AllocGlobal>(
     rt: &'r R,
     words: &CopyWords<'_>,
     failures: &'r Failures,
-) -> Result<(Place<'r, R>, FsDir<'r, R>), ProgramFault> {
+) -> Result<(Place<'r, R>, FsDir<'r, R>), ProgramFault>
+    ensures source { IfOk result (λ places. IsPlaceAt words.now.source.now places.0) }
+    ensures destination { IfOk result (λ places. places.1 ≡ (words.now.destination.now, 0)) }
+{
     let path = words.destination;
     if names_archive(path) && !fs::exists(rt, path).unwrap_or(false) {
         let path = String::from_str(rt.alloc(), path)?;
@@ -78,13 +86,19 @@ pub(crate) fn open_folder<'r, R: Files + AllocGlobal>(
     path: &str,
     first: &'r FirstFailure,
     syncs: bool,
-) -> Result<FsDir<'r, R>, ProgramFault> {
+) -> Result<FsDir<'r, R>, ProgramFault>
+    ensures { IfOk result (λ dir. dir ≡ (path.now, 0)) }
+{
     if is_file(rt, path) {
         let path = String::from_str(rt.alloc(), path)?;
         return Err(ProgramFault::NotWritable(path));
     }
     let folder = FsDir::noting(rt, path, first)?;
-    Ok(if syncs { folder } else { folder.unsynced() })
+    if syncs {
+        Ok(folder)
+    } else {
+        Ok(folder.unsynced())
+    }
 }
 
 /// Returns whether a path is named like an archive, or has a prefix by which other tools tell

@@ -1,10 +1,25 @@
-ghost use Rattle.std.specs.Prelude.{◌≤◌};
+ghost use Rattle.std.specs.Prelude.{◌≡◌, ◌≤◌, ℕ, List, Option, IfOk, OnOk};
+ghost use Rattle.std.specs.Io.KnownBytes.{Appends};
+ghost use Rattle.ocicp.specs.Run.{
+  form_of,
+  status_of_unparsed,
+  IsCommandStatus,
+  IsCopyDone,
+  IsDone,
+  IsPruneDone,
+  IsQueryDone,
+  IsUntagDone,
+};
 
 use crate::meaning::print_meaning;
 use crate::place::{Place, open_copy, open_folder};
 use crate::sides::{Failures, sides_of};
-use oci_command_line::{CommandLine, CommandLineFault, Request};
+use oci_archive::TarDir;
+use oci_command_line::{
+    CommandLine, CommandLineFault, CopyWords, PruneWords, Query, Request, UntagWords,
+};
 use oci_copy_commands::{Host, run_copy, run_mem};
+use oci_layout::{Dir, FirstFailure, MemDir};
 use oci_pool::MAX_WORKERS;
 use oci_program::{Ending, Form, Outcome, ProgramFault, end_early, finish_run, print_answer};
 use oci_prune_commands::{run_prune, run_untag};
@@ -71,6 +86,26 @@ fn run_noting<'w, R: Host, W: Write, X: Write + Send>(
         Ok(line) => line,
         Err(fault) => return end_unparsed(rt.alloc(), words, fault, err),
     };
+    run_line(rt, &line, failures, out, err)
+}
+
+/// Runs the command of a valid command line, and ends the run. What fails in its folders is noted
+/// in `failures`.
+fn run_line<'w, R: Host, W: Write, X: Write + Send>(
+    rt: &R,
+    line: &CommandLine<'w>,
+    failures: &'w Failures,
+    out: &mut W,
+    err: &mut X,
+) -> u8
+    ensures status { IsCommandStatus result }
+
+    // With status 0 the command of the line was done, and its answer was appended to `out`, before
+    // that was flushed.
+    ensures done { result ≡ 0 → (flushed : Option (List ℕ))
+        × IsDone ⟦<TarDir<R::File> as Dir>⟧.device ⟦<MemDir as Dir>⟧.device line.now.request
+        (form_of line.now.as_json) (W.contents out.old) flushed Outcome.Good }
+{
     let form = form_of(line.as_json);
     let done = run_request(rt, &line.request, failures, form, out, err);
     let sides = sides_of(rt, &line.request, failures);
@@ -84,7 +119,9 @@ fn run_noting<'w, R: Host, W: Write, X: Write + Send>(
 }
 
 /// The form in which a run prints its result and its refusal.
-pub(crate) fn form_of(as_json: bool) -> Form {
+pub(crate) fn form_of(as_json: bool) -> Form
+    ensures { result ≡ form_of as_json }
+{
     if as_json { Form::Json } else { Form::Lines }
 }
 
@@ -96,34 +133,97 @@ fn run_request<R: Host, W: Write, X: Write + Send>(
     form: Form,
     out: &mut W,
     err: &mut X,
-) -> Result<Outcome, ProgramFault> {
+) -> Result<Outcome, ProgramFault>
+    // The command is the one of the request, with its words, and prints its answer.
+    ensures { IfOk result (IsDone ⟦<TarDir<R::File> as Dir>⟧.device ⟦<MemDir as Dir>⟧.device
+        request.now form (W.contents out.old) (W.contents out.new)) }
+{
     match request {
-        // The text of `--help` or `--version` has its last line feed.
-        Request::Text(text) => {
-            write!(out, "{text}").map_err(ProgramFault::of_output)?;
-            Ok(Outcome::Good)
-        }
+        Request::Text(text) => print_text(text, out),
         Request::Explain(explanation) => print_answer(rt.alloc(), explanation, form, out),
         Request::Mem(words) => run_mem(rt, words, &failures.read, form, out),
-        Request::Copy(words) => {
-            let (source, destination) = open_copy(rt, words, failures)?;
-            match source {
-                Place::Folder(source) => run_copy(rt, source, destination, words, form, out, err),
-                Place::Archive(source) => run_copy(rt, source, destination, words, form, out, err),
-            }
-        }
-        Request::Untag(words) => {
-            let dir = open_folder(rt, words.folder, &failures.written, words.syncs)?;
-            run_untag(rt, dir, words, form, out, err)
-        }
-        Request::Prune(words) => {
-            let dir = open_folder(rt, words.folder, &failures.written, words.syncs)?;
-            run_prune(rt, dir, words, form, out, err)
-        }
-        Request::Query(path, query) => match Place::open(rt, path, &failures.read)? {
-            Place::Folder(dir) => run_query(rt, dir, query, form, out, err),
-            Place::Archive(dir) => run_query(rt, dir, query, form, out, err),
-        },
+        Request::Copy(words) => copy(rt, words, failures, form, out, err),
+        Request::Untag(words) => untag(rt, words, &failures.written, form, out, err),
+        Request::Prune(words) => prune(rt, words, &failures.written, form, out, err),
+        Request::Query(path, query) => ask(rt, path, query, &failures.read, form, out, err),
+    }
+}
+
+/// Prints the text of `--help` or `--version`, which has its last line feed.
+fn print_text<W: Write>(text: &str, out: &mut W) -> Result<Outcome, ProgramFault>
+    ensures { OnOk result (Appends (W.contents out.old) (W.contents out.new) text.now) }
+{
+    match write!(out, "{text}") {
+        Ok(()) => Ok(Outcome::Good),
+        Err(error) => Err(ProgramFault::of_output(error)),
+    }
+}
+
+/// Runs `copy` on the places of its words.
+fn copy<R: Host, W: Write, X: Write + Send>(
+    rt: &R,
+    words: &CopyWords<'_>,
+    failures: &Failures,
+    form: Form,
+    out: &mut W,
+    err: &mut X,
+) -> Result<Outcome, ProgramFault>
+    ensures { OnOk result (IsCopyDone ⟦<TarDir<R::File> as Dir>⟧.device ⟦<MemDir as Dir>⟧.device
+        words.now form (W.contents out.old) (W.contents out.new)) }
+{
+    let (source, destination) = open_copy(rt, words, failures)?;
+    match source {
+        Place::Folder(source) => run_copy(rt, source, destination, words, form, out, err),
+        Place::Archive(source) => run_copy(rt, source, destination, words, form, out, err),
+    }
+}
+
+/// Runs `untag` on the folder of its words.
+fn untag<R: Host, W: Write, X: Write>(
+    rt: &R,
+    words: &UntagWords<'_>,
+    first: &FirstFailure,
+    form: Form,
+    out: &mut W,
+    err: &mut X,
+) -> Result<Outcome, ProgramFault>
+    ensures { OnOk result (IsUntagDone words.now form (W.contents out.old) (W.contents out.new)) }
+{
+    let dir = open_folder(rt, words.folder, first, words.syncs)?;
+    run_untag(rt, dir, words, form, out, err)
+}
+
+/// Runs `prune` on the folder of its words.
+fn prune<R: Host, W: Write, X: Write>(
+    rt: &R,
+    words: &PruneWords<'_>,
+    first: &FirstFailure,
+    form: Form,
+    out: &mut W,
+    err: &mut X,
+) -> Result<Outcome, ProgramFault>
+    ensures { OnOk result (IsPruneDone words.now form (W.contents out.old) (W.contents out.new)) }
+{
+    let dir = open_folder(rt, words.folder, first, words.syncs)?;
+    run_prune(rt, dir, words, form, out, err)
+}
+
+/// Answers a query from the layout at a path.
+fn ask<R: Host, W: Write, X: Write>(
+    rt: &R,
+    path: &str,
+    query: &Query<'_>,
+    first: &FirstFailure,
+    form: Form,
+    out: &mut W,
+    err: &mut X,
+) -> Result<Outcome, ProgramFault>
+    ensures { IfOk result (IsQueryDone ⟦<TarDir<R::File> as Dir>⟧.device path.now query.now form
+        (W.contents out.old) (W.contents out.new)) }
+{
+    match Place::open(rt, path, first)? {
+        Place::Folder(dir) => run_query(rt, dir, query, form, out, err),
+        Place::Archive(dir) => run_query(rt, dir, query, form, out, err),
     }
 }
 
@@ -135,7 +235,7 @@ fn end_unparsed<X: Write>(
     fault: CommandLineFault,
     err: &mut X,
 ) -> u8
-    ensures { result ≤ 3 }
+    ensures { result ≡ status_of_unparsed fault }
 {
     let ending = match fault {
         CommandLineFault::Usage(text) => Ending::Usage(text),

@@ -1,0 +1,110 @@
+-- What a run does with its command line, and the status that it ends with.
+use Rattle.std.specs.Prelude.{◌≡◌, ◌⊎◌, ℕ, Bool, true, false, List, ⊤, string_bytes, Option}
+use Rattle.std.specs.Borrow.{Bor}
+use Rattle.std.specs.Io.KnownBytes.{Appends}
+use Rattle.oci_command_line.specs.declared.changing.CopyWords.{CopyWords}
+use Rattle.oci_command_line.specs.declared.changing.PruneWords.{PruneWords}
+use Rattle.oci_command_line.specs.declared.changing.UntagWords.{UntagWords}
+use Rattle.oci_command_line.specs.declared.memory.MemWords.{MemWords}
+use Rattle.oci_command_line.specs.declared.request.CommandLineFault.{CommandLineFault}
+use Rattle.oci_command_line.specs.declared.request.CommandLineFault.TheVariants as unparsed
+use Rattle.oci_command_line.specs.declared.request.Query.{Query}
+use Rattle.oci_command_line.specs.declared.request.Request.{Request}
+use Rattle.oci_command_line.specs.declared.request.Request.TheVariants as request
+use Rattle.oci_copy.specs.declared.report.Report.{Report}
+use Rattle.oci_copy_commands.specs.Mem.{mem_text, IsMemRun}
+use Rattle.oci_copy_commands.specs.Run.{IsRunOf}
+use Rattle.oci_layout.specs.Device.{Device, folder}
+use Rattle.oci_manifest.specs.Descriptor.{Descriptor}
+use Rattle.oci_program.specs.Pruned.{prune_text}
+use Rattle.oci_program.specs.declared.answer.Form.{Form}
+use Rattle.oci_program.specs.declared.answer.Form.TheVariants as form
+use Rattle.oci_program.specs.declared.outcome.Outcome.{Outcome}
+use Rattle.oci_program.specs.declared.prune_answer.PruneAnswer.{PruneAnswer}
+use Rattle.oci_prune_commands.specs.PrunedLayout.{IsDryPrune, IsPruneRun}
+use Rattle.oci_prune_commands.specs.Untagged.{untagged_lines, IsUntagRun}
+use Rattle.ocicp.specs.declared.place.Place.{Place}
+use Rattle.ocicp.specs.declared.place.Place.TheVariants as place
+use Rattle.oci_query_commands.specs.Answered.{is_of_all, IsReadable}
+use Rattle.oci_query_commands.specs.Printed.{PrintsAnswerOf}
+use Rattle.oci_query_commands.specs.Verified.{IsFaulty, IsFaultyVerify, IsGoodVerify, IsVerified}
+
+-- ---- where a command works
+
+-- a folder of the file system, by its path and the number of its puts that failed; nothing is known of
+-- its files unless it is honest
+abbrev pub folder_device : List ℕ × ℕ → Device
+folder_device dir = folder dir.1
+
+-- a place was opened at a path: a folder is the one at the path
+abbrev pub IsPlaceAt : {R F D : Type 0} → List ℕ → Place R F D → Type 0
+IsPlaceAt path (place.Folder dir) = dir ≡ (path, 0)
+IsPlaceAt path (place.Archive dir) = ⊤
+
+-- ---- the form in which it prints
+
+abbrev pub form_of : Bool → Form
+form_of false = form.Lines
+form_of true = form.Json
+
+-- ---- what a command did, and what it appended to the output in a form
+
+-- the items of these words were pushed into a store in memory, and copied from the last one
+abbrev pub IsMemDone : MemWords → Form → Option (List ℕ) → Option (List ℕ) → Type 0
+IsMemDone words printed old new = (blobs : List (Bor Descriptor)) × (report : Report) × IsMemRun words blobs report × (printed ≡ form.Lines → Appends old new (mem_text blobs report))
+
+-- the layout in the folder of these words was opened, and left without their tag
+abbrev pub IsUntagDone : UntagWords → Form → Option (List ℕ) → Option (List ℕ) → Type 0
+IsUntagDone words printed old new = (key : Option Descriptor) × (keys : List (Option Descriptor)) × IsUntagRun folder_device (words.folder.now, 0) words.tag.now key keys
+    × (printed ≡ form.Lines → Appends old new (untagged_lines keys))
+
+-- the layout in the folder of these words was opened, and pruned as they ask for, or with `--dry-run`
+-- that prune was planned
+pub record IsPruneDone (words : PruneWords) (printed : Form) (old new : Option (List ℕ)) : Type 0 where
+  pub pruned : words.is_dry ≡ false → (answer : PruneAnswer) × IsPruneRun folder_device (words.folder.now, 0) words answer × (printed ≡ form.Lines → Appends old new (prune_text answer))
+  pub planned : words.is_dry ≡ true → (answer : PruneAnswer) × IsDryPrune folder_device (words.folder.now, 0) words answer × (printed ≡ form.Lines → Appends old new (prune_text answer))
+
+-- The copy that these words ask for was made, or with `--dry-run` planned, into the folder at their
+-- destination, from the folder at their source or from an archive. `archive` and `memory` give the
+-- meaning of an archive, and of an empty layout in memory.
+abbrev pub IsCopyDone : {A M : Type 0} → (A → Device) → (M → Device) → CopyWords → Form → Option (List ℕ) → Option (List ℕ) → Type 0
+IsCopyDone {A} archive memory words printed old new = IsRunOf folder_device folder_device memory words (words.source.now, 0) (words.destination.now, 0) printed old new
+    ⊎ ((dir : A) × IsRunOf archive folder_device memory words dir (words.destination.now, 0) printed old new)
+
+-- A query of the layout in a directory ended so. A good `verify` found nothing wrong with it, and a
+-- faulty one something. `tags`, `predecessors`, and `tree` with referrers left nothing out. As lines,
+-- all but `tree` printed exactly their answer.
+pub record IsAnswered (dir : Device) (query : Query) (printed : Form) (old new : Option (List ℕ)) (outcome : Outcome) : Type 0 where
+  pub verified : IsGoodVerify query outcome → dir.is_honest → IsVerified dir
+  pub faulty : IsFaultyVerify query outcome → dir.is_honest → IsFaulty dir
+  pub whole : is_of_all query ≡ true → dir.is_honest → IsReadable dir
+  pub shown : printed ≡ form.Lines → dir.is_honest → PrintsAnswerOf dir query old new
+
+-- it ended so for the folder at a path, or for an archive
+abbrev pub IsQueryDone : {A : Type 0} → (A → Device) → List ℕ → Query → Form → Option (List ℕ) → Option (List ℕ) → Outcome → Type 0
+IsQueryDone {A} archive path query printed old new outcome = IsAnswered (folder_device (path, 0)) query printed old new outcome ⊎ ((dir : A) × IsAnswered (archive dir) query printed old new outcome)
+
+-- ---- by the request
+
+-- the command of a request was done, with this outcome, and appended its answer to the output; of an
+-- explanation nothing is said
+abbrev pub IsDone : {A M : Type 0} → (A → Device) → (M → Device) → Request → Form → Option (List ℕ) → Option (List ℕ) → Outcome → Type 0
+IsDone archive memory (request.Text text) printed old new outcome = Appends old new (string_bytes text)
+IsDone archive memory (request.Mem words) printed old new outcome = IsMemDone words printed old new
+IsDone archive memory (request.Copy words) printed old new outcome = IsCopyDone archive memory words printed old new
+IsDone archive memory (request.Untag words) printed old new outcome = IsUntagDone words printed old new
+IsDone archive memory (request.Prune words) printed old new outcome = IsPruneDone words printed old new
+IsDone archive memory (request.Query path query) printed old new outcome = IsQueryDone archive path.now query printed old new outcome
+IsDone archive memory other printed old new outcome = ⊤
+
+-- ---- the status
+
+-- the status of a run whose command line was not parsed: 2 if it is invalid, 3 if memory ran out
+abbrev pub status_of_unparsed : CommandLineFault → ℕ
+status_of_unparsed (unparsed.Usage text) = 2
+status_of_unparsed unparsed.Memory = 3
+
+-- the status of a run whose command line is valid: 0 if its command was done, 1 if it was refused or
+-- found something wrong, 3 if memory ran out
+abbrev pub IsCommandStatus : ℕ → Type 0
+IsCommandStatus status = (status ≡ 0) ⊎ ((status ≡ 1) ⊎ (status ≡ 3))
