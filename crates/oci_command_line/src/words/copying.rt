@@ -35,8 +35,8 @@ pub(crate) const COPY: CommandText = CommandText {
          line counts the blobs: `planned`, `pushed`, and `skipped` for requested blobs that DST already \
          had.\n\n\
          Every blob is checked against its digest. A copy that is refused sets no tag in DST, and DST \
-         keeps its blobs. The exception is 94: only the output could not be written, and the copy is done \
-         and saved.\n\n\
+         keeps its blobs. The exceptions: after 79 and 94 the copy is done and saved, and after 74 \
+         `index.json` may have the new tags.\n\n\
          A copy locks DST. Another copy into it on the same machine waits, unless it has --no-wait.\n\n\
          A copy ends once what it wrote is on the disk, so that a power cut leaves the old layout or the \
          new one, unless it has --no-sync.",
