@@ -17,13 +17,15 @@ use Rattle.oci_store.specs.Graph.{Node}
 use Rattle.oci_store.specs.Parts.{leaf_check}
 use Rattle.oci_store.specs.State.{State}
 use Rattle.oci_store.specs.Push.{IsRaised, Refusal, Refused, closed_check, held_check, missing_successor}
+use Rattle.oci_store.specs.declared.fault.FetchFault.{FetchFault}
+use Rattle.oci_store.specs.declared.fault.FetchFault.TheVariants as fetch
 use Rattle.oci_store.specs.declared.fault.PushFault.{PushFault}
 use Rattle.oci_store.specs.declared.fault.PushFault.TheVariants as push
 use Rattle.oci_store.proofs.KeyOrder.{same_key_laws}
 use Rattle.oci_store.proofs.Leaves.{leaf_check-fresh}
 use Rattle.oci_store.proofs.Lookups.{found, has_key-from_value, All-value_at, value_at-append_cases, has_key-from_Contains, Contains-from_has_key, has_key-from_HasAll, first_missing-from_HasAll}
 use Rattle.oci_plan.specs.Plan.{Planned}
-use Rattle.oci_plan.specs.Refusal.{IsUnread}
+use Rattle.oci_plan.specs.Refusal.{IsDeviceFault, IsUnread}
 use Rattle.oci_copy.specs.declared.options.Options.{Options}
 use Rattle.oci_copy.specs.declared.fault.CopyFault.{CopyFault}
 use Rattle.oci_copy.specs.declared.fault.CopyFault.TheVariants as fault
@@ -147,8 +149,12 @@ step_from_content failed noted now opening k reported same cause = go reported c
       tells = it.tells;
     }
 
+    device : (e : FetchFault) → IsDeviceFault now e → IsDeviceFault noted e
+    device fetch.Corrupt unsound = λ sound. unsound (same.sound.1 sound)
+    device other it = it
+
     go : (t : CopyFault) → IsContentCause now k t → IsStepCause failed noted opening k t
-    go (fault.Fetch named e) h = (h.0, ap (λ (f : Descriptor → Bool). f k) (sym same.fails_at) ∙ h.1, h.2)
+    go (fault.Fetch named e) h = (h.0, ap (λ (f : Descriptor → Bool). f k) (sym same.fails_at) ∙ h.1, device e h.2)
     go (fault.Push named (push.BadManifest e)) h = (h.0, read e h.1, λ honest. h.2 (same.honest.1 honest))
     go fault.Memory h = tt
     go other h = absurd h

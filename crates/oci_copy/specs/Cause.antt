@@ -23,7 +23,7 @@ use Rattle.oci_copy.specs.declared.fault.CopyFault.TheVariants as fault
 -- source, no fault comes before this one
 pub record IsPlanCause (source : State) (options : Options) (opening : State) (roots : List Descriptor) (e : PlanFault) : Type 0 where
   pub refusal : e ≢ plan.Memory
-  pub named : IsKeyFault source.is_honest source.fails_at source.entries (limit_of options) e
+  pub named : IsKeyFault source (limit_of options) e
   pub spared : NamesNoneOnlyInDestination source.entries opening.nodes e
   pub visited : NamesVisited options.existing opening.nodes e
   pub met : NamesMet options.existing source.entries opening.nodes roots e
@@ -43,11 +43,11 @@ HasFailed opening now = (opening.failures < now.failures) ⊎ (now.failures ≡ 
 abbrev pub CanFail : {X : Type 0} → (X → State) → State → Type 0
 CanFail {X} state opening = (store : X) × HasFailed opening (state store)
 
--- why the content of a planned key cannot be had: the device of the source fails there, or the
--- fetched bytes match the key and do not read, for the reason in the fault; no honest source has
--- such bytes
+-- why the content of a planned key cannot be had: the device of the source fails there, and has
+-- other bytes only if the source is not sound; or the fetched bytes match the key and do not read,
+-- for the reason in the fault, and no honest source has such bytes
 abbrev pub IsContentCause : State → Descriptor → CopyFault → Type 0
-IsContentCause source k (fault.Fetch named e) = (named ≡ k) × (source.fails_at k ≡ true) × IsDeviceFault e
+IsContentCause source k (fault.Fetch named e) = (named ≡ k) × (source.fails_at k ≡ true) × IsDeviceFault source e
 IsContentCause source k (fault.Push named (push.BadManifest e)) = (named ≡ k) × IsUnread source.is_honest source.entries k e × (source.is_honest → ⊥)
 IsContentCause source k fault.Memory = Unit {0}
 IsContentCause source k e = ⊥

@@ -57,3 +57,4 @@ pub record IsNoted (noted now : State) : Type 0 where
   pub entries : now.entries ≡ noted.entries
   pub fails_at : now.fails_at ≡ noted.fails_at
   pub honest : now.is_honest ↔ noted.is_honest
+  pub sound : now.is_sound ↔ noted.is_sound

@@ -49,12 +49,12 @@ successors_at-nodes_of entries k bytes ks at reads =
 
 -- a refused fetch of a held key is told of it
 pub fetch_refused : (source : State) (limit : ℕ) (k : Descriptor) (f : FetchFault) → kind_of k.media_type ≢ Leaf → IsWithin limit k → has_key source.entries k ≡ true
-    → (f ≡ fetch.NotFound → has_key source.entries k ≡ false) → (f ≡ fetch.Corrupt → source.fails_at k ≡ true) → (f ≡ fetch.Device → source.fails_at k ≡ true)
+    → (f ≡ fetch.NotFound → has_key source.entries k ≡ false) → (f ≡ fetch.Corrupt → source.fails_at k ≡ true) → (f ≡ fetch.Corrupt → source.is_sound → ⊥) → (f ≡ fetch.Device → source.fails_at k ≡ true)
     → IsTrueOfKey source limit k (fetch_refusal k f)
-fetch_refused source limit k fetch.NotFound manifest within there gone corrupt device = record { cause = (within, gone refl); named = refl }
-fetch_refused source limit k fetch.Corrupt manifest within there gone corrupt device = record { cause = (manifest, within, there, corrupt refl, tt); named = refl }
-fetch_refused source limit k fetch.Device manifest within there gone corrupt device = record { cause = (manifest, within, there, device refl, tt); named = refl }
-fetch_refused source limit k fetch.Memory manifest within there gone corrupt device = record { cause = tt; named = tt }
+fetch_refused source limit k fetch.NotFound manifest within there gone corrupt unsound device = record { cause = (within, gone refl); named = refl }
+fetch_refused source limit k fetch.Corrupt manifest within there gone corrupt unsound device = record { cause = (manifest, within, there, corrupt refl, unsound refl); named = refl }
+fetch_refused source limit k fetch.Device manifest within there gone corrupt unsound device = record { cause = (manifest, within, there, device refl, tt); named = refl }
+fetch_refused source limit k fetch.Memory manifest within there gone corrupt unsound device = record { cause = tt; named = tt }
 
 -- bytes of a held key that do not read are told of it
 pub read_refused : (source : State) (limit : ℕ) (k : Descriptor) (bytes : List ℕ) (f : ManifestFault) → IsWithin limit k → has_key source.entries k ≡ true

@@ -1,5 +1,5 @@
 -- When there is no plan, and the meaning of each fault.
-use Rattle.std.specs.Prelude.{◌≡◌, ◌≢◌, ℕ, ◌<◌, Bool, true, false, List, length, filter, Some, Err}
+use Rattle.std.specs.Prelude.{◌≡◌, ◌≢◌, ℕ, ◌<◌, true, false, List, length, filter, Some, Err}
 use Rattle.std.specs.List.{All, IsDistinct}
 use Rattle.oci_manifest.specs.Descriptor.{Descriptor, same_key}
 use Rattle.oci_manifest.specs.Manifest.{first_places}
@@ -26,12 +26,12 @@ use Rattle.oci_plan.specs.declared.fault.PlanFault.TheVariants as fault
 abbrev pub IsTooLarge : ℕ → Descriptor → Type 0
 IsTooLarge limit k = (kind_of k.media_type ≢ Leaf) × (limit < k.size)
 
--- the device has other bytes, or could not be read
-abbrev pub IsDeviceFault : FetchFault → Type 0
-IsDeviceFault fetch.NotFound = ⊥
-IsDeviceFault fetch.Corrupt = Unit {0}
-IsDeviceFault fetch.Device = Unit {0}
-IsDeviceFault fetch.Memory = ⊥
+-- the device has other bytes, and the source is not sound; or the device could not be read
+abbrev pub IsDeviceFault : State → FetchFault → Type 0
+IsDeviceFault source fetch.NotFound = ⊥
+IsDeviceFault source fetch.Corrupt = source.is_sound → ⊥
+IsDeviceFault source fetch.Device = Unit {0}
+IsDeviceFault source fetch.Memory = ⊥
 
 -- bytes that match the key do not read, for this reason, which is no memory error; if the source is
 -- honest, they are the key's bytes
@@ -52,14 +52,14 @@ pub record IsListedCycle (entries : List Entry) (limit : ℕ) (keys : List Descr
 
 -- The fault is true of the keys that it names. Each check is made only if the checks before it
 -- pass. A leaf is not fetched.
-abbrev pub IsKeyFault : Type 0 → (Descriptor → Bool) → List Entry → ℕ → PlanFault → Type 0
-IsKeyFault honest fails entries limit (fault.TooLarge k l) = (l ≡ limit) × IsTooLarge limit k
-IsKeyFault honest fails entries limit (fault.NotFound k) = IsWithin limit k × (has_key entries k ≡ false)
-IsKeyFault honest fails entries limit (fault.Fetch k e) = (kind_of k.media_type ≢ Leaf) × IsWithin limit k × (has_key entries k ≡ true) × (fails k ≡ true) × IsDeviceFault e
-IsKeyFault honest fails entries limit (fault.Manifest k e) = IsWithin limit k × (has_key entries k ≡ true) × IsUnread honest entries k e
-IsKeyFault honest fails entries limit (fault.Cycle keys) = IsListedCycle entries limit keys.items
-IsKeyFault honest fails entries limit fault.Memory = Unit {0}
-IsKeyFault honest fails entries limit fault.TooMany = Unit {0}
+abbrev pub IsKeyFault : State → ℕ → PlanFault → Type 0
+IsKeyFault source limit (fault.TooLarge k l) = (l ≡ limit) × IsTooLarge limit k
+IsKeyFault source limit (fault.NotFound k) = IsWithin limit k × (has_key source.entries k ≡ false)
+IsKeyFault source limit (fault.Fetch k e) = (kind_of k.media_type ≢ Leaf) × IsWithin limit k × (has_key source.entries k ≡ true) × (source.fails_at k ≡ true) × IsDeviceFault source e
+IsKeyFault source limit (fault.Manifest k e) = IsWithin limit k × (has_key source.entries k ≡ true) × IsUnread source.is_honest source.entries k e
+IsKeyFault source limit (fault.Cycle keys) = IsListedCycle source.entries limit keys.items
+IsKeyFault source limit fault.Memory = Unit {0}
+IsKeyFault source limit fault.TooMany = Unit {0}
 
 -- the fault names this key, or is a memory error
 abbrev pub IsOfKey : Descriptor → PlanFault → Type 0
@@ -67,7 +67,7 @@ IsOfKey k e = Names (λ named. named ≡ k) (λ keys. ⊥) ⊥ e
 
 -- the fault is true of this key, or is a memory error
 pub record IsTrueOfKey (source : State) (limit : ℕ) (k : Descriptor) (e : PlanFault) : Type 0 where
-  pub cause : IsKeyFault source.is_honest source.fails_at source.entries limit e
+  pub cause : IsKeyFault source limit e
   pub named : IsOfKey k e
 
 -- the fault names no key that only the destination has
@@ -107,7 +107,7 @@ IsFirstFault existing entries held roots limit e = Names (IsNextVisited existing
 -- The fault is true of the keys that it names: the walk met and visits each, and none is only in
 -- the destination. If the source is honest, it is the first.
 pub record IsTrueOfWalk (existing : Existing) (source destination : State) (roots : List Descriptor) (limit : ℕ) (e : PlanFault) : Type 0 where
-  pub cause : IsKeyFault source.is_honest source.fails_at source.entries limit e
+  pub cause : IsKeyFault source limit e
   pub spared : NamesNoneOnlyInDestination source.entries destination.nodes e
   pub named : NamesVisited existing destination.nodes e
   pub met : NamesMet existing source.entries destination.nodes roots e

@@ -88,7 +88,8 @@ fn held_roots<D: Dest>(alloc: Global, destination: &D, roots: &[Key]) -> Result<
 ///
 /// - 54 [`PlanFault::TooLarge`] if it is a manifest's and its size is over `limit`.
 /// - 53 [`PlanFault::NotFound`] if the source does not have it.
-/// - 57 [`PlanFault::Fetch`] if the source's device has other bytes or cannot be read.
+/// - 57 [`PlanFault::Fetch`] if the source's device has other bytes or cannot be read. It carries
+///   `Corrupt` only if the source is not sound.
 /// - 56 [`PlanFault::Manifest`] if its content is not a manifest of its media type.
 ///
 /// A key that only the destination has is never at fault.
@@ -141,8 +142,7 @@ pub fn gather<A: Source, D: Dest>(
         → FollowsListed (nodes_of (A.state source.now).entries) (D.state destination.now).nodes p) }
 
     // The errors: `first` speaks of an honest source, the other clauses of any source.
-    ensures cause { IfErr result (IsKeyFault (A.state source.now).is_honest
-        (A.state source.now).fails_at (A.state source.now).entries limit) }
+    ensures cause { IfErr result (IsKeyFault (A.state source.now) limit) }
     ensures spared { IfErr result (NamesNoneOnlyInDestination (A.state source.now).entries
         (D.state destination.now).nodes) }
     ensures named { IfErr result (NamesVisited existing (D.state destination.now).nodes) }
