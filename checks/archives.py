@@ -48,6 +48,8 @@ ONTO_FILES = [
 # The formats of GNU tar and of Python, and which layout each can hold: names in `long` have over 100 characters.
 OF_TAR = {"v7": "short", "ustar": "short", "pax": "long", "gnu": "long", "oldgnu": "long"}
 OF_PYTHON = {"USTAR": "short", "GNU": "long", "PAX": "long"}
+# GNU tar writes a file the second time as a hard link to its own path.
+NAMED_TWICE = [".", "./index.json", "oci-layout", "blobs", "blobs/sha256/"]
 LARGE = Content(LAYER, b"a layer of some blocks. " * 60)
 LARGER = image([LARGE])
 CONTENTS_OF_SHORT = [E, FOO, BAR, LARGE, M2, M3, I1, S, LARGER]
@@ -143,14 +145,14 @@ def wrong_folder(room, folder):
 
 
 def by_archivers(room):
-    """Check archives that GNU tar and Python make, of the folder itself and of the names in it."""
+    """Check archives that GNU tar and Python make, of the folder itself, of the names in it, and of some files that are named twice."""
     is_gnu = shutil.which("tar") and b"GNU tar" in subprocess.run(["tar", "--version"], capture_output=True).stdout
     if not is_gnu:
         yield "archives of GNU tar are not looked at, since it is not here", None
     made = [("tar", form, folder) for form, folder in OF_TAR.items() if is_gnu]
     made += [("Python", form, folder) for form, folder in OF_PYTHON.items()]
     for program, form, folder in made:
-        for names in ["."], sorted(os.listdir("%s/%s" % (room, folder))):
+        for names in ["."], sorted(os.listdir("%s/%s" % (room, folder))), NAMED_TWICE:
             if program == "tar":
                 subprocess.run(["tar", "--format=" + form, "-cf", "made.tar", "-C", folder, *names], cwd=room, check=True)
             else:

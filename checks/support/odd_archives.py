@@ -93,6 +93,22 @@ def headers_for_long_names(files):
     yield "long names of GNU", each(files, lambda path, it: long_name(path) + named(path, it))
 
 
+def links_to_themselves(files):
+    """Yield archives in which hard links to their own paths follow the files."""
+    whole = each(files)
+    link = lambda path, it: header(path, kind=b"1", link=path)
+    yield "each file, and a link to itself", each(files, lambda path, it: member(path, it) + link(path, it))
+    yield "each file, and last links to themselves", whole + each(files, link) + each(files, link)
+    yield "links to themselves before the files", each(files, link) + whole
+    yield "links to themselves with a size", whole + each(files, lambda path, it: header(path, len(it), kind=b"1", link=path))
+    yield "links with ./ to themselves", whole + each(files, lambda path, it: header(b"./" + path, kind=b"1", link=path))
+    yield "links to themselves with ./", whole + each(files, lambda path, it: header(path, kind=b"1", link=b"./" + path))
+    yield "links to themselves with /", whole + each(files, lambda path, it: header(path, kind=b"1", link=path + b"/"))
+    other = header(b"other", kind=b"1", link=b"elsewhere")
+    yield "links to themselves by pax", whole + each(files, lambda path, it: extended((b"path", path), (b"linkpath", path)) + other)
+    yield "links to themselves by GNU", whole + each(files, lambda path, it: long_name(path, b"K") + long_name(path) + other)
+
+
 def odd_members(files):
     """Yield archives with other members before the files, in another order, and with other ends."""
     whole = each(files)
@@ -116,7 +132,7 @@ def odd_members(files):
 
 def allowed(files):
     """Yield all archives that are allowed, each with a label."""
-    for group in odd_numbers, odd_names, odd_headers, long_headers, odd_members:
+    for group in odd_numbers, odd_names, odd_headers, long_headers, links_to_themselves, odd_members:
         yield from group(files)
 
 
@@ -131,6 +147,8 @@ PLACES = {
     "a sparse file of GNU": functools.partial(old_sparse, further=2),
     **{"a sparse file of pax " + form: functools.partial(pax_sparse, form=form) for form in ("0.0", "0.1", "1.0")},
     "a file, and then a link": lambda path: member(path, b"[") + header(path, kind=b"2", link=b"other"),
+    "a file, and then a symbolic link to itself": lambda path: member(path, b"[") + header(path, kind=b"2", link=path),
+    "a file, and then a hard link to another": lambda path: member(path, b"[") + header(path, kind=b"1", link=b"other"),
 }
 
 
