@@ -8,11 +8,12 @@ use Rattle.oci_manifest.specs.Subject.{HasSubject}
 use Rattle.oci_store.specs.Graph.{Node}
 use Rattle.oci_store.specs.Tags.{Tags}
 use Rattle.oci_layout.specs.Blobs.{blob_at, blob_path}
-use Rattle.oci_layout.specs.Device.{Device, Same}
+use Rattle.oci_layout.specs.Device.{Device, Same, Touches}
 use Rattle.oci_layout.specs.Files.{IsLayout}
 use Rattle.oci_layout.specs.Index.{layout_file}
 use Rattle.oci_layout.specs.Layout.{LayoutState, OnlyFiles, SameMemory}
 use Rattle.oci_layout.specs.Subjects.{AreRemembered}
+use Rattle.oci_layout.proofs.Files.{HasLayoutFile-stays, blob_layout}
 use Rattle.oci_layout.proofs.Stored.{stored-same, IsSound-same}
 
 -- what a layout keeps true stays true
@@ -22,6 +23,13 @@ IsLayout-same old new graph tags was same is = record {
   has_layout_file = λ honest. (let h = was honest in
       let layout = is.has_layout_file h in
       record { bytes = layout.bytes; is_there = same h layout_file ∙ layout.is_there; version = layout.version });
+}
+
+-- also where only the file of a digest changed
+pub IsLayout-touched : (old new : Device) (graph : List Node) (tags : Tags) (digest : List ℕ) → (new.is_honest → old.is_honest) → (old.is_honest → Touches old.file new.file (blob_path digest)) → IsLayout old graph tags → IsLayout new graph tags
+IsLayout-touched old new graph tags digest was touches is = record {
+  names = is.names;
+  has_layout_file = λ honest. (let h = was honest in HasLayoutFile-stays old.file new.file (blob_path digest) (touches h) (blob_layout digest) (is.has_layout_file h));
 }
 
 pub AreRemembered-same : (old new : Device) (graph : List Node) (found : Option (Vec (Descriptor × Descriptor))) → (new.is_honest → old.is_honest) → (old.is_honest → Same old.file new.file)

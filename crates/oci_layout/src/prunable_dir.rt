@@ -1,4 +1,4 @@
-ghost use Rattle.std.specs.Prelude.{◌≡◌, option_map, ⊤};
+ghost use Rattle.std.specs.Prelude.{◌≡◌, option_map};
 ghost use Rattle.oci_layout.specs.Device.{IsRead};
 ghost use Rattle.oci_layout.specs.Prunable.{by_name, IsDraftRemoval, IsRemoval, ListsFiles, ListsFolder};
 
@@ -60,17 +60,4 @@ pub trait PrunableDir: Dir {
     /// - 91 `Memory` if memory runs out.
     fn remove_draft(&mut self, path: &str) -> Result<bool, DirFault>
         ensures { IsDraftRemoval (Self.device self.old) (Self.device self.new) path.now result };
-
-    /// Waits until a file and its name are on the disk, or that there is no such file. Changes
-    /// nothing.
-    ///
-    /// # Errors
-    ///
-    /// - 90 `Failed` if that is not known, as when the disk failed.
-    /// - 91 `Memory` if memory runs out.
-    fn sync(&self, _path: &str) -> Result<(), DirFault>
-        ensures { IsRead (Self.device self.now) (λ _. ⊤) result }
-    {
-        Ok(())
-    }
 }

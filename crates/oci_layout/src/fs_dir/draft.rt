@@ -19,6 +19,8 @@ enum Stage<'r, R: Files + AllocGlobal> {
     /// The number of bytes appended so far. The file at the place begins with them, and nothing is
     /// written yet.
     Found(u64),
+    /// Nothing is appended or written yet, and all bytes will be written.
+    Fresh,
     /// The appended bytes are in a file beside the place.
     Written(Beside<'r, R>),
     /// An append failed, or the folder cannot have the file.
@@ -30,7 +32,7 @@ enum Stage<'r, R: Files + AllocGlobal> {
 /// Nothing is written as long as the file at the place begins with the appended bytes. From the
 /// first difference on they are in a file beside the place. No other draft has that file, and it is
 /// removed if the draft is dropped. If the file at the place is longer than the draft, its
-/// beginning is copied when the draft is kept.
+/// beginning is copied when the draft is kept. All bytes of a fresh draft are written.
 #[derive(Drop)]
 pub struct FsDraft<'r, R: Files + AllocGlobal> {
     rt: &'r R,
@@ -68,6 +70,13 @@ impl<'r, R: Files + AllocGlobal> FsDraft<'r, R> {
         }
     }
 
+    /// Makes an empty draft write each byte, also those that the file at the place begins with.
+    pub(crate) fn write_all_bytes(&mut self) {
+        if let Stage::Found(_) = &self.stage {
+            self.stage = Stage::Fresh;
+        }
+    }
+
     /// Returns whether its bytes are in a file of its own.
     pub(crate) fn is_written(&self) -> bool {
         matches!(&self.stage, Stage::Written(_))
@@ -79,7 +88,7 @@ impl<'r, R: Files + AllocGlobal> FsDraft<'r, R> {
     {
         match &mut self.stage {
             Stage::Written(beside) => beside.settle(&self.syncs).is_err(),
-            Stage::Found(_) => false,
+            Stage::Found(_) | Stage::Fresh => false,
             Stage::Failed => true,
         }
     }
@@ -94,6 +103,11 @@ where
         match &mut self.stage {
             Stage::Found(length) => {
                 self.stage = added(self.rt, self.first, &self.place, *length, part)?;
+                Ok(())
+            }
+            Stage::Fresh => {
+                let beside = Beside::with(self.rt, self.first, &self.place, part)?;
+                self.stage = Stage::Written(beside);
                 Ok(())
             }
             Stage::Written(beside) => beside.append(part),
@@ -202,6 +216,7 @@ where
             }
             Beside::copied(rt, first, &drafted, length)?.rename(&syncs, place)
         }
+        Stage::Fresh => Beside::with(rt, first, &drafted, &[])?.rename(&syncs, place),
         Stage::Written(beside) => beside.rename(&syncs, place),
         Stage::Failed => Err(DirFault::Failed),
     }

@@ -81,6 +81,14 @@ pub(crate) fn file_of_length<R: Files + AllocGlobal>(
     Ok(Some(bytes))
 }
 
+/// Returns whether a folder with contents is at a place. A link is no folder.
+pub(crate) fn has_contents<R: Files + AllocGlobal>(rt: &R, place: &str) -> io::Result<bool> {
+    if !fs::symlink_metadata(rt, place)?.is_dir() {
+        return Ok(false);
+    }
+    Ok(fs::read_dir(&rt, place)?.next().is_some())
+}
+
 /// Returns an empty list with room for `bytes` bytes.
 fn room<R: AllocGlobal>(rt: &R, bytes: u64) -> io::Result<Vec<u8>> {
     let bytes = usize::try_from(bytes).unwrap_or(usize::MAX);

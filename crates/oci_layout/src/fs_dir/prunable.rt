@@ -4,7 +4,6 @@ use crate::fs_dir::files::{failed, is_absence};
 use crate::fs_dir::leftovers::{Room, first_link, free_leftovers, remove_leftover};
 use crate::fs_dir::lock::Lockable;
 use crate::fs_dir::paths::path_of_folder;
-use crate::fs_dir::settling::Syncs;
 use crate::prunable_dir::PrunableDir;
 use std::fs::OpenFile;
 use std::io::ErrorKind;
@@ -17,6 +16,7 @@ where
     R::File: Lockable,
 {
     /// Leaves out all that is neither a regular file nor a link, and drafts.
+    #[tactic(auto, unfolding(crate::specs::Device::IsWatched))]
     fn list(&self, folder: &str) -> Result<Vec<(String, u64)>, DirFault> {
         let place = self.place(folder)?;
         match files_in(self.rt, &place, Room::of_blobs(folder)) {
@@ -28,6 +28,7 @@ where
 
     /// Finds the files that [`FolderLock::remove_leftovers`](crate::FolderLock::remove_leftovers)
     /// removes.
+    #[tactic(auto, unfolding(crate::specs::Device::IsWatched))]
     fn leftovers(&self) -> Result<Vec<(String, u64)>, DirFault> {
         let folder = path_of_folder(self.folder.as_str());
         match free_leftovers(self.rt, folder) {
@@ -36,6 +37,7 @@ where
         }
     }
 
+    #[tactic(auto, unfolding(crate::specs::Device::IsWatched))]
     fn linked(&self) -> Result<Option<&'static str>, DirFault> {
         let folder = path_of_folder(self.folder.as_str());
         match first_link(self.rt, folder) {
@@ -46,6 +48,7 @@ where
 
     /// Fails for anything that is neither a regular file nor a link, and at the path of a draft or
     /// of a folder of blobs.
+    #[tactic(auto, unfolding(crate::specs::Device::IsWatched))]
     fn remove(&mut self, path: &str) -> Result<bool, DirFault> {
         let place = self.file_place(path)?;
         // (if another program writes it again, it has to be synced)
@@ -59,6 +62,7 @@ where
 
     /// Removes only a file that [`leftovers`](PrunableDir::leftovers) may list: at any other path
     /// it touches nothing.
+    #[tactic(auto, unfolding(crate::specs::Device::IsWatched))]
     fn remove_draft(&mut self, path: &str) -> Result<bool, DirFault> {
         let Some(room) = Room::of_leftover(path) else {
             return Ok(false);
@@ -68,15 +72,6 @@ where
         match remove_leftover(self.rt, folder, room, &place) {
             Ok(found) => Ok(found),
             Err(error) if is_absence(&error) => Ok(false),
-            Err(error) => Err(failed(self.first, &place, error)),
-        }
-    }
-
-    /// Syncs the file, if there is one, and then the folder that has it.
-    fn sync(&self, path: &str) -> Result<(), DirFault> {
-        let place = self.place(path)?;
-        match synced(self.rt, &self.syncs, &place) {
-            Ok(()) => Ok(()),
             Err(error) => Err(failed(self.first, &place, error)),
         }
     }
@@ -130,18 +125,4 @@ fn removed<R: Files>(rt: &R, place: &str) -> io::Result<()> {
         return Err(io::Error::from(ErrorKind::InvalidInput));
     }
     fs::remove_file(rt, place)
-}
-
-/// Syncs a regular file, if there is one, and then the folder that has it.
-fn synced<R: Files>(rt: &R, syncs: &Syncs, place: &str) -> io::Result<()> {
-    match syncs.sync_file(rt, place) {
-        Ok(true) => {}
-        Ok(false) => return Err(io::Error::from(ErrorKind::InvalidInput)),
-        Err(error) if is_absence(&error) => {}
-        Err(error) => return Err(error),
-    }
-    match place.rsplit_once('/') {
-        Some((folder, _)) => syncs.sync_folder(rt, folder),
-        None => Ok(()),
-    }
 }

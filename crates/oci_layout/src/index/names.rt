@@ -12,8 +12,9 @@ use std::alloc::Global;
 use std::collections::BTreeMap;
 use std::marker::Model;
 
-/// Entries, with the place of the last one of each name.
-pub(crate) struct Names<'l> {
+/// The entries of an index, with the place of the last one of each name. A name belongs to its last
+/// entry; the others of that name are shadowed.
+pub struct Names<'l> {
     entries: &'l [IndexEntry],
     places: BTreeMap<String, usize>,
 }
@@ -48,7 +49,11 @@ impl<'l> Model for Names<'l> {
 
 impl<'l> Names<'l> {
     /// Finds the last entry of each name.
-    pub(crate) fn of(alloc: Global, entries: &'l [IndexEntry]) -> Result<Names<'l>, NoMemory>
+    ///
+    /// # Errors
+    ///
+    /// `NoMemory` if memory runs out.
+    pub fn of(alloc: Global, entries: &'l [IndexEntry]) -> Result<Names<'l>, NoMemory>
         ensures { IfOk result (λ names. names ≡ entries.now) }
     {
         let places = last_places(alloc, entries)?;
@@ -56,7 +61,7 @@ impl<'l> Names<'l> {
     }
 
     /// Returns the last entry with a name, and its place.
-    pub(crate) fn last(&self, name: &String) -> Option<(usize, &'l IndexEntry)>
+    pub fn last(&self, name: &String) -> Option<(usize, &'l IndexEntry)>
         ensures place { option_map (λ l. l.0) result
             ≡ last_place (string_bytes name.now) (map entry_of self.now) }
         ensures entry { option_map (λ l. entry_of l.1.now) result

@@ -18,7 +18,7 @@ ghost use Rattle.oci_layout.specs.Prunable.{by_name, AreBlobs, IsDirFault, IsDra
 
 use crate::fault::LayoutFault;
 use crate::layout::Layout;
-use crate::layout::blob::path_of;
+use crate::layout::blob::blob_path;
 use crate::prunable_dir::PrunableDir;
 use oci_digest::{Digest, NoMemory};
 use oci_store::Graph;
@@ -75,7 +75,7 @@ impl<D: PrunableDir> Layout<D> {
         if is_held(&self.graph, digest) {
             return Ok(false);
         }
-        let path = path_of(self.alloc, digest)?;
+        let path = blob_path(self.alloc, digest)?;
         self.subjects = None;
         match self.dir.remove(&path) {
             Ok(found) => Ok(found),
@@ -147,21 +147,6 @@ impl<D: PrunableDir> Layout<D> {
     {
         match self.dir.linked() {
             Ok(linked) => Ok(linked),
-            Err(fault) => Err(LayoutFault::from(fault)),
-        }
-    }
-
-    /// Waits until the saved `index.json` is on the disk.
-    ///
-    /// # Errors
-    ///
-    /// - 74 `Device` if that is not known, as when the disk failed.
-    /// - 76 `Memory` if memory runs out.
-    pub fn sync(&self) -> Result<(), LayoutFault>
-        ensures cause { IfErr result (IsDirFault (D.device self.now.dir)) }
-    {
-        match self.dir.sync("index.json") {
-            Ok(()) => Ok(()),
             Err(fault) => Err(LayoutFault::from(fault)),
         }
     }

@@ -13,7 +13,7 @@ ghost use Rattle.oci_store.specs.Tags.{Tags};
 use crate::dir::Dir;
 use crate::fault::{DirFault, LayoutFault};
 use crate::layout::Layout;
-use crate::layout::blob::path_of;
+use crate::layout::blob::blob_path;
 use oci_digest::NoMemory;
 use oci_store::Graph;
 use std::alloc::Global;
@@ -30,6 +30,8 @@ impl<D: Dir> Layout<D> {
         ensures settled { OnOk result ((D.device self.old.dir).is_honest
             → All (λ n. IsSettled (D.device self.new.dir) (blob_path n.0.digest))
             (drop from self.old.graph)) }
+        ensures layout { OnOk result ((D.device self.old.dir).is_honest
+            → IsSettled (D.device self.new.dir) layout_file) }
         ensures lasts { (entries : List Entry) (tags : Tags)
             → Lasts (D.device self.old.dir) entries tags
             → Lasts (D.device self.new.dir) entries tags }
@@ -119,7 +121,7 @@ fn paths_from(alloc: Global, graph: &Graph, from: usize) -> Result<Vec<String>, 
         let Some(key) = graph.key(place) else {
             unreachable!();
         };
-        paths.push(path_of(alloc, key.digest())?)?;
+        paths.push(blob_path(alloc, key.digest())?)?;
     }
     Ok(paths)
 }

@@ -11,9 +11,18 @@ use oci_manifest::{ManifestFault, read_json};
 use serde_json::Value;
 use std::alloc::Global;
 
-/// Fails if the `oci-layout` of a directory does not state the version 1.0.0.
+/// Fails if the `oci-layout` of a directory does not state the version 1.0.0 (image-layout.md,
+/// "oci-layout file").
+///
+/// # Errors
+///
+/// - 70 `NoLayoutFile` if there is none.
+/// - 71 `BadLayoutFile` if it is not a JSON object with a text `imageLayoutVersion`.
+/// - 72 `BadVersion` if it states another version.
+/// - 74 `Device` if it could not be read.
+/// - 76 `Memory` if memory runs out.
 #[tactic(auto, unfolding(crate::specs::Index::layout_file, crate::specs::Index::layout_version))]
-pub(crate) fn check_version<D: Dir>(alloc: Global, dir: &D) -> Result<(), LayoutFault>
+pub fn check_version<D: Dir>(alloc: Global, dir: &D) -> Result<(), LayoutFault>
     ensures { Finds (D.device dir.now) (λ _. HasLayoutFile (D.device dir.now).file)
         (IsOpenAsIsFault (D.device dir.now)) result }
 {

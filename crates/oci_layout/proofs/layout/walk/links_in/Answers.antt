@@ -1,6 +1,6 @@
 use Rattle.std.proofs.Common.{◌∙◌, ap}
 use Rattle.oci_manifest.specs.MediaTypes.{kind_of}
-use Rattle.oci_layout.proofs.layout.walk.checked.Goals as goal
+use Rattle.oci_layout.proofs.layout.walk.links_in.Goals as goal
 
 pub checked_manifest-requires : goal.checked_manifest-requires
 checked_manifest-requires g c =
