@@ -5,6 +5,7 @@ pub mod Elements
 pub mod Filing
 pub mod Sparing
 pub mod Noting
+pub mod Flagging
 pub mod Leaving
 pub mod Results
 pub mod Plans

@@ -28,6 +28,11 @@ stays_both : (old mid new : Option PruneFault) → IfSome old (λ (e : PruneFaul
 stays_both None mid new first second = tt
 stays_both (Some e) mid new first second = subst (λ (o : Option PruneFault). IfSome o (λ (x : PruneFault). new ≡ Some x)) first second
 
+-- where nothing is removed
+pub notes_same : (dir : Device) (P : Paths) (noted : Option PruneFault) → Notes dir P noted noted
+notes_same dir P None = record { first = tt; cause = tt }
+notes_same dir P (Some e) = record { first = refl; cause = inl refl }
+
 -- of two removals one after the other
 pub notes_both : (a b : Device) (P Q T : Paths) (old mid new : Option PruneFault) → b.fails_reads ≡ a.fails_reads → Notes a P old mid → Notes b Q mid new → ((path : List ℕ) → P path → T path) → ((path : List ℕ) → Q path → T path) → Notes a T old new
 notes_both a b P Q T old mid new reads first second p q = record { first = stays_both old mid new first.first second.first; cause = from new second.cause }

@@ -1,5 +1,5 @@
 -- What a prune leaves of a layout.
-use Rattle.std.specs.Prelude.{◌≡◌, ◌≢◌, ◌↔◌, ◌⊎◌, ℕ, Bool, true, false, not, List, [], filter, take, slice_get, Option, Some, None, is_some, IsSome, Contains, Result, IfOk, OnOk}
+use Rattle.std.specs.Prelude.{◌≡◌, ◌≢◌, ◌↔◌, ◌⊎◌, ℕ, Bool, true, false, not, List, [], ◌∷◌, filter, take, slice_get, Option, Some, None, is_some, IsSome, Contains, Result, IfOk, OnOk, if◌then◌else◌}
 use Rattle.std.specs.BTreeSet.{BTreeSet, contains}
 use Rattle.std.specs.List.{All}
 use Rattle.std.specs.Map.{keys_of}
@@ -10,10 +10,10 @@ use Rattle.oci_store.specs.Graph.{Node, Reaches}
 use Rattle.oci_store.specs.Keyed.{value_at, has_key}
 use Rattle.oci_layout.specs.Blobs.{blob_path, stored, IsSound}
 use Rattle.oci_layout.specs.Crash.{KeepsSettled}
-use Rattle.oci_layout.specs.Device.{Device, File}
+use Rattle.oci_layout.specs.Device.{Device, File, Same}
 use Rattle.oci_layout.specs.Index.{index_file, HasIndex}
 use Rattle.oci_layout.specs.Layout.{LayoutState, SameMemory}
-use Rattle.oci_layout.specs.Prunable.{by_name}
+use Rattle.oci_layout.specs.Prunable.{by_name, Removes}
 use Rattle.oci_prune.specs.Plan.{NeedsFile}
 use Rattle.oci_prune.specs.Refusal.{Notes}
 use Rattle.oci_prune.specs.declared.fault.PruneFault.{PruneFault}
@@ -74,9 +74,21 @@ IsDraftIn drafts path = (draft : List ℕ × ℕ) × Contains drafts draft × (d
 abbrev pub AreDraftsGone : File → List (List ℕ × ℕ) → Type 0
 AreDraftsGone drafts listed = All (λ (draft : List ℕ × ℕ). drafts draft.0 ≡ None) listed
 
--- no draft came
-abbrev pub HasNoMoreDrafts : Device → Device → Type 0
-HasNoMoreDrafts old new = old.is_honest → (path : List ℕ) → old.draft path ≡ None → new.draft path ≡ None
+-- those of a list whose flags are true
+abbrev pub flagged : {X : Type 0} → List X → List Bool → List X
+flagged [] flags = []
+flagged (x ∷ xs) [] = []
+flagged (x ∷ xs) (flag ∷ flags) = if flag then x ∷ flagged xs flags else flagged xs flags
+
+-- exactly these drafts went: each was there and is gone, and each other draft is as it was
+pub record RemovesDrafts (old new : File) (drafts : List (List ℕ × ℕ)) : Type 0 where
+  pub gone : (path : List ℕ) → IsDraftIn drafts path → IsSome (old path) × (new path ≡ None)
+  pub other : (path : List ℕ) → (IsDraftIn drafts path → ⊥) → new path ≡ old path
+
+-- if the flag is true, the draft at the path went, and no other changed; if it is false, none changed
+abbrev pub RemovesIf : Bool → File → File → List ℕ → Type 0
+RemovesIf true old new path = IsSome (old path) × Removes old new path
+RemovesIf false old new path = Same old new
 
 -- no digest has a file unless a key of the graph needs it
 abbrev pub HasOnlyNeeded : File → List Node → Type 0
@@ -96,7 +108,6 @@ pub record Removal {D : Type 0} (device : D → Device) (old new : LayoutState D
   pub memory : SameMemory old new
   pub spared : Spares (device old.dir) (device new.dir) old.graph touched
   pub settled : KeepsSettled (device old.dir) (device new.dir) old.graph
-  pub drafts : HasNoMoreDrafts (device old.dir) (device new.dir)
   pub fault : after ≡ None → before ≡ None
   pub notes : Notes (device old.dir) named before after
   pub failures : (device new.dir).failures ≡ (device old.dir).failures
@@ -134,12 +145,12 @@ pub record OnlyIndex {D : Type 0} (device : D → Device) (old new : LayoutState
   pub spared : Spares (device old.dir) (device new.dir) new.graph (λ path. index_file ≡ path)
   pub sound : IsSound (device old.dir).is_honest (device old.dir).file old.graph → IsSound (device new.dir).is_honest (device new.dir).file new.graph
 
--- the kept keys are held and saved, and no draft came
+-- the kept keys are held and saved, and no draft changed
 pub record IsSaved {D : Type 0} (device : D → Device) (old new : LayoutState D) (plan : PrunePlan) : Type 0 where
   pub kept : new.graph ≡ kept_of plan.kept old.graph
   pub index : plan.removed.items ≢ [] → (device old.dir).is_honest → HasIndex (device new.dir).file new.graph new.tags new.opened
   pub failures : (device new.dir).failures ≡ (device old.dir).failures
-  pub drafts : HasNoMoreDrafts (device old.dir) (device new.dir)
+  pub drafts : (device old.dir).is_honest → Same (device old.dir).draft (device new.dir).draft
 
 -- what holds if a prune was carried out and the index is saved
 abbrev pub OnSaved : Result Pruned PruneFault → Type 0 → Type 0

@@ -38,6 +38,11 @@ IsDeviceFault cause (fault.Layout layout.Device) = cause
 IsDeviceFault cause fault.Memory = Unit {0}
 IsDeviceFault cause other = ⊥
 
+-- a folder of blobs is a link, or that could not be found out
+abbrev pub IsLinkFault : Device → PruneFault → Type 0
+IsLinkFault dir (fault.LinkedBlobs path) = dir.link ≡ Some path.now
+IsLinkFault dir e = IsDeviceFault (dir.fails_reads ≡ true) e
+
 -- the first of these entries that is no descriptor is refused, or memory ran out
 abbrev pub IsEntryFault : List IndexEntry → PruneFault → Type 0
 IsEntryFault entries (fault.Layout e) = IsFirstUnreadable entries e

@@ -61,11 +61,13 @@ abbrev pub IsNoted : Descriptor → Option Descriptor → Referrers → Referrer
 IsNoted k None old new = new ≡ old
 IsNoted k (Some subject) old new = IsAdded k subject.digest old new
 
--- a fetch of the key is refused: it is not held, or its bytes could not be read
+-- a fetch of the key is refused: it is not held, or its bytes could not be read; a sound store is
+-- never called corrupt
 abbrev pub IsRefusedFetch : State → Descriptor → FetchFault → Type 0
 IsRefusedFetch store k fetch.NotFound = has_key store.entries k ≡ false
+IsRefusedFetch store k fetch.Corrupt = (store.fails_at k ≡ true) × (store.is_sound → ⊥)
+IsRefusedFetch store k fetch.Device = store.fails_at k ≡ true
 IsRefusedFetch store k fetch.Memory = ⊥
-IsRefusedFetch store k e = store.fails_at k ≡ true
 
 -- bytes that match the key break the rule that the fault names
 abbrev pub IsUnread : State → Descriptor → ManifestFault → Type 0

@@ -1,10 +1,10 @@
-ghost use Rattle.std.specs.Prelude.{◌≡◌, [], true, List, None, length, IfErr, IfOk, IfSome, IsOk, OnErr};
+ghost use Rattle.std.specs.Prelude.{◌≡◌, [], true, ℕ, List, None, length, IfErr, IfOk, IfSome, IsOk, OnErr};
 ghost use Rattle.oci_layout.specs.Device.{Same};
 ghost use Rattle.oci_layout.specs.Lasts.{Lasts};
 ghost use Rattle.oci_layout.specs.Layout.{SameMemory};
 ghost use Rattle.oci_layout.specs.Prunable.{by_name};
 ghost use Rattle.oci_prune.specs.Plan.{IsLeftoverPlan};
-ghost use Rattle.oci_prune.specs.Pruned.{AreDraftsGone, IsDraftIn};
+ghost use Rattle.oci_prune.specs.Pruned.{AreDraftsGone, IsDraftIn, RemovesDrafts, flagged};
 ghost use Rattle.oci_prune.specs.Refusal.{IsDeviceFault, IsRemovalFault};
 ghost use Rattle.oci_store.specs.Content.{Entry};
 ghost use Rattle.oci_store.specs.Tags.{Tags};
@@ -48,7 +48,8 @@ pub fn plan_leftovers<D: PrunableDir>(
 /// Removes from a layout the drafts of a plan, and nothing else, whatever else is planned. The index
 /// is not written.
 ///
-/// A draft that cannot be removed does not keep the others from being removed.
+/// A draft that cannot be removed does not keep the others from being removed (tested of
+/// [`prune`](crate::prune), which removes drafts by the same function).
 /// [`Pruned::fault`](crate::Pruned) has the first such fault.
 ///
 /// # Errors
@@ -64,6 +65,9 @@ pub fn prune_leftovers<D: PrunableDir>(
         → Same (D.device layout.old.dir).file (D.device layout.new.dir).file }
     ensures gone { IfOk result (λ done. done.fault ≡ None → (D.device layout.old.dir).is_honest
         → AreDraftsGone (D.device layout.new.dir).draft (by_name plan.now.drafts.items)) }
+    ensures flags { IfOk result (λ done. (D.device layout.old.dir).is_honest → RemovesDrafts
+        (D.device layout.old.dir).draft (D.device layout.new.dir).draft
+        (flagged (by_name plan.now.drafts.items) done.drafts.items)) }
     ensures faults { IfOk result (λ done. IfSome done.fault
         (IsRemovalFault (D.device layout.old.dir) (IsDraftIn (by_name plan.now.drafts.items)))) }
     ensures saved { IfOk result (λ done. IsOk done.saved) }

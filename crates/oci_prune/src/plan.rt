@@ -7,7 +7,7 @@ ghost use Rattle.oci_layout.specs.Layout.{manifests_of};
 ghost use Rattle.oci_prune.specs.After.{after_copy};
 ghost use Rattle.oci_prune.specs.Belongs.{AllKnown};
 ghost use Rattle.oci_prune.specs.Plan.{AreKept, IsPlanAfter, IsPrunePlan, IsSafe, RefersIf, roots_of, roots_with};
-ghost use Rattle.oci_prune.specs.Refusal.{IsEntryFault, IsFaultAfter, IsPlanFault, IsPlanFaultFrom, IsUnknownFault};
+ghost use Rattle.oci_prune.specs.Refusal.{IsEntryFault, IsFaultAfter, IsLinkFault, IsPlanFault, IsPlanFaultFrom, IsUnknownFault};
 
 use crate::after::{AfterCopy, held_after};
 use crate::fault::PruneFault;
@@ -119,6 +119,11 @@ pub fn plan_prune<D: PrunableDir>(
         → first_missing layout.now.graph (manifests_of layout.now.opened.damaged) ≡ None
         → unreadable_places (said layout.now.opened.content).entries ≢ []
         → IfErr result (IsEntryFault (said layout.now.opened.content).entries) }
+    ensures fifth { layout.now.tags ≢ [] → layout.now.opened.absent ≡ []
+        → first_missing layout.now.graph (manifests_of layout.now.opened.damaged) ≡ None
+        → unreadable_places (said layout.now.opened.content).entries ≡ []
+        → (D.device layout.now.dir).is_honest → (D.device layout.now.dir).link ≢ None
+        → IfErr result (IsLinkFault (D.device layout.now.dir)) }
     ensures cause { IfErr result (IsPlanFault (D.device layout.now.dir) layout.now keeps_referrers) }
 {
     plan_prune_keeping(alloc, layout, &[], keeps_referrers)
@@ -171,6 +176,11 @@ pub fn plan_prune_keeping<D: PrunableDir>(
         → first_missing layout.now.graph (manifests_of layout.now.opened.damaged) ≡ None
         → unreadable_places (said layout.now.opened.content).entries ≢ []
         → IfErr result (IsEntryFault (said layout.now.opened.content).entries) }
+    ensures fifth { layout.now.tags ≢ [] → layout.now.opened.absent ≡ []
+        → first_missing layout.now.graph (manifests_of layout.now.opened.damaged) ≡ None
+        → unreadable_places (said layout.now.opened.content).entries ≡ []
+        → (D.device layout.now.dir).is_honest → (D.device layout.now.dir).link ≢ None
+        → IfErr result (IsLinkFault (D.device layout.now.dir)) }
     ensures cause { IfErr result (IsPlanFaultFrom (D.device layout.now.dir) layout.now
         (roots_with layout.now keys.now) keeps_referrers) }
 {

@@ -1,8 +1,9 @@
 ghost use Rattle.std.specs.Prelude.{◌≡◌, ◌⊎◌, List, None, Some, IfSome, IfOk, length, map, string_bytes};
 ghost use Rattle.oci_layout.specs.Blobs.{blob_path};
+ghost use Rattle.oci_layout.specs.Device.{Same};
 ghost use Rattle.oci_layout.specs.Lasts.{Lasts};
 ghost use Rattle.oci_layout.specs.Prunable.{by_name};
-ghost use Rattle.oci_prune.specs.Pruned.{is_gone, AllAmong, AreApart, AreDraftsGone, IsDraftIn, IsGone, IsNone, IsOfNoEntry, IsOfNoKey, IsPathAmong, IsThere, Removal};
+ghost use Rattle.oci_prune.specs.Pruned.{is_gone, AllAmong, AreApart, AreDraftsGone, IsDraftIn, IsGone, IsNone, IsOfNoEntry, IsOfNoKey, IsPathAmong, IsThere, Removal, RemovesDrafts, RemovesIf, flagged};
 ghost use Rattle.oci_prune.specs.Refusal.{IsNotRemoved};
 ghost use Rattle.oci_store.specs.Content.{Entry};
 ghost use Rattle.oci_store.specs.Tags.{Tags};
@@ -37,6 +38,8 @@ pub(crate) fn remove_files<D: PrunableDir>(
         → gone.old.items ≡ map (is_gone (D.device layout.old.dir).file) files.now
         → gone.new.items ≡ map (is_gone (D.device layout.new.dir).file) files.now }
     ensures noted { length gone.new.items ≡ length files.now }
+    ensures drafts { (D.device layout.old.dir).is_honest
+        → Same (D.device layout.old.dir).draft (D.device layout.new.dir).draft }
     ensures lasts { (entries : List Entry) (tags : Tags)
         → AllAmong are_held (IsOfNoEntry entries) files.now
         → Lasts (D.device layout.old.dir) entries tags
@@ -69,6 +72,8 @@ fn remove_file<D: PrunableDir>(
         → (file.now.is_held ≡ are_held → IsThere (D.device layout.old.dir).file file.now)
         → was_removed ≡ is_gone (D.device layout.old.dir).file file.now
         → result ≡ is_gone (D.device layout.new.dir).file file.now }
+    ensures drafts { (D.device layout.old.dir).is_honest
+        → Same (D.device layout.old.dir).draft (D.device layout.new.dir).draft }
     ensures lasts { (entries : List Entry) (tags : Tags)
         → (file.now.is_held ≡ are_held → IsOfNoEntry entries file.now)
         → Lasts (D.device layout.old.dir) entries tags
@@ -100,6 +105,9 @@ pub(crate) fn remove_drafts<D: PrunableDir>(
         (IsDraftIn (by_name drafts.now)) fault.old fault.new }
     ensures removed { fault.new ≡ None → (D.device layout.old.dir).is_honest
         → AreDraftsGone (D.device layout.new.dir).draft (by_name drafts.now) }
+    ensures flags { (D.device layout.old.dir).is_honest → RemovesDrafts
+        (D.device layout.old.dir).draft (D.device layout.new.dir).draft
+        (flagged (by_name drafts.now) gone.new.items) }
     ensures noted { length gone.new.items ≡ length drafts.now }
     ensures lasts { (entries : List Entry) (tags : Tags)
         → Lasts (D.device layout.old.dir) entries tags
@@ -122,6 +130,8 @@ fn remove_draft<D: PrunableDir>(
         fault.old fault.new }
     ensures removed { fault.new ≡ None → (D.device layout.old.dir).is_honest
         → (D.device layout.new.dir).draft path.now ≡ None }
+    ensures flag { (D.device layout.old.dir).is_honest → RemovesIf result
+        (D.device layout.old.dir).draft (D.device layout.new.dir).draft path.now }
     ensures lasts { (entries : List Entry) (tags : Tags)
         → Lasts (D.device layout.old.dir) entries tags
         → Lasts (D.device layout.new.dir) entries tags }

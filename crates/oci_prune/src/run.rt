@@ -12,7 +12,7 @@ ghost use Rattle.oci_layout.specs.Index.{index_file, HasIndex};
 ghost use Rattle.oci_layout.specs.Lasts.{Lasts};
 ghost use Rattle.oci_layout.specs.Prunable.{by_name};
 ghost use Rattle.oci_prune.specs.Plan.{AreRemoved, AreUnneeded, IsPrunePlan, roots_of};
-ghost use Rattle.oci_prune.specs.Pruned.{is_gone, kept_of, AllAmong, AreDraftsGone, HasOnlyNeeded, IsGone, IsPathAmong, IsPlanned, IsPlannedUnheld, IsSaved, IsTouchedBy, IsTouchedUnsaved, KeepsReached, OnlyIndex, OnSaved, Removal, Spares, StaysOrDrops};
+ghost use Rattle.oci_prune.specs.Pruned.{is_gone, kept_of, AllAmong, AreDraftsGone, HasOnlyNeeded, IsGone, IsPathAmong, IsPlanned, IsPlannedUnheld, IsSaved, IsTouchedBy, IsTouchedUnsaved, KeepsReached, OnlyIndex, OnSaved, Removal, RemovesDrafts, Spares, StaysOrDrops, flagged};
 ghost use Rattle.oci_prune.specs.Refusal.{IsDeviceFault, IsRemovalFault, MayNotSave};
 ghost use Rattle.oci_prune.specs.Settled.{CanSettle, LeavesOneOf};
 
@@ -85,24 +85,23 @@ impl Pruned {
 ///
 /// No index needs what is removed first, so on a full disk it makes room for the new one.
 ///
-/// A power cut at any moment leaves the layout that was saved before, or the pruned one. The layout
-/// has to hold all that was saved before, and each file of a key that was not has to be on the disk,
-/// as after [`settle_blobs`](oci_layout::Layout::settle_blobs).
+/// A power cut at any moment leaves the layout that was saved before, or the pruned one. For that the
+/// saved index has to be on the disk, as after
+/// [`settle_index`](oci_layout::Layout::settle_index). The layout has to hold all that was saved, and
+/// each file of a key that was not saved has to be on the disk, as after
+/// [`settle_blobs`](oci_layout::Layout::settle_blobs).
 ///
-/// A file that cannot be removed does not keep the others from being removed.
+/// A file that cannot be removed does not keep the others from being removed (tested).
 /// [`Pruned::fault`](crate::Pruned) has the first such fault. If the index cannot be saved,
 /// [`Pruned::saved`](crate::Pruned) has the fault: 74 `Device` if `index.json` could not be written,
 /// or if it is not known whether it is on the disk, and 89 `Memory`. The file of each key that was
 /// held is then there. The layout in memory holds the same keys as before, or only the kept ones.
 /// `index.json` has its old bytes or the kept keys. After a failed sync the old ones may be back if
-/// the machine stops. The next prune syncs it again before it removes a file.
+/// the machine stops, so the index has to be settled before the layout is pruned again.
 ///
 /// # Errors
 ///
-/// - 74 `Device` if it is not known whether the index that is there is on the disk.
-/// - 89 `Memory` if memory runs out before anything is removed.
-///
-/// Nothing is then changed.
+/// 89 `Memory` if memory runs out before anything is removed. Nothing is then changed.
 pub fn prune<D: PrunableDir>(
     alloc: Global,
     layout: &mut Layout<D>,
@@ -148,14 +147,24 @@ pub fn prune<D: PrunableDir>(
     ensures failures { OnSaved result ((D.device layout.new.dir).failures
         ≡ (D.device layout.old.dir).failures) }
 
+    // Exactly the drafts whose flags are true went.
+    ensures draft_flags { IfOk result (λ done. IsOk done.saved
+        → (D.device layout.old.dir).is_honest → RemovesDrafts
+        (D.device layout.old.dir).draft (D.device layout.new.dir).draft
+        (flagged (by_name plan.now.drafts.items) done.drafts.items)) }
+
+    // Also if the index is not saved, the files that no held key has go.
+    ensures unheld { IfOk result (λ done. done.fault ≡ None
+        → (D.device layout.old.dir).is_honest
+        → AllAmong false (IsGone (D.device layout.new.dir).file) plan.now.files.items) }
+
     // If the index is not saved, each key that was held keeps its file.
     ensures unsaved { IfOk result (λ done. OnErr done.saved (Spares (D.device layout.old.dir)
         (D.device layout.new.dir) layout.old.graph (IsTouchedUnsaved plan.now))) }
     ensures unsaved_cause { IfOk result (λ done. IfErr done.saved (IsDeviceFault
         (MayNotSave (D.device layout.old.dir) (D.device layout.new.dir)))) }
     ensures refused { OnErr result (layout.new ≡ layout.old) }
-    ensures cause { IfErr result (IsDeviceFault (MayNotSave (D.device layout.old.dir)
-        (D.device layout.new.dir))) }
+    ensures cause { IfErr result (λ e. e ≡ PruneFault.Memory) }
     ensures faults { IfOk result (λ done. IfSome done.fault
         (IsRemovalFault (D.device layout.old.dir) (IsPlanned plan.now))) }
     ensures flags { IfOk result (λ done. (D.device layout.old.dir).is_honest
@@ -183,7 +192,6 @@ pub fn prune<D: PrunableDir>(
     // The contract of `count` states that no key occurs twice, from which the clause `closed`
     // follows.
     let _ = layout.count();
-    sync_index(layout, plan)?;
     let mut fault = remove_unheld(alloc, layout, plan, &mut files, &mut drafts);
     match save_kept(layout, plan) {
         Ok(()) => {
@@ -211,18 +219,6 @@ pub(crate) fn flags(alloc: Global, count: usize) -> Result<Vec<bool>, NoMemory>
     Ok(vec![in alloc; false; count]?)
 }
 
-/// Waits until the index of a layout is on the disk, if the plan removes a file. A prune that was
-/// killed may have replaced it shortly before.
-fn sync_index<D: PrunableDir>(layout: &Layout<D>, plan: &PrunePlan) -> Result<(), PruneFault>
-    ensures { IfErr result (IsDeviceFault (MayNotSave (D.device layout.now.dir)
-        (D.device layout.now.dir))) }
-{
-    if !plan.files.is_empty() {
-        layout.sync()?;
-    }
-    Ok(())
-}
-
 /// Removes the files of a plan that no held key has, and its drafts, and notes which of them were
 /// removed. Returns the first fault.
 ///
@@ -248,6 +244,9 @@ fn remove_unheld<D: PrunableDir>(
     ensures flags { (D.device layout.old.dir).is_honest
         → files.old.items ≡ map (is_gone (D.device layout.old.dir).file) plan.now.files.items
         → files.new.items ≡ map (is_gone (D.device layout.new.dir).file) plan.now.files.items }
+    ensures went { (D.device layout.old.dir).is_honest → RemovesDrafts
+        (D.device layout.old.dir).draft (D.device layout.new.dir).draft
+        (flagged (by_name plan.now.drafts.items) drafts.new.items) }
     ensures files { length files.new.items ≡ length plan.now.files.items }
     ensures drafts { length drafts.new.items ≡ length plan.now.drafts.items }
     ensures lasts { (entries : List Entry) (tags : Tags)

@@ -1,8 +1,9 @@
-ghost use Rattle.std.specs.Prelude.{◌≡◌, None, IfOk, IfErr, OnOk};
+ghost use Rattle.std.specs.Prelude.{◌≡◌, ◌≢◌, [], None, IfOk, IfErr, OnOk};
 ghost use Rattle.std.specs.Option.{option_copied};
 ghost use Rattle.oci_store.specs.Keyed.{first_missing, has_key};
+ghost use Rattle.oci_layout.specs.Entries.{said, unreadable_places};
 ghost use Rattle.oci_layout.specs.Layout.{manifests_of};
-ghost use Rattle.oci_prune.specs.Refusal.{ChecksWhole, IsCheckFault};
+ghost use Rattle.oci_prune.specs.Refusal.{ChecksWhole, IsCheckFault, IsLinkFault};
 
 use crate::fault::PruneFault;
 use oci_digest::NoMemory;
@@ -18,6 +19,11 @@ pub(crate) fn check_whole<S: Source, D: PrunableDir>(
     layout: &Layout<D>,
 ) -> Result<(), PruneFault>
     ensures whole { ChecksWhole (S.state store.now).nodes layout.now.opened result }
+    ensures linked { layout.now.opened.absent ≡ []
+        → first_missing (S.state store.now).nodes (manifests_of layout.now.opened.damaged) ≡ None
+        → unreadable_places (said layout.now.opened.content).entries ≡ []
+        → (D.device layout.now.dir).is_honest → (D.device layout.now.dir).link ≢ None
+        → IfErr result (IsLinkFault (D.device layout.now.dir)) }
     ensures unlinked { OnOk result ((D.device layout.now.dir).is_honest
         → (D.device layout.now.dir).link ≡ None) }
     ensures cause { IfErr result (IsCheckFault (D.device layout.now.dir)

@@ -24,7 +24,6 @@ loop-place-preserved g c =
         memory = same_memory_both c.args.layout.now c.loop-place.layout c.remove_file.new.layout w.removal.memory did.removal.memory;
         spared = spares_file a b d c.args.layout.now.graph c.loop-place.layout.graph held files i f inside is w.removal.spared w.removal.memory.graph did.removal.spared;
         settled = settled_both a b d c.args.layout.now.graph c.loop-place.layout.graph w.removal.spared.honest.0 w.removal.memory.graph w.removal.settled did.removal.settled;
-        drafts = λ honest path none. did.removal.drafts (w.removal.spared.honest.0 honest) path (w.removal.drafts honest path none);
         fault = λ none. w.removal.fault (did.removal.fault none);
         notes = notes_file a b held files i f c.args.fault.now c.loop-place.fault c.remove_file.new.fault inside is w.removal.spared.reads w.removal.notes did.removal.notes;
         failures = did.removal.failures ∙ w.removal.failures;
@@ -34,6 +33,7 @@ loop-place-preserved g c =
       flags = λ honest right.
           flags_more a b d c.args.layout.now.graph c.loop-place.layout.graph held files i f c.loop-place.gone.items c.index.result.now c.remove_file.result inside is c.index.ensures (c.requires.there honest) (c.requires.apart honest) w.removal.spared did.removal.spared honest
           (w.flags honest right) (did.flag (w.removal.spared.honest.0 honest));
+      drafts = λ honest path. did.drafts (w.removal.spared.honest.0 honest) path ∙ w.drafts honest path;
       noted = length-set c.loop-place.gone.items i c.remove_file.result ∙ w.noted;
       lasts = λ entries tags apart was. did.lasts entries tags (among_at held (IsOfNoEntry entries) files i f inside is apart) (w.lasts entries tags apart was);
     }

@@ -1,4 +1,4 @@
-use Rattle.std.proofs.Common.{◌≡◌, ◌∙◌, ℕ, true, false, List, None, Option, map, inl, inr, replicate, sym, ap, subst, arith}
+use Rattle.std.proofs.Common.{◌≡◌, ◌∙◌, ℕ, true, false, List, get_or, None, Option, map, inl, inr, replicate, sym, ap, subst, arith}
 use Rattle.std.specs.Prelude.{IsSome}
 use Rattle.std.specs.Map.{keys_of}
 use Rattle.oci_store.specs.Closed.{IsClosed}
@@ -10,9 +10,11 @@ use Rattle.oci_layout.specs.Blobs.{stored}
 use Rattle.oci_layout.specs.Index.{index_file}
 use Rattle.oci_layout.specs.Lasts.{Lasts}
 use Rattle.oci_layout.specs.Layout.{LayoutState}
+use Rattle.oci_layout.specs.Prunable.{by_name}
 use Rattle.oci_prune.specs.Plan.{roots_of}
-use Rattle.oci_prune.specs.Pruned.{is_gone, kept_of, AllAmong, AreApart, IsGone, IsPathAmong, IsThere, Removal}
+use Rattle.oci_prune.specs.Pruned.{flagged, is_gone, kept_of, AllAmong, AreApart, IsGone, IsPathAmong, IsThere, Removal}
 use Rattle.oci_prune.specs.declared.plan.PrunedFile.{PrunedFile}
+use Rattle.oci_prune.proofs.Flagging.{removes_still}
 use Rattle.oci_prune.proofs.Leaving.{reached_either, closed_either, closed_left}
 use Rattle.oci_prune.proofs.Results.{all_among, among_all, are_apart, are_there, changed_only, contents_left, flags_indexed, flags_none, has_index-stays, index_apart, only_needed, spares_unsaved, stay_among, stay_indexed, unneeded_after}
 use Rattle.oci_prune.proofs.Settling.{among_apart_held, among_apart_stored, can_settle_spared, left_lasting, left_unsaved, none_or_some}
@@ -74,7 +76,25 @@ returns-in-Ok-clause-contents g c = λ honest.
     contents_left (device c.args.layout.now.dir).file (device c.remove_unheld-fault.new.layout.dir).file (device c.save_kept.new.layout.dir).file (device c.remove_files.new.layout.dir).file c.args.layout.now.graph c.remove_unheld-fault.new.layout.graph
     c.save_kept.new.layout.graph c.remove_files.new.layout.graph c.args.plan.now.kept third.memory.graph c.in-Ok.ensures.saved.kept first.memory.graph (third.spared.contents (second.honest.0 later)) (second.contents later) (first.spared.contents honest)
 
+pub returns-in-Ok-clause-unheld : goal.returns-in-Ok-clause-unheld
+returns-in-Ok-clause-unheld g c = λ none honest.
+    let device = g.D.Dir.device in
+    let left = c.save_kept.new.layout in
+    let new = c.remove_files.new.layout in
+    let a = device c.args.layout.now.dir in
+    let b = device c.remove_unheld-fault.new.layout.dir in
+    let d = device left.dir in
+    let e = device new.dir in
+    let files = c.args.plan.now.files.items in
+    let second = c.in-Ok.ensures.only.spared in
+    let third = subst (λ (fs : List PrunedFile). Removal device left new (IsPathAmong true fs) (IsPathAmong true fs) c.remove_unheld-fault.result c.remove_files.new.fault) c.deref.ensures.value c.remove_files.ensures.removal in
+    let later = c.remove_unheld-fault.ensures.removal.spared.honest.0 honest in
+    let apart = are_apart a.file c.args.layout.now.graph c.args.plan.now.kept files (c.requires.files honest) in
+    let unheld = stay_indexed b d left.graph files later second false (λ (o : Option (List ℕ)). o ≡ None) (c.remove_unheld-fault.ensures.removed (third.fault none) honest) in
+    stay_among false true d e left.graph files (second.honest.0 later) (λ is. cc is) apart third.spared (λ (o : Option (List ℕ)). o ≡ None) unheld
+
 pub returns-in-Ok-clause-files : goal.returns-in-Ok-clause-files
+unfolding returns-in-Ok-clause-unheld
 returns-in-Ok-clause-files g c = λ saved none honest.
     let device = g.D.Dir.device in
     let old = c.args.layout.now in
@@ -89,14 +109,27 @@ returns-in-Ok-clause-files g c = λ saved none honest.
     let first = c.remove_unheld-fault.ensures.removal in
     let second = c.in-Ok.ensures.only.spared in
     let third = subst (λ (fs : List PrunedFile). Removal device left new (IsPathAmong true fs) (IsPathAmong true fs) c.remove_unheld-fault.result c.remove_files.new.fault) c.deref.ensures.value c.remove_files.ensures.removal in
-    let later = first.spared.honest.0 honest in
-    let last = second.honest.0 later in
-    let apart = are_apart a.file old.graph kept files (c.requires.files honest) in
-    let unheld = stay_indexed b d left.graph files later second false (λ (o : Option (List ℕ)). o ≡ None) (c.remove_unheld-fault.ensures.removed (third.fault none) honest) in
-    let gone = all_among (IsGone e.file) files (stay_among false true d e left.graph files last (λ is. cc is) apart third.spared (λ (o : Option (List ℕ)). o ≡ None) unheld)
-    (subst (λ (fs : List PrunedFile). AllAmong true (IsGone e.file) fs) c.deref.ensures.value (c.remove_files.ensures.removed none last)) in
+    let held = subst (λ (fs : List PrunedFile). AllAmong true (IsGone e.file) fs) c.deref.ensures.value (c.remove_files.ensures.removed none (second.honest.0 (first.spared.honest.0 honest))) in
     only_needed a e old.graph new.graph (roots_of old) kept files c.requires.safe (c.requires.files honest) (third.memory.graph ∙ c.in-Ok.ensures.saved.kept ∙ ap (λ (graph : List Node). kept_of kept graph) first.memory.graph)
-    (changed_only a b d e old.graph left.graph files honest first.spared second third.spared) gone
+    (changed_only a b d e old.graph left.graph files honest first.spared second third.spared) (all_among (IsGone e.file) files (returns-in-Ok-clause-unheld g c none honest) held)
+
+pub returns-in-Ok-clause-drafts : goal.returns-in-Ok-clause-drafts
+returns-in-Ok-clause-drafts g c = λ saved none honest place d lt.
+    let path = (get_or (by_name c.args.plan.now.drafts.items) place d).0 in
+    let third = c.remove_files.ensures in
+    let later = c.remove_unheld-fault.ensures.removal.spared.honest.0 honest in
+    third.drafts (c.in-Ok.ensures.only.spared.honest.0 later) path ∙ c.in-Ok.ensures.saved.drafts later path ∙ c.remove_unheld-fault.ensures.gone (third.removal.fault none) honest place d lt
+
+pub returns-in-Ok-clause-draft_flags : goal.returns-in-Ok-clause-draft_flags
+returns-in-Ok-clause-draft_flags g c = λ saved honest.
+    let device = g.D.Dir.device in
+    let a = (device c.args.layout.now.dir).draft in
+    let left = (device c.save_kept.new.layout.dir).draft in
+    let went = flagged (by_name c.args.plan.now.drafts.items) c.remove_unheld-fault.new.drafts.items in
+    let first = c.remove_unheld-fault.ensures in
+    let later = first.removal.spared.honest.0 honest in
+    removes_still a left (device c.remove_files.new.layout.dir).draft went (removes_still a (device c.remove_unheld-fault.new.layout.dir).draft left went (first.went honest) (c.in-Ok.ensures.saved.drafts later))
+    (c.remove_files.ensures.drafts (c.in-Ok.ensures.only.spared.honest.0 later))
 
 pub returns-in-Ok-clause-index : goal.returns-in-Ok-clause-index
 returns-in-Ok-clause-index g c = λ some honest.
@@ -223,3 +256,10 @@ returns-in-Err-clause-left g c = λ entries tags can held.
     let before = can_settle_spared g.D.Dir.device old c.remove_unheld-fault.new.layout (IsPathAmong false c.args.plan.now.files.items) entries tags first.removal.memory first.removal.spared first.removal.settled (first.lasts entries tags held can.lasts) can in
     c.in-Err.ensures.left entries tags before
     (subst (λ (graph : List Node). IsClosed (kept_of c.args.plan.now.kept graph)) (sym first.removal.memory.graph) (closed_left old.graph (roots_of old) c.args.plan.now.kept c.count.ensures.distinct c.requires.safe can.closed))
+
+pub returns-in-Err-clause-unheld : goal.returns-in-Err-clause-unheld
+returns-in-Err-clause-unheld g c = λ none honest.
+    let device = g.D.Dir.device in
+    let first = c.remove_unheld-fault.ensures in
+    stay_indexed (device c.remove_unheld-fault.new.layout.dir) (device c.save_kept.new.layout.dir) c.save_kept.new.layout.graph c.args.plan.now.files.items (first.removal.spared.honest.0 honest) c.in-Err.ensures.only.spared false (λ (o : Option (List ℕ)). o ≡ None)
+    (first.removed none honest)

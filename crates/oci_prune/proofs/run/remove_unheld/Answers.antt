@@ -1,6 +1,7 @@
 use Rattle.std.proofs.Common.{◌≡◌, ◌∙◌, List, None, false, inl, inr, map, refl, sym, subst}
 use Rattle.oci_layout.specs.Prunable.{by_name}
-use Rattle.oci_prune.specs.Pruned.{is_gone, AllAmong, AreApart, IsDraftIn, IsGone, IsNone, IsOfNoEntry, IsOfNoKey, IsPathAmong, IsPlannedUnheld, IsThere, Removal}
+use Rattle.oci_prune.specs.Pruned.{flagged, is_gone, AllAmong, AreApart, IsDraftIn, IsGone, IsNone, IsOfNoEntry, IsOfNoKey, IsPathAmong, IsPlannedUnheld, IsThere, Removal, RemovesDrafts}
+use Rattle.oci_prune.proofs.Flagging.{removes_later}
 use Rattle.oci_prune.proofs.Noting.{notes_both}
 use Rattle.oci_prune.proofs.Sparing.{Drafts, removed_again, same_memory_both, settled_both}
 use Rattle.oci_prune.specs.declared.plan.PrunedFile.{PrunedFile}
@@ -37,7 +38,6 @@ returns-clause-removal g c =
       memory = same_memory_both old mid new first.memory second.memory;
       spared = removed_again device old mid new (IsPathAmong false files) first.spared first.memory.graph second.spared;
       settled = settled_both (device old.dir) (device mid.dir) (device new.dir) old.graph mid.graph first.spared.honest.0 first.memory.graph first.settled second.settled;
-      drafts = λ honest path none. second.drafts (first.spared.honest.0 honest) path (first.drafts honest path none);
       fault = λ none. refl;
       notes = notes_both (device old.dir) (device mid.dir) (IsPathAmong false files) (IsDraftIn (by_name plan.drafts.items)) (IsPlannedUnheld plan) None c.remove_files.new.fault c.remove_drafts.new.fault first.spared.reads first.notes second.notes (λ path h. inl h) (λ path h. inr h);
       failures = second.failures ∙ first.failures;
@@ -65,3 +65,12 @@ returns-clause-lasts g c = λ entries tags held was.
     let files = c.args.plan.now.files.items in
     let apart = among_apart_held false graph entries files held (unheld_of_no_key (g.D.Dir.device c.args.layout.now.dir).file graph c.args.plan.now.kept files (c.requires.planned was.is_honest)) in
     c.remove_drafts.ensures.lasts entries tags (c.remove_files.ensures.lasts entries tags (subst (λ (fs : List PrunedFile). AllAmong false (IsOfNoEntry entries) fs) (sym c.deref.ensures.value) apart) was)
+
+pub returns-clause-went : goal.returns-clause-went
+returns-clause-went g c = λ honest.
+    let device = g.D.Dir.device in
+    let mid = (device c.remove_files.new.layout.dir).draft in
+    let new = (device c.remove_drafts.new.layout.dir).draft in
+    let flags = c.remove_drafts.new.gone.items in
+    removes_later (device c.args.layout.now.dir).draft mid new (flagged (by_name c.args.plan.now.drafts.items) flags) (c.remove_files.ensures.drafts honest)
+    (subst (λ (ds : Drafts). RemovesDrafts mid new (flagged (by_name ds) flags)) c.deref-2.ensures.value (c.remove_drafts.ensures.flags (c.remove_files.ensures.removal.spared.honest.0 honest)))

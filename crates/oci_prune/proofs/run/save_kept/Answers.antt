@@ -21,7 +21,7 @@ returns-then-is_empty-clause-saved g c =
       kept = whole_left c.args.layout.now.graph c.args.plan.now.kept removed.items c.requires.removed none;
       index = λ some. absurd (some none);
       failures = refl;
-      drafts = λ honest path gone. gone;
+      drafts = λ honest path. refl;
     }
 
 pub retain-requires : goal.retain-requires
