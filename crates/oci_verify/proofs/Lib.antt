@@ -1,0 +1,3 @@
+pub mod Intact
+pub mod Corrupt
+pub mod Crosses

@@ -1,0 +1,36 @@
+use crate::file_check::is_corrupt;
+use crate::watcher::FileWatcher;
+use oci_layout::{Dir, Layout};
+use oci_pool::{Job, Pass};
+use oci_store::FetchFault;
+
+/// The job of each held key: to check its file. The number of a key is its place in the layout.
+#[derive(Drop)]
+pub(crate) struct FileCheck<'a, D: Dir, W> {
+    pub(crate) layout: &'a Layout<D>,
+    pub(crate) watcher: &'a W,
+}
+
+impl<'a, D: Dir + Sync, W: FileWatcher + Sync> Job for FileCheck<'a, D, W> {
+    /// Whether the file does not match the key.
+    type Out = bool;
+
+    type Fault = FetchFault;
+
+    ghost use Rattle.oci_verify.specs.Corrupt.{IsAnswer};
+    ghost use Rattle.oci_verify.specs.Fault.{IsHeldFault};
+
+    ghost answers = { λ j k corrupt. IsAnswer (D.device j.layout.now.dir) j.layout.now.graph k
+        corrupt };
+
+    ghost fails = { λ j k f. IsHeldFault (D.device j.layout.now.dir) f };
+
+    fn run(&self, number: u32, _pass: Pass) -> Result<bool, FetchFault> {
+        let Some(key) = self.layout.key(number as usize) else {
+            return Ok(false);
+        };
+        let is_corrupt = is_corrupt(self.layout, key, self.watcher)?;
+        self.watcher.file_checked();
+        Ok(is_corrupt)
+    }
+}
