@@ -1,3 +1,4 @@
 pub mod Named
 pub mod Preferred
 pub mod Stated
+pub mod Naming

@@ -23,6 +23,8 @@ use Rattle.oci_store.specs.declared.fault.FetchFault.TheVariants as fetch
 use Rattle.oci_store.specs.declared.fault.PushFault.{PushFault}
 use Rattle.oci_store.specs.declared.fault.PushFault.TheVariants as push
 use Rattle.oci_store.specs.declared.fault.RefFault.TheVariants as reference
+use Rattle.oci_verify.specs.Fault.{number_of as verify_number}
+use Rattle.oci_verify.specs.declared.fault.VerifyFault.TheVariants as verify
 use Rattle.oci_program.specs.declared.answer.Form.{Form}
 use Rattle.oci_program.specs.declared.answer.Form.TheVariants as form
 use Rattle.oci_program.specs.declared.outcome.Outcome.{Outcome}
@@ -46,6 +48,7 @@ is_memory (fault.Source prune.Memory) = true
 is_memory (fault.Source (prune.Layout layout.Memory)) = true
 is_memory (fault.Reference reference.Memory) = true
 is_memory (fault.Fetch fetch.Memory) = true
+is_memory (fault.Verify verify.Memory) = true
 is_memory fault.Memory = true
 is_memory e = false
 
@@ -89,6 +92,7 @@ program_number (fault.Prune e) = Some (prune_number e)
 program_number (fault.Source e) = Some (prune_number e)
 program_number (fault.Reference e) = Some (reference_number e)
 program_number (fault.Fetch e) = Some (fetch_number e)
+program_number (fault.Verify e) = Some (verify_number e)
 program_number fault.Memory = None
 
 -- the numbers of a refused push: its own, and that of the manifest's fault if there is one

@@ -10,6 +10,7 @@ use oci_layout::{FirstFailure, LayoutFault};
 use oci_manifest::KeyFault;
 use oci_prune::PruneFault;
 use oci_store::{FetchFault, PushFault, RefFault};
+use oci_verify::VerifyFault;
 use std::alloc::{AllocError, AllocFailed};
 use std::fmt::Display;
 use std::{fmt, io};
@@ -83,6 +84,9 @@ pub enum ProgramFault {
     /// A file of the layout could not be read.
     #[error("{0}")]
     Fetch(#[from] FetchFault),
+    /// The files of the layout were not checked.
+    #[error("{0}")]
+    Verify(#[from] VerifyFault),
     /// Out of memory.
     #[error("memory")]
     Memory,
@@ -141,6 +145,7 @@ impl ProgramFault {
             ProgramFault::Source(fault) => is_prune_memory(fault),
             ProgramFault::Reference(fault) => matches!(fault, RefFault::Memory),
             ProgramFault::Fetch(fault) => matches!(fault, FetchFault::Memory),
+            ProgramFault::Verify(fault) => matches!(fault, VerifyFault::Memory),
             ProgramFault::Memory => true,
             _ => false,
         }
@@ -168,6 +173,7 @@ impl ProgramFault {
             ProgramFault::Source(fault) => Some(fault.number()),
             ProgramFault::Reference(fault) => Some(fault.number()),
             ProgramFault::Fetch(fault) => Some(fault.number()),
+            ProgramFault::Verify(fault) => Some(fault.number()),
             ProgramFault::Memory => None,
         }
     }

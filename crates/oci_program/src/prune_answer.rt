@@ -1,7 +1,9 @@
-ghost use Rattle.std.specs.Prelude.{◌≡◌, None, Some, IfOk, IfSome, OnOk};
+ghost use Rattle.std.specs.Prelude.{◌≡◌, ◌++◌, ◌-◌, ◌^◌, map, min, string_bytes, sum_by, None, Some, IfOk, IfSome, OnOk};
 ghost use Rattle.std.specs.Fmt.{DisplaysOnOk};
 ghost use Rattle.std.specs.Io.KnownBytes.{Appends};
-ghost use Rattle.oci_program.specs.Pruned.{counts_line, file_line, file_lines, ShowsPlan, ShowsPruned};
+ghost use Rattle.oci_layout.specs.Prunable.{by_name};
+ghost use Rattle.oci_prune.specs.Pruned.{flagged};
+ghost use Rattle.oci_program.specs.Pruned.{as_shown, counts_line, file_line, file_lines, of_draft, of_file, shown, ShowsPlan, ShowsPruned};
 
 use crate::answer::{Form, print_answer};
 use crate::fault::ProgramFault;
@@ -131,6 +133,29 @@ fn fmt_files<W: fmt::Write>(files: &[RemovedFile], f: &mut fmt::Formatter<W>) ->
 }
 
 impl RemovedFile {
+    /// The removed file of a planned one.
+    fn of_file(alloc: Global, file: &PrunedFile) -> Result<RemovedFile, NoMemory>
+        ensures { IfOk result (λ it. as_shown it ≡ of_file file.now) }
+    {
+        Ok(RemovedFile {
+            path: file.path(alloc)?,
+            length: file.length,
+            is_held: file.is_held,
+        })
+    }
+
+    /// The removed file of a draft. No held key has a draft.
+    fn of_draft(draft: (String, u64)) -> RemovedFile
+        ensures { as_shown result ≡ of_draft (string_bytes draft.0, draft.1) }
+    {
+        let (path, length) = draft;
+        RemovedFile {
+            path,
+            length,
+            is_held: false,
+        }
+    }
+
     /// Prints the line of the file, if no held key had it.
     fn fmt_unheld<W: fmt::Write>(&self, f: &mut fmt::Formatter<W>) -> fmt::Result
         ensures { DisplaysOnOk W.write_str_gives f.old result (Some (file_line self.now)) f.new }
@@ -148,14 +173,13 @@ fn add_files(
     files: &[PrunedFile],
     went: &[bool],
     gone: &mut Vec<RemovedFile>,
-) -> Result<(), NoMemory> {
+) -> Result<(), NoMemory>
+    ensures { OnOk result (shown gone.new.items
+        ≡ shown gone.old.items ++ map of_file (flagged files.now went.now)) }
+{
     for (file, went) in files.iter().zip(went.iter()) {
         if *went {
-            gone.push(RemovedFile {
-                path: file.path(alloc)?,
-                length: file.length,
-                is_held: file.is_held,
-            })?;
+            gone.push(RemovedFile::of_file(alloc, file)?)?;
         }
     }
     Ok(())
@@ -166,21 +190,22 @@ fn add_drafts(
     drafts: Vec<(String, u64)>,
     went: &[bool],
     gone: &mut Vec<RemovedFile>,
-) -> Result<(), NoMemory> {
-    for ((path, length), went) in drafts.into_iter().zip(went.iter()) {
-        if *went {
-            gone.push(RemovedFile {
-                path,
-                length,
-                is_held: false,
-            })?;
+) -> Result<(), NoMemory>
+    ensures { OnOk result (shown gone.new.items
+        ≡ shown gone.old.items ++ map of_draft (flagged (by_name drafts.items) went.now)) }
+{
+    for (draft, is_gone) in drafts.into_iter().zip(went.iter()) {
+        if *is_gone {
+            gone.push(RemovedFile::of_draft(draft))?;
         }
     }
     Ok(())
 }
 
 /// The sum of the lengths of some files.
-fn sum_of_lengths(files: &[RemovedFile]) -> Sum {
+fn sum_of_lengths(files: &[RemovedFile]) -> Sum
+    ensures { result.0 ≡ min (sum_by (λ f. f.length) (shown files.now)) (2 ^ 128 - 1) }
+{
     let mut sum = 0u128;
     for file in files {
         sum = sum.saturating_add(u128::from(file.length));

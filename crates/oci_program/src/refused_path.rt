@@ -7,6 +7,7 @@ use oci_manifest::Key;
 use oci_plan::PlanFault;
 use oci_prune::PruneFault;
 use oci_store::{FetchFault, PushFault};
+use oci_verify::VerifyFault;
 use std::alloc::Global;
 use std::io;
 
@@ -107,6 +108,7 @@ impl ProgramFault {
             ProgramFault::Source(fault) => Some((Role::Read, part_of_prune(fault))),
             ProgramFault::NoMatch => Some((Role::Read, Part::Whole)),
             ProgramFault::Fetch(_) => Some((Role::Read, Part::Failed(None))),
+            ProgramFault::Verify(VerifyFault::Device) => Some((Role::Read, Part::Failed(None))),
             ProgramFault::File(path) => Some((Role::Read, Part::Named(path))),
             ProgramFault::Destination(fault) => Some((Role::Written, part_of_layout(fault))),
             ProgramFault::Prune(fault) => Some((Role::Written, part_of_prune(fault))),

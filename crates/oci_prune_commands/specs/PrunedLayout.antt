@@ -1,5 +1,5 @@
 -- What `prune` does to the layout in a directory, and what it prints.
-use Rattle.std.specs.Prelude.{◌≡◌, ◌≢◌, ℕ, List, Bool, true, false, [], None, IsOk, OnOk, filter}
+use Rattle.std.specs.Prelude.{◌≡◌, ◌≢◌, ℕ, List, Bool, true, false, [], None, IsOk, OnOk, filter, map}
 use Rattle.std.specs.BTreeSet.{contains}
 use Rattle.oci_command_line.specs.declared.changing.PruneWords.{PruneWords}
 use Rattle.oci_manifest.specs.Descriptor.{key_cmp}
@@ -11,7 +11,7 @@ use Rattle.oci_layout.specs.Meaning.{meaning}
 use Rattle.oci_layout.specs.Prunable.{by_name}
 use Rattle.oci_layout.specs.Opened.{IsOpenedAsIs}
 use Rattle.oci_prune.specs.Plan.{AreKept, IsLeftoverPlan, IsPrunePlan, RefersIf, roots_of}
-use Rattle.oci_prune.specs.Pruned.{kept_of, AreDraftsGone, HasOnlyNeeded, IsTouchedBy}
+use Rattle.oci_prune.specs.Pruned.{flagged, is_gone, kept_of, AreDraftsGone, HasOnlyNeeded, IsTouchedBy, RemovesDrafts}
 use Rattle.oci_prune.specs.declared.plan.PrunePlan.{PrunePlan}
 use Rattle.oci_prune.specs.declared.run.Pruned.{Pruned}
 use Rattle.oci_program.specs.Pruned.{ShowsPlan, ShowsPruned}
@@ -46,7 +46,8 @@ pub record IsDryPrune {D : Type 0} (device : D → Device) (dir : D) (words : Pr
 -- The keys of a plan, which are those that the tags need, with referrers or without, are left with
 -- their bytes, and the tags stay. If the index is saved without the others, it says so; without a
 -- fault no digest has a file that these keys do not need, and the planned drafts are gone. Only the
--- index and planned files change.
+-- index and planned files change. In an honest directory the flags of the files, and, if the index is
+-- saved, those of the drafts, are true exactly for what went.
 pub record KeepsNeeded {D : Type 0} (device : D → Device) (keeps : Bool) (old new : LayoutState D) (plan : PrunePlan) (done : Pruned) : Type 0 where
   pub planned : PlansNeeded device keeps old plan
   pub tags : new.tags ≡ old.tags
@@ -56,13 +57,17 @@ pub record KeepsNeeded {D : Type 0} (device : D → Device) (keeps : Bool) (old 
   pub files : IsOk done.saved → done.fault ≡ None → (device old.dir).is_honest → HasOnlyNeeded (device new.dir).file new.graph
   pub drafts : IsOk done.saved → done.fault ≡ None → (device old.dir).is_honest → AreDraftsGone (device new.dir).draft (by_name plan.drafts.items)
   pub other : (device old.dir).is_honest → (path : List ℕ) → (IsTouchedBy plan path → ⊥) → (device new.dir).file path ≡ (device old.dir).file path
+  pub flags : (device old.dir).is_honest → done.files.items ≡ map (is_gone (device new.dir).file) plan.files.items
+  pub draft_flags : IsOk done.saved → (device old.dir).is_honest → RemovesDrafts (device old.dir).draft (device new.dir).draft (flagged (by_name plan.drafts.items) done.drafts.items)
 
--- the layout and its files are the same, and without a fault no draft is left that was there
+-- the layout and its files are the same, exactly the drafts whose flags are true went, and without a
+-- fault no draft is left that was there
 pub record LosesLeftovers {D : Type 0} (device : D → Device) (old new : LayoutState D) (plan : PrunePlan) (done : Pruned) : Type 0 where
   pub planned : IsLeftoverPlan (device old.dir) old.graph plan
   pub memory : SameMemory old new
   pub files : (device old.dir).is_honest → Same (device old.dir).file (device new.dir).file
   pub gone : done.fault ≡ None → (device old.dir).is_honest → AreDraftsGone (device new.dir).draft (by_name plan.drafts.items)
+  pub flags : (device old.dir).is_honest → RemovesDrafts (device old.dir).draft (device new.dir).draft (flagged (by_name plan.drafts.items) done.drafts.items)
 
 -- a layout was pruned as the words of the command ask for
 pub record IsPrunedBy {D : Type 0} (device : D → Device) (words : PruneWords) (old new : LayoutState D) (plan : PrunePlan) (done : Pruned) : Type 0 where

@@ -79,7 +79,3 @@ pub record IsUntagRun {D : Type 0} (device : D → Device) (dir : D) (name : Lis
   pub is_opened : IsOpenedSettled device dir opened
   pub left : LayoutState D
   pub untagged : IsUntagged device name opened left key keys
-
--- the layout in a directory was opened, and left without a name
-abbrev pub IsLeftWithout : {D : Type 0} → (D → Device) → D → List ℕ → Type 0
-IsLeftWithout device dir name = (key : Option Descriptor) × (keys : List (Option Descriptor)) × IsUntagRun device dir name key keys

@@ -35,7 +35,7 @@ use std::rt::Files;
 ///
 /// # Errors
 ///
-/// With all but 74, 79 and 94 nothing is changed.
+/// With all but 74, 79, 94 and a memory error nothing is changed.
 ///
 /// - 70 to 74 if the directory has no layout, or it cannot be read; 74 also if the folder cannot be
 ///   locked, if `index.json` cannot be written, or if it is not known whether it is on the disk. If
