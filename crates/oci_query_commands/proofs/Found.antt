@@ -1,6 +1,6 @@
 -- What `verify` finds.
 use Rattle.std.proofs.Common.{◌≡◌, ℕ, zero, suc, ◌+◌, ◌<◌, ◌≤◌, Bool, true, false, cond, not, ◌||◌, List, [], ◌∷◌, ◌++◌, map, length, drop, get_or, slice_get, option_map, Option, Some, None, refl, sym, ap, subst, ◌∙◌, append_assoc, append-nil, arith}
-use Rattle.std.specs.Prelude.{Contains, find, is_some, option_and_then}
+use Rattle.std.specs.Prelude.{Contains, is_some, option_and_then}
 use Rattle.std.specs.BTreeSet.{BTreeSet, contains}
 use Rattle.std.specs.List.{All}
 use Rattle.std.specs.Map.{lookup}

@@ -19,11 +19,12 @@ use Rattle.oci_store.specs.Tags.{Tags}
 use Rattle.oci_store.proofs.Lookups.{found, All-value_at}
 use Rattle.oci_query_commands.specs.Answered.{AreReadable}
 use Rattle.oci_query_commands.specs.Found.{AreFindings}
-use Rattle.oci_query_commands.specs.Intact.{is_matching, HasFiles}
-use Rattle.oci_query_commands.specs.Verified.{AreCorrupt, FindsNothing, IsWhole, IsVerified}
+use Rattle.oci_verify.specs.Corrupt.{AreCorrupt}
+use Rattle.oci_verify.specs.Intact.{is_matching, HasFiles}
+use Rattle.oci_verify.proofs.Intact.{Decides-is_match}
+use Rattle.oci_query_commands.specs.Verified.{FindsNothing, IsWhole, IsVerified}
 use Rattle.oci_query_commands.specs.declared.verify.Findings.{Findings}
 use Rattle.oci_query_commands.proofs.Found.{closed-from_found, found-from_closed}
-use Rattle.oci_query_commands.proofs.Intact.{Decides-is_match}
 
 abbrev IsThere : File → Node → Type 0
 IsThere file n = IsSome (file (blob_path n.0.digest))

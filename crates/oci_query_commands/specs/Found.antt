@@ -10,8 +10,8 @@ use Rattle.oci_store.specs.Closed.{with_predecessor}
 use Rattle.oci_store.specs.Graph.{Node}
 use Rattle.oci_store.specs.Keyed.{has_key}
 use Rattle.oci_program.specs.declared.answer.Tagged.{Tagged}
-use Rattle.oci_query_commands.specs.Intact.{HasFiles}
-use Rattle.oci_query_commands.specs.Verified.{AreCorrupt}
+use Rattle.oci_verify.specs.Corrupt.{AreCorrupt}
+use Rattle.oci_verify.specs.Intact.{HasFiles}
 use Rattle.oci_query_commands.specs.declared.verify.Findings.{Findings}
 use Rattle.oci_query_commands.specs.declared.verify.Open.{Open}
 

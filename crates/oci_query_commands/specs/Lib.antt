@@ -2,7 +2,6 @@ pub mod Verified
 pub mod Answered
 pub mod Named
 pub mod Listed
-pub mod Intact
 pub mod Found
 pub mod Lines
 pub mod Printed

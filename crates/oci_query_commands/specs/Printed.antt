@@ -24,7 +24,7 @@ PrintsAnswer dir graph tags index (query.Tags lists_all) old new = Prints (AreTa
 PrintsAnswer dir graph tags index (query.Resolve reference platform) old new = Prints (IsNamed dir graph tags reference.now (option_copied platform)) key_line old new
 PrintsAnswer dir graph tags index (query.Predecessors reference types) old new = Prints (ArePredecessorsOf (meaning dir graph tags) reference.now (map (λ t. t.now) types.items)) key_lines old new
 PrintsAnswer dir graph tags index (query.Tree reference platform shows_referrers) old new = Unit {0}
-PrintsAnswer dir graph tags index (query.Verify shows_progress) old new = Prints (AreFindings dir graph index) findings_text old new
+PrintsAnswer dir graph tags index (query.Verify workers shows_progress) old new = Prints (AreFindings dir graph index) findings_text old new
 
 -- a layout can be opened in a directory, and the lines of its answer to a query were appended
 pub record PrintsAnswerOf (dir : Device) (query : Query) (old new : Option (List ℕ)) : Type 0 where

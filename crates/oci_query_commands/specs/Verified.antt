@@ -1,28 +1,24 @@
 -- Layouts in which `verify` finds nothing wrong (OCI image specification 1.1, image-layout.md).
-use Rattle.std.specs.Prelude.{◌≡◌, ◌↔◌, ◌⊎◌, Bool, true, false, List, [], None, Contains}
+use Rattle.std.specs.Prelude.{◌≡◌, Bool, true, false, List, [], None}
 use Rattle.std.specs.List.{All}
-use Rattle.std.specs.List.Sorted.{IsStrictlySortedBy}
 use Rattle.oci_command_line.specs.declared.request.Query.{Query}
 use Rattle.oci_command_line.specs.declared.request.Query.TheVariants as query
 use Rattle.oci_layout.specs.Blobs.{blob_at, HasMatchingFiles}
-use Rattle.oci_layout.specs.Device.{Device, File}
+use Rattle.oci_layout.specs.Device.{Device}
 use Rattle.oci_layout.specs.Layout.{OpenedIndex}
 use Rattle.oci_layout.specs.Opened.{IsOpenedAsIs}
-use Rattle.oci_manifest.specs.Descriptor.{Descriptor, key_cmp}
 use Rattle.oci_store.specs.Closed.{IsClosed}
 use Rattle.oci_store.specs.Content.{Matches}
 use Rattle.oci_store.specs.Graph.{Node}
-use Rattle.oci_store.specs.Keyed.{has_key}
 use Rattle.oci_store.specs.Tags.{Tags}
 use Rattle.oci_program.specs.declared.outcome.Outcome.{Outcome}
 use Rattle.oci_program.specs.declared.outcome.Outcome.TheVariants as outcome
 use Rattle.oci_query_commands.specs.Answered.{AreReadable}
-use Rattle.oci_query_commands.specs.Intact.{is_matching}
 use Rattle.oci_query_commands.specs.declared.verify.Findings.{Findings}
 
 -- whether the command is `verify`
 abbrev pub is_verify : Query → Bool
-is_verify (query.Verify shows_progress) = true
+is_verify (query.Verify workers shows_progress) = true
 is_verify other = false
 
 -- the outcome of a command is that of a `verify` which finds nothing
@@ -69,12 +65,6 @@ pub record IsFaulty (dir : Device) : Type 0 where
   pub index : OpenedIndex
   pub opened : IsOpenedAsIs dir.file graph tags index
   pub wrong : IsWhole dir graph index → ⊥
-
--- these are the keys with damaged files, and the held keys whose files do not match them, each once,
--- in key order
-pub record AreCorrupt (file : File) (graph : List Node) (damaged : List Descriptor) (keys : List Descriptor) : Type 0 where
-  pub each : (k : Descriptor) → Contains keys k ↔ (Contains damaged k ⊎ ((has_key graph k ≡ true) × (is_matching file k ≡ false)))
-  pub order : IsStrictlySortedBy key_cmp keys
 
 -- no key is absent or corrupt, and none lists a key without a file
 abbrev pub FindsNothing : Findings → Type 0

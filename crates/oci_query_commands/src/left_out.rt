@@ -64,12 +64,16 @@ pub(crate) fn print_answer_of_all<D: Dir, T: Display + Serialize + Drop, W: Writ
 }
 
 /// Prints an answer that speaks of all files of a layout, also of the damaged ones, and then refuses
-/// the command in the same way if an entry of the index is no descriptor.
+/// the command if an entry of the index is no descriptor. As lines, the refusals of all such entries
+/// but the last are printed on `err`, in the order of the index, and the last is returned. As JSON
+/// the first is returned, and no other is told.
 ///
 /// # Errors
 ///
-/// As of [`print_answer_of_all`], but for damaged manifests.
-pub(crate) fn print_findings_of_all<D: Dir, T: Display + Serialize + Drop, W: Write, X: Write>(
+/// - 73 `BadIndex` if an entry is no descriptor. The answer is printed and `out` is flushed before.
+/// - 94 `Output` if `out` cannot be written.
+/// - Out of memory, at any point.
+pub fn print_findings_of_all<D: Dir, T: Display + Serialize + Drop, W: Write, X: Write>(
     alloc: Global,
     layout: &Layout<D>,
     answer: T,

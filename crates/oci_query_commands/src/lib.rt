@@ -6,9 +6,12 @@
 //! need it. `tags`, `predecessors`, and `tree` with referrers, which speak of a whole layout, print
 //! what they know of the blobs that it holds, and then refuse each such entry and each damaged
 //! manifest. `verify` reports each damaged file, and then refuses each such entry.
+//!
+//! `repair` checks a layout as `verify` does, so it shares [`Progress`], [`number_of_workers`] and
+//! [`print_findings_of_all`].
 #![tactic(auto)]
 
-mod file_check;
+mod checking;
 mod left_out;
 mod listing;
 mod named;
@@ -16,4 +19,6 @@ mod query;
 mod tree;
 mod verify;
 
+pub use checking::{Progress, number_of_workers};
+pub use left_out::print_findings_of_all;
 pub use query::run_query;

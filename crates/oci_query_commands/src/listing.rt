@@ -1,9 +1,5 @@
-ghost use Rattle.std.specs.Prelude.{◌≡◌, ◌↔◌, ◌⊎◌, ◌∷◌, ◌++◌, [], true, map, filter, Some, Contains, option_copied, IfErr, IfOk, OnOk};
-ghost use Rattle.std.specs.BTreeSet.{contains};
-ghost use Rattle.oci_layout.specs.Entries.{entry_of};
+ghost use Rattle.std.specs.Prelude.{◌≡◌, ◌∷◌, ◌++◌, [], map, filter, Some, option_copied, IfErr, IfOk, OnOk};
 ghost use Rattle.oci_layout.specs.Meaning.{meaning};
-ghost use Rattle.oci_layout.specs.Saved.{no_name, unnamed_keys};
-ghost use Rattle.oci_manifest.specs.Descriptor.{Descriptor, key_cmp};
 ghost use Rattle.oci_store.specs.Keyed.{has_key};
 ghost use Rattle.oci_store.specs.Tags.{by_bytes};
 ghost use Rattle.oci_query_commands.specs.Listed.{listing_of, named_listing, unnamed_listing, ArePredecessors, ArePredecessorsOf, AreTags};
@@ -11,14 +7,13 @@ ghost use Rattle.oci_query_commands.specs.Named.{IsNamed, IsNamedFault};
 
 use crate::named::named_key;
 use oci_digest::NoMemory;
-use oci_layout::{Dir, IndexEntry, Layout};
+use oci_layout::{Dir, Layout, unnamed_keys};
 use oci_manifest::Key;
 use oci_program::{ProgramFault, resolve};
 use oci_prune::referrers_of_types;
 use oci_store::{Dest, GraphSource, keys_of_set};
 use serde::Serialize;
 use std::alloc::Global;
-use std::collections::BTreeSet;
 use std::fmt;
 
 /// The tags of a layout and their keys, in byte order of the tags, and then keys without a tag, in
@@ -104,34 +99,6 @@ fn add_if_held<D: Dir>(
         tag: None,
         descriptor: key,
     })?;
-    Ok(())
-}
-
-/// Returns the keys of the entries that have no name.
-fn unnamed_keys(alloc: Global, entries: &[IndexEntry]) -> Result<BTreeSet<Key>, NoMemory>
-    ensures { IfOk result (λ set. (k : Descriptor) → (contains key_cmp set k ≡ true)
-        ↔ Contains (unnamed_keys (map entry_of entries.now)) k) }
-{
-    let mut unnamed = BTreeSet::new(alloc);
-    for entry in entries {
-        add_unnamed(entry, &mut unnamed)?;
-    }
-    Ok(unnamed)
-}
-
-/// Adds the key of an entry, if that has one, and no name.
-fn add_unnamed(entry: &IndexEntry, unnamed: &mut BTreeSet<Key>) -> Result<(), NoMemory>
-    ensures { OnOk result ((k : Descriptor) → (contains key_cmp unnamed.new k ≡ true)
-        ↔ ((contains key_cmp unnamed.old k ≡ true)
-        ⊎ (((entry_of entry.now).key ≡ Some k) × (no_name (entry_of entry.now).name ≡ true)))) }
-{
-    if entry.has_name() {
-        return Ok(());
-    }
-    let Some(key) = &entry.key else {
-        return Ok(());
-    };
-    unnamed.insert(key.try_clone()?)?;
     Ok(())
 }
 

@@ -2,7 +2,7 @@ ghost use Rattle.std.specs.Prelude.{◌≡◌, ◌↔◌, true, map, option_copi
 ghost use Rattle.oci_layout.specs.Meaning.{meaning};
 ghost use Rattle.oci_query_commands.specs.Answered.{is_of_all, IsReadable, LeavesNothingOut};
 ghost use Rattle.oci_query_commands.specs.Found.{AreFindings};
-ghost use Rattle.oci_query_commands.specs.Intact.{HasFiles};
+ghost use Rattle.oci_verify.specs.Intact.{HasFiles};
 ghost use Rattle.oci_query_commands.specs.Lines.{findings_text, key_line, key_lines, listing_lines};
 ghost use Rattle.oci_query_commands.specs.Listed.{ArePredecessorsOf, AreTags};
 ghost use Rattle.oci_query_commands.specs.Named.{IsNamed};
@@ -21,6 +21,7 @@ use oci_program::{Form, Outcome, ProgramFault, print_answer};
 use std::alloc::Global;
 use std::io::Write;
 use std::sync::Wait;
+use std::thread::Threads;
 use std::time::Clock;
 
 /// Opens the layout in a directory, and prints its answer to the query on `out` in this form.
@@ -52,15 +53,19 @@ use std::time::Clock;
 /// - 21 `Corrupt` if `tree` reads a referrer whose file does not match its key, or if the file of an
 ///   index that is asked for a platform does not.
 /// - 22 `Device` if a blob cannot be read by `resolve`, `tree` or `verify`.
+/// - 61 `Incomplete` if `verify` did not check a blob. This was never seen.
+/// - 62 `BadWorkers` if `verify` is asked for more than 64 workers. No blob is read.
 /// - 94 `Output` if `out` cannot be written.
 /// - Out of memory, at any point.
 pub fn run_query<
-    R: AllocGlobal + Clock + Wait,
-    D: Dir + Drop,
+    R: AllocGlobal + Clock + Threads + Wait + Sync,
+    D: Dir + Drop + Sync,
     W: Write,
-    X: Write,
+    X: Write + Send,
     F: From<ProgramFault>,
 >(rt: &R, dir: D, query: &Query<'_>, form: Form, out: &mut W, err: &mut X) -> Result<Outcome, F>
+where
+    D::Draft: Send,
     // If the directory returns what was written into it, the outcome of `verify` is `Good` only if
     // nothing is wrong with the layout, and `Faulty` only if something is.
     ensures verified { IfOk result (λ outcome. IsGoodVerify query.now outcome
@@ -85,7 +90,12 @@ pub fn run_query<
 }
 
 /// Prints the answer of a layout to a query.
-fn answer_from<R: AllocGlobal + Clock + Wait, D: Dir, W: Write, X: Write>(
+fn answer_from<
+    R: AllocGlobal + Clock + Threads + Wait + Sync,
+    D: Dir + Sync,
+    W: Write,
+    X: Write + Send,
+>(
     rt: &R,
     layout: &Layout<D>,
     query: &Query<'_>,
@@ -93,6 +103,8 @@ fn answer_from<R: AllocGlobal + Clock + Wait, D: Dir, W: Write, X: Write>(
     out: &mut W,
     err: &mut X,
 ) -> Result<Outcome, ProgramFault>
+where
+    D::Draft: Send,
     ensures verified { IfOk result (λ outcome. is_verify query.now ≡ true
         → HasFiles (D.device layout.now.dir) layout.now.graph → (outcome ≡ Outcome.Good)
         ↔ IsWhole (D.device layout.now.dir) layout.now.graph layout.now.opened) }
@@ -120,9 +132,10 @@ fn answer_from<R: AllocGlobal + Clock + Wait, D: Dir, W: Write, X: Write>(
             let root = named_key(layout, reference, *platform)?;
             print_tree(alloc, layout, &root, *shows_referrers, form, out, err)
         }
-        Query::Verify { shows_progress } => {
-            print_findings(rt, layout, *shows_progress, form, out, err)
-        }
+        Query::Verify {
+            workers,
+            shows_progress,
+        } => print_findings(rt, layout, *workers, *shows_progress, form, out, err),
     }
 }
 
@@ -205,14 +218,22 @@ fn print_tree<D: Dir, W: Write, X: Write>(
 
 /// Prints what is wrong with a layout, and refuses its entries that are no descriptors. Returns
 /// `Good` exactly if nothing is wrong.
-fn print_findings<R: AllocGlobal + Clock + Wait, D: Dir, W: Write, X: Write>(
+fn print_findings<
+    R: AllocGlobal + Clock + Threads + Wait + Sync,
+    D: Dir + Sync,
+    W: Write,
+    X: Write + Send,
+>(
     rt: &R,
     layout: &Layout<D>,
+    workers: Option<u32>,
     shows_progress: bool,
     form: Form,
     out: &mut W,
     err: &mut X,
 ) -> Result<Outcome, ProgramFault>
+where
+    D::Draft: Send,
     ensures outcome { IfOk result (λ outcome. HasFiles (D.device layout.now.dir) layout.now.graph
         → (outcome ≡ Outcome.Good)
         ↔ IsWhole (D.device layout.now.dir) layout.now.graph layout.now.opened) }
@@ -220,7 +241,7 @@ fn print_findings<R: AllocGlobal + Clock + Wait, D: Dir, W: Write, X: Write>(
         (AreFindings (D.device layout.now.dir) layout.now.graph layout.now.opened)
         findings_text (W.contents out.old) (W.contents out.new)) }
 {
-    let findings = verify(rt, layout, shows_progress, err)?;
+    let findings = verify(rt, layout, workers, shows_progress, err)?;
     let outcome = findings.outcome();
     print_findings_of_all(rt.alloc(), layout, findings, form, out, err)?;
     Ok(outcome)

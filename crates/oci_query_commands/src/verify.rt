@@ -1,30 +1,29 @@
-ghost use Rattle.std.specs.Prelude.{◌≡◌, ◌↔◌, ◌⊎◌, ◌++◌, ◌∷◌, [], if◌then◌else◌, true, false, not, filter, flat_map, map, List, Some, option_and_then, option_map, string_bytes, string_cmp, String, IfOk, OnOk};
-ghost use Rattle.std.specs.BTreeMap.{get};
+ghost use Rattle.std.specs.Prelude.{◌≡◌, ◌↔◌, ◌++◌, ◌∷◌, [], not, filter, flat_map, map, None, Some, option_and_then, option_map, string_bytes, IfOk, OnOk};
 ghost use Rattle.std.specs.BTreeSet.{contains};
 ghost use Rattle.std.specs.Fmt.{WritesOnOk};
-ghost use Rattle.std.specs.declared.alloc.Global.{Global};
-ghost use Rattle.oci_layout.specs.Entries.{entry_of, text_of, IndexEntry as EntryOfIndex};
-ghost use Rattle.oci_layout.specs.Saved.{is_name, is_place, last_place, HasLastPlaces};
-ghost use Rattle.oci_manifest.specs.Descriptor.{Descriptor, is_among, key_cmp};
+ghost use Rattle.oci_layout.specs.Entries.{entry_of, text_of};
+ghost use Rattle.oci_layout.specs.Saved.{is_place, last_place};
+ghost use Rattle.oci_manifest.specs.Descriptor.{key_cmp};
 ghost use Rattle.oci_store.specs.Keyed.{value_at};
 ghost use Rattle.oci_query_commands.specs.Found.{first_without_file, has_file, pair_of, shadowed_in, tagged_if, tagged_of, without_file, AreFindings};
-ghost use Rattle.oci_query_commands.specs.Intact.{is_matching, HasFile, HasFiles};
 ghost use Rattle.oci_query_commands.specs.Lines.{absent_line, corrupt_line, open_text, shadowed_line};
-ghost use Rattle.oci_query_commands.specs.Verified.{AreCorrupt, FindsNothing};
+ghost use Rattle.oci_query_commands.specs.Verified.{FindsNothing};
 
-use crate::file_check::is_corrupt;
+use crate::checking::{Progress, number_of_workers};
 use oci_digest::NoMemory;
-use oci_layout::{Dir, IndexEntry, Layout};
+use oci_layout::{Dir, IndexEntry, Layout, Names};
 use oci_manifest::Key;
-use oci_program::{Amount, Outcome, ProgramFault, ProgressLine, Tagged};
-use oci_store::{Dest, GraphSource, PartWatcher, keys_of_set};
+use oci_program::{Outcome, ProgramFault, Tagged};
+use oci_store::{Dest, GraphSource};
+use oci_verify::{corrupt_keys, damaged_keys};
 use serde::Serialize;
 use std::alloc::Global;
-use std::collections::{BTreeMap, BTreeSet};
+use std::collections::BTreeSet;
 use std::fmt;
 use std::fmt::Display;
 use std::io::Write;
 use std::sync::Wait;
+use std::thread::Threads;
 use std::time::Clock;
 
 /// The findings of `verify`. `Display` prints one a line, in the order of the fields.
@@ -120,22 +119,32 @@ fn print_shadowed<W: fmt::Write>(entries: &[Tagged], f: &mut fmt::Formatter<W>) 
 }
 
 /// `verify FOLDER`: reads each held blob, and returns what is wrong with the layout, but for the
-/// entries of `index.json` that are no descriptors. If it `shows_progress`, draws a line on `err`
-/// that shows how much was read, and erases it at the end.
-pub(crate) fn verify<'l, R: AllocGlobal + Clock + Wait, D: Dir, X: Write>(
+/// entries of `index.json` that are no descriptors. The blobs are read by this number of workers, or
+/// by one for each processor, at most 64. If it `shows_progress`, draws a line on `err` that shows
+/// how much was read, and erases it at the end.
+pub(crate) fn verify<
+    'l,
+    R: AllocGlobal + Clock + Threads + Wait + Sync,
+    D: Dir + Sync,
+    X: Write + Send,
+>(
     rt: &R,
     layout: &'l Layout<D>,
+    workers: Option<u32>,
     shows_progress: bool,
     err: &mut X,
 ) -> Result<Findings<'l>, ProgramFault>
+where
+    D::Draft: Send,
     ensures { IfOk result (AreFindings (D.device layout.now.dir) layout.now.graph
         layout.now.opened) }
 {
     let alloc = rt.alloc();
+    let workers = number_of_workers(rt, workers);
     let progress = Progress::new(rt, err, layout, shows_progress);
-    let corrupt = corrupt_keys(alloc, layout, &progress);
+    let corrupt = corrupt_keys(rt, alloc, layout, workers, &progress);
     progress.end();
-    let damaged = set_of(alloc, layout.damaged())?;
+    let damaged = damaged_keys(alloc, layout)?;
     Ok(Findings {
         absent: keys_without(alloc, layout.absent(), &damaged)?,
         corrupt: corrupt?,
@@ -143,18 +152,6 @@ pub(crate) fn verify<'l, R: AllocGlobal + Clock + Wait, D: Dir, X: Write>(
         shadowed: shadowed_entries(alloc, layout.entries())?,
         held: layout.count().saturating_add(layout.damaged().len()),
     })
-}
-
-/// Returns the set of these keys.
-fn set_of(alloc: Global, keys: &[Key]) -> Result<BTreeSet<Key>, NoMemory>
-    ensures { IfOk result (λ set. (k : Descriptor) → contains key_cmp set k
-        ≡ is_among keys.now k) }
-{
-    let mut set = BTreeSet::new(alloc);
-    for key in keys {
-        set.insert(key.try_clone()?)?;
-    }
-    Ok(set)
 }
 
 /// Returns those of these keys that are not damaged, in their order.
@@ -186,47 +183,6 @@ fn add_unless<'l>(
     if !damaged.contains(key) {
         keys.push(key)?;
     }
-    Ok(())
-}
-
-/// Returns the damaged keys, and the held keys whose files do not match them, in key order.
-fn corrupt_keys<D: Dir, R: Clock + Wait, X: Write>(
-    alloc: Global,
-    layout: &Layout<D>,
-    progress: &Progress<'_, R, X>,
-) -> Result<Vec<Key>, ProgramFault>
-    ensures { IfOk result (λ corrupt. HasFiles (D.device layout.now.dir) layout.now.graph
-        → AreCorrupt (D.device layout.now.dir).file layout.now.graph layout.now.opened.damaged
-        corrupt.items) }
-{
-    let mut corrupt = set_of(alloc, layout.damaged())?;
-    for place in 0..layout.count() {
-        let Some(key) = layout.key(place) else {
-            unreachable!();
-        };
-        add_if_corrupt(layout, key, &mut corrupt, progress)?;
-    }
-    let keys = keys_of_set(alloc, &corrupt)?;
-    Ok(keys)
-}
-
-/// Adds a held key to these if its file does not match it.
-fn add_if_corrupt<D: Dir, R: Clock + Wait, X: Write>(
-    layout: &Layout<D>,
-    key: &Key,
-    corrupt: &mut BTreeSet<Key>,
-    progress: &Progress<'_, R, X>,
-) -> Result<(), ProgramFault>
-    ensures { OnOk result (HasFile (D.device layout.now.dir) key.now → (k : Descriptor)
-        → (contains key_cmp corrupt.new k ≡ true) ↔ ((contains key_cmp corrupt.old k ≡ true)
-        ⊎ ((k ≡ key.now) × (is_matching (D.device layout.now.dir).file key.now ≡ false)))) }
-{
-    let is_corrupt = is_corrupt(layout, key, progress)?;
-    progress.key_checked();
-    if !is_corrupt {
-        return Ok(());
-    }
-    corrupt.insert(key.try_clone()?)?;
     Ok(())
 }
 
@@ -297,10 +253,10 @@ fn shadowed_entries(alloc: Global, entries: &[IndexEntry]) -> Result<Vec<Tagged>
     ensures { IfOk result (λ shadowed. map tagged_of shadowed.items
         ≡ shadowed_in (map entry_of entries.now)) }
 {
-    let last_places = last_places(alloc, entries)?;
+    let names = Names::of(alloc, entries)?;
     let mut shadowed = Vec::new(alloc);
     for (place, entry) in entries.iter().enumerate() {
-        add_unless_last(entry, place, &last_places, &mut shadowed)?;
+        add_unless_last(entry, place, &names, &mut shadowed)?;
     }
     Ok(shadowed)
 }
@@ -310,12 +266,11 @@ fn shadowed_entries(alloc: Global, entries: &[IndexEntry]) -> Result<Vec<Tagged>
 fn add_unless_last(
     entry: &IndexEntry,
     place: usize,
-    last_places: &BTreeMap<String, usize>,
+    names: &Names<'_>,
     shadowed: &mut Vec<Tagged>,
 ) -> Result<(), NoMemory>
-    ensures { OnOk result ((entries : List EntryOfIndex) → HasLastPlaces last_places.now entries
-        → map tagged_of shadowed.new.items ≡ map tagged_of shadowed.old.items
-        ++ tagged_if (λ name. not (is_place place (last_place name entries)))
+    ensures { OnOk result (map tagged_of shadowed.new.items ≡ map tagged_of shadowed.old.items
+        ++ tagged_if (λ name. not (is_place place (last_place name (map entry_of names.now))))
         entry.now.key (text_of entry.now.name)) }
 {
     let Some(name) = &entry.name else {
@@ -324,7 +279,7 @@ fn add_unless_last(
     let Some(key) = &entry.key else {
         return Ok(());
     };
-    if name.is_empty() || is_last(last_places, name, place) {
+    if name.is_empty() || is_last(names, name, place) {
         return Ok(());
     }
     shadowed.push(Tagged {
@@ -334,93 +289,13 @@ fn add_unless_last(
     Ok(())
 }
 
-/// Returns whether this is the last place of a name.
-fn is_last(last_places: &BTreeMap<String, usize>, name: &String, place: usize) -> bool
-    ensures { result ≡ is_place place (get string_cmp last_places.now name.now) }
+/// Returns whether this is the place of the last entry with a name.
+fn is_last(names: &Names<'_>, name: &String, place: usize) -> bool
+    ensures { result ≡ is_place place
+        (last_place (string_bytes name.now) (map entry_of names.now)) }
 {
-    match last_places.get(name) {
-        Some(last) => *last == place,
+    match names.last(name) {
+        Some((last, _)) => last == place,
         None => false,
-    }
-}
-
-/// Returns the place of the last entry of each name.
-fn last_places(alloc: Global, entries: &[IndexEntry]) -> Result<BTreeMap<String, usize>, NoMemory>
-    ensures { IfOk result (λ places. HasLastPlaces places (map entry_of entries.now)) }
-{
-    let mut places = BTreeMap::new(alloc);
-    for (place, entry) in entries.iter().enumerate() {
-        set_place(&mut places, &entry.name, place)?;
-    }
-    Ok(places)
-}
-
-/// Sets the place of a name, if there is one.
-fn set_place(
-    places: &mut BTreeMap<String, usize>,
-    name: &Option<String>,
-    place: usize,
-) -> Result<(), NoMemory>
-    ensures { OnOk result ((other : String Global) → get string_cmp places.new other
-        ≡ (if is_name (string_bytes other) (text_of name.now) then Some place
-        else get string_cmp places.old other)) }
-{
-    let Some(name) = name else {
-        return Ok(());
-    };
-    places.insert(name.clone()?, place)?;
-    Ok(())
-}
-
-/// Counts the keys that were checked and their bytes on a line on the terminal, if it is shown. Of
-/// a file that does not match its key at most as many bytes are counted as the key's size, so the
-/// line never shows more than the whole, but it may end below it.
-#[derive(Drop)]
-struct Progress<'p, R, X> {
-    line: Option<ProgressLine<'p, R, X>>,
-}
-
-impl<'p, R: Clock + Wait, X: Write> Progress<'p, R, X> {
-    /// Creates the line for the blobs of a layout, if it is shown.
-    fn new<D: Dir>(
-        rt: &'p R,
-        err: &'p mut X,
-        layout: &Layout<D>,
-        is_shown: bool,
-    ) -> Progress<'p, R, X> {
-        if !is_shown {
-            return Progress { line: None };
-        }
-        let mut all = Amount::NONE;
-        for place in 0..layout.count() {
-            if let Some(key) = layout.key(place) {
-                all = all.with(key);
-            }
-        }
-        Progress {
-            line: Some(ProgressLine::new(rt, err, all)),
-        }
-    }
-
-    /// Counts a key that was checked.
-    fn key_checked(&self) {
-        if let Some(line) = &self.line {
-            line.add_blob();
-        }
-    }
-
-    /// Erases the line.
-    fn end(self) {
-        if let Some(line) = self.line {
-            line.erase();
-        }
-    }
-}
-
-impl<'p, R: Clock + Wait, X: Write> PartWatcher for Progress<'p, R, X> {
-    fn part_arrived(&self, length: usize) {
-        if let Some(line) = &self.line {
-            line.add_bytes(length);
-        }
     }
 }

@@ -1,6 +1,6 @@
 use Rattle.std.proofs.Common.{sym, subst, ◌∙◌}
 use Rattle.oci_query_commands.specs.Answered.{LeavesNothingOut}
-use Rattle.oci_query_commands.specs.Intact.{HasFiles}
+use Rattle.oci_verify.specs.Intact.{HasFiles}
 use Rattle.oci_query_commands.specs.Printed.{PrintsAnswer}
 use Rattle.oci_query_commands.specs.Verified.{IsWhole}
 use Rattle.oci_query_commands.proofs.Answered.{IsReadable-opened}

@@ -13,11 +13,11 @@ returns g c =
     let layout = c.args.layout.now in
     let damaged = layout.opened.damaged in
     let set = c.in_ok-damaged.damaged in
-    let among : (k : Descriptor) → contains key_cmp set k ≡ is_among damaged k = λ k. c.in_ok-damaged.ensures k ∙ ap (λ (keys : List Descriptor). is_among keys k) c.damaged.ensures in
+    let among : (k : Descriptor) → contains key_cmp set k ≡ is_among damaged k = c.in_ok-damaged.ensures in
     record {
       absent = absent_are set damaged c.absent.result.now layout.opened.absent _ among c.in_ok-keys_without.ensures c.absent.ensures;
-      corrupt = c.in_ok-corrupt.ensures;
+      corrupt = c.in_ok-corrupt.ensures.corrupt;
       without_file = c.in_ok-open_key.ensures ∙ found_in_set layout.graph set damaged among;
       shadowed = c.in_ok-shadowed_entries.ensures ∙ ap (λ (entries : List IndexEntry). shadowed_in (map entry_of entries)) c.entries.ensures.entries;
-      held = cc (c.saturating_add.ensures, c.count.ensures.count, c.damaged-2.ensures);
+      held = cc (c.saturating_add.ensures, c.count.ensures.count, c.damaged.ensures);
     }
