@@ -7,6 +7,7 @@ mod Mirrored
 mod NamedRoots
 mod PatternRows
 mod Refusals
+mod Removed
 mod Retagged
 mod Saved
 mod Selections

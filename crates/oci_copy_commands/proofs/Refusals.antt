@@ -1,7 +1,9 @@
--- Why a mirror is refused.
-use Rattle.std.proofs.Common.{◌≡◌, ◌⊎◌, inl, inr, ℕ, Bool, not, List, Result, Ok, Err, sym, subst, ◌∙◌}
-use Rattle.std.specs.Prelude.{IsOk, IfErr, OnErr, OnOk}
+-- Why a mirror is refused, and why tags are not selected.
+use Rattle.std.proofs.Common.{◌≡◌, ◌⊎◌, inl, inr, ℕ, Bool, not, List, Result, Ok, Err, sym, subst, ◌∙◌, arith}
+use Rattle.std.specs.Prelude.{◌≤◌, IsOk, IfErr, OnErr, OnOk}
 use Rattle.oci_manifest.specs.Descriptor.{Descriptor}
+use Rattle.oci_store.specs.State.{State}
+use Rattle.oci_store.specs.Tags.{Tags}
 use Rattle.oci_copy.specs.Cause.{IsAnswerByWorkers, RefusedByWorkers}
 use Rattle.oci_copy.specs.declared.fault.CopyFault.{CopyFault}
 use Rattle.oci_copy.specs.declared.fault.CopyFault.TheVariants as copy
@@ -14,15 +16,16 @@ use Rattle.oci_program.specs.declared.fault.ProgramFault.{ProgramFault}
 use Rattle.oci_program.specs.declared.fault.ProgramFault.TheVariants as program
 use Rattle.oci_prune.specs.Plan.{roots_with}
 use Rattle.oci_prune.specs.Refusal.{IsDeviceFault, IsPlanFaultFrom, MayNotSave}
+use Rattle.oci_prune.specs.Subjects.{IsSubjectFault}
 use Rattle.oci_prune.specs.declared.fault.PruneFault.{PruneFault}
 use Rattle.oci_prune.specs.declared.fault.PruneFault.TheVariants as prune
 use Rattle.oci_copy_commands.specs.Mirror.{of_prune, IsRefusedMirror}
-use Rattle.oci_copy_commands.specs.Refusal.{AfterRefusedCopy}
+use Rattle.oci_copy_commands.specs.Refusal.{AfterRefusedCopy, IsNoTagsFault, IsOtherFault}
 use Rattle.oci_copy_commands.proofs.Saved.{refused_with}
 
-module _ {D : Type 0} (cause : CopyFault → Type 0) (is_exact : Bool) (roots : List Descriptor) where
+module _ {D : Type 0} (cause : CopyFault → Type 0) (is_exact : Bool) (roots : List Descriptor) (start : ℕ) where
   -- a plan that is refused is a cause
-  pub plan_refused : (dir : Device) (l : LayoutState D) (e : PruneFault) → IsPlanFaultFrom dir l (roots_with l roots) (not is_exact) e → IsRefusedMirror cause is_exact roots dir l (of_prune e)
+  pub plan_refused : (dir : Device) (l : LayoutState D) (e : PruneFault) → IsPlanFaultFrom dir l (roots_with l roots) (not is_exact) e → IsRefusedMirror cause is_exact roots start dir l (of_prune e)
   plan_refused dir l (prune.NotRemoved path) h = h
   plan_refused dir l (prune.Fetch k e) h = h
   plan_refused dir l (prune.Layout e) h = inr h
@@ -31,56 +34,59 @@ module _ {D : Type 0} (cause : CopyFault → Type 0) (is_exact : Bool) (roots : 
   plan_refused dir l prune.NoTags h = h
   plan_refused dir l (prune.LinkedBlobs path) h = h
 
-  device_refused : (old dir : Device) (l : LayoutState D) → dir.fails_reads ≡ old.fails_reads → (e : LayoutFault) → IsDeviceFault (MayNotSave old dir) (prune.Layout e) → IsRefusedMirror cause is_exact roots dir l (program.Destination e)
-  device_refused old dir l reads layout.Device (inl may) = inr (reads ∙ may)
-  device_refused old dir l reads layout.Device (inr raised) = inl (old.failures, raised)
-  device_refused old dir l reads layout.NoLayoutFile h = absurd h
-  device_refused old dir l reads layout.BadLayoutFile h = absurd h
-  device_refused old dir l reads layout.BadVersion h = absurd h
-  device_refused old dir l reads (layout.BadIndex e) h = absurd h
-  device_refused old dir l reads (layout.Corrupt k) h = absurd h
-  device_refused old dir l reads layout.Memory h = absurd h
-  device_refused old dir l reads (layout.BadManifest k e) h = absurd h
-  device_refused old dir l reads layout.AlreadyLayout h = absurd h
+  device_refused : (old dir : Device) (l : LayoutState D) → start ≤ old.failures → dir.fails_reads ≡ old.fails_reads → (e : LayoutFault) → IsDeviceFault (MayNotSave old dir) (prune.Layout e) → IsRefusedMirror cause is_exact roots start dir l (program.Destination e)
+  device_refused old dir l since reads layout.Device (inl may) = inr (reads ∙ may)
+  device_refused old dir l since reads layout.Device (inr raised) = inl (old.failures, since, raised)
+  device_refused old dir l since reads layout.NoLayoutFile h = absurd h
+  device_refused old dir l since reads layout.BadLayoutFile h = absurd h
+  device_refused old dir l since reads layout.BadVersion h = absurd h
+  device_refused old dir l since reads (layout.BadIndex e) h = absurd h
+  device_refused old dir l since reads (layout.Corrupt k) h = absurd h
+  device_refused old dir l since reads layout.Memory h = absurd h
+  device_refused old dir l since reads (layout.BadManifest k e) h = absurd h
+  device_refused old dir l since reads layout.AlreadyLayout h = absurd h
 
   -- a save that waits for the disk is refused for a cause
-  pub settled_refused : (old dir : Device) (l : LayoutState D) → dir.fails_reads ≡ old.fails_reads → (e : LayoutFault) → IsSettledFault old dir e → IsRefusedMirror cause is_exact roots dir l (program.Destination e)
-  settled_refused old dir l reads layout.Device (inl is) = inr (reads ∙ is.0)
-  settled_refused old dir l reads layout.Device (inr raised) = inl (old.failures, raised)
-  settled_refused old dir l reads layout.Memory h = inl (old.failures, tt)
-  settled_refused old dir l reads layout.NoLayoutFile h = absurd h
-  settled_refused old dir l reads layout.BadLayoutFile h = absurd h
-  settled_refused old dir l reads layout.BadVersion h = absurd h
-  settled_refused old dir l reads (layout.BadIndex e) h = absurd h
-  settled_refused old dir l reads (layout.Corrupt k) h = absurd h
-  settled_refused old dir l reads (layout.BadManifest k e) h = absurd h
-  settled_refused old dir l reads layout.AlreadyLayout h = absurd h
+  pub settled_refused : (old dir : Device) (l : LayoutState D) → start ≤ old.failures → dir.fails_reads ≡ old.fails_reads → (e : LayoutFault) → IsSettledFault old dir e → IsRefusedMirror cause is_exact roots start dir l (program.Destination e)
+  settled_refused old dir l since reads layout.Device (inl is) = inr (reads ∙ is.0)
+  settled_refused old dir l since reads layout.Device (inr raised) = inl (old.failures, since, raised)
+  settled_refused old dir l since reads layout.Memory h = inl (old.failures, since, tt)
+  settled_refused old dir l since reads layout.NoLayoutFile h = absurd h
+  settled_refused old dir l since reads layout.BadLayoutFile h = absurd h
+  settled_refused old dir l since reads layout.BadVersion h = absurd h
+  settled_refused old dir l since reads (layout.BadIndex e) h = absurd h
+  settled_refused old dir l since reads (layout.Corrupt k) h = absurd h
+  settled_refused old dir l since reads (layout.BadManifest k e) h = absurd h
+  settled_refused old dir l since reads layout.AlreadyLayout h = absurd h
 
-  -- a prune that is refused is a cause
-  pub prune_refused : (old dir : Device) (l : LayoutState D) → dir.fails_reads ≡ old.fails_reads → (e : PruneFault) → IsDeviceFault (MayNotSave old dir) e → IsRefusedMirror cause is_exact roots dir l (of_prune e)
-  prune_refused old dir l reads (prune.NotRemoved path) h = absurd h
-  prune_refused old dir l reads (prune.Fetch k e) h = absurd h
-  prune_refused old dir l reads (prune.Layout e) h = device_refused old dir l reads e h
-  prune_refused old dir l reads prune.Memory h = tt
-  prune_refused old dir l reads (prune.Unknown k) h = absurd h
-  prune_refused old dir l reads prune.NoTags h = absurd h
-  prune_refused old dir l reads (prune.LinkedBlobs path) h = absurd h
+  -- a prune that does not save the layout is a cause
+  pub prune_refused : (old dir : Device) (l : LayoutState D) → start ≤ old.failures → dir.fails_reads ≡ old.fails_reads → (e : PruneFault) → IsDeviceFault (MayNotSave old dir) e → IsRefusedMirror cause is_exact roots start dir l (of_prune e)
+  prune_refused old dir l since reads (prune.NotRemoved path) h = absurd h
+  prune_refused old dir l since reads (prune.Fetch k e) h = absurd h
+  prune_refused old dir l since reads (prune.Layout e) h = device_refused old dir l since reads e h
+  prune_refused old dir l since reads prune.Memory h = tt
+  prune_refused old dir l since reads (prune.Unknown k) h = absurd h
+  prune_refused old dir l since reads prune.NoTags h = absurd h
+  prune_refused old dir l since reads (prune.LinkedBlobs path) h = absurd h
 
-  -- a cause of the clean-up is one of the mirror
-  pub cleaned_refused : (other : CopyFault → Type 0) → ((e : CopyFault) → cause e → other e) → (dir : Device) (l : LayoutState D) (e : ProgramFault) → IsRefusedMirror cause is_exact roots dir l e → IsRefusedMirror other is_exact roots dir l e
-  cleaned_refused other gives dir l (program.Copy e) h = gives e h
-  cleaned_refused other gives dir l (program.Destination e) h = h
-  cleaned_refused other gives dir l (program.Prune e) h = h
-  cleaned_refused other gives dir l program.Memory h = h
-  cleaned_refused other gives dir l e h = absurd h
+  -- a cause of the clean-up is one of the mirror, which began before it
+  pub cleaned_refused : (other : CopyFault → Type 0) → ((e : CopyFault) → cause e → other e) → (first : ℕ) → first ≤ start → (dir : Device) (l : LayoutState D) (e : ProgramFault) → IsRefusedMirror cause is_exact roots start dir l e
+      → IsRefusedMirror other is_exact roots first dir l e
+  cleaned_refused other gives first before dir l (program.Copy e) h = gives e h
+  cleaned_refused other gives first before dir l (program.Destination e) (inl put) = inl (put.0, (let since = put.1 in omega arith), put.2)
+  cleaned_refused other gives first before dir l (program.Destination e) (inr plan) = inr plan
+  cleaned_refused other gives first before dir l (program.Prune e) h = h
+  cleaned_refused other gives first before dir l program.Memory h = h
+  cleaned_refused other gives first before dir l e h = absurd h
 
 -- a copy by workers and its clean-up are refused for a cause of the copy, or for one of the clean-up
 pub mirror_refused : {D X Y : Type 0} (workers : ℕ) (cause : CopyFault → Type 0) → cause copy.Memory → (copied : Result X CopyFault) → IsAnswerByWorkers workers cause copied
-    → (is_exact : Bool) (roots : List Descriptor) (dir : Device) (l : LayoutState D) (answer : Result Y ProgramFault) → IfErr answer (IsRefusedMirror (λ e. (copied ≡ Err e) ⊎ (IsOk copied × (e ≡ copy.Memory))) is_exact roots dir l)
-    → IfErr answer (IsRefusedMirror (RefusedByWorkers workers cause) is_exact roots dir l)
-mirror_refused workers cause memory copied answers is_exact roots dir l (Ok y) is = is
-mirror_refused workers cause memory copied answers is_exact roots dir l (Err e) is =
-    cleaned_refused (λ e. (copied ≡ Err e) ⊎ (IsOk copied × (e ≡ copy.Memory))) is_exact roots (RefusedByWorkers workers cause) (refused_with workers cause memory copied answers) dir l e is
+    → (is_exact : Bool) (roots : List Descriptor) (first start : ℕ) → first ≤ start → (dir : Device) (l : LayoutState D) (answer : Result Y ProgramFault)
+    → IfErr answer (IsRefusedMirror (λ e. (copied ≡ Err e) ⊎ (IsOk copied × (e ≡ copy.Memory))) is_exact roots start dir l)
+    → IfErr answer (IsRefusedMirror (RefusedByWorkers workers cause) is_exact roots first dir l)
+mirror_refused workers cause memory copied answers is_exact roots first start before dir l (Ok y) is = is
+mirror_refused workers cause memory copied answers is_exact roots first start before dir l (Err e) is =
+    cleaned_refused (λ e. (copied ≡ Err e) ⊎ (IsOk copied × (e ≡ copy.Memory))) is_exact roots start (RefusedByWorkers workers cause) (refused_with workers cause memory copied answers) first before dir l e is
 
 -- what holds after a refused copy holds unless memory ran out
 after_copy : (holds : Type 0) (e : CopyFault) → holds → AfterRefusedCopy holds (program.Copy e)
@@ -92,11 +98,11 @@ refused_there holds copied e (inl same) there = after_copy holds e (subst (λ r.
 refused_there holds copied e (inr it) there = subst (λ (x : CopyFault). AfterRefusedCopy holds (program.Copy x)) (sym it.1) tt
 
 -- what a refused copy leaves is left after a mirror whose copy was refused
-pub after_refused : {D X Y : Type 0} (holds : Type 0) (copied : Result X CopyFault) (is_exact : Bool) (roots : List Descriptor) (dir : Device) (l : LayoutState D) (answer : Result Y ProgramFault)
-    → IfErr answer (IsRefusedMirror (λ e. (copied ≡ Err e) ⊎ (IsOk copied × (e ≡ copy.Memory))) is_exact roots dir l) → OnErr copied holds → IfErr answer (AfterRefusedCopy holds)
-after_refused holds copied is_exact roots dir l (Ok y) is there = is
-after_refused holds copied is_exact roots dir l (Err (program.Copy e)) is there = refused_there holds copied e is there
-after_refused holds copied is_exact roots dir l (Err e) is there = tt
+pub after_refused : {D X Y : Type 0} (holds : Type 0) (copied : Result X CopyFault) (is_exact : Bool) (roots : List Descriptor) (start : ℕ) (dir : Device) (l : LayoutState D) (answer : Result Y ProgramFault)
+    → IfErr answer (IsRefusedMirror (λ e. (copied ≡ Err e) ⊎ (IsOk copied × (e ≡ copy.Memory))) is_exact roots start dir l) → OnErr copied holds → IfErr answer (AfterRefusedCopy holds)
+after_refused holds copied is_exact roots start dir l (Ok y) is there = is
+after_refused holds copied is_exact roots start dir l (Err (program.Copy e)) is there = refused_there holds copied e is there
+after_refused holds copied is_exact roots start dir l (Err e) is there = tt
 
 -- ---- a prune by its save
 
@@ -109,3 +115,34 @@ on_error {P} saved e holds is = subst (λ (r : Result Unit PruneFault). OnErr r 
 
 pub if_error : (saved : Result Unit PruneFault) (e : PruneFault) (is_so : PruneFault → Type 0) → IfErr saved is_so → saved ≡ Err e → is_so e
 if_error saved e is_so holds is = subst (λ (r : Result Unit PruneFault). IfErr r is_so) is holds
+
+-- ---- tags
+
+-- a fault of a subject says nothing of tags
+pub subject_other : (store : State) (is_one : Descriptor → Type 0) (e : PruneFault) → IsSubjectFault store is_one e → IsOtherFault (program.Source e)
+subject_other store is_one (prune.NotRemoved path) h = tt
+subject_other store is_one (prune.Fetch k e) h = tt
+subject_other store is_one (prune.Layout e) h = tt
+subject_other store is_one prune.Memory h = tt
+subject_other store is_one (prune.Unknown k) h = tt
+subject_other store is_one prune.NoTags h = absurd h
+subject_other store is_one (prune.LinkedBlobs path) h = tt
+
+-- a fault that says nothing of tags has some other cause
+pub other_fault : (patterns : List (List ℕ)) (tags : Tags) (e : ProgramFault) → IsOtherFault e → IsNoTagsFault patterns tags e
+other_fault patterns tags (program.Source (prune.NotRemoved path)) h = tt
+other_fault patterns tags (program.Source (prune.Fetch k e)) h = tt
+other_fault patterns tags (program.Source (prune.Layout e)) h = tt
+other_fault patterns tags (program.Source prune.Memory) h = tt
+other_fault patterns tags (program.Source (prune.Unknown k)) h = tt
+other_fault patterns tags (program.Source prune.NoTags) h = absurd h
+other_fault patterns tags (program.Source (prune.LinkedBlobs path)) h = tt
+other_fault patterns tags (program.Prune (prune.NotRemoved path)) h = tt
+other_fault patterns tags (program.Prune (prune.Fetch k e)) h = tt
+other_fault patterns tags (program.Prune (prune.Layout e)) h = tt
+other_fault patterns tags (program.Prune prune.Memory) h = tt
+other_fault patterns tags (program.Prune (prune.Unknown k)) h = tt
+other_fault patterns tags (program.Prune prune.NoTags) h = absurd h
+other_fault patterns tags (program.Prune (prune.LinkedBlobs path)) h = tt
+other_fault patterns tags program.NoMatch h = absurd h
+other_fault patterns tags e h = tt

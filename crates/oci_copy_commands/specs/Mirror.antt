@@ -1,6 +1,6 @@
 -- What a copy that removes what no tag needs leaves of its destination, and why it is refused.
-use Rattle.std.specs.Prelude.{◌≡◌, ◌≢◌, ◌⊎◌, ℕ, Bool, true, not, List, [], filter, is_some, Option, None, Some, false}
-use Rattle.std.specs.BTreeSet.{BTreeSet, contains}
+use Rattle.std.specs.Prelude.{◌≡◌, ◌≢◌, ◌≤◌, ◌↔◌, ◌⊎◌, ℕ, Bool, true, not, List, [], filter, map, is_some, IsOk, Option, None, Some, false}
+use Rattle.std.specs.BTreeSet.{contains}
 use Rattle.oci_command_line.specs.declared.changing.CopyWords.{CopyWords}
 use Rattle.oci_manifest.specs.Descriptor.{Descriptor, key_cmp}
 use Rattle.oci_store.specs.Content.{Entry}
@@ -20,15 +20,18 @@ use Rattle.oci_layout.specs.Meaning.{meaning}
 use Rattle.oci_layout.specs.Device.{Device}
 use Rattle.oci_layout.specs.Entries.{said, unreadable_places}
 use Rattle.oci_layout.specs.Layout.{LayoutState, manifests_of}
+use Rattle.oci_layout.specs.Prunable.{by_name}
 use Rattle.oci_layout.specs.Refusal.{IsPutFault}
 use Rattle.oci_program.specs.declared.fault.ProgramFault.{ProgramFault}
 use Rattle.oci_program.specs.declared.fault.ProgramFault.TheVariants as program
 use Rattle.oci_prune.specs.Belongs.{AllKnown}
-use Rattle.oci_prune.specs.Plan.{AreKept, RefersIf, roots_with}
-use Rattle.oci_prune.specs.Pruned.{kept_of}
+use Rattle.oci_prune.specs.Plan.{AreKept, IsPrunePlan, RefersIf, roots_of, roots_with}
+use Rattle.oci_prune.specs.Pruned.{flagged, is_gone, kept_of, AreDraftsGone, HasOnlyNeeded, IsTouchedBy, RemovesDrafts}
 use Rattle.oci_prune.specs.Refusal.{IsPlanFaultFrom}
 use Rattle.oci_prune.specs.declared.fault.PruneFault.{PruneFault}
 use Rattle.oci_prune.specs.declared.fault.PruneFault.TheVariants as prune
+use Rattle.oci_prune.specs.declared.plan.PrunePlan.{PrunePlan}
+use Rattle.oci_prune.specs.declared.run.Pruned.{Pruned}
 use Rattle.oci_copy_commands.specs.Between.{BringsOnlyMet, IsTrusted}
 use Rattle.oci_copy_commands.specs.Goal.{patterns_of, Fits, Goal, IsPrepared}
 use Rattle.oci_copy_commands.specs.Selected.{other_tags}
@@ -83,17 +86,31 @@ HasGoal device words selected old new (Some goal) = (words.prunes ≡ true) × I
 abbrev pub relabeled : {D : Type 0} → LayoutState D → LayoutState D → LayoutState D
 relabeled held named = record { dir = held.dir; graph = held.graph; tags = named.tags; opened = named.opened }
 
--- A layout was pruned, and these keys were kept: those that its tags and these roots need, and, unless
+-- A prune by a plan saved the layout, and removed files and drafts. In an honest directory the answer
+-- flags exactly those that went, and no other file but the index changed. Without a fault no digest has
+-- a file that a held key does not need, and the planned drafts, which are all that there were, are gone.
+pub record RemovesPlanned {D : Type 0} (device : D → Device) (old new : LayoutState D) (plan : PrunePlan) (done : Pruned) : Type 0 where
+  pub planned : IsPrunePlan (device old.dir) old.graph (roots_of old) plan
+  pub saved : IsOk done.saved
+  pub honest : (device old.dir).is_honest ↔ (device new.dir).is_honest
+  pub files : done.fault ≡ None → (device old.dir).is_honest → HasOnlyNeeded (device new.dir).file new.graph
+  pub drafts : done.fault ≡ None → (device old.dir).is_honest → AreDraftsGone (device new.dir).draft (by_name plan.drafts.items)
+  pub flags : (device old.dir).is_honest → done.files.items ≡ map (is_gone (device new.dir).file) plan.files.items
+  pub draft_flags : (device old.dir).is_honest → RemovesDrafts (device old.dir).draft (device new.dir).draft (flagged (by_name plan.drafts.items) done.drafts.items)
+  pub other : (device old.dir).is_honest → (path : List ℕ) → (IsTouchedBy plan path → ⊥) → (device new.dir).file path ≡ (device old.dir).file path
+
+-- A layout was pruned by a plan, whose kept keys are those that its tags and these roots need, and, unless
 -- the mirror is exact, what refers to them, such as signatures. Each stays with its bytes, and nothing
 -- else stays.
-pub record IsPruned {D : Type 0} (device : D → Device) (is_exact : Bool) (roots : List Descriptor) (old new : LayoutState D) (kept : BTreeSet Descriptor) : Type 0 where
-  pub needed : (not is_exact ≡ true → (device old.dir).is_honest) → AreKept old.graph (roots_with old roots) (RefersIf (not is_exact) (meaning (device old.dir) old.graph old.tags)) kept
-  pub graph : new.graph ≡ kept_of kept old.graph
-  pub contents : (device old.dir).is_honest → stored (device new.dir).file new.graph ≡ filter (λ (e : Entry). contains key_cmp kept e.0) (stored (device old.dir).file old.graph)
+pub record IsPruned {D : Type 0} (device : D → Device) (is_exact : Bool) (roots : List Descriptor) (old new : LayoutState D) (plan : PrunePlan) (done : Pruned) : Type 0 where
+  pub needed : (not is_exact ≡ true → (device old.dir).is_honest) → AreKept old.graph (roots_with old roots) (RefersIf (not is_exact) (meaning (device old.dir) old.graph old.tags)) plan.kept
+  pub graph : new.graph ≡ kept_of plan.kept old.graph
+  pub contents : (device old.dir).is_honest → stored (device new.dir).file new.graph ≡ filter (λ (e : Entry). contains key_cmp plan.kept e.0) (stored (device old.dir).file old.graph)
+  pub removes : RemovesPlanned device old new plan done
 
 -- the layout with the new tags was pruned by the plan that is returned, and the returned tags went
 pub record IsCleaned {D : Type 0} (device : D → Device) (is_exact : Bool) (goal : Goal) (old new : LayoutState D) (removed : CleanUp) : Type 0 where
-  pub pruned : IsPruned device is_exact goal.0 (relabeled old new) new removed.plan.kept
+  pub pruned : IsPruned device is_exact goal.0 (relabeled old new) new removed.plan removed.pruned
   pub untagged : by_bytes removed.untagged.items ≡ other_tags old.tags goal.1
 
 -- a copy was cleaned up by the plan that is returned
@@ -142,10 +159,11 @@ of_prune (prune.Layout e) = program.Destination e
 of_prune e = program.Prune e
 
 -- a mirror is refused for a cause of the copy, or for a cause of the save, the plan or the prune
--- after it, of the layout and the directory that are left
-abbrev pub IsRefusedMirror : {D : Type 0} → (CopyFault → Type 0) → Bool → List Descriptor → Device → LayoutState D → ProgramFault → Type 0
-IsRefusedMirror copy is_exact roots dir l (program.Copy e) = copy e
-IsRefusedMirror copy is_exact roots dir l (program.Destination e) = ((before : ℕ) × IsPutFault before dir.failures e) ⊎ IsPlanFaultFrom dir l (roots_with l roots) (not is_exact) (prune.Layout e)
-IsRefusedMirror copy is_exact roots dir l (program.Prune e) = IsPlanFaultFrom dir l (roots_with l roots) (not is_exact) e
-IsRefusedMirror copy is_exact roots dir l program.Memory = Unit {0}
-IsRefusedMirror copy is_exact roots dir l e = ⊥
+-- after it, of the layout and the directory that are left; `start` is the directory's count of failed
+-- puts when it began, and if the save was refused because a put failed, that put failed after it began
+abbrev pub IsRefusedMirror : {D : Type 0} → (CopyFault → Type 0) → Bool → List Descriptor → ℕ → Device → LayoutState D → ProgramFault → Type 0
+IsRefusedMirror copy is_exact roots start dir l (program.Copy e) = copy e
+IsRefusedMirror copy is_exact roots start dir l (program.Destination e) = ((before : ℕ) × (start ≤ before) × IsPutFault before dir.failures e) ⊎ IsPlanFaultFrom dir l (roots_with l roots) (not is_exact) (prune.Layout e)
+IsRefusedMirror copy is_exact roots start dir l (program.Prune e) = IsPlanFaultFrom dir l (roots_with l roots) (not is_exact) e
+IsRefusedMirror copy is_exact roots start dir l program.Memory = Unit {0}
+IsRefusedMirror copy is_exact roots start dir l e = ⊥

@@ -1,5 +1,5 @@
--- Why a copy between two layouts is refused.
-use Rattle.std.specs.Prelude.{◌≡◌, ◌⊎◌, ℕ, Bool, true}
+-- Why a copy between two layouts is refused, and why there are no tags for it.
+use Rattle.std.specs.Prelude.{◌≡◌, ◌≢◌, ◌⊎◌, ℕ, Bool, true, List, []}
 use Rattle.oci_store.specs.Push.{IsRaised}
 use Rattle.oci_copy.specs.declared.fault.CopyFault.{CopyFault}
 use Rattle.oci_copy.specs.declared.fault.CopyFault.TheVariants as fault
@@ -7,6 +7,9 @@ use Rattle.oci_layout.specs.declared.fault.LayoutFault.{LayoutFault}
 use Rattle.oci_layout.specs.declared.fault.LayoutFault.TheVariants as layout
 use Rattle.oci_program.specs.declared.fault.ProgramFault.{ProgramFault}
 use Rattle.oci_program.specs.declared.fault.ProgramFault.TheVariants as program
+use Rattle.oci_prune.specs.declared.fault.PruneFault.TheVariants as prune
+use Rattle.oci_store.specs.Tags.{Tags}
+use Rattle.oci_copy_commands.specs.Pattern.{matching_tags}
 
 -- a copy between layouts is refused for a cause of the copy, or for a cause of the save after it
 abbrev pub IsRefusedBetween : (CopyFault → Type 0) → (LayoutFault → Type 0) → ProgramFault → Type 0
@@ -26,3 +29,18 @@ abbrev pub AfterRefusedCopy : Type 0 → ProgramFault → Type 0
 AfterRefusedCopy holds (program.Copy fault.Memory) = Unit {0}
 AfterRefusedCopy holds (program.Copy e) = holds
 AfterRefusedCopy holds e = Unit {0}
+
+-- A copy of the tags that match patterns is refused for want of tags only if there is none, and for want
+-- of a match only if there are tags and none matches. Other faults have other causes.
+abbrev pub IsNoTagsFault : List (List ℕ) → Tags → ProgramFault → Type 0
+IsNoTagsFault patterns tags (program.Source prune.NoTags) = tags ≡ []
+IsNoTagsFault patterns tags (program.Prune prune.NoTags) = ⊥
+IsNoTagsFault patterns tags program.NoMatch = (tags ≢ []) × (matching_tags patterns tags ≡ [])
+IsNoTagsFault patterns tags e = Unit {0}
+
+-- a fault that says neither that there are no tags, nor that none matches
+abbrev pub IsOtherFault : ProgramFault → Type 0
+IsOtherFault (program.Source prune.NoTags) = ⊥
+IsOtherFault (program.Prune prune.NoTags) = ⊥
+IsOtherFault program.NoMatch = ⊥
+IsOtherFault e = Unit {0}

@@ -73,7 +73,8 @@ pub(crate) fn settle_and_clean_up<D: PrunableDir>(
         (values_of destination.new.tags) }
     ensures closed { IsClosed destination.old.graph → IsClosed destination.new.graph }
     ensures refused { IfErr result (IsRefusedMirror (λ fault. fault ≡ CopyFault.Memory)
-        is_exact goal.now.0 (D.device destination.new.dir) destination.new) }
+        is_exact goal.now.0 (D.device destination.old.dir).failures
+        (D.device destination.new.dir) destination.new) }
     ensures left { (entries : List Entry) (tags : Tags)
         → CanCleanUp (D.device destination.old.dir) from destination.old.graph entries tags
         → LeavesOneOf (D.device destination.new.dir) entries tags
@@ -123,7 +124,8 @@ fn clean_up<D: PrunableDir>(
         (values_of destination.new.tags) }
     ensures closed { IsClosed destination.old.graph → IsClosed destination.new.graph }
     ensures refused { IfErr result (IsRefusedMirror (λ fault. fault ≡ CopyFault.Memory)
-        is_exact goal.now.0 (D.device destination.new.dir) destination.new) }
+        is_exact goal.now.0 (D.device destination.old.dir).failures
+        (D.device destination.new.dir) destination.new) }
     ensures left { (entries : List Entry) (tags : Tags)
         → CanCleanUp (D.device destination.old.dir) from destination.old.graph entries tags
         → AreSettled (D.device destination.old.dir) (drop from destination.old.graph)
@@ -160,7 +162,7 @@ fn prune_and_save<D: PrunableDir>(
     ensures tags { destination.new.tags ≡ destination.old.tags }
     ensures opened { destination.new.opened ≡ destination.old.opened }
     ensures pruned { IfOk result (λ done. IsPruned D.device is_exact roots.now destination.old
-        destination.new done.0.kept) }
+        destination.new done.0 done.1) }
     ensures stays { OnOk result (KeepsReached destination.old.graph destination.new.graph
         (roots_with destination.old roots.now)) }
     ensures only { OnOk result (is_exact ≡ true → HoldsOnlyReached destination.new.graph
@@ -172,7 +174,8 @@ fn prune_and_save<D: PrunableDir>(
         (roots_of destination.old) }
     ensures closed { IsClosed destination.old.graph → IsClosed destination.new.graph }
     ensures refused { IfErr result (IsRefusedMirror (λ fault. fault ≡ CopyFault.Memory)
-        is_exact roots.now (D.device destination.new.dir) destination.new) }
+        is_exact roots.now (D.device destination.old.dir).failures
+        (D.device destination.new.dir) destination.new) }
     ensures left { (entries : List Entry) (tags : Tags)
         → CanCleanUp (D.device destination.old.dir) from destination.old.graph entries tags
         → AreSettled (D.device destination.old.dir) (drop from destination.old.graph)

@@ -230,7 +230,8 @@ where
         (RefusedAt (Contains plan.now.keys) (IsStepCause
         (CanFail ⟦<Layout<D> as Store>⟧.state (⟦<Layout<D> as Store>⟧.state destination))
         (⟦<Layout<S> as Store>⟧.state source.now) (⟦<Layout<D> as Store>⟧.state destination))))
-        is_exact goal.now.0 (D.device result.0.dir) result.0) }
+        is_exact goal.now.0 (D.device destination.dir).failures (D.device result.0.dir)
+        result.0) }
 
     // A power cut at any moment leaves the old layout or the new one.
     ensures left { StartsSettled (⟦<Layout<S> as Store>⟧.state source.now)
@@ -302,7 +303,8 @@ fn finish<D: PrunableDir>(
     ensures remembered { OnErr copied (result.0.opened ≡ index) }
     ensures refused { IfErr result.1 (IsRefusedMirror
         (λ fault. (copied ≡ Err fault) ⊎ (IsOk copied × (fault ≡ CopyFault.Memory)))
-        is_exact goal.now.0 (D.device result.0.dir) result.0) }
+        is_exact goal.now.0 (D.device destination.dir).failures (D.device result.0.dir)
+        result.0) }
     ensures left { (entries : List Entry) (tags : Tags)
         → CanCleanUp (D.device destination.dir) from destination.graph entries tags
         → LeavesOneOf (D.device result.0.dir) entries tags

@@ -1,5 +1,5 @@
 //! The roots of a copy, and the tags of the source that come with them.
-ghost use Rattle.std.specs.Prelude.{◌≡◌, ◌↔◌, ◌⊎◌, ◌++◌, [], ◌∷◌, map, Contains, IfOk, OnOk};
+ghost use Rattle.std.specs.Prelude.{◌≡◌, ◌↔◌, ◌⊎◌, ◌++◌, [], ◌∷◌, map, Contains, IfOk, IfErr, OnOk};
 ghost use Rattle.std.specs.Map.{values_of};
 ghost use Rattle.oci_manifest.specs.Descriptor.{Descriptor};
 ghost use Rattle.oci_store.specs.Tags.{by_bytes, without_tag, AreNames};
@@ -7,6 +7,7 @@ ghost use Rattle.oci_store.specs.Visiting.{with_keys};
 ghost use Rattle.oci_layout.specs.Meaning.{meaning};
 ghost use Rattle.oci_layout.specs.Entries.{entry_keys, entry_of};
 ghost use Rattle.oci_copy_commands.specs.Pattern.{texts_of};
+ghost use Rattle.oci_copy_commands.specs.Refusal.{IsOtherFault};
 ghost use Rattle.oci_copy_commands.specs.Selected.{
   each_once,
   named_keys,
@@ -83,6 +84,7 @@ pub(crate) fn roots_of_reference<D: Dir>(
 fn only(alloc: Global, key: &Key) -> Result<CopyRoots, ProgramFault>
     ensures keys { IfOk result (λ roots. roots.keys.items ≡ key.now ∷ []) }
     ensures tags { IfOk result (λ roots. roots.tags.items ≡ []) }
+    ensures refused { IfErr result IsOtherFault }
 {
     let mut keys = Vec::new(alloc);
     keys.push(key.try_clone()?)?;
@@ -122,6 +124,7 @@ fn with_typed<D: Dir>(
         (meaning (D.device source.now.dir) source.now.graph source.now.tags)
         (map (λ t. t.now) types.now) keys.now roots.keys.items) }
     ensures tags { IfOk result (λ roots. roots.tags.items ≡ []) }
+    ensures refused { IfErr result IsOtherFault }
 {
     Ok(CopyRoots {
         keys: add_typed(alloc, source, keys, types)?,
@@ -153,6 +156,7 @@ pub(crate) fn roots_of_keys<D: Dir>(
         (by_bytes roots.tags.items)) }
     ensures tagged { IfOk result (λ roots.
         AreOfRoots roots.keys.items (by_bytes roots.tags.items)) }
+    ensures refused { IfErr result IsOtherFault }
 {
     match referrers {
         Referrers::LeftOut => Ok(CopyRoots {
@@ -187,6 +191,7 @@ fn add_attached<D: Dir>(
         (texts_of patterns.now) climbed.now roots.keys.items (by_bytes roots.tags.items)) }
     ensures tagged { IfOk result (λ roots.
         AreOfRoots roots.keys.items (by_bytes roots.tags.items)) }
+    ensures refused { IfErr result IsOtherFault }
 {
     let belonging = source_belonging(alloc, source, climbed)?;
     let keys = both(alloc, climbed, &belonging.attached)?;
@@ -202,9 +207,10 @@ fn add_typed<D: Dir>(
     keys: &[Key],
     types: &[&str],
 ) -> Result<Vec<Key>, ProgramFault>
-    ensures { IfOk result (λ roots. AddsTyped
+    ensures exact { IfOk result (λ roots. AddsTyped
         (meaning (D.device source.now.dir) source.now.graph source.now.tags)
         (map (λ t. t.now) types.now) keys.now roots.items) }
+    ensures refused { IfErr result IsOtherFault }
 {
     let belonging = typed_belonging(alloc, source, keys, types)?;
     Ok(both(alloc, keys, &belonging.attached)?)
@@ -218,9 +224,10 @@ fn typed_belonging<D: Dir>(
     keys: &[Key],
     types: &[&str],
 ) -> Result<Belonging, ProgramFault>
-    ensures { IfOk result (IsTypedBelonging
+    ensures exact { IfOk result (IsTypedBelonging
         (meaning (D.device source.now.dir) source.now.graph source.now.tags)
         (map (λ t. t.now) types.now) keys.now) }
+    ensures refused { IfErr result IsOtherFault }
 {
     match belonging_of_types(alloc, source, keys, types) {
         Ok(found) => Ok(found),
@@ -237,6 +244,7 @@ fn source_belonging<D: Dir>(
     ensures exact { IfOk result (IsSourceBelonging
         (meaning (D.device source.now.dir) source.now.graph source.now.tags) keys.now) }
     ensures names { AreNames source.now.graph source.now.tags }
+    ensures refused { IfErr result IsOtherFault }
 {
     let tags = source.tags()?;
     match belonging_of(alloc, source, keys, &tags) {
@@ -328,7 +336,7 @@ fn climb_from_all<A: GraphSource>(
     source: &A,
     keys: &[Key],
     referrers: Option<u32>,
-) -> Result<Vec<Key>, ProgramFault>
+) -> Result<Vec<Key>, NoMemory>
     ensures { IfOk result (λ roots. AreClimbedOfKeys (A.state source.now).nodes referrers keys.now
         roots.items) }
 {
@@ -346,7 +354,7 @@ fn place_climbed<A: GraphSource>(
     key: &Key,
     referrers: Option<u32>,
     roots: &mut KeyList,
-) -> Result<(), ProgramFault>
+) -> Result<(), NoMemory>
     ensures { OnOk result ((root : Descriptor) → Contains roots.new root
         ↔ (Contains roots.old root
         ⊎ IsClimbed (A.state source.now).nodes referrers key.now root)) }
@@ -363,12 +371,12 @@ fn climb_from<A: GraphSource>(
     source: &A,
     key: &Key,
     referrers: Option<u32>,
-) -> Result<Vec<Key>, ProgramFault>
+) -> Result<Vec<Key>, NoMemory>
     ensures { IfOk result (λ roots. AreClimbed (A.state source.now).nodes referrers key.now
         roots.items) }
 {
     match referrers {
-        Some(depth) => Ok(climb(alloc, source, key, depth)?),
+        Some(depth) => climb(alloc, source, key, depth),
         None => {
             let mut roots = Vec::new(alloc);
             roots.push(key.try_clone()?)?;

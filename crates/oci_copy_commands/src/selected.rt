@@ -1,4 +1,4 @@
-ghost use Rattle.std.specs.Prelude.{◌≡◌, ◌≢◌, ◌++◌, [], ◌∷◌, true, is_some, map, option_copied, string_bytes, Contains, IfOk, OnOk};
+ghost use Rattle.std.specs.Prelude.{◌≡◌, ◌≢◌, ◌++◌, [], ◌∷◌, true, is_some, map, option_copied, string_bytes, Contains, IfOk, IfErr, OnOk};
 ghost use Rattle.std.specs.List.{All};
 ghost use Rattle.oci_copy.specs.Tagged.{name_of};
 ghost use Rattle.oci_store.specs.Tags.{by_bytes, AreNames};
@@ -8,6 +8,7 @@ ghost use Rattle.oci_layout.specs.Entries.{entry_of, said};
 ghost use Rattle.oci_layout.specs.Layout.{manifests_of};
 ghost use Rattle.oci_copy_commands.specs.Brought.{tag_entries, with_roots};
 ghost use Rattle.oci_copy_commands.specs.Pattern.{matching_tags, texts_of};
+ghost use Rattle.oci_copy_commands.specs.Refusal.{IsNoTagsFault, IsOtherFault};
 ghost use Rattle.oci_copy_commands.specs.Selected.{
   AreNamedHeld,
   AreOfRoots,
@@ -262,9 +263,9 @@ impl Selected {
         patterns: &[&str],
         referrers: Referrers<'_>,
     ) -> Result<Selected, ProgramFault>
-        ensures { IfOk result
-            (SelectsAllTags D.device source.now (texts_of patterns.now)
-            referrers.entry) }
+        ensures selects { IfOk result (SelectsAllTags D.device source.now
+            (texts_of patterns.now) referrers.entry) }
+        ensures refused { IfErr result (IsNoTagsFault (texts_of patterns.now) source.now.tags) }
     {
         check_entries(alloc, source, source.entries(), patterns)?;
         let tags = tags_to_copy(alloc, source, patterns)?;
@@ -294,6 +295,7 @@ impl Selected {
             ≡ with_roots (said source.now.opened.content).entries (map entry_of named.items
             ++ tag_entries (said source.now.opened.content).entries (by_bytes roots.tags.items))
             roots.keys.items) }
+        ensures memory { IfErr result (λ fault. fault ≡ ProgramFault.Memory) }
     {
         let CopyRoots {
             keys: roots,
@@ -349,7 +351,8 @@ fn check_entries<D: Dir>(
     entries: &[IndexEntry],
     patterns: &[&str],
 ) -> Result<(), ProgramFault>
-    ensures { OnOk result (AreNamedHeld layout.now.graph (texts_of patterns.now) entries.now) }
+    ensures held { OnOk result (AreNamedHeld layout.now.graph (texts_of patterns.now) entries.now) }
+    ensures refused { IfErr result IsOtherFault }
 {
     for (place, entry) in entries.iter().enumerate() {
         check_entry(alloc, layout, place, entry, patterns)?;
@@ -366,7 +369,8 @@ fn check_entry<D: Dir>(
     entry: &IndexEntry,
     patterns: &[&str],
 ) -> Result<(), ProgramFault>
-    ensures { OnOk result (IsNamedHeld layout.now.graph (texts_of patterns.now) entry.now) }
+    ensures held { OnOk result (IsNamedHeld layout.now.graph (texts_of patterns.now) entry.now) }
+    ensures refused { IfErr result IsOtherFault }
 {
     if !is_matching(alloc, entry, patterns)? {
         return Ok(());
@@ -393,6 +397,7 @@ fn tags_to_copy<D: Dir>(
         ≡ matching_tags (texts_of patterns.now) layout.now.tags) }
     ensures tagged { OnOk result (matching_tags (texts_of patterns.now) layout.now.tags ≢ []) }
     ensures named { AreNames layout.now.graph layout.now.tags }
+    ensures refused { IfErr result (IsNoTagsFault (texts_of patterns.now) layout.now.tags) }
 {
     let tags = layout.tags()?;
     if tags.is_empty() {
@@ -434,7 +439,8 @@ fn check_undamaged<D: Dir>(layout: &Layout<D>) -> Result<(), ProgramFault>
 
 /// Refuses a key that a layout does not hold.
 fn check_held<D: Dir>(layout: &Layout<D>, key: &Key) -> Result<(), ProgramFault>
-    ensures { OnOk result (has_key layout.now.graph key.now ≡ true) }
+    ensures held { OnOk result (has_key layout.now.graph key.now ≡ true) }
+    ensures refused { IfErr result IsOtherFault }
 {
     if layout.has(key) {
         return Ok(());

@@ -26,7 +26,7 @@ returns-in-Ok-clause-pruned g c =
     let pruned = rw c.roots.ensures at c.in-Ok.ensures.pruned in
     record {
       pruned =
-          subst (λ (l : LayoutState g.row.D.Denot). IsPruned g.D.Dir.device c.args.is_exact c.args.goal.now.0 l new c.in-Ok.plan.kept)
+          subst (λ (l : LayoutState g.row.D.Denot). IsPruned g.D.Dir.device c.args.is_exact c.args.goal.now.0 l new c.in-Ok.plan c.in-Ok.pruned)
           (same_layout old (relabeled c.args.destination.now new) (brought.dir ∙ retagged.dir) (brought.graph ∙ retagged.graph) (sym c.prune_and_save.ensures.tags) (sym c.prune_and_save.ensures.opened)) pruned;
       untagged = c.in_ok-untagged.ensures.removed;
     }
@@ -94,3 +94,6 @@ returns-in-Ok-clause-lasts g c = λ entries tags can settled.
     let dir = c.bring.ensures.only.dir ∙ c.retag.ensures.only.dir in
     let graph = c.bring.ensures.only.graph ∙ c.retag.ensures.only.graph in
     c.in-Ok.ensures.lasts entries tags (can_clean_up_same g.D.Dir.device first old c.args.from entries tags dir graph can) (are_settled_same g.D.Dir.device first old c.args.from dir graph settled)
+
+pub returns-in-Err-clause-refused : goal.returns-in-Err-clause-refused
+returns-in-Err-clause-refused g c = rw (c.roots.ensures, c.bring.ensures.only.dir, c.retag.ensures.only.dir) at c.in-Err.ensures.refused

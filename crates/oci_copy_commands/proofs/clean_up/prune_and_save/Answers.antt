@@ -14,19 +14,18 @@ use Rattle.oci_layout.specs.Layout.{LayoutState}
 use Rattle.oci_prune.specs.Plan.{roots_with, AreKept, RefersIf}
 use Rattle.oci_prune.specs.Pruned.{kept_of, KeepsReached}
 use Rattle.oci_prune.proofs.Leaving.{reached_left, whole_left}
-use Rattle.oci_copy_commands.specs.Mirror.{HoldsOnlyReached}
+use Rattle.oci_prune.specs.declared.run.Pruned.{Pruned}
+use Rattle.oci_copy_commands.specs.Mirror.{HoldsOnlyReached, IsPruned}
 use Rattle.oci_copy_commands.proofs.Exact.{only_reached}
 use Rattle.oci_prune.specs.Refusal.{IsDeviceFault, MayNotSave}
 use Rattle.oci_copy_commands.proofs.Refusals.{if_error, on_error, on_saved, prune_refused, settled_refused}
+use Rattle.oci_copy_commands.proofs.Removed.{pruned_saved}
 use Rattle.oci_copy_commands.proofs.Cleaning.{can_settle_cleaned, can_settle_whole}
 use Rattle.oci_copy_commands.proofs.clean_up.prune_and_save.Goals as goal
 use Rattle.oci_copy_commands.proofs.clean_up.prune_and_save.Goals.{else-is_empty-via-else-is_empty, else-is_empty-via-then-is_empty+in-Ok-1}
 
 pub returns-in-Err-prune-clause-refused : goal.returns-in-Err-prune-clause-refused
-returns-in-Err-prune-clause-refused g c =
-    let device = g.D.Dir.device in
-    rw c.fault_of-in-Err-prune.ensures (prune_refused (λ (e : CopyFault). e ≡ copy.Memory) c.args.is_exact c.args.roots.now (device c.args.destination.now.dir) (device c.prune.new.layout.dir) c.prune.new.layout
-    (ap (λ (l : LayoutState g.row.D.Denot). (device l.dir).fails_reads) c.in-Err-prune.ensures.refused) c.in-Err-prune.fault c.in-Err-prune.ensures.cause)
+returns-in-Err-prune-clause-refused g c = rw (c.fault_of-in-Err-prune.ensures, c.in-Err-prune.ensures.cause) tt
 
 pub returns-in-Err-into_saved-clause-refused : goal.returns-in-Err-into_saved-clause-refused
 returns-in-Err-into_saved-clause-refused g c =
@@ -36,7 +35,7 @@ returns-in-Err-into_saved-clause-refused g c =
     let did = c.in-Ok-prune.ensures in
     let unsaved = c.in-Err-into_saved.ensures in
     let spares = on_error c.in-Ok-prune.pruned.saved c.in-Err-into_saved.fault did.unsaved unsaved.unsaved in
-    rw c.fault_of-in-Err-into_saved.ensures (prune_refused (λ (e : CopyFault). e ≡ copy.Memory) c.args.is_exact c.args.roots.now old (device new.dir) new spares.reads c.in-Err-into_saved.fault
+    rw c.fault_of-in-Err-into_saved.ensures (prune_refused (λ (e : CopyFault). e ≡ copy.Memory) c.args.is_exact c.args.roots.now old.failures old (device new.dir) new (omega arith) spares.reads c.in-Err-into_saved.fault
     (if_error c.in-Ok-prune.pruned.saved c.in-Err-into_saved.fault (IsDeviceFault (MayNotSave old (device new.dir))) did.unsaved_cause unsaved.unsaved))
 
 pub returns-in-Err-into_saved-clause-left : goal.returns-in-Err-into_saved-clause-left
@@ -48,7 +47,42 @@ pub returns-clause-refused : goal.returns-clause-refused
 returns-clause-refused g c =
     let device = g.D.Dir.device in
     let new = c.save_settled.new.self in
-    settled_refused (λ (e : CopyFault). e ≡ copy.Memory) c.args.is_exact c.args.roots.now (device c.prune.new.layout.dir) (device new.dir) new c.in-Err-save_settled.ensures.device.reads c.in-Err-save_settled.fault c.in-Err-save_settled.ensures.cause
+    let calm = on_saved c.in-Ok-prune.pruned.saved c.in-Ok-prune.ensures.failures c.in-Ok-into_saved.ensures.saved in
+    settled_refused (λ (e : CopyFault). e ≡ copy.Memory) c.args.is_exact c.args.roots.now (device c.args.destination.now.dir).failures (device c.prune.new.layout.dir) (device new.dir) new (omega (arith, calm)) c.in-Err-save_settled.ensures.device.reads c.in-Err-save_settled.fault c.in-Err-save_settled.ensures.cause
+
+-- what the prune did is still so, whether the layout is saved once more or not
+pub returns-2-clause-pruned : goal.returns-2-clause-pruned
+returns-2-clause-pruned g c =
+    let device = g.D.Dir.device in
+    let old = c.args.destination.now in
+    let pruned = c.prune.new.layout in
+    let plan = c.in-Ok.plan in
+    let done = c.in-Ok-prune.pruned in
+    let did = c.in-Ok-prune.ensures in
+    let saved = c.in-Ok-into_saved.ensures.saved in
+    let first : IsPruned device c.args.is_exact c.args.roots.now old pruned plan done = record {
+      needed = c.in-Ok.ensures.kept;
+      graph = on_saved done.saved did.kept saved;
+      contents = on_saved done.saved did.contents saved;
+      removes = record {
+        planned = c.in-Ok.ensures.planned;
+        saved = saved;
+        honest = did.honest;
+        files = did.files saved;
+        drafts = did.drafts saved;
+        flags = did.flags;
+        draft_flags = did.draft_flags saved;
+        other = did.other;
+      };
+    } in
+    let Is : LayoutState g.row.D.Denot → Type 0 = λ l. IsPruned device c.args.is_exact c.args.roots.now old l plan c.in-Ok-into_saved.pruned in
+    let is : Is pruned = subst (λ (d : Pruned). IsPruned device c.args.is_exact c.args.roots.now old pruned plan d) (sym c.in-Ok-into_saved.ensures.same) first in
+    elim c.else-is_empty.branch [
+      | else-is_empty-via-else-is_empty w ↦ subst Is (sym w.destination-is) is
+      | else-is_empty-via-then-is_empty+in-Ok-1 w ↦
+          subst Is (sym w.destination-is)
+          (pruned_saved device c.args.is_exact c.args.roots.now old pruned w.save_settled.new.self plan c.in-Ok-into_saved.pruned is w.save_settled.ensures.only w.save_settled.ensures.device.honest w.save_settled.ensures.other w.in-Ok-1.ensures.1.1.1.1.0)
+    ]
 
 -- the kept keys are left, whether the layout is saved once more or not
 pub returns-2-clause-stays : goal.returns-2-clause-stays

@@ -1,12 +1,15 @@
-use Rattle.std.proofs.Common.{sym, subst}
+use Rattle.std.proofs.Common.{◌≡◌, sym, subst, arith}
 use Rattle.std.proofs.lemmas.Result.{on_ok_weaker, IfOk-weaker}
 use Rattle.std.specs.List.{All}
 use Rattle.oci_layout.specs.Blobs.{stored}
 use Rattle.oci_layout.specs.Entries.{said}
 use Rattle.oci_layout.specs.Layout.{OpenedIndex}
 use Rattle.oci_prune.proofs.Settling.{left_unsaved}
+use Rattle.oci_copy.specs.declared.fault.CopyFault.{CopyFault}
+use Rattle.oci_copy.specs.declared.fault.CopyFault.TheVariants as copy
 use Rattle.oci_copy_commands.specs.Selected.{IsOfRoot}
 use Rattle.oci_copy_commands.proofs.Cleaning.{are_settled_now, can_clean_up_settled}
+use Rattle.oci_copy_commands.proofs.Refusals.{settled_refused}
 use Rattle.oci_copy_commands.proofs.clean_up.settle_and_clean_up.Goals as goal
 
 pub returns-in-Ok-clause-pruned : goal.returns-in-Ok-clause-pruned
@@ -41,3 +44,12 @@ pub returns-in-Err-clause-left : goal.returns-in-Err-clause-left
 returns-in-Err-clause-left g c = λ entries tags can.
     let settled = c.settle_blobs.new.self in
     left_unsaved (g.D.Dir.device settled.dir) entries (stored (g.D.Dir.device settled.dir).file settled.graph) tags settled.tags (c.settle_blobs.ensures.lasts entries tags can.lasts)
+
+pub returns-in-Ok-clause-refused : goal.returns-in-Ok-clause-refused
+returns-in-Ok-clause-refused g c = rw c.settle_blobs.ensures.only.failures at c.clean_up.ensures.refused
+
+pub returns-in-Err-clause-refused : goal.returns-in-Err-clause-refused
+returns-in-Err-clause-refused g c =
+    let old = g.D.Dir.device c.args.destination.now.dir in
+    let settled = c.settle_blobs.new.self in
+    settled_refused (λ (e : CopyFault). e ≡ copy.Memory) c.args.is_exact c.args.goal.now.0 old.failures old (g.D.Dir.device settled.dir) settled (omega arith) c.settle_blobs.ensures.only.reads c.in-Err.fault c.in-Err.ensures.cause

@@ -2,6 +2,7 @@ use Rattle.std.proofs.Common.{◌≡◌, ◌∙◌, ◌++◌, ◌&&◌, ℕ, Lis
 use Rattle.std.specs.Prelude.{◌↔◌, Contains}
 use Rattle.std.specs.List.{All}
 use Rattle.std.specs.Map.{values_of}
+use Rattle.std.proofs.lemmas.Result.{err_from_is_err_and, IfErr-weaker}
 use Rattle.std.proofs.lemmas.List.Elements.{All-filter, Contains-append_left, Contains-append_right}
 use Rattle.oci_manifest.specs.Descriptor.{Descriptor}
 use Rattle.oci_store.specs.Tags.{Tags, by_bytes}
@@ -9,11 +10,15 @@ use Rattle.oci_layout.specs.Meaning.{meaning}
 use Rattle.oci_layout.specs.Brought.{IsShallowEntry}
 use Rattle.oci_layout.specs.Entries.{IndexEntry, entry_keys, entry_of, said}
 use Rattle.oci_layout.specs.Saved.{no_name}
+use Rattle.oci_program.specs.declared.fault.ProgramFault.{ProgramFault}
+use Rattle.oci_program.specs.declared.fault.ProgramFault.TheVariants as program
 use Rattle.oci_copy_commands.specs.Brought.{tag_entries, with_roots}
 use Rattle.oci_copy_commands.specs.Pattern.{matches_name, matches_one, matching_entries, matching_tags, texts_of}
+use Rattle.oci_copy_commands.specs.Refusal.{IsNoTagsFault}
 use Rattle.oci_copy_commands.specs.Selected.{named_keys, AreAllRoots, AreNamedHeld, AreOfRoots}
 use Rattle.oci_copy_commands.proofs.AttachedRoots.{all_roots_by, all_there, some_of_roots}
 use Rattle.oci_copy_commands.proofs.NamedRoots.{keys_named}
+use Rattle.oci_copy_commands.proofs.Refusals.{other_fault}
 use Rattle.oci_copy_commands.proofs.Selections.{all_ok}
 use Rattle.oci_copy_commands.proofs.selected.Selected.all_tags.Goals as goal
 
@@ -53,8 +58,8 @@ with_tags-requires-clause-shallow g c =
     let shallow : All IsShallowEntry entries = subst (All IsShallowEntry) (sym (ap (map entry_of) c.entries-2.ensures.entries)) c.entries-2.ensures.shallow in
     subst (All IsShallowEntry) (sym c.in_ok-named.ensures) (All-filter (λ (e : IndexEntry). not (no_name e.name) && matches_name patterns e.name) IsShallowEntry entries shallow)
 
-pub returns : goal.returns
-returns g c =
+pub returns-clause-selects : goal.returns-clause-selects
+returns-clause-selects g c =
     let patterns = texts_of c.args.patterns.now in
     let store = meaning (g.D.Dir.device c.args.source.now.dir) c.args.source.now.graph c.args.source.now.tags in
     let entries = (said c.args.source.now.opened.content).entries in
@@ -71,10 +76,24 @@ returns g c =
     all_ok c.with_tags.result
     (λ selected is_roots all of. record {
       others = others;
-      named = subst (AreNamedHeld c.args.source.now.graph patterns) c.entries.ensures.entries c.in_ok-check_entries.ensures;
+      named = subst (AreNamedHeld c.args.source.now.graph patterns) c.entries.ensures.entries c.in_ok-check_entries.ensures.held;
       tagged = c.in_ok-tags.ensures.tagged;
       tags = all ∙ ap (λ (ts : Tags). ts ++ others) is_tags;
       roots = rw is_roots exact;
       entries = of ∙ ap (λ (es : List IndexEntry). with_roots entries (es ++ tag_entries entries others) roots) is_named ∙ ap (λ (ks : List Descriptor). with_roots entries (matching_entries patterns entries ++ tag_entries entries others) ks) (sym is_roots);
     })
     c.with_tags.ensures.roots c.with_tags.ensures.tags c.with_tags.ensures.entries
+
+pub returns-in_err-check_entries-clause-refused : goal.returns-in_err-check_entries-clause-refused
+returns-in_err-check_entries-clause-refused g c =
+    let p = err_from_is_err_and c.from_residual.result c.from_residual.ensures.1 in
+    rw (p.1, p.2) (other_fault (texts_of c.args.patterns.now) c.args.source.now.tags c.in_err-check_entries.field-0.0 c.in_err-check_entries.ensures.refused)
+
+pub returns-in_err-roots-clause-refused : goal.returns-in_err-roots-clause-refused
+returns-in_err-roots-clause-refused g c =
+    let p = err_from_is_err_and c.from_residual-in_err-roots.result c.from_residual-in_err-roots.ensures.1 in
+    rw (p.1, p.2) (other_fault (texts_of c.args.patterns.now) c.args.source.now.tags c.in_err-roots.field-0.0 c.in_err-roots.ensures.refused)
+
+pub returns-clause-refused : goal.returns-clause-refused
+returns-clause-refused g c =
+    IfErr-weaker c.with_tags.result (λ (e : ProgramFault). e ≡ program.Memory) (IsNoTagsFault (texts_of c.args.patterns.now) c.args.source.now.tags) (λ e is. rw is tt) c.with_tags.ensures.memory

@@ -22,6 +22,6 @@ returns-in-AllTags-clause-selects g c =
     let source = c.args.source.now in
     let referrers = c.referrers_of-referrers in
     let patterns = texts_of c.in-AllTags.patterns.items in
-    let found : IfOk c.all_tags.result (SelectsAllTags device source patterns referrers.result) = rw c.deref.ensures.value at c.all_tags.ensures in
+    let found : IfOk c.all_tags.result (SelectsAllTags device source patterns referrers.result) = rw c.deref.ensures.value at c.all_tags.ensures.selects in
     IfOk-weaker c.all_tags.result (SelectsAllTags device source patterns referrers.result) (Selects device source c.args.words.now)
     (λ s selects. (referrers.result, referrers.ensures, subst (λ (it : Selection). SelectsBy device source referrers.result it s) (sym c.in-AllTags.is) selects)) found
