@@ -1,0 +1,5 @@
+pub mod Whole
+pub mod Sources
+pub mod Fault
+pub mod Planned
+pub mod Repaired
