@@ -24,22 +24,26 @@ use test_support::{Content, descriptor, image, keys};
 
 /// A watcher that writes down the lengths of the parts.
 #[derive(Drop)]
-struct Lengths {
+pub(crate) struct Lengths {
     told: RefCell<String>,
 }
 
 impl Lengths {
-    fn new(alloc: Global) -> Lengths {
+    pub(crate) fn new(alloc: Global) -> Lengths {
         Lengths {
             told: RefCell::new(String::new(alloc)),
         }
     }
 
-    /// Returns the lengths and the result of the read, as text.
-    fn with_result(self, read: Result<(), FetchFault>) -> Result<String, Fail> {
+    /// Returns the lengths and the result as text: the word for a success, or the fault.
+    pub(crate) fn with_result<E: Display + Drop>(
+        self,
+        answer: Result<(), E>,
+        done: &str,
+    ) -> Result<String, Fail> {
         let mut told = self.told.into_inner();
-        match read {
-            Ok(()) => told.push_str("read")?,
+        match answer {
+            Ok(()) => told.push_str(done)?,
             Err(fault) => write!(told, "{fault}")?,
         }
         Ok(told)
@@ -143,7 +147,7 @@ fn told_of_reading(alloc: Global, reading: Reading) -> Result<String, Fail> {
     };
     let lengths = Lengths::new(alloc);
     let read = fetch_into(&source, &key, &mut draft, &lengths);
-    lengths.with_result(read)
+    lengths.with_result(read, "read")
 }
 
 fn assert_reading<R: AllocGlobal + Abort>(rt: &R, reading: Reading) -> Result<(), Fail> {

@@ -86,6 +86,11 @@ impl FaultyDir {
         }
     }
 
+    /// Returns the directory as it is, with the files that were put.
+    pub(crate) fn memory(&self) -> &MemDir {
+        &self.dir
+    }
+
     /// Returns the number of reads so far.
     pub(crate) fn reads(&self) -> u64 {
         self.reads.load(Ordering::SeqCst)
@@ -235,6 +240,11 @@ impl Dir for FaultyDir {
                 Err(DirFault::Failed)
             }
         }
+    }
+
+    /// If it fails, it changes nothing.
+    fn restore(&mut self, path: &str, draft: MemoryDraft) -> Result<(), DirFault> {
+        self.replace(path, &draft.into_bytes())
     }
 
     fn may_fail_reads(&self) -> bool {

@@ -97,7 +97,7 @@ fn put<D: Dir>(alloc: Global, dir: &mut D, path: &str, text: &str) -> Result<Str
     told_of(alloc, dir.put(path, text.as_bytes()), "put")
 }
 
-fn put_blob<D: Dir>(alloc: Global, dir: &mut D, sample: Sample) -> Result<(), Fail> {
+pub(crate) fn put_blob<D: Dir>(alloc: Global, dir: &mut D, sample: Sample) -> Result<(), Fail> {
     let path = blob(alloc, &sample.key(alloc)?)?;
     dir.put(path.as_str(), sample.bytes(alloc)?.as_slice())?;
     Ok(())

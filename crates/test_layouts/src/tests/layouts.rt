@@ -124,7 +124,10 @@ pub(crate) fn with_layout<D: Dir>(
     }
 }
 
-fn made<D: Dir + Drop>(answer: Result<Layout<D>, (D, LayoutFault)>) -> Result<Layout<D>, Fail> {
+/// Returns the layout that was created or opened.
+pub(crate) fn made<D: Dir + Drop>(
+    answer: Result<Layout<D>, (D, LayoutFault)>,
+) -> Result<Layout<D>, Fail> {
     match answer {
         Ok(layout) => Ok(layout),
         Err((_, fault)) => Err(Fail::from(fault)),

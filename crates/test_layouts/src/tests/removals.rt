@@ -83,7 +83,7 @@ fn told_of_pruned<D: PrunableDir>(
     untagged: &Key,
 ) -> Result<String, Fail> {
     layout.save()?;
-    layout.sync()?;
+    layout.settle_index()?;
     let held = removed(alloc, layout, Empty)?;
     let found = removed(alloc, layout, Foo)?;
     let again = removed(alloc, layout, Foo)?;
