@@ -91,3 +91,23 @@ pub struct PruneWords<'w> {
     /// Whether the command waits until what it writes is on the disk.
     pub syncs: bool,
 }
+
+/// The words of `repair`.
+#[derive(Drop)]
+pub struct RepairWords<'w> {
+    /// The folder of the layout.
+    pub folder: &'w str,
+    /// The folders or archives to take blobs from, in the order in which they are asked, at least
+    /// one.
+    pub sources: Vec<&'w str>,
+    /// The number of workers; 0 means the default number. `None`: one for each processor.
+    pub workers: Option<u32>,
+    /// Whether a line on the terminal shows how much was checked so far.
+    pub shows_progress: bool,
+    /// Whether the repair is only planned and printed.
+    pub is_dry: bool,
+    /// Whether the command waits while another process has the folder's lock.
+    pub waits: bool,
+    /// Whether the command waits until what it writes is on the disk.
+    pub syncs: bool,
+}

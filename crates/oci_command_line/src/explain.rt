@@ -53,7 +53,7 @@ Name a blob that the store has, or copy the blob there first.
 
 21 Corrupt
 The file of the blob is gone, or its content does not match the blob's size and digest.
-Run `ocicp verify` on that layout. For the digest that it prints as corrupt, delete the file `blobs/sha256/DIGITS` or `blobs/sha512/DIGITS`, unless its size is wrong. Then restore the blob with `ocicp copy --descend` from a layout that has it.
+Run `ocicp repair FOLDER FROM` for that layout, with a layout that has the blob.
 
 22 Device
 The file of the blob could not be read, or is not a regular file.
@@ -149,7 +149,7 @@ Give the process more memory.
 
 53 NotFound
 The copy needs the named blob, and the source does not have it, or has a damaged file there. Nothing was copied.
-Copy the blob into the source first, for example with `ocicp copy --descend` from a layout that has it.
+Bring the blob into the source first, with `ocicp repair SRC FROM` from a layout that has it.
 
 54 TooLarge
 The named manifest is larger than the limit, which follows it in bytes. Nothing was copied.
@@ -213,7 +213,7 @@ Check the permissions and the free space of the disk. The files of a layout have
 
 75 Corrupt
 The file of the named manifest does not match its size and digest, or that of the named layer or config has another size. A folder in the file's place counts as damage too. It is not known what a damaged manifest lists. The other images of the layout can be used.
-Remove a folder in the file's place. Copy its image again with `ocicp copy --descend` from a layout that has it; its tags are in `index.json`. If it is no longer needed, run `ocicp untag` for each of its tags. Delete an entry that has no tag from `index.json`.
+Run `ocicp repair FOLDER FROM`, with a layout that has the blob. Remove a folder with contents in the file's place before. If the blob is no longer needed, run `ocicp untag` for each of its tags, which are in `index.json`. Delete an entry that has no tag from `index.json`.
 
 76 Memory
 Memory ran out while a layout was opened, created or saved.
@@ -221,7 +221,7 @@ Give the process more memory. `ocicp` itself prints `ocicp: memory` and ends wit
 
 77 BadManifest
 The file of the named manifest has the right digest, but is not a manifest of its media type. The next error says why. The other images of the layout can be used.
-Look up the next number. The image has to be built again, since a copy has the same bytes. If it is no longer needed, run `ocicp untag` for each of its tags, and delete an entry that has no tag from `index.json`.
+Look up the next number. The image has to be built again, since a copy or a repair brings the same bytes. If it is no longer needed, run `ocicp untag` for each of its tags, and delete an entry that has no tag from `index.json`.
 
 78 AlreadyLayout
 The folder already is a layout, and cannot be made one again. Nothing was changed.
@@ -233,7 +233,7 @@ Check the permissions of the folder that has the file, and run the same `ocicp p
 
 80 DestinationOpen
 The destination is damaged: the manifest of the first KEY lists the blob of the second, which is missing there, or has a damaged file. A folder in the file's place counts as damage too. Nothing was copied.
-Remove a folder in the file's place. Copy the image that needs that blob with `ocicp copy --descend`, from a layout that has it.
+Run `ocicp repair DST FROM`, with a layout that has that blob. Remove a folder with contents in the file's place before.
 
 81 Plan
 The copy could not be planned. The next error says why. Nothing was copied.
@@ -297,7 +297,7 @@ Copy into a folder, without `oci:` before its path. To change an archive, unpack
 
 96 Unknown
 The layout does not have the named blob, or its manifest there is damaged, so it is not known what that blob needs. It is an entry of `index.json`, a damaged manifest, the manifest for a platform, or a manifest that another one lists: one that is kept, or in SRC of a mirror with `--referrers` any one. A folder in a file's place counts as damage too. Nothing was removed, and no tag was set. Nothing was copied either, unless it turned out only after the copy of a mirror that its destination cannot be pruned; then the copied blobs are there.
-Remove a folder in the file's place, and restore the blob with `ocicp copy --descend` from a layout that has it. If it is no longer needed, run `ocicp untag` for each of its tags, and delete an entry that has no tag from `index.json`. A damaged manifest that only an index lists can be deleted from `blobs` once no tag needs that index. If a manifest lists a missing one, `ocicp verify` shows it, and `ocicp prune` removes it once no tag needs it.
+Run `ocicp repair FOLDER FROM`, with a layout that has the blob. Remove a folder with contents in the file's place before. If it is no longer needed, run `ocicp untag` for each of its tags, and delete an entry that has no tag from `index.json`. A damaged manifest that only an index lists can be deleted from `blobs` once no tag needs that index. If a manifest lists a missing one, `ocicp verify` shows it, and `ocicp prune` removes it once no tag needs it.
 
 97 NoTags
 The layout has no tag, so no blob would be kept or copied. Nothing was copied or removed.

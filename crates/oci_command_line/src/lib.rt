@@ -8,6 +8,7 @@
 //! | [`CopyWords`] | the words of `copy` |
 //! | [`UntagWords`] | the words of `untag` |
 //! | [`PruneWords`] | the words of `prune` |
+//! | [`RepairWords`] | the words of `repair` |
 //! | [`MemWords`] | the words of `mem` |
 //! | [`Query`] | a command that reads one layout |
 //! | [`Explanation`] | the explanation of an error number |
@@ -22,7 +23,7 @@ mod memory;
 mod request;
 mod words;
 
-pub use changing::{CopyWords, PruneWords, Selection, Shown, UntagWords};
+pub use changing::{CopyWords, PruneWords, RepairWords, Selection, Shown, UntagWords};
 pub use explain::{Explanation, first_sentence};
 pub use memory::{Algorithm, MemWords};
 pub use request::{CommandLine, CommandLineFault, Query, Request};

@@ -1,4 +1,4 @@
-use crate::changing::{CopyWords, PruneWords, Selection, Shown, UntagWords};
+use crate::changing::{CopyWords, PruneWords, RepairWords, Selection, Shown, UntagWords};
 use crate::explain::{Explanation, find_explanation};
 use crate::memory::{Algorithm, MemWords};
 use crate::words::command;
@@ -34,6 +34,8 @@ pub enum Request<'w> {
     Untag(UntagWords<'w>),
     /// `prune`, with its folder and flags.
     Prune(PruneWords<'w>),
+    /// `repair`, with its folder, sources and flags.
+    Repair(RepairWords<'w>),
     /// A command that reads the layout in a folder.
     Query(&'w str, Query<'w>),
 }
@@ -71,6 +73,8 @@ pub enum Query<'w> {
     },
     /// `verify`.
     Verify {
+        /// The number of workers; 0 means the default number. `None`: one for each processor.
+        workers: Option<u32>,
         /// Whether a line on the terminal shows how much was checked so far.
         shows_progress: bool,
     },
@@ -153,6 +157,7 @@ fn request_of<'w>(
         "copy" => Ok(Request::Copy(copy_words(alloc, matches, on_terminal)?)),
         "untag" => Ok(Request::Untag(untag_words(matches))),
         "prune" => Ok(Request::Prune(prune_words(matches))),
+        "repair" => Ok(Request::Repair(repair_words(alloc, matches, on_terminal)?)),
         "tags" => Ok(of_folder(
             matches,
             Query::Tags {
@@ -165,6 +170,7 @@ fn request_of<'w>(
         "verify" => Ok(of_folder(
             matches,
             Query::Verify {
+                workers: matches.get_one("workers"),
                 shows_progress: on_terminal,
             },
         )),
@@ -307,6 +313,22 @@ fn prune_words<'w>(matches: &ArgMatches<'w>) -> PruneWords<'w> {
         waits: waits(matches),
         syncs: syncs(matches),
     }
+}
+
+fn repair_words<'w>(
+    alloc: Global,
+    matches: &ArgMatches<'w>,
+    on_terminal: bool,
+) -> Result<RepairWords<'w>, CommandLineFault> {
+    Ok(RepairWords {
+        folder: word(matches, "folder"),
+        sources: texts(alloc, matches, "source")?,
+        workers: matches.get_one("workers"),
+        shows_progress: on_terminal,
+        is_dry: matches.get_flag("dry-run"),
+        waits: waits(matches),
+        syncs: syncs(matches),
+    })
 }
 
 /// Whether a command waits for the lock of a folder.

@@ -3,6 +3,7 @@ mod copying;
 mod memory;
 mod pruning;
 mod queries;
+mod repair;
 mod text;
 
 use crate::words::argument::{Argument, hint, json};
@@ -11,21 +12,23 @@ use crate::words::memory::{MEM, mem_arguments};
 use crate::words::pruning::{PRUNE, UNTAG, prune_arguments, untag_arguments};
 use crate::words::queries::{
     EXPLAIN, PREDECESSORS, RESOLVE, TAGS, TREE, VERIFY, error_number, folder, platform,
-    predecessors_type, reference, tags_all, tree_referrers,
+    predecessors_type, reference, tags_all, tree_referrers, verify_arguments,
 };
+use crate::words::repair::{REPAIR, repair_arguments};
 use crate::words::text::CommandText;
 use clap::Command;
 use std::alloc::{AllocError, Global};
 
 /// The version that `--version` prints.
-const VERSION: &str = "0.21.0";
+const VERSION: &str = "0.22.0";
 
 /// The `clap` command; `most_workers` bounds `--workers`.
 pub(crate) fn command<'w>(alloc: Global, most_workers: u32) -> Result<Command<'w>, AllocError> {
-    let commands: [(CommandText, &[Argument]); 10] = [
+    let commands: [(CommandText, &[Argument]); 11] = [
         (COPY, &copy_arguments(most_workers)),
         (UNTAG, &untag_arguments()),
         (PRUNE, &prune_arguments()),
+        (REPAIR, &repair_arguments(most_workers)),
         (TAGS, &[tags_all(), hint(), json(), folder()]),
         (
             RESOLVE,
@@ -46,7 +49,7 @@ pub(crate) fn command<'w>(alloc: Global, most_workers: u32) -> Result<Command<'w
                 reference(),
             ],
         ),
-        (VERIFY, &[hint(), json(), folder()]),
+        (VERIFY, &verify_arguments(most_workers)),
         (MEM, &mem_arguments(most_workers)),
         (EXPLAIN, &[hint(), json(), error_number()]),
     ];
@@ -68,6 +71,5 @@ fn program<'w>(alloc: Global) -> Command<'w> {
             "`ocicp COMMAND --help` shows a command's flags and examples. With --json a command prints JSON.",
         )
         .no_binary_name(true)
-        .disable_help_subcommand(true)
         .subcommand_required(true)
 }

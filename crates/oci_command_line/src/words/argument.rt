@@ -110,6 +110,20 @@ pub(crate) fn flag(name: &'static str, help: &'static str) -> Argument {
     Argument::new(name, Kind::Flag, help)
 }
 
+/// `--workers` of a command that checks files; `most` bounds it.
+pub(crate) fn workers_that_read(most: u32) -> Argument {
+    let number = Kind::Number {
+        name: "N",
+        most,
+        default: None,
+    };
+    Argument::new(
+        "workers",
+        number,
+        "How many workers read at once, at most 64; 0 means 3. Without it there is one for each processor",
+    )
+}
+
 /// `--no-wait`
 pub(crate) fn no_wait() -> Argument {
     flag(

@@ -173,6 +173,7 @@ fn depth() -> Argument {
          to the blobs found comes at any depth. Not with --prune, --platform or --artifact-type, which do not look for what lists it";
     Argument {
         conflicts: &["prune", "platform"],
+        needs: &["referrers"],
         ..Argument::new("depth", DEPTH, help)
     }
 }

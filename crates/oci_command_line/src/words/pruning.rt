@@ -113,8 +113,8 @@ fn leftovers() -> Argument {
     }
 }
 
-/// `FOLDER`
-fn folder() -> Argument {
+/// `FOLDER` of a command that writes into it.
+pub(crate) fn folder() -> Argument {
     Argument::new(
         "folder",
         Kind::Word("FOLDER"),

@@ -1,4 +1,4 @@
-use crate::words::argument::{Argument, Kind, flag};
+use crate::words::argument::{Argument, Kind, flag, hint, json, workers_that_read};
 use crate::words::text::CommandText;
 
 /// `tags [--all] FOLDER`
@@ -69,7 +69,7 @@ pub(crate) const TREE: CommandText = CommandText {
     examples: "Examples:\n  ocicp tree mirror v1\n  ocicp tree --referrers mirror v1\n  ocicp tree --platform linux/arm64 mirror v1",
 };
 
-/// `verify [--json] FOLDER`
+/// `verify [--workers N] [--json] FOLDER`
 pub(crate) const VERIFY: CommandText = CommandText {
     name: "verify",
     about: "Checks each blob of a layout against its digest, and that no listed blob is missing",
@@ -112,6 +112,11 @@ pub(crate) fn tree_referrers() -> Argument {
         "referrers",
         "Then shows the manifests that list it, such as signatures, those that list these, and what is attached to any blob that it reaches",
     )
+}
+
+/// The arguments of `verify`; `most_workers` bounds `--workers`.
+pub(crate) fn verify_arguments(most_workers: u32) -> [Argument; 4] {
+    [workers_that_read(most_workers), hint(), json(), folder()]
 }
 
 /// `--artifact-type` of `predecessors`
