@@ -1,8 +1,29 @@
--- What is said of a command that was done, in two cases.
-use Rattle.std.proofs.Common.{Result, Ok, Err}
-use Rattle.std.specs.Prelude.{OnOk}
+-- What is said of a command that was done, in two cases, and of a query that was answered.
+use Rattle.std.proofs.Common.{◌≡◌, true, List, ℕ, Option, Result, Ok, Err}
+use Rattle.std.specs.Prelude.{IfOk, OnOk}
+use Rattle.oci_command_line.specs.declared.request.Query.{Query}
+use Rattle.oci_layout.specs.Device.{Device}
+use Rattle.oci_program.specs.declared.answer.Form.{Form}
+use Rattle.oci_program.specs.declared.answer.Form.TheVariants as form
+use Rattle.oci_program.specs.declared.outcome.Outcome.{Outcome}
+use Rattle.oci_query_commands.specs.Answered.{is_of_all, IsReadable}
+use Rattle.oci_query_commands.specs.Printed.{PrintsAnswerOf}
+use Rattle.oci_query_commands.specs.Verified.{IsFaulty, IsFaultyVerify, IsGoodVerify, IsVerified}
+use Rattle.ocicp.specs.Run.{IsAnswered}
 
 -- of a success, two implications give what follows from both
 pub both_on_ok : {T E : Type 0} (r : Result T E) (A B P Q R : Type 0) → (A → OnOk r P) → (B → OnOk r Q) → ((A → P) → (B → Q) → R) → OnOk r R
 both_on_ok (Ok x) A B P Q R first second both = both first second
 both_on_ok (Err e) A B P Q R first second both = tt
+
+-- and of its outcome
+pub both_if_ok : {T E : Type 0} (r : Result T E) (A B : Type 0) (P Q R : T → Type 0) → (A → IfOk r P) → (B → IfOk r Q) → ((x : T) → (A → P x) → (B → Q x) → R x) → IfOk r R
+both_if_ok (Ok x) A B P Q R first second both = both x first second
+both_if_ok (Err e) A B P Q R first second both = tt
+
+-- a query that succeeds was answered
+pub answered_on_ok : {E : Type 0} (r : Result Outcome E) (dir : Device) (query : Query) (printed : Form) (old new : Option (List ℕ)) → IfOk r (λ (o : Outcome). IsGoodVerify query o → dir.is_honest → IsVerified dir)
+    → IfOk r (λ (o : Outcome). IsFaultyVerify query o → dir.is_honest → IsFaulty dir) → OnOk r (is_of_all query ≡ true → dir.is_honest → IsReadable dir) → (printed ≡ form.Lines → OnOk r (dir.is_honest → PrintsAnswerOf dir query old new))
+    → IfOk r (λ (o : Outcome). IsAnswered dir query printed old new o)
+answered_on_ok (Ok o) dir query printed old new verified faulty whole shown = record { verified = verified; faulty = faulty; whole = whole; shown = shown }
+answered_on_ok (Err e) dir query printed old new verified faulty whole shown = tt

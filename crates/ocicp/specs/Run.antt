@@ -4,6 +4,7 @@ use Rattle.std.specs.Borrow.{Bor}
 use Rattle.std.specs.Io.KnownBytes.{Appends}
 use Rattle.oci_command_line.specs.declared.changing.CopyWords.{CopyWords}
 use Rattle.oci_command_line.specs.declared.changing.PruneWords.{PruneWords}
+use Rattle.oci_command_line.specs.declared.changing.RepairWords.{RepairWords}
 use Rattle.oci_command_line.specs.declared.changing.UntagWords.{UntagWords}
 use Rattle.oci_command_line.specs.declared.memory.MemWords.{MemWords}
 use Rattle.oci_command_line.specs.declared.request.CommandLineFault.{CommandLineFault}
@@ -23,6 +24,10 @@ use Rattle.oci_program.specs.declared.outcome.Outcome.{Outcome}
 use Rattle.oci_program.specs.declared.prune_answer.PruneAnswer.{PruneAnswer}
 use Rattle.oci_prune_commands.specs.PrunedLayout.{IsDryPrune, IsPruneRun}
 use Rattle.oci_prune_commands.specs.Untagged.{untagged_lines, IsUntagRun}
+use Rattle.oci_repair.specs.declared.source.RepairSource.{RepairSource}
+use Rattle.oci_repair_commands.specs.Answered.{repair_text, IsOutcome}
+use Rattle.oci_repair_commands.specs.Repaired.{IsDryRepair, IsRepairRun}
+use Rattle.oci_repair_commands.specs.declared.answer.RepairAnswer.{RepairAnswer}
 use Rattle.ocicp.specs.declared.place.Place.{Place}
 use Rattle.ocicp.specs.declared.place.Place.TheVariants as place
 use Rattle.oci_query_commands.specs.Answered.{is_of_all, IsReadable}
@@ -30,11 +35,6 @@ use Rattle.oci_query_commands.specs.Printed.{PrintsAnswerOf}
 use Rattle.oci_query_commands.specs.Verified.{IsFaulty, IsFaultyVerify, IsGoodVerify, IsVerified}
 
 -- ---- where a command works
-
--- a folder of the file system, by its path and the number of its puts that failed; nothing is known of
--- its files unless it is honest
-abbrev pub folder_device : List ℕ × ℕ → Device
-folder_device dir = folder dir.1
 
 -- a place was opened at a path: a folder is the one at the path
 abbrev pub IsPlaceAt : {R F D : Type 0} → List ℕ → Place R F D → Type 0
@@ -55,21 +55,29 @@ IsMemDone words printed old new = (blobs : List (Bor Descriptor)) × (report : R
 
 -- the layout in the folder of these words was opened, and left without their tag
 abbrev pub IsUntagDone : UntagWords → Form → Option (List ℕ) → Option (List ℕ) → Type 0
-IsUntagDone words printed old new = (key : Option Descriptor) × (keys : List (Option Descriptor)) × IsUntagRun folder_device (words.folder.now, 0) words.tag.now key keys
+IsUntagDone words printed old new = (key : Option Descriptor) × (keys : List (Option Descriptor)) × IsUntagRun folder (words.folder.now, 0) words.tag.now key keys
     × (printed ≡ form.Lines → Appends old new (untagged_lines keys))
 
 -- the layout in the folder of these words was opened, and pruned as they ask for, or with `--dry-run`
 -- that prune was planned
 pub record IsPruneDone (words : PruneWords) (printed : Form) (old new : Option (List ℕ)) : Type 0 where
-  pub pruned : words.is_dry ≡ false → (answer : PruneAnswer) × IsPruneRun folder_device (words.folder.now, 0) words answer × (printed ≡ form.Lines → Appends old new (prune_text answer))
-  pub planned : words.is_dry ≡ true → (answer : PruneAnswer) × IsDryPrune folder_device (words.folder.now, 0) words answer × (printed ≡ form.Lines → Appends old new (prune_text answer))
+  pub pruned : words.is_dry ≡ false → (answer : PruneAnswer) × IsPruneRun folder (words.folder.now, 0) words answer × (printed ≡ form.Lines → Appends old new (prune_text answer))
+  pub planned : words.is_dry ≡ true → (answer : PruneAnswer) × IsDryPrune folder (words.folder.now, 0) words answer × (printed ≡ form.Lines → Appends old new (prune_text answer))
+
+-- The layout in the folder of these words was opened, and repaired from their sources, or with
+-- `--dry-run` that repair was planned. `archive` gives the meaning of an archive. The outcome is good
+-- exactly if nothing is missing.
+pub record IsRepairDone {A : Type 0} (archive : A → Device) (words : RepairWords) (printed : Form) (old new : Option (List ℕ)) (outcome : Outcome) : Type 0 where
+  pub sources : List (RepairSource (List ℕ × ℕ) A)
+  pub repaired : words.is_dry ≡ false → (answer : RepairAnswer) × IsRepairRun folder folder archive (words.folder.now, 0) sources answer × IsOutcome answer outcome × (printed ≡ form.Lines → Appends old new (repair_text answer))
+  pub planned : words.is_dry ≡ true → (answer : RepairAnswer) × IsDryRepair folder folder archive (words.folder.now, 0) sources answer × IsOutcome answer outcome × (printed ≡ form.Lines → Appends old new (repair_text answer))
 
 -- The copy that these words ask for was made, or with `--dry-run` planned, into the folder at their
 -- destination, from the folder at their source or from an archive. `archive` and `memory` give the
 -- meaning of an archive, and of an empty layout in memory.
 abbrev pub IsCopyDone : {A M : Type 0} → (A → Device) → (M → Device) → CopyWords → Form → Option (List ℕ) → Option (List ℕ) → Type 0
-IsCopyDone {A} archive memory words printed old new = IsRunOf folder_device folder_device memory words (words.source.now, 0) (words.destination.now, 0) printed old new
-    ⊎ ((dir : A) × IsRunOf archive folder_device memory words dir (words.destination.now, 0) printed old new)
+IsCopyDone {A} archive memory words printed old new = IsRunOf folder folder memory words (words.source.now, 0) (words.destination.now, 0) printed old new
+    ⊎ ((dir : A) × IsRunOf archive folder memory words dir (words.destination.now, 0) printed old new)
 
 -- A query of the layout in a directory ended so. A good `verify` found nothing wrong with it, and a
 -- faulty one something. `tags`, `predecessors`, and `tree` with referrers left nothing out. As lines,
@@ -82,7 +90,7 @@ pub record IsAnswered (dir : Device) (query : Query) (printed : Form) (old new :
 
 -- it ended so for the folder at a path, or for an archive
 abbrev pub IsQueryDone : {A : Type 0} → (A → Device) → List ℕ → Query → Form → Option (List ℕ) → Option (List ℕ) → Outcome → Type 0
-IsQueryDone {A} archive path query printed old new outcome = IsAnswered (folder_device (path, 0)) query printed old new outcome ⊎ ((dir : A) × IsAnswered (archive dir) query printed old new outcome)
+IsQueryDone {A} archive path query printed old new outcome = IsAnswered (folder (path, 0)) query printed old new outcome ⊎ ((dir : A) × IsAnswered (archive dir) query printed old new outcome)
 
 -- ---- by the request
 
@@ -94,6 +102,7 @@ IsDone archive memory (request.Mem words) printed old new outcome = IsMemDone wo
 IsDone archive memory (request.Copy words) printed old new outcome = IsCopyDone archive memory words printed old new
 IsDone archive memory (request.Untag words) printed old new outcome = IsUntagDone words printed old new
 IsDone archive memory (request.Prune words) printed old new outcome = IsPruneDone words printed old new
+IsDone archive memory (request.Repair words) printed old new outcome = IsRepairDone archive words printed old new outcome
 IsDone archive memory (request.Query path query) printed old new outcome = IsQueryDone archive path.now query printed old new outcome
 IsDone archive memory other printed old new outcome = ⊤
 

@@ -6,6 +6,7 @@ use oci_archive::{ReadAt, TarDir};
 use oci_command_line::CopyWords;
 use oci_layout::{FirstFailure, FsDir};
 use oci_program::ProgramFault;
+use oci_repair::RepairSource;
 use std::fs;
 use std::rt::Files;
 
@@ -71,6 +72,36 @@ pub(crate) fn open_copy<'r, R: Files<File: ReadAt> + AllocGlobal>(
     }
     let destination = open_folder(rt, path, &failures.written, words.syncs)?;
     Ok((Place::open(rt, words.source, &failures.read)?, destination))
+}
+
+/// Opens the places of these paths, in their order, as [`Place::open`] does.
+///
+/// # Errors
+///
+/// - 100 to 105 if a path is that of a file, and it is not an archive or cannot be read.
+/// - Out of memory, at any point.
+pub(crate) fn open_sources<'r, R: Files<File: ReadAt> + AllocGlobal>(
+    rt: &'r R,
+    paths: &[&str],
+    first: &'r FirstFailure,
+) -> Result<Vec<RepairSource<FsDir<'r, R>, TarDir<R::File>>>, ProgramFault> {
+    let mut sources = Vec::new(rt.alloc());
+    for path in paths {
+        sources.push(open_source(rt, path, first)?)?;
+    }
+    Ok(sources)
+}
+
+/// Opens the place of a path, as a source.
+fn open_source<'r, R: Files<File: ReadAt> + AllocGlobal>(
+    rt: &'r R,
+    path: &str,
+    first: &'r FirstFailure,
+) -> Result<RepairSource<FsDir<'r, R>, TarDir<R::File>>, ProgramFault> {
+    match Place::open(rt, path, first)? {
+        Place::Folder(dir) => Ok(RepairSource::Folder(dir)),
+        Place::Archive(dir) => Ok(RepairSource::Archive(dir)),
+    }
 }
 
 /// Opens the folder that a command writes into. It need not exist, and is not touched. Unless the

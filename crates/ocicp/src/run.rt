@@ -8,15 +8,16 @@ ghost use Rattle.ocicp.specs.Run.{
   IsDone,
   IsPruneDone,
   IsQueryDone,
+  IsRepairDone,
   IsUntagDone,
 };
 
 use crate::meaning::print_meaning;
-use crate::place::{Place, open_copy, open_folder};
+use crate::place::{Place, open_copy, open_folder, open_sources};
 use crate::sides::{Failures, sides_of};
 use oci_archive::TarDir;
 use oci_command_line::{
-    CommandLine, CommandLineFault, CopyWords, PruneWords, Query, Request, UntagWords,
+    CommandLine, CommandLineFault, CopyWords, PruneWords, Query, RepairWords, Request, UntagWords,
 };
 use oci_copy_commands::{Host, run_copy, run_mem};
 use oci_layout::{Dir, FirstFailure, MemDir};
@@ -24,6 +25,7 @@ use oci_pool::MAX_WORKERS;
 use oci_program::{Ending, Form, Outcome, ProgramFault, end_early, finish_run, print_answer};
 use oci_prune_commands::{run_prune, run_untag};
 use oci_query_commands::run_query;
+use oci_repair_commands::run_repair;
 use std::alloc::Global;
 use std::io::Write;
 
@@ -34,7 +36,7 @@ use std::io::Write;
 ///   the innermost, and with `--hint` a second line, which names the file that is the cause, and says
 ///   what the innermost number means and why the system failed. If
 ///   several manifests are damaged, each has a line, after the result on `out`. Or `verify` found a
-///   problem, which is on `out`.
+///   problem, or a `repair` did not find a blob, which is on `out`.
 /// - 2: the command line is invalid, and the usage is on `err`.
 /// - 3: memory ran out. `err` has the line `ocicp: memory`.
 ///
@@ -145,6 +147,7 @@ fn run_request<R: Host, W: Write, X: Write + Send>(
         Request::Copy(words) => copy(rt, words, failures, form, out, err),
         Request::Untag(words) => untag(rt, words, &failures.written, form, out, err),
         Request::Prune(words) => prune(rt, words, &failures.written, form, out, err),
+        Request::Repair(words) => repair(rt, words, failures, form, out, err),
         Request::Query(path, query) => ask(rt, path, query, &failures.read, form, out, err),
     }
 }
@@ -208,8 +211,25 @@ fn prune<R: Host, W: Write, X: Write>(
     run_prune(rt, dir, words, form, out, err)
 }
 
+/// Runs `repair` on the folder and the sources of its words.
+fn repair<R: Host, W: Write, X: Write + Send>(
+    rt: &R,
+    words: &RepairWords<'_>,
+    failures: &Failures,
+    form: Form,
+    out: &mut W,
+    err: &mut X,
+) -> Result<Outcome, ProgramFault>
+    ensures { IfOk result (IsRepairDone ⟦<TarDir<R::File> as Dir>⟧.device words.now form
+        (W.contents out.old) (W.contents out.new)) }
+{
+    let dir = open_folder(rt, words.folder, &failures.written, words.syncs)?;
+    let sources = open_sources(rt, &words.sources, &failures.read)?;
+    run_repair(rt, dir, &sources, words, form, out, err)
+}
+
 /// Answers a query from the layout at a path.
-fn ask<R: Host, W: Write, X: Write>(
+fn ask<R: Host, W: Write, X: Write + Send>(
     rt: &R,
     path: &str,
     query: &Query<'_>,

@@ -1,8 +1,9 @@
 use crate::place::is_file;
-use oci_command_line::Request;
+use oci_command_line::{RepairWords, Request};
 use oci_layout::FirstFailure;
 use oci_program::{Side, Sides};
 use std::alloc::Global;
+use std::fs;
 use std::rt::Files;
 
 /// The first calls of the system that failed in a run: in the place that its command reads, and in
@@ -25,7 +26,7 @@ impl Failures {
 
 /// Returns the places that a command line names, each with its first failure. A command that changes
 /// the layout that it reads notes all its failures in `written`.
-pub(crate) fn sides_of<'w, R: Files>(
+pub(crate) fn sides_of<'w, R: Files + AllocGlobal>(
     rt: &R,
     request: &Request<'w>,
     failures: &'w Failures,
@@ -37,6 +38,10 @@ pub(crate) fn sides_of<'w, R: Files>(
         },
         Request::Untag(words) => both(side(rt, "FOLDER", words.folder, &failures.written)),
         Request::Prune(words) => both(side(rt, "FOLDER", words.folder, &failures.written)),
+        Request::Repair(words) => Sides {
+            read: Some(side(rt, "FROM", named_source(rt, words), &failures.read)),
+            written: Some(side(rt, "FOLDER", words.folder, &failures.written)),
+        },
         Request::Query(path, _) => both(side(rt, "FOLDER", path, &failures.read)),
         Request::Mem(_) => Sides {
             read: Some(Side {
@@ -59,6 +64,28 @@ fn side<'w, R: Files>(rt: &R, word: &'w str, path: &'w str, first: &'w FirstFail
         is_archive: is_file(rt, path),
         failure: first.get(),
     }
+}
+
+/// Returns the source of a repair that a refusal names: the first folder without a file
+/// `oci-layout`, or else the first source.
+fn named_source<'w, R: Files + AllocGlobal>(rt: &R, words: &RepairWords<'w>) -> &'w str {
+    for path in &words.sources {
+        if !is_file(rt, path) && !has_layout_file(rt, path) {
+            return path;
+        }
+    }
+    match words.sources.first() {
+        Some(path) => path,
+        None => "",
+    }
+}
+
+/// Returns whether a folder has a file `oci-layout`, or true if that is not known.
+fn has_layout_file<R: Files + AllocGlobal>(rt: &R, folder: &str) -> bool {
+    let Ok(path) = format!(in rt.alloc(); "{folder}/oci-layout") else {
+        return true;
+    };
+    fs::exists(rt, &path).unwrap_or(true)
 }
 
 /// Returns the places of a command that names one.
