@@ -1,5 +1,6 @@
 """Checks the names in the documents: files and sections that they link to, paths in backquotes, and
-the functions in the tables of calls in docs/map.md."""
+the functions in the tables of calls in docs/map.md; and that the definitions which the documents call
+closed are unfolded nowhere else."""
 import glob
 import os
 import re
@@ -16,6 +17,13 @@ PATH = re.compile(r"`((?:crates|checks|bench|docs|release|examples|tools)/[\w./-
 BUILT = "/out/"
 CALLS = "| Crate | Functions, each called by the one before |"
 STANDARD = "std"
+# The folders of a crate's sources. A build leaves copies of them in another one.
+ROOMS = ["src", "specs", "proofs"]
+# The definitions that are closed to all sources but those whose paths begin so (docs/promises.md, "Not promised").
+FOLDER = ("crates/oci_layout/specs/Device.antt", "crates/oci_layout/src/fs_dir")
+CLOSED = {name: FOLDER for name in ("IsWatched", "files_at", "drafts_at", "link_at", "may_leave_at")}
+CLOSED["IsUnchanged"] = ("crates/oci_archive/src/read_at.rt",)
+UNFOLDED = re.compile(r"\bunfold(?:ing)?\b(\s*\([^)]*\)|[^\n]*)")
 
 
 def read(path):
@@ -78,9 +86,19 @@ def wrong_calls(table):
                 return "%s has no function %s" % (crate, name)
 
 
+def opened_by(path):
+    """Return a message about a closed definition that a source unfolds and may not, or None."""
+    words = set(re.findall(r"\w+", " ".join(UNFOLDED.findall(read(path)))))
+    for name, homes in CLOSED.items():
+        if name in words and not path.startswith(homes):
+            return "%s unfolds %s" % (path, name)
+
+
 def checks(room):
     for document in DOCUMENTS:
         yield "links of " + document, first(wrong_link(document, target) for target in LINK.findall(prose(document)))
         yield "paths of " + document, first(wrong_path(path) for path in named_paths(document))
     for table in read("docs/map.md").split(CALLS)[1:]:
         yield "calls in docs/map.md, to %s" % table.split("\n\n", 1)[0].split("`")[-2], wrong_calls(table)
+    paths = (path for room in ROOMS for path in glob.glob("%s/crates/*/%s/**/*.*" % (TOP, room), recursive=True))
+    yield "closed definitions stay closed", first(opened_by(os.path.relpath(path, TOP)) for path in sorted(paths))

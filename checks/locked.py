@@ -6,12 +6,12 @@ import signal
 import subprocess
 
 from support import shim
-from support.layouts import BAR, E, FOO, LAYER, M2, Content, digits, key, write_layout
+from support.layouts import BAR, E, FOO, LAYER, M2, Content, blob, digits, key, write_layout
 from support.program import PROGRAM, first, wrong_layout
 
 # A command is stopped before each of its changes, of which there are at most this many.
 CHANGES = 100
-SECONDS = 10
+SECONDS = 60
 # Contents that are held without a tag, so that a prune removes them.
 OTHER = Content(LAYER, b"other")
 # By command: the contents that are held at its end, and the tags.
@@ -21,6 +21,7 @@ COMMANDS = {
     "a copy": (COPY, COPIED),
     "a prune": (["prune", "copied"], ([BAR], {"old": BAR})),
     "untag": (["untag", "copied", "old"], ([BAR, OTHER], {})),
+    "a repair": (["repair", "--workers", "1", "copied", "source"], ([BAR, OTHER], {"old": BAR})),
 }
 WAITS = "ocicp: waiting for another process that writes into copied\n"
 
@@ -28,7 +29,7 @@ WAITS = "ocicp: waiting for another process that writes into copied\n"
 def fresh(room):
     for layout in "source", "copied":
         shutil.rmtree("%s/%s" % (room, layout), ignore_errors=True)
-    write_layout(room + "/source", [E, FOO, M2], {"new": M2})
+    write_layout(room + "/source", [E, FOO, BAR, M2], {"new": M2})
     write_layout(room + "/copied", [BAR, OTHER], {"old": BAR}, [OTHER])
 
 
@@ -53,6 +54,8 @@ def held_at_each(room, library, what):
     words, done = COMMANDS[what]
     for number in range(1, CHANGES + 1):
         fresh(room)
+        if what == "a repair":
+            os.truncate("%s/copied/%s" % (room, blob(BAR)), 1)
         process = shim.stopped(library, words, room, number)
         if not process:
             break

@@ -30,8 +30,12 @@ COMPLETED = [
     (["copy", "--workers", "2", "source", ""], TAGS),
     (["tree", "--referrers", "source", ""], TAGS),
     (["verify", "so"], ["source"]),
+    (["repair", "mirror", "source", "so"], ["source"]),
     (["mem", "fi"], ["file"]),
     (["explain", ""], []),
+    (["he"], ["help"]),
+    (["help", "co"], ["copy"]),
+    (["help", "copy", ""], []),
 ]
 COMPLETE = """
 source completions/ocicp.bash

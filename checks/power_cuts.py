@@ -222,7 +222,7 @@ TWO_TAGS = [*COMMON, *OF_ONE, *OF_TWO, ONE, TWO], {"a": ONE, "b": TWO}
 ONLY_OLD = [*COMMON, *OF_OLD, OLD], {"old": OLD}
 OLD_AND_ONE = [*COMMON, *OF_OLD, *OF_ONE, OLD, ONE], {"old": OLD, "new": ONE}
 NO_TAG = [*COMMON, *OF_OLD, *OF_ONE, OLD, ONE], {"old": OLD}, [ONE]
-COPY, ALL, SET = ["source", "new", "copied"], ["--all", "source", "copied"], {"new": ONE}
+COPY, ALL, REPAIR, SET = ["source", "new", "copied"], ["--all", "source", "copied"], ["copied", "source"], {"new": ONE}
 SAVE = "rename", "copied/index.json"
 COPIES = {
     "copy into a new folder": Case(COPY, SIGNED_ONE, None, SET),
@@ -241,9 +241,17 @@ COPIES = {
     "copy after one that was killed before its save": Case(COPY, SIGNED_ONE, ONLY_OLD, SET, killed=(*SAVE, 0)),
     "copy after one that was killed after its save": Case(COPY, SIGNED_ONE, ONLY_OLD, SET, killed=(*SAVE, 1)),
 }
+REPAIRS = {
+    "repair of a layer": Case(REPAIR, SIGNED_ONE, OLD_AND_ONE, SET, [SHARED]),
+    "repair of a manifest and a layer": Case(REPAIR, SIGNED_ONE, OLD_AND_ONE, SET, [ONE, LAYERS[0]]),
+    "repair of all blobs": Case(REPAIR, SIGNED_ONE, ([], {"new": ONE}, [SIGNATURE]), {**SET, key(SIGNATURE).digest: SIGNATURE}),
+    "repair after one that was killed": Case(
+        REPAIR, SIGNED_ONE, OLD_AND_ONE, SET, [ONE, SHARED], killed=("rename", "copied/" + blob(ONE), 1)),
+}
 CASES = {
-    **{"%s, %s" % (name, workers): case._replace(words=["copy", "--workers", workers[0], *case.words])
-       for name, case in COPIES.items() for workers in ("1 worker", "3 workers")},
+    **{"%s, %s" % (name, workers): case._replace(words=[command, "--workers", workers[0], *case.words])
+       for command, cases in (("copy", COPIES), ("repair", REPAIRS))
+       for name, case in cases.items() for workers in ("1 worker", "3 workers")},
     "untag": Case(["untag", "copied", "new"], None, OLD_AND_ONE, {"new": None}),
     "prune": Case(["prune", "copied"], None, NO_TAG, {key(ONE).digest: None}),
     "prune after one that was killed after its save": Case(

@@ -22,14 +22,6 @@ static int on_change(const char *path) {
   return 0;
 }
 """
-# One change is refused, for there is no room.
-FULL = shim.CHANGES + r"""
-static int on_change(const char *path) {
-  static int count;
-  mark();
-  return __atomic_add_fetch(&count, 1, __ATOMIC_SEQ_CST) == atoi(getenv("REFUSED_CHANGE")) ? ENOSPC : 0;
-}
-"""
 
 RUNS = 10
 LAYERS = [Content(LAYER, b"layer %d" % number) for number in range(RUNS)]
@@ -166,7 +158,7 @@ def wrong_beside(room):
 
 
 def checks(room):
-    kill, full, notes = (shim.built(room, name, source) for name, source in (("kill", shim.KILLS), ("full", FULL), ("notes", NOTES)))
+    kill, full, notes = (shim.built(room, name, source) for name, source in (("kill", shim.KILLS), ("full", shim.FULL), ("notes", NOTES)))
     for what, untagged in ("a prune", UNTAGGED), ("a prune of files alone", []):
         layout = Layout(room, untagged)
         yield "%s that is not ended" % what, layout.wrong_whole()

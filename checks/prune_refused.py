@@ -12,7 +12,7 @@ from support.layouts import BAR, E, FOO, I1, LAYER, M2, M3, S, Content, blob, di
 from support.program import NOBODY, PROGRAM, first, run, told
 from support.pruning import Prune
 
-SECONDS = 10
+SECONDS = 60
 A = Content(LAYER, b"a layer")
 STRAYS = ["blobs/sha256/%064x" % 1, "blobs/sha256/%064x" % 2, "blobs/sha512/%0128x" % 3, "index.json.0123456789abcdef.new"]
 WAITS = "ocicp: waiting for another process that writes into layout\n"

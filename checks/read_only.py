@@ -33,6 +33,7 @@ READING = [
     ["copy", "--all", "--prune", "--dry-run", "other", "source"],
     ["copy", "--referrers", "source", "one", "copied"],
     ["prune", "--dry-run", "source"],
+    ["repair", "--dry-run", "source", "other"],
     ["prune", "--dry-run", "--no-referrers", "source"],
 ]
 

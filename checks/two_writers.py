@@ -56,7 +56,7 @@ def wrong_end(process):
     file that this one writes."""
     os.kill(process.pid, signal.SIGCONT)
     try:
-        _, err = process.communicate(timeout=10)
+        _, err = process.communicate(timeout=60)
     except subprocess.TimeoutExpired:
         process.kill()
         process.communicate()

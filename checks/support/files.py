@@ -38,10 +38,10 @@ def stamps(folder):
     return found
 
 
-def wrong_refusal(room, words, line, status=1):
-    """Return the problem with a command that is to be refused with this line, and to change nothing, or None."""
+def wrong_refusal(room, words, line, status=1, **how):
+    """Return the problem with a command that is to be refused with this line, and to change nothing, or None. `how` goes to `run`."""
     before, when = files(room), stamps(room)
-    ended = run(words, room)
+    ended = run(words, room, **how)
     return first([
         None if ended[:3] == (status, "", "ocicp: %s\n" % line) else "%s: %s; and not %s" % (" ".join(words), told(ended), line),
         None if files(room) == before and stamps(room) == when else "%s: something has changed" % " ".join(words),

@@ -5,7 +5,7 @@ import shutil
 from support.layouts import BAR, E, FOO, M2, image, key, write_layout
 from support.program import run, told
 
-SECONDS, KILOBYTES = 1, 32 << 10
+SECONDS, KILOBYTES = 5, 32 << 10
 # The bytes of a file that belongs to no layout.
 SECRET = b"known to its owner alone"
 # The contents and the tags of a destination.

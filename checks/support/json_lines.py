@@ -32,7 +32,7 @@ AT = {"side": str, "path": str, "os": str}
 # The commands whose documents may have damaged manifests, and those whose documents may have unreadable entries. A document is then followed
 # by the first refusal.
 WHOLE = ["tags", "predecessors", "tree"]
-REPORTING = [*WHOLE, "verify"]
+REPORTING = [*WHOLE, "verify", "repair"]
 # The line of an unreadable entry, without its place, and the lines of a damaged manifest, without its key.
 UNREADABLE = "ocicp: 73 BadIndex 14 BadDescriptor manifests "
 DAMAGED = ["ocicp: 75 Corrupt ", "ocicp: 77 BadManifest "]
@@ -166,6 +166,15 @@ def of_prune(value, words):
     ]
 
 
+def of_repair(value, words):
+    repaired, missing, held, total = taken(value, {"repaired": list, "missing": list, "held": int, "bytes": SUM})
+    return [
+        *("repaired " + key(it) for it in repaired),
+        *("missing " + key(it) for it in missing),
+        "held %d repaired %d bytes %d missing %d" % (held, len(repaired), sum_of(total), len(missing)),
+    ]
+
+
 def tag_of(words):
     """Return the tag that a copy sets: DSTREF, or SRCREF if there is none."""
     places = [it for it, before in zip(words[1:], words) if not it.startswith("--") and before not in ("--workers", "--depth")]
@@ -245,7 +254,7 @@ def of_tree(value, words, labels):
 
 LINES = {
     "tags": of_tags, "resolve": of_resolve, "predecessors": of_predecessors, "verify": of_verify, "explain": of_explain,
-    "untag": of_untag, "prune": of_prune, "copy": of_copy, "mem": of_mem, "tree": of_tree,
+    "untag": of_untag, "prune": of_prune, "repair": of_repair, "copy": of_copy, "mem": of_mem, "tree": of_tree,
 }
 
 

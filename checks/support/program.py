@@ -11,7 +11,7 @@ from support.layouts import blob, key
 TOP = os.path.dirname(os.path.dirname(os.path.dirname(os.path.abspath(__file__))))
 PROGRAM = os.environ.get("OCICP", TOP + "/crates/ocicp/out/ocicp")
 # A run that takes longer is killed, and its status is then -9.
-SECONDS = 10
+SECONDS = 60
 
 # Another user, who may do less than root, for `run`.
 NOBODY = {"user": 65534, "group": 65534, "extra_groups": []}

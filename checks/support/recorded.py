@@ -30,7 +30,7 @@ static void begin(void) {
   if (last && made == atol(last)) kill(getpid(), SIGKILL);
 }
 static void note(const char *start, const char *data, long count) {
-  static char text[1 << 16];
+  static char text[1 << 22];
   size_t length = snprintf(text, sizeof text, "%s", start);
   if (length + 2 * count + 1 >= sizeof text) abort();
   for (long at = 0; at < count; at++) length += sprintf(text + length, "%02x", (unsigned char)data[at]);

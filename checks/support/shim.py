@@ -61,6 +61,9 @@ int renameat(int of, const char *from, int at, const char *to) {
 int unlink(const char *path) {
   return is_refused(path) ? -1 : NEXT(int (*)(const char *), "unlink")(path);
 }
+int rmdir(const char *path) {
+  return is_refused(path) ? -1 : NEXT(int (*)(const char *), "rmdir")(path);
+}
 int unlinkat(int at, const char *path, int flags) {
   return is_refused(path) ? -1 : NEXT(int (*)(int, const char *, int), "unlinkat")(at, path, flags);
 }
@@ -100,6 +103,15 @@ static int on_change(const char *path) {
   mark();
   if (__atomic_add_fetch(&count, 1, __ATOMIC_SEQ_CST) == atoi(getenv("LAST_CHANGE"))) kill(getpid(), SIGKILL);
   return 0;
+}
+"""
+
+# Each change is marked, and one is refused, for there is no room.
+FULL = CHANGES + r"""
+static int on_change(const char *path) {
+  static int count;
+  mark();
+  return __atomic_add_fetch(&count, 1, __ATOMIC_SEQ_CST) == atoi(getenv("REFUSED_CHANGE")) ? ENOSPC : 0;
 }
 """
 

@@ -1,0 +1,92 @@
+"""The blobs that a repair of a layout writes, and the lines that it prints, worked out from the files by the rules of `ocicp repair --help`."""
+import hashlib
+import json
+import os
+import re
+
+from support.files import read
+from support.pruning import FOREIGN, MEMBERS, is_readable, key_of, path, text
+
+# A file that is still written beside the place of a blob.
+BESIDE = re.compile(r"blobs/(sha256/[0-9a-f]{64}|sha512/[0-9a-f]{128})\.[0-9a-f]{16}\.new")
+
+
+def is_match(key, content):
+    """Return whether bytes have the size and the digest of a key."""
+    algorithm, digits = key.digest.split(":")
+    return len(content) == key.size and hashlib.new(algorithm, content).hexdigest() == digits
+
+
+def found_in(folder, key):
+    """Return the bytes of a key's file in a folder if they match the key, or None."""
+    file = "%s/%s" % (folder, path(key))
+    content = read(file) if os.path.isfile(file) else b""
+    return content if os.path.isfile(file) and is_match(key, content) else None
+
+
+def is_blocked(folder, key):
+    """Return whether a folder with contents is in the place of a key's file."""
+    place = "%s/%s" % (folder, path(key))
+    return os.path.isdir(place) and bool(os.listdir(place))
+
+
+def listed(key, content):
+    """Return the keys that the bytes of a manifest list; those of another blob list none."""
+    value = json.loads(content) if key.media_type in MEMBERS else {}
+    members = [value.get(name) or [] for name in MEMBERS.get(key.media_type, [])]
+    found = [key_of(it) for member in members for it in (member if isinstance(member, list) else [member])]
+    return {it for it in found if not FOREIGN.fullmatch(it.media_type)}
+
+
+class Repair:
+    """A repair of a layout from sources, which are asked in this order. Each is a folder; an archive has the files of one."""
+
+    def __init__(self, folder, sources):
+        self.folder, self.sources = folder, sources
+        entries = json.loads(read(folder + "/index.json"))["manifests"]
+        # The bytes of each file that is written, by its path, and the number of the source of each.
+        self.written, self.origins = {}, {}
+        self.held, self.repaired, self.missing = set(), set(), set()
+        # The repaired blobs that are known only from repaired manifests.
+        self.below = set()
+        self.visit({key_of(it) for it in entries if is_readable(it)})
+        unreadable = [place for place, it in enumerate(entries) if not is_readable(it)]
+        self.err = "".join("ocicp: 73 BadIndex 14 BadDescriptor manifests %d\n" % it for it in unreadable)
+        self.lines = [
+            *("repaired " + text(it) for it in sorted(self.repaired)),
+            *("missing " + text(it) for it in sorted(self.missing)),
+            "held %d repaired %d bytes %d missing %d" % (
+                len(self.held), len(self.repaired), sum(map(len, self.written.values())), len(self.missing)),
+        ]
+        self.out = "".join(it + "\n" for it in self.lines)
+        self.status = 1 if self.missing or unreadable else 0
+
+    def visit(self, more):
+        """Bring each of these keys, and then all that the manifests among them list, here or in a source."""
+        found, known = set(), set(more)
+        while more:
+            found |= more
+            lists = {it: listed(it, content) for it in more if (content := self.bring(it)) is not None}
+            known = known.union(*(keys for it, keys in lists.items() if it in self.held - self.repaired))
+            more = set().union(*lists.values()) - found
+        self.below = self.repaired - known
+
+    def bring(self, key):
+        """Return the bytes of a key from the layout or else the first source that has them, or None. Note what becomes of the key."""
+        content = found_in(self.folder, key)
+        if content is not None:
+            self.held.add(key)
+            return content
+        content, origin = self.fetched(key)
+        if content is None or is_blocked(self.folder, key):
+            self.missing.add(key)
+            return content
+        self.held.add(key)
+        self.repaired.add(key)
+        self.written[path(key)], self.origins[path(key)] = content, origin
+        return content
+
+    def fetched(self, key):
+        """Return the bytes of a key from the first source that has them, with the number of that source, or None twice."""
+        found = ((found_in(source, key), number) for number, source in enumerate(self.sources))
+        return next((it for it in found if it[0] is not None), (None, None))
