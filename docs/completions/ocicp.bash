@@ -3,7 +3,7 @@ _ocicp() {
   local word=${COMP_WORDS[COMP_CWORD]} flags='' valued='' last='' kinds=() words=() at line
   COMPREPLY=()
   if ((COMP_CWORD == 1)); then
-    mapfile -t COMPREPLY < <(compgen -W 'copy untag prune tags resolve predecessors tree verify mem explain --help --version' -- "$word")
+    mapfile -t COMPREPLY < <(compgen -W 'copy untag prune repair tags resolve predecessors tree verify mem explain help --help --version' -- "$word")
     return
   fi
   case ${COMP_WORDS[1]} in
@@ -16,6 +16,9 @@ _ocicp() {
       ;;
     prune)
       flags='--dry-run --no-referrers --leftovers --hint --json --no-wait --no-sync --help' kinds=(folder)
+      ;;
+    repair)
+      flags='--dry-run --workers --hint --json --no-wait --no-sync --help' valued='--workers' last=folder
       ;;
     tags)
       flags='--all --hint --json --help' kinds=(folder)
@@ -30,13 +33,16 @@ _ocicp() {
       flags='--referrers --platform --hint --json --help' valued='--platform' kinds=(folder tag)
       ;;
     verify)
-      flags='--hint --json --help' kinds=(folder)
+      flags='--workers --hint --json --help' valued='--workers' kinds=(folder)
       ;;
     mem)
       flags='--workers --sha512 --hint --json --help' valued='--workers' last=file
       ;;
     explain)
       flags='--hint --json --help' kinds=(none)
+      ;;
+    help)
+      kinds=(command)
       ;;
   esac
   for ((at = 2; at < COMP_CWORD; at++)); do
@@ -59,6 +65,9 @@ _ocicp() {
     file)
       compopt -o filenames 2>/dev/null
       mapfile -t COMPREPLY < <(compgen -f -- "$word")
+      ;;
+    command)
+      mapfile -t COMPREPLY < <(compgen -W 'copy untag prune repair tags resolve predecessors tree verify mem explain' -- "$word")
       ;;
     tag)
       # (not by `compgen -W`, which would run what is in a tag)
