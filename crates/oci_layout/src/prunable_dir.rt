@@ -9,8 +9,8 @@ use crate::fault::DirFault;
 /// at its path, and `list` leaves it out.
 pub trait PrunableDir: Dir {
     /// Returns the names of the files directly in a folder, each with its length in bytes, in no
-    /// order. Leaves out subfolders, and names that are not UTF-8. A link counts as a file of its
-    /// own length. A folder that does not exist has no files.
+    /// order. Leaves out names that are not UTF-8. A link counts as a file of its own length, and a
+    /// subfolder as a file without bytes. A folder that does not exist has no files.
     ///
     /// # Errors
     ///

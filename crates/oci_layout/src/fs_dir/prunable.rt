@@ -15,7 +15,8 @@ impl<'r, R: Files + AllocGlobal + RandomSource> PrunableDir for FsDir<'r, R>
 where
     R::File: Lockable,
 {
-    /// Leaves out all that is neither a regular file nor a link, and drafts.
+    /// Leaves out drafts. Anything else that is neither a regular file nor a link stands in the
+    /// place of a file: it counts as one without bytes, and `remove` fails there.
     #[tactic(auto, unfolding(crate::specs::Device::IsWatched))]
     fn list(&self, folder: &str) -> Result<Vec<(String, u64)>, DirFault> {
         let place = self.place(folder)?;
@@ -77,8 +78,8 @@ where
     }
 }
 
-/// Returns the names of the files and links in a folder, each with its own length. Leaves out the
-/// drafts, if it is a folder of blobs.
+/// Returns the names in a folder, each with the length of its file or link. Leaves out the drafts,
+/// if it is a folder of blobs.
 fn files_in<R: Files + AllocGlobal>(
     rt: &R,
     place: &str,
@@ -108,11 +109,12 @@ fn is_draft(room: Option<Room>, name: &str) -> bool {
     }
 }
 
-/// Returns the length of a file or a link. Returns `None` for anything else, and if it was removed.
+/// Returns the length of a file or a link, and 0 for anything else. Returns `None` if it was
+/// removed.
 fn own_length<R: Files>(rt: &R, place: &str) -> io::Result<Option<u64>> {
     match fs::symlink_metadata(rt, place) {
         Ok(found) if found.is_file() || found.is_symlink() => Ok(Some(found.len())),
-        Ok(_) => Ok(None),
+        Ok(_) => Ok(Some(0)),
         Err(error) if is_absence(&error) => Ok(None),
         Err(error) => Err(error),
     }
