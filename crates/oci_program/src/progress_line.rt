@@ -91,7 +91,8 @@ impl<'p, X: Write> Line<'p, X> {
         self.drawn = Some(speed);
         let rate = speed.rate();
         let progress = Progress { arrived, all, rate };
-        let _ = write!(self.err, "\r{progress}\x1b[K");
+        // (between `?7l` and `?7h` a terminal cuts a line at its margin, and does not wrap it)
+        let _ = write!(self.err, "\r\x1b[?7l{progress}\x1b[K\x1b[?7h");
         let _ = self.err.flush();
     }
 
@@ -111,8 +112,9 @@ impl<'p, X: Write> Line<'p, X> {
 ///
 /// It is drawn when the first bytes or the first blob are counted, and from then on at most ten
 /// times a second. The rate is that of the last five to ten seconds. It is left out, with the time,
-/// in the first second; the time is left out if the rate is 0, or if everything has arrived. If the
-/// line cannot be written, it is left out and the work goes on.
+/// in the first second; the time is left out if the rate is 0, or if everything has arrived. A
+/// terminal that is too narrow for the line cuts it. If the line cannot be written, it is left out
+/// and the work goes on.
 #[derive(Drop)]
 pub struct ProgressLine<'p, R, X> {
     rt: &'p R,

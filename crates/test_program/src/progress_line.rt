@@ -66,11 +66,11 @@ fn line_of_the_first_seconds(rt: HostRuntime) -> Result<(), Fail> {
         Part(4_000, 8_000_000),
     ];
     let wanted = "\
-\r0 of 1 blobs, 1.0 MB of 12.0 MB\x1b[K\
-\r0 of 1 blobs, 2.0 MB of 12.0 MB\x1b[K\
-\r0 of 1 blobs, 3.0 MB of 12.0 MB, 2.0 MB/s, 5 s left\x1b[K\
-\r0 of 1 blobs, 4.0 MB of 12.0 MB, 1.5 MB/s, 6 s left\x1b[K\
-\r0 of 1 blobs, 12.0 MB of 12.0 MB, 2.8 MB/s\x1b[K\
+\r\x1b[?7l0 of 1 blobs, 1.0 MB of 12.0 MB\x1b[K\x1b[?7h\
+\r\x1b[?7l0 of 1 blobs, 2.0 MB of 12.0 MB\x1b[K\x1b[?7h\
+\r\x1b[?7l0 of 1 blobs, 3.0 MB of 12.0 MB, 2.0 MB/s, 5 s left\x1b[K\x1b[?7h\
+\r\x1b[?7l0 of 1 blobs, 4.0 MB of 12.0 MB, 1.5 MB/s, 6 s left\x1b[K\x1b[?7h\
+\r\x1b[?7l0 of 1 blobs, 12.0 MB of 12.0 MB, 2.8 MB/s\x1b[K\x1b[?7h\
 \r\x1b[K";
     let told = drawn(&rt, 12_000_000, &parts)?;
     assert_eq!(&rt; told.as_str(), wanted);
@@ -85,7 +85,8 @@ fn rate_of_the_last_seconds(rt: HostRuntime) -> Result<(), Fail> {
     for second in 1..=16 {
         parts.push(Part(second * 1_000, 1_000_000))?;
     }
-    let wanted = "\r0 of 1 blobs, 67.0 MB of 100.0 MB, 1.0 MB/s, 33 s left\x1b[K\r\x1b[K";
+    let wanted =
+        "\r\x1b[?7l0 of 1 blobs, 67.0 MB of 100.0 MB, 1.0 MB/s, 33 s left\x1b[K\x1b[?7h\r\x1b[K";
     let told = drawn(&rt, 100_000_000, &parts)?;
     assert!(&rt; told.as_str().ends_with(wanted), "{told:?}");
     Ok(())
