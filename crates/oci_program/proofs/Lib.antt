@@ -1,4 +1,5 @@
 pub mod Named
+mod Opening
 pub mod Preferred
 pub mod Stated
 pub mod Naming

@@ -1,3 +1,4 @@
+pub mod Opened
 pub mod Status
 pub mod Reference
 pub mod Platform

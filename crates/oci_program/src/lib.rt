@@ -21,7 +21,7 @@
 //! and [`pick_platform`] the manifest of an index for a platform; [`listed_platforms`] says which
 //! platforms an index lists.
 //! [`lock_folder`] and [`make_and_lock_folder`] lock the folder that a command writes into;
-//! [`check_is_layout`] looks before whether it has a layout.
+//! [`check_is_layout`] looks before whether it has a layout, and [`open_settled`] opens that after.
 #![tactic(auto)]
 
 mod answer;
@@ -29,6 +29,7 @@ mod ending;
 mod fault;
 mod finish;
 mod locking;
+mod opened;
 mod outcome;
 mod platform;
 mod progress_line;
@@ -47,6 +48,7 @@ pub use ending::Ending;
 pub use fault::ProgramFault;
 pub use finish::{Ended, end_early, finish_run};
 pub use locking::{check_is_layout, lock_folder, make_and_lock_folder};
+pub use opened::open_settled;
 pub use outcome::Outcome;
 pub use platform::{Picked, listed_platforms, pick_platform};
 pub use progress_line::{Amount, ProgressLine};

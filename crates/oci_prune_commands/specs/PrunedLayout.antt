@@ -14,9 +14,9 @@ use Rattle.oci_prune.specs.Plan.{AreKept, IsLeftoverPlan, IsPrunePlan, RefersIf,
 use Rattle.oci_prune.specs.Pruned.{flagged, is_gone, kept_of, AreDraftsGone, HasOnlyNeeded, IsTouchedBy, RemovesDrafts}
 use Rattle.oci_prune.specs.declared.plan.PrunePlan.{PrunePlan}
 use Rattle.oci_prune.specs.declared.run.Pruned.{Pruned}
+use Rattle.oci_program.specs.Opened.{IsOpenedSettled}
 use Rattle.oci_program.specs.Pruned.{ShowsPlan, ShowsPruned}
 use Rattle.oci_program.specs.declared.prune_answer.PruneAnswer.{PruneAnswer}
-use Rattle.oci_prune_commands.specs.Untagged.{IsOpenedSettled}
 
 -- ---- a plan
 

@@ -3,28 +3,16 @@ use Rattle.std.specs.Prelude.{◌≡◌, ◌⊎◌, ◌-◌, ◌++◌, ℕ, List
 use Rattle.oci_manifest.specs.Descriptor.{Descriptor, key_text}
 use Rattle.oci_layout.specs.Blobs.{stored}
 use Rattle.oci_layout.specs.Brought.{Forgets}
-use Rattle.oci_layout.specs.Crash.{IsSettled, OnlySettles}
 use Rattle.oci_layout.specs.Device.{Device, Touches}
 use Rattle.oci_layout.specs.Entries.{said}
-use Rattle.oci_layout.specs.Index.{HasIndex, index_file, layout_file}
+use Rattle.oci_layout.specs.Index.{HasIndex, index_file}
 use Rattle.oci_layout.specs.Lasts.{Lasts}
 use Rattle.oci_layout.specs.Layout.{LayoutState}
-use Rattle.oci_layout.specs.Opened.{IsOpenedAsIs}
+use Rattle.oci_program.specs.Opened.{IsOpenedSettled}
 use Rattle.oci_prune.specs.Settled.{CanSettle}
 use Rattle.oci_store.specs.Content.{Entry}
 use Rattle.oci_store.specs.Tags.{Tags, tag_at, without_tag}
 use Rattle.oci_prune_commands.specs.Named.{entries_named, keys_named}
-
--- ---- the layout that is opened
-
--- A layout was opened as it is from a directory, and its index is on the disk. No file changed, and
--- what lasted before lasts now.
-pub record IsOpenedSettled {D : Type 0} (device : D → Device) (dir : D) (layout : LayoutState D) : Type 0 where
-  pub opened : (device dir).is_honest → IsOpenedAsIs (device dir).file layout.graph layout.tags layout.opened
-  pub version : (device dir).is_honest → IsSettled (device layout.dir) layout_file
-  pub index : (device dir).is_honest → IsSettled (device layout.dir) index_file
-  pub only : OnlySettles (device dir) (device layout.dir)
-  pub lasts : (entries : List Entry) (tags : Tags) → Lasts (device dir) entries tags → Lasts (device layout.dir) entries tags
 
 -- ---- the layout that is left
 

@@ -5,7 +5,6 @@
 //! Their contracts say what that leaves.
 #![tactic(auto)]
 
-mod opened;
 mod prune;
 mod untag;
 

@@ -11,12 +11,11 @@ ghost use Rattle.oci_prune_commands.specs.PrunedLayout.{
   LosesLeftovers,
 };
 
-use crate::opened::open_settled;
 use oci_command_line::PruneWords;
 use oci_layout::{FolderLock, Layout, Lockable, PrunableDir};
 use oci_program::{
-    Form, Outcome, ProgramFault, PruneAnswer, check_is_layout, lock_folder, print_answer,
-    print_answer_with_fault,
+    Form, Outcome, ProgramFault, PruneAnswer, check_is_layout, lock_folder, open_settled,
+    print_answer, print_answer_with_fault,
 };
 use oci_prune::{
     PruneFault, PrunePlan, Pruned, plan_leftovers, plan_prune, prune, prune_leftovers,

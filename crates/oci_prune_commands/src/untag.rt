@@ -34,12 +34,13 @@ ghost use Rattle.oci_prune_commands.specs.Untagged.{
   LosesName,
 };
 
-use crate::opened::open_settled;
 use oci_command_line::UntagWords;
 use oci_digest::NoMemory;
 use oci_layout::{Dir, FolderLock, IndexEntry, Layout, Lockable};
 use oci_manifest::Key;
-use oci_program::{Form, Outcome, ProgramFault, check_is_layout, lock_folder, print_answer};
+use oci_program::{
+    Form, Outcome, ProgramFault, check_is_layout, lock_folder, open_settled, print_answer,
+};
 use oci_store::{Dest, RefFault, Store, Untagger};
 use serde::Serialize;
 use std::alloc::Global;

@@ -1,5 +1,5 @@
-use Rattle.oci_prune_commands.proofs.Untagging.{opened_settled}
-use Rattle.oci_prune_commands.proofs.opened.open_settled.Goals as goal
+use Rattle.oci_program.proofs.Opening.{opened_settled}
+use Rattle.oci_program.proofs.opened.open_settled.Goals as goal
 
 pub returns-in-Ok : goal.returns-in-Ok
 returns-in-Ok g c =

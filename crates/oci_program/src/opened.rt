@@ -1,8 +1,8 @@
 ghost use Rattle.std.specs.Prelude.{IfOk};
-ghost use Rattle.oci_prune_commands.specs.Untagged.{IsOpenedSettled};
+ghost use Rattle.oci_program.specs.Opened.{IsOpenedSettled};
 
+use crate::fault::ProgramFault;
 use oci_layout::{Dir, Layout};
-use oci_program::ProgramFault;
 use std::alloc::Global;
 
 /// Opens the layout in a directory as it is, and waits until its index is on the disk. A process
@@ -13,7 +13,7 @@ use std::alloc::Global;
 /// - 70 to 74 if the directory has no layout, or it cannot be read, or its index is no object with a
 ///   list `manifests`; 74 also if it is not known whether the index is on the disk.
 /// - Out of memory, at any point.
-pub(crate) fn open_settled<D: Dir + Drop>(alloc: Global, dir: D) -> Result<Layout<D>, ProgramFault>
+pub fn open_settled<D: Dir + Drop>(alloc: Global, dir: D) -> Result<Layout<D>, ProgramFault>
     ensures { IfOk result (IsOpenedSettled D.device dir) }
 {
     let mut layout = Layout::open_as_is(alloc, dir)?;
