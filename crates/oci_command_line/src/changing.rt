@@ -62,6 +62,21 @@ pub struct CopyWords<'w> {
     pub syncs: bool,
 }
 
+/// The words of `tag`.
+#[derive(Clone, Copy)]
+pub struct TagWords<'w> {
+    /// The folder of the layout.
+    pub folder: &'w str,
+    /// The reference to the blob.
+    pub reference: &'w str,
+    /// The tag to set.
+    pub tag: &'w str,
+    /// Whether the command waits while another process has the folder's lock.
+    pub waits: bool,
+    /// Whether the command waits until what it writes is on the disk.
+    pub syncs: bool,
+}
+
 /// The words of `untag`.
 #[derive(Clone, Copy)]
 pub struct UntagWords<'w> {

@@ -193,7 +193,7 @@ Give the process more memory, or use fewer workers.
 
 70 NoLayoutFile
 The folder or archive is not an image layout: it does not exist, or has no file `oci-layout`.
-Check the path. Only `ocicp copy` creates a layout, as its destination, and only where no `index.json` would be lost. `docker save` writes one since Docker 25.
+Check the path. Only `ocicp copy` creates a layout, as its destination, and only where no `index.json` would be lost. `docker save` writes one since Docker 25. An archive is read at positions, so it cannot come from a pipe: save it as a file first.
 
 71 BadLayoutFile
 The file `oci-layout` is not a JSON object with a text `imageLayoutVersion`.

@@ -6,6 +6,7 @@
 //! | [`CommandLine`] | a valid command line; [`CommandLine::parse`] reads it |
 //! | [`Request`] | its command |
 //! | [`CopyWords`] | the words of `copy` |
+//! | [`TagWords`] | the words of `tag` |
 //! | [`UntagWords`] | the words of `untag` |
 //! | [`PruneWords`] | the words of `prune` |
 //! | [`RepairWords`] | the words of `repair` |
@@ -23,7 +24,7 @@ mod memory;
 mod request;
 mod words;
 
-pub use changing::{CopyWords, PruneWords, RepairWords, Selection, Shown, UntagWords};
+pub use changing::{CopyWords, PruneWords, RepairWords, Selection, Shown, TagWords, UntagWords};
 pub use explain::{Explanation, first_sentence};
 pub use memory::{Algorithm, MemWords};
 pub use request::{CommandLine, CommandLineFault, Query, Request};

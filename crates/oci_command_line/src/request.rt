@@ -1,4 +1,4 @@
-use crate::changing::{CopyWords, PruneWords, RepairWords, Selection, Shown, UntagWords};
+use crate::changing::{CopyWords, PruneWords, RepairWords, Selection, Shown, TagWords, UntagWords};
 use crate::explain::{Explanation, find_explanation};
 use crate::memory::{Algorithm, MemWords};
 use crate::words::command;
@@ -30,6 +30,8 @@ pub enum Request<'w> {
     Mem(MemWords<'w>),
     /// `copy`, with its folders, references and flags.
     Copy(CopyWords<'w>),
+    /// `tag`, with its folder, reference, tag and flags.
+    Tag(TagWords<'w>),
     /// `untag`, with its folder, tag and flags.
     Untag(UntagWords<'w>),
     /// `prune`, with its folder and flags.
@@ -70,6 +72,13 @@ pub enum Query<'w> {
         platform: Option<&'w str>,
         /// Whether the referrers are shown too.
         shows_referrers: bool,
+    },
+    /// `cat`.
+    Cat {
+        /// The reference.
+        reference: &'w str,
+        /// The platform whose manifest is picked from the index that the reference names.
+        platform: Option<&'w str>,
     },
     /// `verify`.
     Verify {
@@ -155,6 +164,7 @@ fn request_of<'w>(
     match name {
         "explain" => explanation_of(alloc, word(matches, "number"), most_workers),
         "copy" => Ok(Request::Copy(copy_words(alloc, matches, on_terminal)?)),
+        "tag" => Ok(Request::Tag(tag_words(matches))),
         "untag" => Ok(Request::Untag(untag_words(matches))),
         "prune" => Ok(Request::Prune(prune_words(matches))),
         "repair" => Ok(Request::Repair(repair_words(alloc, matches, on_terminal)?)),
@@ -167,6 +177,7 @@ fn request_of<'w>(
         "resolve" => Ok(of_folder(matches, resolve_of(matches))),
         "predecessors" => Ok(of_folder(matches, predecessors_of(alloc, matches)?)),
         "tree" => Ok(of_folder(matches, tree_of(matches))),
+        "cat" => Ok(of_folder(matches, cat_of(matches))),
         "verify" => Ok(of_folder(
             matches,
             Query::Verify {
@@ -232,6 +243,14 @@ fn tree_of<'w>(matches: &ArgMatches<'w>) -> Query<'w> {
     }
 }
 
+/// The query for the bytes of the named reference.
+fn cat_of<'w>(matches: &ArgMatches<'w>) -> Query<'w> {
+    Query::Cat {
+        reference: word(matches, "reference"),
+        platform: matches.get_str("platform"),
+    }
+}
+
 /// The request for the explanation of a number. An unknown number makes the command line invalid.
 fn explanation_of<'w>(
     alloc: Global,
@@ -293,6 +312,16 @@ fn copy_words<'w>(
         waits: waits(matches),
         syncs: syncs(matches),
     })
+}
+
+fn tag_words<'w>(matches: &ArgMatches<'w>) -> TagWords<'w> {
+    TagWords {
+        folder: word(matches, "folder"),
+        reference: word(matches, "reference"),
+        tag: word(matches, "tag"),
+        waits: waits(matches),
+        syncs: syncs(matches),
+    }
 }
 
 fn untag_words<'w>(matches: &ArgMatches<'w>) -> UntagWords<'w> {

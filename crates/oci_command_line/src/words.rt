@@ -4,28 +4,31 @@ mod memory;
 mod pruning;
 mod queries;
 mod repair;
+mod tagging;
 mod text;
 
 use crate::words::argument::{Argument, hint, json};
 use crate::words::copying::{COPY, copy_arguments};
 use crate::words::memory::{MEM, mem_arguments};
-use crate::words::pruning::{PRUNE, UNTAG, prune_arguments, untag_arguments};
+use crate::words::pruning::{PRUNE, prune_arguments};
 use crate::words::queries::{
-    EXPLAIN, PREDECESSORS, RESOLVE, TAGS, TREE, VERIFY, error_number, folder, platform,
+    CAT, EXPLAIN, PREDECESSORS, RESOLVE, TAGS, TREE, VERIFY, error_number, folder, platform,
     predecessors_type, reference, tags_all, tree_referrers, verify_arguments,
 };
 use crate::words::repair::{REPAIR, repair_arguments};
+use crate::words::tagging::{TAG, UNTAG, tag_arguments, untag_arguments};
 use crate::words::text::CommandText;
 use clap::Command;
 use std::alloc::{AllocError, Global};
 
 /// The version that `--version` prints.
-const VERSION: &str = "0.22.0";
+const VERSION: &str = "0.23.0";
 
 /// The `clap` command; `most_workers` bounds `--workers`.
 pub(crate) fn command<'w>(alloc: Global, most_workers: u32) -> Result<Command<'w>, AllocError> {
-    let commands: [(CommandText, &[Argument]); 11] = [
+    let commands: [(CommandText, &[Argument]); 13] = [
         (COPY, &copy_arguments(most_workers)),
+        (TAG, &tag_arguments()),
         (UNTAG, &untag_arguments()),
         (PRUNE, &prune_arguments()),
         (REPAIR, &repair_arguments(most_workers)),
@@ -49,6 +52,7 @@ pub(crate) fn command<'w>(alloc: Global, most_workers: u32) -> Result<Command<'w
                 reference(),
             ],
         ),
+        (CAT, &[platform(), hint(), json(), folder(), reference()]),
         (VERIFY, &verify_arguments(most_workers)),
         (MEM, &mem_arguments(most_workers)),
         (EXPLAIN, &[hint(), json(), error_number()]),

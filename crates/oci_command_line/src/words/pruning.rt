@@ -8,40 +8,6 @@ Examples:
   ocicp prune --no-referrers mirror  also removes signatures and SBOMs that no tag reaches
   ocicp prune --leftovers mirror     removes only the files that killed copies left";
 
-/// `untag [--no-wait] [--no-sync] FOLDER TAG`
-pub(crate) const UNTAG: CommandText = CommandText {
-    name: "untag",
-    about: "Removes a tag from a layout, and keeps the blob that it names",
-    details: Some(
-        "Removes a tag from a layout. The blob that it names stays, with everything that it reaches; \
-         `prune` removes blobs that no tag needs.\n\n\
-         Prints `untagged` with the digest, the size and the media type of the blob of each entry of \
-         `index.json` that had the tag. The last one is what the tag named. An entry that is no descriptor \
-         has `-` in their place.\n\n\
-         A tag whose blob is missing or damaged is removed too. An empty tag (35) and a tag that no entry \
-         has (36) are refused, and nothing is changed. FOLDER is not created, and cannot be an archive (95).\n\n\
-         `index.json` is written anew, without the entries of the tag. The other entries keep all that \
-         other tools wrote into them, such as `platform` and annotations. The command ends once it is on \
-         the disk, so that a power cut leaves the old one or the new one, unless --no-sync is given.\n\n\
-         Locks FOLDER. While another process on the same machine has the lock, it waits.",
-    ),
-    usage: "ocicp untag [OPTIONS] <FOLDER> <TAG>",
-    examples: "Example:\n  ocicp untag mirror v1",
-};
-
-/// The arguments of `untag`.
-pub(crate) fn untag_arguments() -> [Argument; 6] {
-    let tag = "The tag to remove; it is never read as the digest of a blob";
-    [
-        hint(),
-        json(),
-        no_wait(),
-        no_sync(),
-        folder(),
-        Argument::new("tag", Kind::Word("TAG"), tag),
-    ]
-}
-
 /// `prune [--dry-run] [--no-referrers | --leftovers] [--no-wait] [--no-sync] FOLDER`
 pub(crate) const PRUNE: CommandText = CommandText {
     name: "prune",
@@ -71,7 +37,7 @@ pub(crate) const PRUNE: CommandText = CommandText {
          Files that no blob of the layout has go first, since `index.json` does not need them; on a full disk \
          they make room. Then `index.json` is saved, if a blob is removed, and is on the disk before a file \
          of such a blob goes, unless --no-sync is given. If the prune is killed, or a file cannot be \
-         removed (79), no tag has lost anything, and the next prune removes the rest. If `index.json` cannot \
+         removed (79), as when a folder is in its place, no tag has lost anything, and the next prune removes the rest. If `index.json` cannot \
          be saved (74), all blobs stay, and what went is printed. \
          `index.json` is written anew, without the entries of removed blobs. The other entries keep all that \
          other tools wrote into them, such as `platform` and annotations.\n\n\

@@ -69,6 +69,23 @@ pub(crate) const TREE: CommandText = CommandText {
     examples: "Examples:\n  ocicp tree mirror v1\n  ocicp tree --referrers mirror v1\n  ocicp tree --platform linux/arm64 mirror v1",
 };
 
+/// `cat [--platform PLATFORM] FOLDER REF`
+pub(crate) const CAT: CommandText = CommandText {
+    name: "cat",
+    about: "Writes the bytes of a blob, such as a manifest, to the standard output",
+    details: Some(
+        "Writes the bytes of the blob that a reference resolves to, and nothing else, to the standard \
+         output. A tag resolves to a manifest; the config and the layers have digests of their own, which \
+         it lists.\n\n\
+         The bytes are checked. A blob of up to 4 MiB whose file does not match its digest is refused (21) \
+         before anything is written. A larger one is written in parts, and is refused (21) at the end; what \
+         was written is then not the blob.\n\n\
+         With --json only a refusal is JSON.",
+    ),
+    usage: "ocicp cat [OPTIONS] <FOLDER> <REF>",
+    examples: "Examples:\n  ocicp cat mirror v1\n  ocicp cat --platform linux/arm64 mirror v1\n  ocicp cat mirror sha256:44136fa355b3678a1146ad16f7e8649e94fb4fc21fe77e8310c060f61caaff8a",
+};
+
 /// `verify [--workers N] [--json] FOLDER`
 pub(crate) const VERIFY: CommandText = CommandText {
     name: "verify",
