@@ -3,3 +3,4 @@ pub mod Answered
 pub mod Listers
 pub mod AllTags
 pub mod Found
+pub mod Written

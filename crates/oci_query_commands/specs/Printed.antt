@@ -1,4 +1,4 @@
--- What the commands print as lines.
+-- What the commands print as lines, and the bytes that `cat` writes.
 use Rattle.std.specs.Prelude.{ℕ, List, map, Option, option_copied}
 use Rattle.std.specs.Io.KnownBytes.{Appends}
 use Rattle.oci_command_line.specs.declared.request.Query.{Query}
@@ -13,20 +13,23 @@ use Rattle.oci_query_commands.specs.Found.{AreFindings}
 use Rattle.oci_query_commands.specs.Lines.{findings_text, key_line, key_lines, listing_lines}
 use Rattle.oci_query_commands.specs.Listed.{ArePredecessorsOf, AreTags}
 use Rattle.oci_query_commands.specs.Named.{IsNamed}
+use Rattle.oci_query_commands.specs.Written.{WritesNamed}
 
 -- exactly the lines of a value were appended that is an answer
 abbrev pub Prints : {A : Type 0} → (A → Type 0) → (A → List ℕ) → Option (List ℕ) → Option (List ℕ) → Type 0
 Prints {A} IsAnswer text old new = (answer : A) × IsAnswer answer × Appends old new (text answer)
 
--- exactly the lines of the answer of a layout to a query were appended; nothing is said of `tree`
+-- exactly the lines of the answer of a layout to a query were appended, or the bytes of its blob;
+-- nothing is said of `tree`
 abbrev pub PrintsAnswer : Device → List Node → Tags → OpenedIndex → Query → Option (List ℕ) → Option (List ℕ) → Type 0
 PrintsAnswer dir graph tags index (query.Tags lists_all) old new = Prints (AreTags graph tags index lists_all) listing_lines old new
 PrintsAnswer dir graph tags index (query.Resolve reference platform) old new = Prints (IsNamed dir graph tags reference.now (option_copied platform)) key_line old new
 PrintsAnswer dir graph tags index (query.Predecessors reference types) old new = Prints (ArePredecessorsOf (meaning dir graph tags) reference.now (map (λ t. t.now) types.items)) key_lines old new
 PrintsAnswer dir graph tags index (query.Tree reference platform shows_referrers) old new = Unit {0}
+PrintsAnswer dir graph tags index (query.Cat reference platform) old new = WritesNamed dir graph tags reference.now (option_copied platform) old new
 PrintsAnswer dir graph tags index (query.Verify workers shows_progress) old new = Prints (AreFindings dir graph index) findings_text old new
 
--- a layout can be opened in a directory, and the lines of its answer to a query were appended
+-- a layout can be opened in a directory, and its answer to a query was appended
 pub record PrintsAnswerOf (dir : Device) (query : Query) (old new : Option (List ℕ)) : Type 0 where
   pub graph : List Node
   pub tags : Tags

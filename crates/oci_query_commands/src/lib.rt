@@ -1,6 +1,7 @@
 //! The commands of `ocicp` that read one image layout and change nothing: `tags`, `resolve`,
-//! `predecessors`, `tree` and `verify`. [`run_query`] opens the layout and runs one of them. Each
-//! returns its answer as a value, which is printed as lines or as a JSON document.
+//! `predecessors`, `tree`, `cat` and `verify`. [`run_query`] opens the layout and runs one of them.
+//! Each returns its answer as a value, which is printed as lines or as a JSON document, but `cat`,
+//! which writes the bytes of a blob.
 //!
 //! A damaged file, or an entry of the index that is no descriptor, stops no command that does not
 //! need it. `tags`, `predecessors`, and `tree` with referrers, which speak of a whole layout, print
@@ -11,6 +12,7 @@
 //! [`print_findings_of_all`].
 #![tactic(auto)]
 
+mod cat;
 mod checking;
 mod left_out;
 mod listing;

@@ -8,7 +8,9 @@ ghost use Rattle.oci_query_commands.specs.Listed.{ArePredecessorsOf, AreTags};
 ghost use Rattle.oci_query_commands.specs.Named.{IsNamed};
 ghost use Rattle.oci_query_commands.specs.Printed.{Prints, PrintsAnswer, PrintsAnswerOf};
 ghost use Rattle.oci_query_commands.specs.Verified.{is_verify, IsFaulty, IsFaultyVerify, IsGoodVerify, IsVerified, IsWhole};
+ghost use Rattle.oci_query_commands.specs.Written.{is_cat};
 
+use crate::cat::print_blob;
 use crate::left_out::{print_answer_of_all, print_findings_of_all};
 use crate::listing::{Predecessors, Resolved, Tags};
 use crate::named::named_key;
@@ -24,15 +26,17 @@ use std::sync::Wait;
 use std::thread::Threads;
 use std::time::Clock;
 
-/// Opens the layout in a directory, and prints its answer to the query on `out` in this form.
+/// Opens the layout in a directory, and prints its answer to the query on `out` in this form, but
+/// the bytes of `cat` as they are in each form.
 /// `verify` also draws a progress line on `err` if the query asks for it, and erases it before
 /// anything is printed. Returns `Good`, or `Faulty` if `verify` finds something wrong. `F` is
 /// [`ProgramFault`] or another type that is made from one.
 ///
 /// # Errors
 ///
-/// If the query is refused, nothing was printed on `out`, with two exceptions. Text that was printed
-/// before the fault of a write stays. And `tags`, `predecessors`, `tree` with referrers, and `verify`
+/// If the query is refused, nothing was printed on `out`, with three exceptions. What was printed
+/// before the fault of a write stays. So do the parts of a blob of more than 4 MiB that `cat` wrote
+/// before it found the file wrong, or could not read it. And `tags`, `predecessors`, `tree` with referrers, and `verify`
 /// print their answer, and are then refused for each entry of the index that is no descriptor, and
 /// all but `verify`, which has reported them, for each damaged manifest of the layout: as lines,
 /// `err` has the refusals of all but the last, which is returned; as JSON, the first is returned, and
@@ -52,6 +56,8 @@ use std::time::Clock;
 ///   manifest of the layout cannot be read.
 /// - 21 `Corrupt` if `tree` reads a referrer whose file does not match its key, or if the file of an
 ///   index that is asked for a platform does not.
+/// - 88 `Fetch` with the key and 21 `Corrupt` if the file of the blob that `cat` writes is gone or does
+///   not match its key, and with 22 `Device` if it cannot be read.
 /// - 22 `Device` if a blob cannot be read by `resolve`, `tree` or `verify`.
 /// - 61 `Incomplete` if `verify` did not check a blob. This was never seen.
 /// - 62 `BadWorkers` if `verify` is asked for more than 64 workers. No blob is read.
@@ -80,6 +86,10 @@ where
 
     // As lines, a command other than `tree` that is done has printed exactly its answer.
     ensures printed { form ≡ Form.Lines → OnOk result ((D.device dir).is_honest
+        → PrintsAnswerOf (D.device dir) query.now (W.contents out.old) (W.contents out.new)) }
+
+    // In each form, a `cat` that is done has written exactly the bytes of the blob.
+    ensures written { OnOk result (is_cat query.now ≡ true → (D.device dir).is_honest
         → PrintsAnswerOf (D.device dir) query.now (W.contents out.old) (W.contents out.new)) }
 {
     let layout = match Layout::open_as_is(rt.alloc(), dir) {
@@ -113,6 +123,9 @@ where
     ensures printed { form ≡ Form.Lines → OnOk result (PrintsAnswer (D.device layout.now.dir)
         layout.now.graph layout.now.tags layout.now.opened query.now (W.contents out.old)
         (W.contents out.new)) }
+    ensures written { OnOk result (is_cat query.now ≡ true → PrintsAnswer
+        (D.device layout.now.dir) layout.now.graph layout.now.tags layout.now.opened query.now
+        (W.contents out.old) (W.contents out.new)) }
 {
     let alloc = rt.alloc();
     match query {
@@ -132,6 +145,10 @@ where
             let root = named_key(layout, reference, *platform)?;
             print_tree(alloc, layout, &root, *shows_referrers, form, out, err)
         }
+        Query::Cat {
+            reference,
+            platform,
+        } => print_blob(layout, reference, *platform, out),
         Query::Verify {
             workers,
             shows_progress,

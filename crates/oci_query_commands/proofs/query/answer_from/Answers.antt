@@ -1,10 +1,13 @@
-use Rattle.std.proofs.Common.{List, ℕ, Bor, map, sym, subst}
+use Rattle.std.proofs.Common.{List, ℕ, Bor, map, sym, ap, subst}
 use Rattle.std.specs.Prelude.{OnOk}
+use Rattle.std.proofs.lemmas.Result.{on_ok_weaker}
 use Rattle.oci_command_line.specs.declared.request.Query.{Query}
 use Rattle.oci_layout.specs.Meaning.{meaning}
 use Rattle.oci_query_commands.specs.Lines.{key_lines}
 use Rattle.oci_query_commands.specs.Listed.{ArePredecessorsOf}
 use Rattle.oci_query_commands.specs.Printed.{Prints, PrintsAnswer}
+use Rattle.oci_query_commands.specs.Written.{is_cat}
+use Rattle.oci_query_commands.proofs.Written.{OnOk-other}
 use Rattle.oci_query_commands.proofs.query.answer_from.Goals as goal
 
 pub returns-in-Predecessors-clause-printed : goal.returns-in-Predecessors-clause-printed
@@ -17,3 +20,32 @@ returns-in-Predecessors-clause-printed g c = λ lines.
     subst (λ (q : Query). OnOk c.print_predecessors.result (PrintsAnswer dir layout.graph layout.tags layout.opened q old new)) (sym c.in-Predecessors.is)
     (subst (λ (types : List (Bor (List ℕ))). OnOk c.print_predecessors.result (Prints (ArePredecessorsOf (meaning dir layout.graph layout.tags) reference (map (λ (t : Bor (List ℕ)). t.now) types)) key_lines old new)) c.deref.ensures.value
     (c.print_predecessors.ensures.printed lines))
+
+pub returns-in-Cat-clause-printed : goal.returns-in-Cat-clause-printed
+returns-in-Cat-clause-printed g c = λ lines.
+    let layout = c.args.layout.now in
+    subst (λ (q : Query). OnOk c.print_blob.result (PrintsAnswer (g.D.Dir.device layout.dir) layout.graph layout.tags layout.opened q (g.W.Write.contents c.args.out.now) (g.W.Write.contents c.print_blob.new.out))) (sym c.in-Cat.is)
+    c.print_blob.ensures.written
+
+pub returns-in-Cat-clause-written : goal.returns-in-Cat-clause-written
+returns-in-Cat-clause-written g c =
+    let layout = c.args.layout.now in
+    on_ok_weaker c.print_blob.result (λ wrote is. wrote)
+    (subst (λ (q : Query). OnOk c.print_blob.result (PrintsAnswer (g.D.Dir.device layout.dir) layout.graph layout.tags layout.opened q (g.W.Write.contents c.args.out.now) (g.W.Write.contents c.print_blob.new.out))) (sym c.in-Cat.is)
+    c.print_blob.ensures.written)
+
+-- another command is not `cat`
+pub returns-in-Tags-clause-written : goal.returns-in-Tags-clause-written
+returns-in-Tags-clause-written g c = OnOk-other _ c.print_tags.result (is_cat c.args.query.now) (ap is_cat c.in-Tags.is)
+
+pub returns-in-Resolve-clause-written : goal.returns-in-Resolve-clause-written
+returns-in-Resolve-clause-written g c = OnOk-other _ c.print_resolved.result (is_cat c.args.query.now) (ap is_cat c.in-Resolve.is)
+
+pub returns-in-Predecessors-clause-written : goal.returns-in-Predecessors-clause-written
+returns-in-Predecessors-clause-written g c = OnOk-other _ c.print_predecessors.result (is_cat c.args.query.now) (ap is_cat c.in-Predecessors.is)
+
+pub returns-in_ok-root-in-Tree-clause-written : goal.returns-in_ok-root-in-Tree-clause-written
+returns-in_ok-root-in-Tree-clause-written g c = OnOk-other _ c.print_tree.result (is_cat c.args.query.now) (ap is_cat c.in-Tree.is)
+
+pub returns-in-Verify-clause-written : goal.returns-in-Verify-clause-written
+returns-in-Verify-clause-written g c = OnOk-other _ c.print_findings.result (is_cat c.args.query.now) (ap is_cat c.in-Verify.is)

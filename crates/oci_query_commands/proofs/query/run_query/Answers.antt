@@ -37,4 +37,11 @@ returns g c =
         opened = opened.opened honest;
         answer = subst (λ d. PrintsAnswer (device d) layout.graph layout.tags layout.opened c.args.query.now (g.W.Write.contents c.args.out.now) (g.W.Write.contents c.answer_from.new.out)) opened.same (answer.printed lines);
       };
+      written = λ is_cat honest. record {
+        graph = layout.graph;
+        tags = layout.tags;
+        index = layout.opened;
+        opened = opened.opened honest;
+        answer = subst (λ d. PrintsAnswer (device d) layout.graph layout.tags layout.opened c.args.query.now (g.W.Write.contents c.args.out.now) (g.W.Write.contents c.answer_from.new.out)) opened.same (answer.written is_cat);
+      };
     }

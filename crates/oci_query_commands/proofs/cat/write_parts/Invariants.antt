@@ -1,0 +1,15 @@
+use Rattle.std.proofs.Common.{List, ℕ}
+use Rattle.std.specs.Io.KnownBytes.{Appends}
+use Rattle.oci_layout.specs.Blobs.{stored}
+use Rattle.oci_store.specs.Keyed.{value_at}
+use Rattle.oci_store.specs.Parts.{IsReading}
+use Rattle.oci_query_commands.proofs.cat.write_parts.Given as goal
+
+-- these bytes were read and written so far
+abbrev pub invariant-loop-part : goal.invariant-loop-part
+invariant-loop-part g l =
+    let device = g.D.Dir.device l.layout.dir in
+    (m : List ℕ) × IsReading l.hasher (Appends (g.W.Write.contents l.fn.out) (g.W.Write.contents l.out)) l.key device.is_honest (value_at (stored device.file l.layout.graph) l.key) l.left m
+
+abbrev pub decreases-loop-part : goal.decreases-loop-part
+decreases-loop-part g l = l.left
