@@ -17,3 +17,4 @@ mod PlannedCopies
 mod Items
 mod Printed
 mod Runs
+mod Tagging

@@ -10,3 +10,4 @@ pub mod Settled
 pub mod Printed
 pub mod Run
 pub mod Mem
+pub mod Tagged

@@ -188,6 +188,22 @@ fn has_key(entry: &IndexEntry, key: &Key) -> bool
     }
 }
 
+/// Returns the entry of a reference under a name, if there is one: the last one of the reference and
+/// the key, or else the last one of the key without a name, or else its last one.
+pub(crate) fn entry_of_reference(
+    alloc: Global,
+    entries: &[IndexEntry],
+    from: &str,
+    to: &str,
+    key: &Key,
+) -> Result<Vec<IndexEntry>, NoMemory>
+    ensures { IfOk result (λ found. map entry_of found.items
+        ≡ reference_entry (map entry_of entries.now) from.now to.now key.now) }
+{
+    let last = LastEntries::of(alloc, entries)?;
+    reference_entry(alloc, &last, from, to, key)
+}
+
 /// Returns the entries that a copy of a reference brings: the entry of the reference under a name,
 /// those of the other tags under their own, and those of the other roots without theirs.
 pub(crate) fn entries_of_reference(

@@ -1,8 +1,9 @@
 //! The commands of `ocicp` that copy: [`run_copy`] between image layouts, and [`run_mem`], a copy
-//! in memory.
+//! in memory; and [`run_tag`], which sets a tag of a layout and takes its entry as a copy does.
 //!
 //! [`copy_between`] makes a planned copy of [`Selected`] blobs between two layouts, and its
-//! contract says what the copy leaves. [`Host`] is the runtime that the commands need.
+//! contract says what the copy leaves. [`tag_and_save`] sets a tag of an open layout, and its contract
+//! says what that leaves. [`Host`] is the runtime that the commands need.
 #![tactic(auto)]
 
 mod answer;
@@ -25,6 +26,7 @@ mod referrers;
 mod retag;
 mod roots;
 mod selected;
+mod tag;
 mod whole;
 
 pub use between::copy_between;
@@ -39,6 +41,7 @@ use std::rt::Files;
 use std::sync::Wait;
 use std::thread::Threads;
 use std::time::Clock;
+pub use tag::{run_tag, tag_and_save};
 
 /// The runtime that the program needs: files that can be locked, and read at positions by several
 /// workers, memory, random names for new files, a clock for the progress line, and threads. Each
