@@ -9,6 +9,7 @@ use Rattle.oci_program.specs.declared.outcome.Outcome.{Outcome}
 use Rattle.oci_query_commands.specs.Answered.{is_of_all, IsReadable}
 use Rattle.oci_query_commands.specs.Printed.{PrintsAnswerOf}
 use Rattle.oci_query_commands.specs.Verified.{IsFaulty, IsFaultyVerify, IsGoodVerify, IsVerified}
+use Rattle.oci_query_commands.specs.Written.{is_cat}
 use Rattle.ocicp.specs.Run.{IsAnswered}
 
 -- of a success, two implications give what follows from both
@@ -24,6 +25,6 @@ both_if_ok (Err e) A B P Q R first second both = tt
 -- a query that succeeds was answered
 pub answered_on_ok : {E : Type 0} (r : Result Outcome E) (dir : Device) (query : Query) (printed : Form) (old new : Option (List ℕ)) → IfOk r (λ (o : Outcome). IsGoodVerify query o → dir.is_honest → IsVerified dir)
     → IfOk r (λ (o : Outcome). IsFaultyVerify query o → dir.is_honest → IsFaulty dir) → OnOk r (is_of_all query ≡ true → dir.is_honest → IsReadable dir) → (printed ≡ form.Lines → OnOk r (dir.is_honest → PrintsAnswerOf dir query old new))
-    → IfOk r (λ (o : Outcome). IsAnswered dir query printed old new o)
-answered_on_ok (Ok o) dir query printed old new verified faulty whole shown = record { verified = verified; faulty = faulty; whole = whole; shown = shown }
-answered_on_ok (Err e) dir query printed old new verified faulty whole shown = tt
+    → OnOk r (is_cat query ≡ true → dir.is_honest → PrintsAnswerOf dir query old new) → IfOk r (λ (o : Outcome). IsAnswered dir query printed old new o)
+answered_on_ok (Ok o) dir query printed old new verified faulty whole shown written = record { verified = verified; faulty = faulty; whole = whole; shown = shown; written = written }
+answered_on_ok (Err e) dir query printed old new verified faulty whole shown written = tt

@@ -5,6 +5,7 @@ use Rattle.std.specs.Io.KnownBytes.{Appends}
 use Rattle.oci_command_line.specs.declared.changing.CopyWords.{CopyWords}
 use Rattle.oci_command_line.specs.declared.changing.PruneWords.{PruneWords}
 use Rattle.oci_command_line.specs.declared.changing.RepairWords.{RepairWords}
+use Rattle.oci_command_line.specs.declared.changing.TagWords.{TagWords}
 use Rattle.oci_command_line.specs.declared.changing.UntagWords.{UntagWords}
 use Rattle.oci_command_line.specs.declared.memory.MemWords.{MemWords}
 use Rattle.oci_command_line.specs.declared.request.CommandLineFault.{CommandLineFault}
@@ -15,6 +16,7 @@ use Rattle.oci_command_line.specs.declared.request.Request.TheVariants as reques
 use Rattle.oci_copy.specs.declared.report.Report.{Report}
 use Rattle.oci_copy_commands.specs.Mem.{mem_text, IsMemRun}
 use Rattle.oci_copy_commands.specs.Run.{IsRunOf}
+use Rattle.oci_copy_commands.specs.Tagged.{tagged_line, IsTagRun}
 use Rattle.oci_layout.specs.Device.{Device, folder}
 use Rattle.oci_manifest.specs.Descriptor.{Descriptor}
 use Rattle.oci_program.specs.Pruned.{prune_text}
@@ -33,6 +35,7 @@ use Rattle.ocicp.specs.declared.place.Place.TheVariants as place
 use Rattle.oci_query_commands.specs.Answered.{is_of_all, IsReadable}
 use Rattle.oci_query_commands.specs.Printed.{PrintsAnswerOf}
 use Rattle.oci_query_commands.specs.Verified.{IsFaulty, IsFaultyVerify, IsGoodVerify, IsVerified}
+use Rattle.oci_query_commands.specs.Written.{is_cat}
 
 -- ---- where a command works
 
@@ -52,6 +55,12 @@ form_of true = form.Json
 -- the items of these words were pushed into a store in memory, and copied from the last one
 abbrev pub IsMemDone : MemWords → Form → Option (List ℕ) → Option (List ℕ) → Type 0
 IsMemDone words printed old new = (blobs : List (Bor Descriptor)) × (report : Report) × IsMemRun words blobs report × (printed ≡ form.Lines → Appends old new (mem_text blobs report))
+
+-- the layout in the folder of these words was opened, and left with their tag on what their reference
+-- resolves to
+abbrev pub IsTagDone : TagWords → Form → Option (List ℕ) → Option (List ℕ) → Type 0
+IsTagDone words printed old new = (key : Descriptor) × IsTagRun folder (words.folder.now, 0) words.reference.now words.tag.now key
+    × (printed ≡ form.Lines → Appends old new (tagged_line key))
 
 -- the layout in the folder of these words was opened, and left without their tag
 abbrev pub IsUntagDone : UntagWords → Form → Option (List ℕ) → Option (List ℕ) → Type 0
@@ -81,12 +90,13 @@ IsCopyDone {A} archive memory words printed old new = IsRunOf folder folder memo
 
 -- A query of the layout in a directory ended so. A good `verify` found nothing wrong with it, and a
 -- faulty one something. `tags`, `predecessors`, and `tree` with referrers left nothing out. As lines,
--- all but `tree` printed exactly their answer.
+-- all but `tree` printed exactly their answer, and `cat` wrote its bytes in each form.
 pub record IsAnswered (dir : Device) (query : Query) (printed : Form) (old new : Option (List ℕ)) (outcome : Outcome) : Type 0 where
   pub verified : IsGoodVerify query outcome → dir.is_honest → IsVerified dir
   pub faulty : IsFaultyVerify query outcome → dir.is_honest → IsFaulty dir
   pub whole : is_of_all query ≡ true → dir.is_honest → IsReadable dir
   pub shown : printed ≡ form.Lines → dir.is_honest → PrintsAnswerOf dir query old new
+  pub written : is_cat query ≡ true → dir.is_honest → PrintsAnswerOf dir query old new
 
 -- it ended so for the folder at a path, or for an archive
 abbrev pub IsQueryDone : {A : Type 0} → (A → Device) → List ℕ → Query → Form → Option (List ℕ) → Option (List ℕ) → Outcome → Type 0
@@ -100,6 +110,7 @@ abbrev pub IsDone : {A M : Type 0} → (A → Device) → (M → Device) → Req
 IsDone archive memory (request.Text text) printed old new outcome = Appends old new (string_bytes text)
 IsDone archive memory (request.Mem words) printed old new outcome = IsMemDone words printed old new
 IsDone archive memory (request.Copy words) printed old new outcome = IsCopyDone archive memory words printed old new
+IsDone archive memory (request.Tag words) printed old new outcome = IsTagDone words printed old new
 IsDone archive memory (request.Untag words) printed old new outcome = IsUntagDone words printed old new
 IsDone archive memory (request.Prune words) printed old new outcome = IsPruneDone words printed old new
 IsDone archive memory (request.Repair words) printed old new outcome = IsRepairDone archive words printed old new outcome

@@ -5,6 +5,7 @@
 //! outputs of the process.
 #![tactic(auto)]
 
+mod escaped;
 mod meaning;
 mod place;
 mod process;

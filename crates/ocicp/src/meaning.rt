@@ -1,17 +1,33 @@
 use oci_command_line::{Query, Request, Selection, first_sentence};
 use oci_program::{Refusal, RefusedPath, Subject};
+use std::fs;
 use std::io::Write;
+use std::rt::Files;
+
+/// The number of the refusal of a path that has no layout.
+const NO_LAYOUT_FILE: u8 = 70;
 
 /// Prints a line for a person: the file, the folder or the reference that a refusal is about, the
 /// meaning of its number, the system's reason, and where to read more. If the line cannot be
 /// written, it is left out.
-pub(crate) fn print_meaning<X: Write>(request: &Request<'_>, refusal: &Refusal<'_>, err: &mut X) {
+pub(crate) fn print_meaning<R: Files, X: Write>(
+    rt: &R,
+    request: &Request<'_>,
+    refusal: &Refusal<'_>,
+    err: &mut X,
+) {
     let number = refusal.number;
     let Some(sentence) = first_sentence(number) else {
         return;
     };
     print_subject(request, &refusal.subject, err);
     let _ = write!(err, "{sentence}");
+    if number == NO_LAYOUT_FILE && is_stream(rt, &refusal.subject) {
+        let _ = write!(
+            err,
+            ". An archive cannot be read from a pipe or a device: save it as a file first"
+        );
+    }
     if let Subject::Path(
         RefusedPath {
             reason: Some(reason),
@@ -22,6 +38,18 @@ pub(crate) fn print_meaning<X: Write>(request: &Request<'_>, refusal: &Refusal<'
         let _ = write!(err, ": {reason}");
     }
     let _ = writeln!(err, ". Run `ocicp explain {number}` for what to do.");
+}
+
+/// Returns whether a refusal is about a path where something other than a file or a folder is, such
+/// as a pipe.
+fn is_stream<R: Files>(rt: &R, subject: &Subject<'_>) -> bool {
+    let Subject::Path(path) = subject else {
+        return false;
+    };
+    match fs::metadata(rt, &path.path) {
+        Ok(metadata) => !metadata.is_file() && !metadata.is_dir(),
+        Err(_) => false,
+    }
 }
 
 /// Prints what a refusal is about, if that is known.
@@ -53,6 +81,7 @@ fn reference_of<'w>(request: &Request<'w>) -> &'w str {
             Selection::Reference { source, .. } => source,
             Selection::AllTags { .. } => "",
         },
+        Request::Tag(words) => words.reference,
         Request::Untag(words) => words.tag,
         Request::Query(_, query) => reference_in(query),
         _ => "",
@@ -65,6 +94,7 @@ fn reference_in<'w>(query: &Query<'w>) -> &'w str {
         Query::Resolve { reference, .. } => reference,
         Query::Predecessors { reference, .. } => reference,
         Query::Tree { reference, .. } => reference,
+        Query::Cat { reference, .. } => reference,
         Query::Tags { .. } => "",
         Query::Verify { .. } => "",
     }

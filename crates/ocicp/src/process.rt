@@ -1,3 +1,4 @@
+use crate::escaped::Escaped;
 use crate::run::{form_of, run_words_on};
 use oci_copy_commands::Host;
 use oci_program::{Ending, ProgramFault, end_early};
@@ -7,9 +8,9 @@ use std::rt::Env;
 use std::{env, io};
 
 /// Runs the program on the words of the process, and returns its exit status, as [`run_words_on`]
-/// does. `out` is written through a buffer. A word that is not UTF-8 makes the command line
-/// invalid: status 2.
-pub fn run_process<R: Env + Host, W: Write + Drop, X: Write + IsTerminal + Send>(
+/// does. `out` is written through a buffer. If it is a terminal, control characters are escaped. A
+/// word that is not UTF-8 makes the command line invalid: status 2.
+pub fn run_process<R: Env + Host, W: Write + IsTerminal + Drop, X: Write + IsTerminal + Send>(
     rt: &R,
     out: W,
     err: &mut X,
@@ -18,7 +19,12 @@ pub fn run_process<R: Env + Host, W: Write + Drop, X: Write + IsTerminal + Send>
         Ok(words) => words,
         Err(ending) => return end(rt, ending, err),
     };
+    let is_shown = out.is_terminal();
     match BufWriter::new(rt.alloc(), out) {
+        Ok(out) if is_shown => {
+            let mut out = Escaped::new(out);
+            run_words_on(rt, &words, err.is_terminal(), &mut out, err)
+        }
         Ok(mut out) => run_words_on(rt, &words, err.is_terminal(), &mut out, err),
         Err(error) => end(rt, Ending::Fault(ProgramFault::of_output(error)), err),
     }

@@ -9,6 +9,7 @@ ghost use Rattle.ocicp.specs.Run.{
   IsPruneDone,
   IsQueryDone,
   IsRepairDone,
+  IsTagDone,
   IsUntagDone,
 };
 
@@ -17,9 +18,10 @@ use crate::place::{Place, open_copy, open_folder, open_sources};
 use crate::sides::{Failures, sides_of};
 use oci_archive::TarDir;
 use oci_command_line::{
-    CommandLine, CommandLineFault, CopyWords, PruneWords, Query, RepairWords, Request, UntagWords,
+    CommandLine, CommandLineFault, CopyWords, PruneWords, Query, RepairWords, Request, TagWords,
+    UntagWords,
 };
-use oci_copy_commands::{Host, run_copy, run_mem};
+use oci_copy_commands::{Host, run_copy, run_mem, run_tag};
 use oci_layout::{Dir, FirstFailure, MemDir};
 use oci_pool::MAX_WORKERS;
 use oci_program::{Ending, Form, Outcome, ProgramFault, end_early, finish_run, print_answer};
@@ -115,7 +117,7 @@ fn run_line<'w, R: Host, W: Write, X: Write + Send>(
     if line.hints
         && let Some(refusal) = &ended.refusal
     {
-        print_meaning(&line.request, refusal, err);
+        print_meaning(rt, &line.request, refusal, err);
     }
     ended.status
 }
@@ -145,6 +147,7 @@ fn run_request<R: Host, W: Write, X: Write + Send>(
         Request::Explain(explanation) => print_answer(rt.alloc(), explanation, form, out),
         Request::Mem(words) => run_mem(rt, words, &failures.read, form, out),
         Request::Copy(words) => copy(rt, words, failures, form, out, err),
+        Request::Tag(words) => tag(rt, words, &failures.written, form, out, err),
         Request::Untag(words) => untag(rt, words, &failures.written, form, out, err),
         Request::Prune(words) => prune(rt, words, &failures.written, form, out, err),
         Request::Repair(words) => repair(rt, words, failures, form, out, err),
@@ -179,6 +182,21 @@ fn copy<R: Host, W: Write, X: Write + Send>(
         Place::Folder(source) => run_copy(rt, source, destination, words, form, out, err),
         Place::Archive(source) => run_copy(rt, source, destination, words, form, out, err),
     }
+}
+
+/// Runs `tag` on the folder of its words.
+fn tag<R: Host, W: Write, X: Write>(
+    rt: &R,
+    words: &TagWords<'_>,
+    first: &FirstFailure,
+    form: Form,
+    out: &mut W,
+    err: &mut X,
+) -> Result<Outcome, ProgramFault>
+    ensures { OnOk result (IsTagDone words.now form (W.contents out.old) (W.contents out.new)) }
+{
+    let dir = open_folder(rt, words.folder, first, words.syncs)?;
+    run_tag(rt, dir, words, form, out, err)
 }
 
 /// Runs `untag` on the folder of its words.
