@@ -1,5 +1,5 @@
 -- What a run does with its command line, and the status that it ends with.
-use Rattle.std.specs.Prelude.{◌≡◌, ◌⊎◌, ℕ, Bool, true, false, List, ⊤, string_bytes, Option}
+use Rattle.std.specs.Prelude.{◌≡◌, ◌⊎◌, ℕ, Bool, true, false, List, [], ◌∷◌, ⊤, string_bytes, Option}
 use Rattle.std.specs.Borrow.{Bor}
 use Rattle.std.specs.Io.KnownBytes.{Appends}
 use Rattle.oci_command_line.specs.declared.changing.CopyWords.{CopyWords}
@@ -27,6 +27,7 @@ use Rattle.oci_program.specs.declared.prune_answer.PruneAnswer.{PruneAnswer}
 use Rattle.oci_prune_commands.specs.PrunedLayout.{IsDryPrune, IsPruneRun}
 use Rattle.oci_prune_commands.specs.Untagged.{untagged_lines, IsUntagRun}
 use Rattle.oci_repair.specs.declared.source.RepairSource.{RepairSource}
+use Rattle.oci_repair.specs.declared.source.RepairSource.TheVariants as source
 use Rattle.oci_repair_commands.specs.Answered.{repair_text, IsOutcome}
 use Rattle.oci_repair_commands.specs.Repaired.{IsDryRepair, IsRepairRun}
 use Rattle.oci_repair_commands.specs.declared.answer.RepairAnswer.{RepairAnswer}
@@ -43,6 +44,18 @@ use Rattle.oci_query_commands.specs.Written.{is_cat}
 abbrev pub IsPlaceAt : {R F D : Type 0} → List ℕ → Place R F D → Type 0
 IsPlaceAt path (place.Folder dir) = dir ≡ (path, 0)
 IsPlaceAt path (place.Archive dir) = ⊤
+
+-- a source of a repair was opened at a path: a folder is the one at the path
+abbrev pub IsSourceAt : {A : Type 0} → List ℕ → RepairSource (List ℕ × ℕ) A → Type 0
+IsSourceAt path (source.Folder dir) = dir ≡ (path, 0)
+IsSourceAt path (source.Archive dir) = ⊤
+
+-- one was opened at each of these paths, in their order
+abbrev pub AreSourcesAt : {A : Type 0} → List (Bor (List ℕ)) → List (RepairSource (List ℕ × ℕ) A) → Type 0
+AreSourcesAt [] [] = ⊤
+AreSourcesAt [] (s ∷ sources) = ⊥
+AreSourcesAt (p ∷ paths) [] = ⊥
+AreSourcesAt (p ∷ paths) (s ∷ sources) = IsSourceAt p.now s × AreSourcesAt paths sources
 
 -- ---- the form in which it prints
 
@@ -73,11 +86,12 @@ pub record IsPruneDone (words : PruneWords) (printed : Form) (old new : Option (
   pub pruned : words.is_dry ≡ false → (answer : PruneAnswer) × IsPruneRun folder (words.folder.now, 0) words answer × (printed ≡ form.Lines → Appends old new (prune_text answer))
   pub planned : words.is_dry ≡ true → (answer : PruneAnswer) × IsDryPrune folder (words.folder.now, 0) words answer × (printed ≡ form.Lines → Appends old new (prune_text answer))
 
--- The layout in the folder of these words was opened, and repaired from their sources, or with
--- `--dry-run` that repair was planned. `archive` gives the meaning of an archive. The outcome is good
+-- The layout in the folder of these words was opened, and repaired from the sources at their paths, or
+-- with `--dry-run` that repair was planned. `archive` gives the meaning of an archive. The outcome is good
 -- exactly if nothing is missing.
 pub record IsRepairDone {A : Type 0} (archive : A → Device) (words : RepairWords) (printed : Form) (old new : Option (List ℕ)) (outcome : Outcome) : Type 0 where
   pub sources : List (RepairSource (List ℕ × ℕ) A)
+  pub opened : AreSourcesAt words.sources.items sources
   pub repaired : words.is_dry ≡ false → (answer : RepairAnswer) × IsRepairRun folder folder archive (words.folder.now, 0) sources answer × IsOutcome answer outcome × (printed ≡ form.Lines → Appends old new (repair_text answer))
   pub planned : words.is_dry ≡ true → (answer : RepairAnswer) × IsDryRepair folder folder archive (words.folder.now, 0) sources answer × IsOutcome answer outcome × (printed ≡ form.Lines → Appends old new (repair_text answer))
 

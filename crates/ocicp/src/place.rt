@@ -1,9 +1,9 @@
 ghost use Rattle.std.specs.Prelude.{◌≡◌, IfOk};
-ghost use Rattle.ocicp.specs.Run.{IsPlaceAt};
+ghost use Rattle.ocicp.specs.Run.{AreSourcesAt, IsPlaceAt, IsSourceAt};
 
 use crate::sides::Failures;
 use oci_archive::{ReadAt, TarDir};
-use oci_command_line::CopyWords;
+use oci_command_line::{CopyWords, RepairWords};
 use oci_layout::{FirstFailure, FsDir};
 use oci_program::ProgramFault;
 use oci_repair::RepairSource;
@@ -74,7 +74,7 @@ pub(crate) fn open_copy<'r, R: Files<File: ReadAt> + AllocGlobal>(
     Ok((Place::open(rt, words.source, &failures.read)?, destination))
 }
 
-/// Opens the places of these paths, in their order, as [`Place::open`] does.
+/// Opens the sources of a repair, in their order, as [`Place::open`] does.
 ///
 /// # Errors
 ///
@@ -82,11 +82,13 @@ pub(crate) fn open_copy<'r, R: Files<File: ReadAt> + AllocGlobal>(
 /// - Out of memory, at any point.
 pub(crate) fn open_sources<'r, R: Files<File: ReadAt> + AllocGlobal>(
     rt: &'r R,
-    paths: &[&str],
+    words: &RepairWords<'_>,
     first: &'r FirstFailure,
-) -> Result<Vec<RepairSource<FsDir<'r, R>, TarDir<R::File>>>, ProgramFault> {
+) -> Result<Vec<RepairSource<FsDir<'r, R>, TarDir<R::File>>>, ProgramFault>
+    ensures { IfOk result (λ sources. AreSourcesAt words.now.sources.items sources.items) }
+{
     let mut sources = Vec::new(rt.alloc());
-    for path in paths {
+    for path in &words.sources {
         sources.push(open_source(rt, path, first)?)?;
     }
     Ok(sources)
@@ -97,7 +99,9 @@ fn open_source<'r, R: Files<File: ReadAt> + AllocGlobal>(
     rt: &'r R,
     path: &str,
     first: &'r FirstFailure,
-) -> Result<RepairSource<FsDir<'r, R>, TarDir<R::File>>, ProgramFault> {
+) -> Result<RepairSource<FsDir<'r, R>, TarDir<R::File>>, ProgramFault>
+    ensures { IfOk result (IsSourceAt path.now) }
+{
     match Place::open(rt, path, first)? {
         Place::Folder(dir) => Ok(RepairSource::Folder(dir)),
         Place::Archive(dir) => Ok(RepairSource::Archive(dir)),

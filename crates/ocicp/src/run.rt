@@ -242,7 +242,7 @@ fn repair<R: Host, W: Write, X: Write + Send>(
         (W.contents out.old) (W.contents out.new)) }
 {
     let dir = open_folder(rt, words.folder, &failures.written, words.syncs)?;
-    let sources = open_sources(rt, &words.sources, &failures.read)?;
+    let sources = open_sources(rt, words, &failures.read)?;
     run_repair(rt, dir, &sources, words, form, out, err)
 }
 
