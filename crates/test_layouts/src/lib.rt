@@ -17,18 +17,20 @@
 //! `parts` (contents that are read in parts), `arrivals` (the calls for each part that is read),
 //! `drafts` (files that are written in parts), `numbered` (the random numbers in their names),
 //! `leftovers` (their removal), `removals` (tags, keys, blobs and drafts that are removed),
-//! `repairs` (plans of repairs, and repairs), `locks` (the lock of a folder), `replaced` (folders
-//! that are moved or replaced before they are locked) and `large` (contents larger than one part,
-//! copied by workers).
+//! `mended` (blobs that are put again), `repairs` (plans of repairs, and repairs), `repair_faults`
+//! (repairs that end halfway), `locks` (the lock of a folder), `replaced` (folders that are moved
+//! or replaced before they are locked) and `large` (contents larger than one part, copied by
+//! workers).
 //!
 //! Most tests are lists of steps, each with its expected result as text. `steps` takes them, with
 //! `layouts` (steps with a layout), `files` (steps with files), `drafting` (steps with drafts) and
 //! `copies` (copies into a layout). `texts` lists the marks that a text may have in place of a
-//! sample's key, digest, path, bytes or descriptor.
+//! sample's key, digest, path, bytes or descriptor. `repairing` has the damaged layouts and the
+//! sources of `repairs` and `repair_faults`.
 //!
 //! `host` has the bounds on the runtime of a test in a folder. `faulty` has the directory that
-//! `unreadable`, `changing`, `failing`, `parts` and `repairs` use: its reads or puts fail, or one of
-//! its files changes.
+//! `unreadable`, `changing`, `failing`, `parts` and `repairing` use: its reads or puts fail, or one
+//! of its files changes.
 #![tactic(auto)]
 
 mod saving;

@@ -58,7 +58,7 @@ pub(crate) fn with_draft<D: Dir, R: Host>(
     }
 }
 
-fn append_all<F: Drafting>(draft: &mut F, parts: &[&str]) -> Result<(), Fail> {
+pub(crate) fn append_all<F: Drafting>(draft: &mut F, parts: &[&str]) -> Result<(), Fail> {
     for part in parts {
         draft.append(part.as_bytes())?;
     }

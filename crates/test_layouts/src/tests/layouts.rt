@@ -200,7 +200,7 @@ fn closedness<D: Dest>(alloc: Global, layout: &D) -> Result<String, Fail> {
 }
 
 /// Returns the word for a success, or the fault.
-fn done_or_fault(
+pub(crate) fn done_or_fault(
     alloc: Global,
     answer: Result<(), LayoutFault>,
     done: &str,

@@ -115,7 +115,11 @@ fn absent<D: PrunableDir + Drop>(alloc: Global, dir: D) -> Result<String, Fail> 
 }
 
 /// Creates a layout of an image in a directory and saves it with a name for the image.
-fn dir_of_image<D: PrunableDir + Drop>(alloc: Global, dir: D, key: &Key) -> Result<D, Fail> {
+pub(crate) fn dir_of_image<D: PrunableDir + Drop>(
+    alloc: Global,
+    dir: D,
+    key: &Key,
+) -> Result<D, Fail> {
     let mut layout = created(alloc, dir)?;
     push_samples(alloc, &mut layout, &[Empty, Image0])?;
     save_named(&mut layout, key, "v1")?;
@@ -232,4 +236,42 @@ fn cleaned_memory(rt: HostRuntime) -> Result<(), Fail> {
     assert_told(&rt, &"the drafts after it", drafts.as_str(), "")?;
     let blobs = blobs_of(rt.alloc(), &layout)?;
     assert_told(&rt, &"the blobs", blobs.as_str(), "<digest Empty> 2;")
+}
+
+/// Returns the names in the folder of SHA-256 digests, each with the length of its file, followed by
+/// `;`.
+fn names_of<D: PrunableDir>(alloc: Global, dir: &D) -> Result<String, Fail> {
+    let mut told = String::new(alloc);
+    for (name, length) in dir.list("blobs/sha256")? {
+        told.push_str(format!(in alloc; "{name} {length};")?.as_str())?;
+    }
+    Ok(told)
+}
+
+/// Tries to remove a file. Returns the names before, whether there was a file or the fault, and the
+/// names afterwards.
+fn told_of_removal<D: PrunableDir>(alloc: Global, dir: &mut D, path: &str) -> Result<String, Fail> {
+    let before = names_of(alloc, dir)?;
+    let removed = match dir.remove(path) {
+        Ok(found) => format!(in alloc; "{found}")?,
+        Err(fault) => format!(in alloc; "{fault}")?,
+    };
+    let after = names_of(alloc, dir)?;
+    Ok(format!(in alloc; "{before} {removed} {after}")?)
+}
+
+/// An empty folder with the name of a digest counts as a blob of no bytes. It is not removed.
+#[test]
+fn folder_with_the_name_of_a_blob(rt: HostRuntime) -> Result<(), Fail> {
+    let _ = fs::remove_dir_all(&rt, "named");
+    let path = blob(rt.alloc(), &Foo.key(rt.alloc())?)?;
+    fs::create_dir_all(&rt, &format!(in rt.alloc(); "named/{path}")?)?;
+    let told = told_of_removal(rt.alloc(), &mut FsDir::new(&rt, "named")?, &path)?;
+    assert_told(
+        &rt,
+        &path,
+        told.as_str(),
+        "2c26b46b68ffc68ff99b453c1d30413413422d706483bfa0f98a5e886266e7ae 0; 90 Failed 2c26b46b68ffc68ff99b453c1d30413413422d706483bfa0f98a5e886266e7ae 0;",
+    )?;
+    Ok(fs::remove_dir_all(&rt, "named")?)
 }
