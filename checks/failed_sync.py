@@ -29,6 +29,7 @@ COMMANDS = [
     ["copy", "source", "both", "new"],
     ["copy", "--all", "source", "mirror"],
     ["copy", "--workers", "1", "--all", "--prune", "source", "mirror"],
+    ["tag", "mirror", "old", "other"],
     ["untag", "mirror", "old"],
     ["prune", "mirror"],
 ]

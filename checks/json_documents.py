@@ -28,7 +28,7 @@ LOOKS = [
 CHANGES = [
     "prune --dry-run L", "prune --dry-run --no-referrers L", "copy --workers 1 --progress L TAG M new",
     "copy --workers 1 --referrers --depth 1 L DIGEST N", "copy --workers 1 --all --descend L M", "copy --workers 1 --all --prune L M",
-    "untag L TAG", "untag M new", "prune --no-referrers L", "prune L", "prune M", "verify M", "tags M",
+    "tag L DIGEST newer", "tag L TAG newest", "untag L TAG", "untag M new", "prune --no-referrers L", "prune L", "prune M", "verify M", "tags M",
 ]
 # (a JSON text has some of these only as escapes)
 TEXTS = [
@@ -36,7 +36,7 @@ TEXTS = [
     "\u2028\ufeff/", "{}", " ", "\x80\x9f\uffff",
 ]
 OF_TEXTS = [
-    "resolve L TEXT", "tree --referrers L TEXT", "predecessors L TEXT", "copy L TEXT M", "copy --dry-run L TEXT N", "untag M TEXT",
+    "resolve L TEXT", "tree --referrers L TEXT", "predecessors L TEXT", "copy L TEXT M", "copy --dry-run L TEXT N", "tag L TEXT newer", "tag M new TEXT", "untag M TEXT",
 ]
 # The greatest size, and sums of sizes: the greatest that 64 bits hold, and others. Not every file system has files of such sizes.
 MOST = (1 << 63) - 1

@@ -20,6 +20,7 @@ COPIED = [BAR, OTHER, E, FOO, M2], {"old": BAR, "new": M2}
 COMMANDS = {
     "a copy": (COPY, COPIED),
     "a prune": (["prune", "copied"], ([BAR], {"old": BAR})),
+    "tag": (["tag", "copied", "old", "other"], ([BAR, OTHER], {"old": BAR, "other": BAR})),
     "untag": (["untag", "copied", "old"], ([BAR, OTHER], {})),
     "a repair": (["repair", "--workers", "1", "copied", "source"], ([BAR, OTHER], {"old": BAR})),
 }

@@ -18,6 +18,7 @@ WRITING = [
     ["copy", "--all", "source", "mirror"],
     ["copy", "--all", "--prune", "source", "mirror"],
     ["copy", "--descend", "source", "both", "mirror"],
+    ["tag", "mirror", "old", "other"],
     ["untag", "mirror", "old"],
     ["prune", "mirror"],
 ]

@@ -252,6 +252,7 @@ CASES = {
     **{"%s, %s" % (name, workers): case._replace(words=[command, "--workers", workers[0], *case.words])
        for command, cases in (("copy", COPIES), ("repair", REPAIRS))
        for name, case in cases.items() for workers in ("1 worker", "3 workers")},
+    "tag": Case(["tag", "copied", "old", "new"], None, OLD_AND_ONE, {"new": OLD}),
     "untag": Case(["untag", "copied", "new"], None, OLD_AND_ONE, {"new": None}),
     "prune": Case(["prune", "copied"], None, NO_TAG, {key(ONE).digest: None}),
     "prune after one that was killed after its save": Case(

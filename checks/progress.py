@@ -34,7 +34,8 @@ ssize_t read(int file, void *bytes, size_t count) {
 UNITS = {"B": 1, "KB": 1000, "MB": 1000000}
 SIZE = r"(\d+ B|\d+\.\d (?:KB|MB))"
 TIME = r"(?:(\d+) min )?(\d+) s left"
-LINE = re.compile(r"\r(\d+) of (\d+) blobs, %s of %s(?:, %s/s(?:, %s)?)?\x1b\[K" % (SIZE, SIZE, SIZE, TIME))
+# (a terminal does not wrap what is between `?7l` and `?7h`)
+LINE = re.compile(r"\r\x1b\[\?7l(\d+) of (\d+) blobs, %s of %s(?:, %s/s(?:, %s)?)?\x1b\[K\x1b\[\?7h" % (SIZE, SIZE, SIZE, TIME))
 ERASURE = "\r\x1b[K"
 
 

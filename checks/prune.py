@@ -8,7 +8,7 @@ import shutil
 from support.files import files, stamps
 from support.layouts import BAR, E, FOO, M2, M3, Content, blob, key
 from support.program import first, run, told
-from support.prune_cases import CASES, DRAFT, ZEROS, Case, write_case, write_random
+from support.prune_cases import CASES, DRAFT, Case, write_case, write_random
 from support.pruning import Held, Prune, text
 
 LAYOUTS = 300
@@ -127,12 +127,11 @@ def links(room):
 
 
 def others(room):
-    """Check that something with the name of a blob stays if it is neither a file nor a link."""
+    """Check that something with the name of a draft stays if it is no file."""
     write_case(room + "/layout", Case([E, FOO, M2], {"new": M2}))
-    os.mkfifo("%s/layout/blobs/sha256/%s" % (room, ZEROS))
     os.mkfifo("%s/layout/index.json%s" % (room, DRAFT))
     os.symlink("index.json", "%s/layout/oci-layout%s" % (room, DRAFT))
-    yield "a FIFO with the name of a blob, and a link with that of a draft", wrong_prune(room, [])
+    yield "a FIFO and a link with the names of drafts", wrong_prune(room, [])
 
 
 def wrong_random(room, seed):

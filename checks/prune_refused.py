@@ -213,6 +213,25 @@ def not_removed(room):
     yield unwritable(room)
 
 
+def no_files(room):
+    """Check what is no file in the place of a blob that nothing needs: it cannot be removed, and stays."""
+    made = {"an empty folder": os.mkdir, "a folder with a folder": lambda at: os.makedirs(at + "/inner"), "a FIFO": os.mkfifo}
+    for what, make in made.items():
+        fresh(room, ALL, {"new": M2}, [M3])
+        prune = Prune(room + "/layout")
+        path = "blobs/sha256/%064x" % 9
+        make("%s/layout/%s" % (room, path))
+        mode = os.lstat("%s/layout/%s" % (room, path)).st_mode
+        dry = run(["prune", "--dry-run", "layout"], room)
+        shown = dry.status == 0 and "removed-file %s 0" % path in dry.out.splitlines()
+        ended = run(["prune", "layout"], room)
+        yield what + " in the place of a blob", first([
+            None if shown else told(dry),
+            None if ended[:3] == (1, prune.out, "ocicp: 79 NotRemoved %s\n" % path) else told(ended),
+            None if os.lstat("%s/layout/%s" % (room, path)).st_mode == mode else "it is not as it was",
+        ])
+
+
 def unwritable(room):
     """Check a folder that may only be read, as another user if this one may write into every folder."""
     folder = room + "/layout/blobs/sha256"
@@ -232,7 +251,7 @@ def unwritable(room):
 
 
 def checks(room):
-    for number, group in enumerate([prunes, linked, no_layouts, locked, written, not_removed]):
+    for number, group in enumerate([prunes, linked, no_layouts, locked, written, not_removed, no_files]):
         folder = "%s/%d" % (room, number)
         os.mkdir(folder)
         os.chmod(room, 0o711)

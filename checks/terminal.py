@@ -1,5 +1,8 @@
-"""Refusals on a terminal: a second line explains the last number of the first one. Through a pipe there is no such line."""
-from support.layouts import E, FOO, M2, write_layout
+"""Refusals on a terminal: a second line explains the last number of the first one. Through a pipe there is no such line. And answers on a
+terminal, where control characters are escaped."""
+import os
+
+from support.layouts import E, FOO, M2, key, write_layout
 from support.program import run
 from support.terminal import run_on_terminal
 
@@ -16,8 +19,35 @@ CASES = [
     ("mem abc.txt", "92 BadItem abc.txt", "", "The named item of `ocicp mem` has no `=`", 92),
 ]
 
+# A tag, and how a terminal gets it. (the last two characters have a byte that begins control characters, too)
+ODD = "a \x1b[31m\a\x7f\u0085\u009b \u00a0\u00e9\u4e16"
+ESCAPED = "a \\u{1b}[31m\\u{7}\\u{7f}\\u{85}\\u{9b} \u00a0\u00e9\u4e16"
+PIPE = ("The folder or archive is not an image layout: it does not exist, or has no file `oci-layout`. An archive cannot be read from a "
+        "pipe or a device: save it as a file first")
+
+
+def answers(room):
+    """Check the tags of a layout on a terminal and through a pipe."""
+    write_layout(room + "/odd", [E, FOO, M2], {ODD: M2})
+    for name, found, tag in [
+        ("tags odd", run_on_terminal(["tags", "odd"], room, shows_output=True), ESCAPED),
+        ("tags odd, through a pipe", run(["tags", "odd"], room)[:2], ODD),
+    ]:
+        yield name, None if found == (0, "%s %s\n" % (tag, key(M2))) else "status %d, %r" % found
+
+
+def pipes(room):
+    """Check paths of a pipe, which is no archive."""
+    os.mkfifo(room + "/pipe")
+    line, second = "ocicp: 70 NoLayoutFile\n", "%s `pipe`: " + PIPE + ". Run `ocicp explain 70` for what to do.\n"
+    for words, side in ("tags pipe", "FOLDER"), ("copy pipe one copied", "SRC"):
+        found = run_on_terminal(words.split(), room)
+        yield words, None if found == (1, line + second % side) else "status %d, %r" % found
+
 
 def checks(room):
+    yield from answers(room)
+    yield from pipes(room)
     write_layout(room + "/source", [E, FOO, M2], {"one": M2})
     write_layout(room + "/spoiled", [E, FOO, M2], {"one": M2})
     with open(room + "/spoiled/oci-layout", "w") as file:

@@ -33,6 +33,8 @@ INDEX = {
 COMMANDS = {
     "a tag with two entries is removed": ["untag", "layout", "latest"],
     "a tag with two entries moves": ["copy", "source", "new", "layout", "latest"],
+    "a tag is set": ["tag", "layout", "v1", "latest"],
+    "a manifest is written": ["cat", "layout", "v1"],
     "all entries are listed": ["tags", "--all", "layout"],
     "shadowed entries are found": ["verify", "layout"],
 }

@@ -137,6 +137,13 @@ def of_explain(value, words):
     return ["%d %s\n%s" % tuple(taken(value, {"number": int, "name": str, "text": str}))]
 
 
+def of_tag(value, words):
+    tag, descriptor = taken(value, {"tag": str, "descriptor": dict})
+    if tag != words[-1]:
+        raise ValueError("the tag is %r" % tag)
+    return ["tagged " + key(descriptor)]
+
+
 def of_untag(value, words):
     tag, descriptor, descriptors = taken(value, {"tag": str, "descriptor": (dict, type(None)), "descriptors": list})
     if tag != words[-1]:
@@ -254,7 +261,7 @@ def of_tree(value, words, labels):
 
 LINES = {
     "tags": of_tags, "resolve": of_resolve, "predecessors": of_predecessors, "verify": of_verify, "explain": of_explain,
-    "untag": of_untag, "prune": of_prune, "repair": of_repair, "copy": of_copy, "mem": of_mem, "tree": of_tree,
+    "tag": of_tag, "untag": of_untag, "prune": of_prune, "repair": of_repair, "copy": of_copy, "mem": of_mem, "tree": of_tree,
 }
 
 

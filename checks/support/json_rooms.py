@@ -10,7 +10,7 @@ from support.files import files
 from support.program import PROGRAM, SECONDS, Ended, told
 
 FORMS = ["lines", "json"]
-CHANGES = ["copy", "untag", "prune", "repair"]
+CHANGES = ["copy", "tag", "untag", "prune", "repair"]
 
 
 def run_long(words, folder, seconds=SECONDS):

@@ -76,8 +76,8 @@ CASES = {
         "blobs/sha256/%s.new" % ZEROS, "blobs/sha256/%s.0.new" % ZEROS, "blobs/sha256/other" + DRAFT, "blobs/index.json" + DRAFT,
         "other" + DRAFT, "manifest.json", "sha256/" + ZEROS, ZEROS,
     ]}),
-    "folders in the place of blobs": Case([E, FOO, M2], {"new": M2}, [], {
-        "%s/%s" % (STRAY, ZEROS): b"in", "blobs/sha256/%s/in" % ZEROS: b"in", "index.json%s/in" % DRAFT: b"in", "blobs/sha512/in/in": b"in",
+    "folders with other names": Case([E, FOO, M2], {"new": M2}, [], {
+        "index.json%s/in" % DRAFT: b"in", "blobs/sha256/%s%s/in" % (ZEROS, DRAFT): b"in", "blobs/sha512/in/in": b"in",
     }),
     "a layer that is not distributed": Case([E, FOO, image([FOO]), image([FOO._replace(media_type=FOREIGN), BAR])],
                                             {"new": image([FOO._replace(media_type=FOREIGN), BAR])}, [image([FOO])],
