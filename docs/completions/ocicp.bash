@@ -3,13 +3,16 @@ _ocicp() {
   local word=${COMP_WORDS[COMP_CWORD]} flags='' valued='' last='' kinds=() words=() at line
   COMPREPLY=()
   if ((COMP_CWORD == 1)); then
-    mapfile -t COMPREPLY < <(compgen -W 'copy untag prune repair tags resolve predecessors tree verify mem explain help --help --version' -- "$word")
+    mapfile -t COMPREPLY < <(compgen -W 'copy tag untag prune repair tags resolve predecessors tree cat verify mem explain help --help --version' -- "$word")
     return
   fi
   case ${COMP_WORDS[1]} in
     copy)
       flags='--all --match --platform --referrers --depth --artifact-type --descend --prune --workers --progress --dry-run --hint --json --no-wait --no-sync --help' valued='--match --platform --depth --artifact-type --workers' kinds=(folder tag folder tag)
       [[ " ${COMP_WORDS[*]} " != *' --all '* ]] || kinds=(folder folder)
+      ;;
+    tag)
+      flags='--hint --json --no-wait --no-sync --help' kinds=(folder tag none)
       ;;
     untag)
       flags='--hint --json --no-wait --no-sync --help' kinds=(folder tag)
@@ -31,6 +34,9 @@ _ocicp() {
       ;;
     tree)
       flags='--referrers --platform --hint --json --help' valued='--platform' kinds=(folder tag)
+      ;;
+    cat)
+      flags='--platform --hint --json --help' valued='--platform' kinds=(folder tag)
       ;;
     verify)
       flags='--workers --hint --json --help' valued='--workers' kinds=(folder)
@@ -67,7 +73,7 @@ _ocicp() {
       mapfile -t COMPREPLY < <(compgen -f -- "$word")
       ;;
     command)
-      mapfile -t COMPREPLY < <(compgen -W 'copy untag prune repair tags resolve predecessors tree verify mem explain' -- "$word")
+      mapfile -t COMPREPLY < <(compgen -W 'copy tag untag prune repair tags resolve predecessors tree cat verify mem explain' -- "$word")
       ;;
     tag)
       # (not by `compgen -W`, which would run what is in a tag)
