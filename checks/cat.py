@@ -7,7 +7,7 @@ import subprocess
 import tarfile
 from collections import namedtuple
 
-from support.layouts import E, FOO, LAYER, Content, blob, digits, image, index, key, write_layout
+from support.layouts import E, FOO, INDEX, LAYER, Content, blob, descriptor, digits, image, index, key, write_layout
 from support.program import PROGRAM, SECONDS
 from support.tar_files import pack
 
@@ -22,8 +22,11 @@ LAYERS = [Content(LAYER, CHANCE.randbytes(size)) for size in SIZES]
 IMAGE = image([FOO, *LAYERS])
 OTHER = Content(LAYER, b"by another algorithm", "sha512")
 LIST = index([IMAGE])
-CONTENTS = [E, FOO, *LAYERS, OTHER, IMAGE, LIST]
-TAGS = {"image": IMAGE, "list": LIST, "empty": E, "other": OTHER}
+# An index that states the platform of the image.
+PLATFORM = {"architecture": "arm64", "os": "linux"}
+STATED = Content(INDEX, json.dumps({"schemaVersion": 2, "manifests": [dict(json.loads(descriptor(IMAGE)), platform=PLATFORM)]}).encode())
+CONTENTS = [E, FOO, *LAYERS, OTHER, IMAGE, LIST, STATED]
+TAGS = {"image": IMAGE, "list": LIST, "stated": STATED, "empty": E, "other": OTHER}
 
 Ended = namedtuple("Ended", "status out err")
 
@@ -54,6 +57,8 @@ def whole(room):
             yield "cat %s %.20s, %d bytes" % (layout, reference, len(content.bytes)), None if right else told(ended)
     as_json = run(["cat", "--json", "layout", "image"], room)
     yield "cat --json", None if (as_json.status, as_json.out) == (0, IMAGE.bytes) else told(as_json)
+    picked = run(["cat", "--platform", "linux/arm64", "layout", "stated"], room)
+    yield "cat --platform", None if (picked.status, picked.out) == (0, IMAGE.bytes) else told(picked)
 
 
 def large(room):

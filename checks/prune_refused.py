@@ -1,4 +1,4 @@
-"""Refusals of `prune` and `untag`, which change nothing; folders that another process has locked; files that cannot be removed.
+"""Refusals of `prune`, `untag` and `tag`, which change nothing; folders that another process has locked; files that cannot be removed.
 Wants `cc`."""
 import fcntl
 import os
@@ -119,6 +119,7 @@ def locked(room):
     commands = {
         "prune": ["prune", "--no-wait", "layout"],
         "untag": ["untag", "--no-wait", "layout", "old"],
+        "tag": ["tag", "--no-wait", "layout", "new", "newer"],
         "copy": ["copy", "--no-wait", "source", "old", "layout"],
         "copy --all": ["copy", "--no-wait", "--all", "source", "layout"],
     }
