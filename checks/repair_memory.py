@@ -1,14 +1,13 @@
 """Repairs for which each request for memory is refused in turn.
 
 Such a run ends with status 3 and `ocicp: memory`, or as if nothing had been refused. Then each file is the old one or a whole one, and the
-same command, repeated with all memory, goes on. There is one exception: an empty folder in the place of a blob is removed by its path, and
-if that has no memory, the folder stays, and the file cannot be put (74). Wants `cc`.
+same command, repeated with all memory, goes on. Wants `cc`.
 """
 import functools
 import os
 
 from support import refused_malloc
-from support.layouts import E, LAYER, Content, blob
+from support.layouts import LAYER, Content
 from support.program import first, run, told
 from support.refused_malloc import refused_in_turn
 from support.repair_layout import Damaged
@@ -29,9 +28,8 @@ def wrong_repair(workers, library, room, nth):
     words = ["repair", "--workers", workers, *layout.words[3:]]
     refused, ended = refused_malloc.run_refused(library, nth, words, layout.room)
     is_memory = refused and (ended.status, ended.err) == (3, "ocicp: memory\n")
-    keeps_folder = refused and (ended.status, ended.err) == (1, "ocicp: 74 Device\n") and os.path.isdir("%s/%s" % (layout.layout, blob(E)))
     complaint = first([
-        None if ended[:3] == (0, layout.repair.out, "") or is_memory or keeps_folder else told(ended),
+        None if ended[:3] == (0, layout.repair.out, "") or is_memory else told(ended),
         layout.wrong_state(),
         layout.wrong_again(),
     ])
