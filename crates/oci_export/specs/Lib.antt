@@ -1,0 +1,5 @@
+pub mod Archive
+pub mod Sinks
+pub mod ReadBack
+pub mod Export
+pub mod Refusal
