@@ -35,7 +35,7 @@ pub struct CopyWords<'w> {
     pub source: &'w str,
     /// The blobs to start from.
     pub selection: Selection<'w>,
-    /// The folder to copy into.
+    /// The folder to copy into, or the file of an archive.
     pub destination: &'w str,
     /// The number of workers; 0 means the default number.
     pub workers: u32,

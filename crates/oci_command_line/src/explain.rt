@@ -292,8 +292,8 @@ The output could not be written. If the command changes a layout, that is done a
 Check where the output goes: the disk may be full, or the program that reads it may have ended.
 
 95 NotWritable
-The named path is a file, or is new and has the name of an archive, and `ocicp` writes only into folders. Nothing was changed.
-Copy into a folder, without `oci:` before its path. To change an archive, unpack it into a folder, and change the layout there. `tar -cf FILE -C FOLDER .` makes an archive of a folder.
+The named path is a file, or is new and has the name of an archive, and only `copy --archive` writes files; or `copy --archive` would write there, and something is there already. Nothing was changed.
+Copy into a folder, without `oci:` before its path, or write a new file with `ocicp copy --archive`. To change an archive, unpack it into a folder, and change the layout there.
 
 96 Unknown
 The layout does not have the named blob, or its manifest there is damaged, so it is not known what that blob needs. It is an entry of `index.json`, a damaged manifest, the manifest for a platform, or a manifest that another one lists: one that is kept, or in SRC of a mirror with `--referrers` any one. A folder in a file's place counts as damage too. Nothing was removed, and no tag was set. Nothing was copied either, unless it turned out only after the copy of a mirror that its destination cannot be pruned; then the copied blobs are there.

@@ -30,6 +30,9 @@ pub enum Request<'w> {
     Mem(MemWords<'w>),
     /// `copy`, with its folders, references and flags.
     Copy(CopyWords<'w>),
+    /// `copy --archive`, whose destination is a file, or `-` for the standard output. It has neither
+    /// `--descend` nor `--prune`.
+    Archive(CopyWords<'w>),
     /// `tag`, with its folder, reference, tag and flags.
     Tag(TagWords<'w>),
     /// `untag`, with its folder, tag and flags.
@@ -163,7 +166,7 @@ fn request_of<'w>(
 ) -> Result<Request<'w>, CommandLineFault> {
     match name {
         "explain" => explanation_of(alloc, word(matches, "number"), most_workers),
-        "copy" => Ok(Request::Copy(copy_words(alloc, matches, on_terminal)?)),
+        "copy" => copy_of(alloc, matches, on_terminal),
         "tag" => Ok(Request::Tag(tag_words(matches))),
         "untag" => Ok(Request::Untag(untag_words(matches))),
         "prune" => Ok(Request::Prune(prune_words(matches))),
@@ -289,6 +292,20 @@ fn algorithm(matches: &ArgMatches<'_>) -> Algorithm {
         Algorithm::Sha512
     } else {
         Algorithm::Sha256
+    }
+}
+
+/// The request of `copy`, into a folder or with `--archive` into a file.
+fn copy_of<'w>(
+    alloc: Global,
+    matches: &ArgMatches<'w>,
+    on_terminal: bool,
+) -> Result<Request<'w>, CommandLineFault> {
+    let words = copy_words(alloc, matches, on_terminal)?;
+    if matches.get_flag("archive") {
+        Ok(Request::Archive(words))
+    } else {
+        Ok(Request::Copy(words))
     }
 }
 

@@ -15,9 +15,12 @@ Examples:
   ocicp copy --all --prune --dry-run build mirror    prints also what would be removed from `mirror`
   ocicp copy --all --prune --match 'v1.*' build mirror   makes the tags that begin with `v1.` those of `build`
   ocicp copy --descend build v1 mirror     also restores blobs that `mirror` has lost
-  ocicp copy --all image.tar mirror        copies every tag of an archive, such as `docker save` writes";
+  ocicp copy --all image.tar mirror        copies every tag of an archive, such as `docker save` writes
+  ocicp copy --archive build v1 image.tar  writes an archive of the image, for a machine without a network
+  ocicp copy --archive --all build - | zstd > build.tar.zst    writes an archive of every tag to the standard output";
 
-/// `copy [FLAGS] SRC SRCREF DST [DSTREF]` and `copy --all [FLAGS] SRC DST`
+/// `copy [FLAGS] SRC SRCREF DST [DSTREF]` and `copy --all [FLAGS] SRC DST`, and both with `--archive`
+/// and a file for DST
 pub(crate) const COPY: CommandText = CommandText {
     name: "copy",
     about: "Copies an image, or every tag, from one layout into another",
@@ -39,7 +42,8 @@ pub(crate) const COPY: CommandText = CommandText {
          `index.json` may have the new tags.\n\n\
          A copy locks DST. Another copy into it on the same machine waits, unless it has --no-wait.\n\n\
          A copy ends once what it wrote is on the disk, so that a power cut leaves the old layout or the \
-         new one, unless it has --no-sync.",
+         new one, unless it has --no-sync.\n\n\
+         With --archive DST is a new file, and the copy is written into it as a tar archive.",
     ),
     usage: "ocicp copy [OPTIONS] <SRC> <SRCREF> <DST> [DSTREF]\n       \
          ocicp copy --all [OPTIONS] <SRC> <DST>",
@@ -48,8 +52,9 @@ pub(crate) const COPY: CommandText = CommandText {
 
 /// The arguments of `copy`; `most_workers` bounds `--workers`. With `--all` the second word is the
 /// destination's folder, and there is no third one.
-pub(crate) fn copy_arguments(most_workers: u32) -> [Argument; 19] {
+pub(crate) fn copy_arguments(most_workers: u32) -> [Argument; 20] {
     [
+        archive(),
         all(),
         matching(),
         platform(),
@@ -97,7 +102,7 @@ pub(crate) fn copy_arguments(most_workers: u32) -> [Argument; 19] {
                 name: "DST",
                 flag: "all",
             },
-            "The folder of the layout to copy into",
+            "The folder of the layout to copy into; with --archive the file to write, or `-`",
         ),
         Argument::new(
             "destination-reference",
@@ -120,6 +125,19 @@ fn workers(most_workers: u32) -> Kind {
         name: "N",
         most: most_workers,
         default: Some("0"),
+    }
+}
+
+/// `--archive`
+fn archive() -> Argument {
+    let help =
+        "Writes the copy into the new file DST, as an uncompressed tar archive of the layout that a copy into a new folder makes. \
+         The same blobs, tags and entries give the same bytes. The file appears when it is whole. If it exists, it is \
+         refused (95). With `-` for DST the archive goes to the standard output, and what is printed to stderr; if the copy is then \
+         refused, the archive is cut off. --workers changes nothing";
+    Argument {
+        conflicts: &["descend", "prune"],
+        ..flag("archive", help)
     }
 }
 

@@ -77,9 +77,9 @@ pub(crate) const CAT: CommandText = CommandText {
         "Writes the bytes of the blob that a reference resolves to, and nothing else, to the standard \
          output. A tag resolves to a manifest; the config and the layers have digests of their own, which \
          it lists.\n\n\
-         The bytes are checked. A blob of up to 4 MiB whose file does not match its digest is refused (21) \
-         before anything is written. A larger one is written in parts, and is refused (21) at the end; what \
-         was written is then not the blob.\n\n\
+         The bytes are checked. A blob of up to 4 MiB whose file does not match its digest is refused (21, or \
+         75 if its size is wrong) before anything is written. A larger one is written in parts, and is refused \
+         (21) at the end; what was written is then not the blob.\n\n\
          With --json only a refusal is JSON.",
     ),
     usage: "ocicp cat [OPTIONS] <FOLDER> <REF>",
