@@ -1,3 +1,4 @@
+mod Archived
 mod AttachedRoots
 mod BroughtEntries
 mod Exact

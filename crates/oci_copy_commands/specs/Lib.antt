@@ -11,3 +11,4 @@ pub mod Printed
 pub mod Run
 pub mod Mem
 pub mod Tagged
+pub mod Archived

@@ -159,7 +159,7 @@ fn check_is_free<D: PrunableDir>(dir: &D, prunes: bool) -> Result<(), ProgramFau
 }
 
 /// Creates an empty layout in memory, which counts for a destination that is not a layout yet.
-fn empty_layout(alloc: Global) -> Result<Layout<MemDir>, ProgramFault>
+pub(crate) fn empty_layout(alloc: Global) -> Result<Layout<MemDir>, ProgramFault>
     ensures graph { IfOk result (λ layout. layout.graph ≡ []) }
     ensures tags { IfOk result (λ layout. layout.tags ≡ []) }
 {

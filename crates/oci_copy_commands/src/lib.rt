@@ -7,6 +7,7 @@
 #![tactic(auto)]
 
 mod answer;
+mod archive;
 mod between;
 mod brought;
 mod clean_up;
@@ -29,6 +30,7 @@ mod selected;
 mod tag;
 mod whole;
 
+pub use archive::{run_archive, run_archive_to_output};
 pub use between::copy_between;
 pub use copy::run_copy;
 pub use mem::run_mem;

@@ -1,5 +1,5 @@
 -- What a run does with its command line, and the status that it ends with.
-use Rattle.std.specs.Prelude.{◌≡◌, ◌⊎◌, ℕ, Bool, true, false, List, [], ◌∷◌, ⊤, string_bytes, Option}
+use Rattle.std.specs.Prelude.{◌≡◌, ◌⊎◌, ℕ, Bool, true, false, List, [], ◌∷◌, ◌++◌, codes, ⊤, string_bytes, Option}
 use Rattle.std.specs.Borrow.{Bor}
 use Rattle.std.specs.Io.KnownBytes.{Appends}
 use Rattle.oci_command_line.specs.declared.changing.CopyWords.{CopyWords}
@@ -14,6 +14,7 @@ use Rattle.oci_command_line.specs.declared.request.Query.{Query}
 use Rattle.oci_command_line.specs.declared.request.Request.{Request}
 use Rattle.oci_command_line.specs.declared.request.Request.TheVariants as request
 use Rattle.oci_copy.specs.declared.report.Report.{Report}
+use Rattle.oci_copy_commands.specs.Archived.{IsFileRunOf, IsOutputRunOf}
 use Rattle.oci_copy_commands.specs.Mem.{mem_text, IsMemRun}
 use Rattle.oci_copy_commands.specs.Run.{IsRunOf}
 use Rattle.oci_copy_commands.specs.Tagged.{tagged_line, IsTagRun}
@@ -49,6 +50,10 @@ IsPlaceAt path (place.Archive dir) = ⊤
 abbrev pub IsSourceAt : {A : Type 0} → List ℕ → RepairSource (List ℕ × ℕ) A → Type 0
 IsSourceAt path (source.Folder dir) = dir ≡ (path, 0)
 IsSourceAt path (source.Archive dir) = ⊤
+
+-- a path is that of a file with this name in a folder
+abbrev pub IsFileAt : List ℕ → List ℕ → List ℕ → Type 0
+IsFileAt path folder name = (path ≡ folder ++ 47 ∷ name) ⊎ (((path ≡ 47 ∷ name) × (folder ≡ codes "/")) ⊎ ((path ≡ name) × (folder ≡ codes ".")))
 
 -- one was opened at each of these paths, in their order
 abbrev pub AreSourcesAt : {A : Type 0} → List (Bor (List ℕ)) → List (RepairSource (List ℕ × ℕ) A) → Type 0
@@ -102,6 +107,23 @@ abbrev pub IsCopyDone : {A M : Type 0} → (A → Device) → (M → Device) →
 IsCopyDone {A} archive memory words printed old new = IsRunOf folder folder memory words (words.source.now, 0) (words.destination.now, 0) printed old new
     ⊎ ((dir : A) × IsRunOf archive folder memory words dir (words.destination.now, 0) printed old new)
 
+-- The archive that these words ask for was written into the file at their destination, from the folder at
+-- their source or from an archive, or with `--dry-run` that copy was planned.
+abbrev pub IsFileDone : {A M : Type 0} → (A → Device) → (M → Device) → CopyWords → Form → Option (List ℕ) → Option (List ℕ) → Type 0
+IsFileDone {A} archive memory words printed old new = (dir : List ℕ) × (name : List ℕ) × IsFileAt words.destination.now dir name
+    × (IsFileRunOf folder memory folder words (words.source.now, 0) (dir, 0) name printed old new
+    ⊎ ((source : A) × IsFileRunOf archive memory folder words source (dir, 0) name printed old new))
+
+-- the same, where the archive was appended to the output in each form
+abbrev pub IsOutputDone : {A M : Type 0} → (A → Device) → (M → Device) → CopyWords → Form → Option (List ℕ) → Option (List ℕ) → Type 0
+IsOutputDone {A} archive memory words printed old new = IsOutputRunOf folder memory words (words.source.now, 0) printed old new
+    ⊎ ((source : A) × IsOutputRunOf archive memory words source printed old new)
+
+-- the file `-` is the output
+pub record IsArchiveDone {A M : Type 0} (archive : A → Device) (memory : M → Device) (words : CopyWords) (printed : Form) (old new : Option (List ℕ)) : Type 0 where
+  pub output : words.destination.now ≡ codes "-" → IsOutputDone archive memory words printed old new
+  pub file : (words.destination.now ≡ codes "-" → ⊥) → IsFileDone archive memory words printed old new
+
 -- A query of the layout in a directory ended so. A good `verify` found nothing wrong with it, and a
 -- faulty one something. `tags`, `predecessors`, and `tree` with referrers left nothing out. As lines,
 -- all but `tree` printed exactly their answer, and `cat` wrote its bytes in each form.
@@ -124,6 +146,7 @@ abbrev pub IsDone : {A M : Type 0} → (A → Device) → (M → Device) → Req
 IsDone archive memory (request.Text text) printed old new outcome = Appends old new (string_bytes text)
 IsDone archive memory (request.Mem words) printed old new outcome = IsMemDone words printed old new
 IsDone archive memory (request.Copy words) printed old new outcome = IsCopyDone archive memory words printed old new
+IsDone archive memory (request.Archive words) printed old new outcome = IsArchiveDone archive memory words printed old new
 IsDone archive memory (request.Tag words) printed old new outcome = IsTagDone words printed old new
 IsDone archive memory (request.Untag words) printed old new outcome = IsUntagDone words printed old new
 IsDone archive memory (request.Prune words) printed old new outcome = IsPruneDone words printed old new

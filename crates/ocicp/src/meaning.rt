@@ -77,7 +77,7 @@ fn print_reference<X: Write>(reference: &str, err: &mut X) {
 /// the source.
 fn reference_of<'w>(request: &Request<'w>) -> &'w str {
     match request {
-        Request::Copy(words) => match &words.selection {
+        Request::Copy(words) | Request::Archive(words) => match &words.selection {
             Selection::Reference { source, .. } => source,
             Selection::AllTags { .. } => "",
         },

@@ -1,5 +1,5 @@
 ghost use Rattle.std.specs.Prelude.{◌≡◌, IfOk};
-ghost use Rattle.ocicp.specs.Run.{AreSourcesAt, IsPlaceAt, IsSourceAt};
+ghost use Rattle.ocicp.specs.Run.{AreSourcesAt, IsFileAt, IsPlaceAt, IsSourceAt};
 
 use crate::sides::Failures;
 use oci_archive::{ReadAt, TarDir};
@@ -72,6 +72,48 @@ pub(crate) fn open_copy<'r, R: Files<File: ReadAt> + AllocGlobal>(
     }
     let destination = open_folder(rt, path, &failures.written, words.syncs)?;
     Ok((Place::open(rt, words.source, &failures.read)?, destination))
+}
+
+/// Opens the folder of the new file into which a copy is written as an archive, and returns its name
+/// there. The file is not created yet.
+///
+/// # Errors
+///
+/// - 95 `NotWritable` if anything is at the path, also a link that leads nowhere, or its folder is a
+///   regular file.
+/// - 74 `Device` if its folder cannot be found.
+/// - Out of memory, at any point.
+pub(crate) fn open_new_file<'r, 'w, R: Files + AllocGlobal>(
+    rt: &'r R,
+    words: &CopyWords<'w>,
+    first: &'r FirstFailure,
+) -> Result<(FsDir<'r, R>, &'w str), ProgramFault>
+    ensures file { IfOk result (λ place. IsFileAt words.now.destination.now place.0.0
+        place.1.now) }
+    ensures fresh { IfOk result (λ place. place.0 ≡ (place.0.0, 0)) }
+{
+    let path = words.destination;
+    if fs::symlink_metadata(rt, path).is_ok() {
+        let path = String::from_str(rt.alloc(), path)?;
+        return Err(ProgramFault::NotWritable(path));
+    }
+    let (folder, name) = folder_and_name(path);
+    if let Err(error) = fs::metadata(rt, folder) {
+        return Err(ProgramFault::of_folder(Some(first), folder, error));
+    }
+    let folder = open_folder(rt, folder, first, words.syncs)?;
+    Ok((folder, name))
+}
+
+/// Returns the folder of a file, and its name there.
+fn folder_and_name(path: &str) -> (&str, &str)
+    ensures { IsFileAt path.now result.0.now result.1.now }
+{
+    match path.rsplit_once('/') {
+        Some(("", name)) => ("/", name),
+        Some((folder, name)) => (folder, name),
+        None => (".", path),
+    }
 }
 
 /// Opens the sources of a repair, in their order, as [`Place::open`] does.

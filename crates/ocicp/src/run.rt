@@ -3,9 +3,12 @@ ghost use Rattle.std.specs.Io.KnownBytes.{Appends};
 ghost use Rattle.ocicp.specs.Run.{
   form_of,
   status_of_unparsed,
+  IsArchiveDone,
   IsCommandStatus,
   IsCopyDone,
   IsDone,
+  IsFileDone,
+  IsOutputDone,
   IsPruneDone,
   IsQueryDone,
   IsRepairDone,
@@ -14,14 +17,14 @@ ghost use Rattle.ocicp.specs.Run.{
 };
 
 use crate::meaning::print_meaning;
-use crate::place::{Place, open_copy, open_folder, open_sources};
+use crate::place::{Place, open_copy, open_folder, open_new_file, open_sources};
 use crate::sides::{Failures, sides_of};
 use oci_archive::TarDir;
 use oci_command_line::{
     CommandLine, CommandLineFault, CopyWords, PruneWords, Query, RepairWords, Request, TagWords,
     UntagWords,
 };
-use oci_copy_commands::{Host, run_copy, run_mem, run_tag};
+use oci_copy_commands::{Host, run_archive, run_archive_to_output, run_copy, run_mem, run_tag};
 use oci_layout::{Dir, FirstFailure, MemDir};
 use oci_pool::MAX_WORKERS;
 use oci_program::{Ending, Form, Outcome, ProgramFault, end_early, finish_run, print_answer};
@@ -42,7 +45,8 @@ use std::io::Write;
 /// - 2: the command line is invalid, and the usage is on `err`.
 /// - 3: memory ran out. `err` has the line `ocicp: memory`.
 ///
-/// With `--progress`, `copy` also prints a line for each blob on `err`.
+/// With `--progress`, `copy` also prints a line for each blob on `err`. With `--archive` and `-` for
+/// its file, it writes the archive to `out`, and its result to `err`.
 ///
 /// With `--json` the result is a JSON document on one line of `out`, and a refusal is a JSON
 /// document on the last line of `err`, also if memory ran out. The usage stays plain.
@@ -147,6 +151,7 @@ fn run_request<R: Host, W: Write, X: Write + Send>(
         Request::Explain(explanation) => print_answer(rt.alloc(), explanation, form, out),
         Request::Mem(words) => run_mem(rt, words, &failures.read, form, out),
         Request::Copy(words) => copy(rt, words, failures, form, out, err),
+        Request::Archive(words) => archive(rt, words, failures, form, out, err),
         Request::Tag(words) => tag(rt, words, &failures.written, form, out, err),
         Request::Untag(words) => untag(rt, words, &failures.written, form, out, err),
         Request::Prune(words) => prune(rt, words, &failures.written, form, out, err),
@@ -181,6 +186,67 @@ fn copy<R: Host, W: Write, X: Write + Send>(
     match source {
         Place::Folder(source) => run_copy(rt, source, destination, words, form, out, err),
         Place::Archive(source) => run_copy(rt, source, destination, words, form, out, err),
+    }
+}
+
+/// The file name that stands for the standard output.
+const OUTPUT: &str = "-";
+
+/// Runs `copy --archive` on the places of its words.
+fn archive<R: Host, W: Write, X: Write>(
+    rt: &R,
+    words: &CopyWords<'_>,
+    failures: &Failures,
+    form: Form,
+    out: &mut W,
+    err: &mut X,
+) -> Result<Outcome, ProgramFault>
+    ensures { OnOk result (IsArchiveDone ⟦<TarDir<R::File> as Dir>⟧.device
+        ⟦<MemDir as Dir>⟧.device words.now form (W.contents out.old) (W.contents out.new)) }
+{
+    if words.destination == OUTPUT {
+        archive_to_output(rt, words, failures, form, out, err)
+    } else {
+        archive_into_file(rt, words, failures, form, out, err)
+    }
+}
+
+/// Runs `copy --archive` with a new file.
+fn archive_into_file<R: Host, W: Write, X: Write>(
+    rt: &R,
+    words: &CopyWords<'_>,
+    failures: &Failures,
+    form: Form,
+    out: &mut W,
+    err: &mut X,
+) -> Result<Outcome, ProgramFault>
+    ensures { OnOk result (IsFileDone ⟦<TarDir<R::File> as Dir>⟧.device
+        ⟦<MemDir as Dir>⟧.device words.now form (W.contents out.old) (W.contents out.new)) }
+{
+    let (folder, name) = open_new_file(rt, words, &failures.written)?;
+    let source = Place::open(rt, words.source, &failures.read)?;
+    match source {
+        Place::Folder(source) => run_archive(rt, source, folder, name, words, form, out, err),
+        Place::Archive(source) => run_archive(rt, source, folder, name, words, form, out, err),
+    }
+}
+
+/// Runs `copy --archive` with the standard output.
+fn archive_to_output<R: Host, W: Write, X: Write>(
+    rt: &R,
+    words: &CopyWords<'_>,
+    failures: &Failures,
+    form: Form,
+    out: &mut W,
+    err: &mut X,
+) -> Result<Outcome, ProgramFault>
+    ensures { OnOk result (IsOutputDone ⟦<TarDir<R::File> as Dir>⟧.device
+        ⟦<MemDir as Dir>⟧.device words.now form (W.contents out.old) (W.contents out.new)) }
+{
+    let source = Place::open(rt, words.source, &failures.read)?;
+    match source {
+        Place::Folder(source) => run_archive_to_output(rt, source, words, form, out, err),
+        Place::Archive(source) => run_archive_to_output(rt, source, words, form, out, err),
     }
 }
 

@@ -36,6 +36,15 @@ pub(crate) fn sides_of<'w, R: Files + AllocGlobal>(
             read: Some(side(rt, "SRC", words.source, &failures.read)),
             written: Some(side(rt, "DST", words.destination, &failures.written)),
         },
+        Request::Archive(words) => Sides {
+            read: Some(side(rt, "SRC", words.source, &failures.read)),
+            written: Some(Side {
+                word: Some("DST"),
+                path: words.destination,
+                is_archive: false,
+                failure: failures.written.get(),
+            }),
+        },
         Request::Tag(words) => both(side(rt, "FOLDER", words.folder, &failures.written)),
         Request::Untag(words) => both(side(rt, "FOLDER", words.folder, &failures.written)),
         Request::Prune(words) => both(side(rt, "FOLDER", words.folder, &failures.written)),

@@ -1,0 +1,77 @@
+-- Lemmas about the archive of a copy.
+use Rattle.std.proofs.Common.{◌≡◌, true, inl, inr, List, [], sym, ap, ◌∙◌}
+use Rattle.std.specs.Prelude.{◌⊎◌, Contains}
+use Rattle.std.specs.List.{All}
+use Rattle.std.proofs.lemmas.Bool.{true≢false}
+use Rattle.std.proofs.lemmas.List.Elements.{All-weaker}
+use Rattle.oci_command_line.specs.declared.changing.CopyWords.{CopyWords}
+use Rattle.oci_copy.specs.Planned.{IsPlanOf}
+use Rattle.oci_copy.specs.declared.options.Options.{Options}
+use Rattle.oci_export.specs.Archive.{Item}
+use Rattle.oci_export.specs.Export.{IsExport, IsListed}
+use Rattle.oci_layout.specs.Device.{Device}
+use Rattle.oci_layout.specs.Index.{HasLayoutFile}
+use Rattle.oci_layout.specs.Layout.{no_index, LayoutState}
+use Rattle.oci_manifest.specs.Descriptor.{Descriptor}
+use Rattle.oci_plan.specs.Plan.{Planned}
+use Rattle.oci_store.specs.Graph.{Node}
+use Rattle.oci_store.specs.Keyed.{has_key, HasAll}
+use Rattle.oci_store.specs.State.{State}
+use Rattle.oci_copy_commands.specs.Archived.{IsArchiveAnswer, IsArchived, IsOutlined, IsSavedOutline}
+use Rattle.oci_copy_commands.specs.Run.{options_of, store_of, IsSelectedIn}
+use Rattle.oci_copy_commands.specs.Selected.{Selected}
+use Rattle.oci_copy_commands.specs.declared.answer.CopyAnswer.{CopyAnswer}
+use Rattle.oci_copy_commands.proofs.Selections.{among_held}
+
+-- where the planned keys of a copy into an empty layout are held, its roots are
+pub roots_held : (source opening : State) (options : Options) (roots : List Descriptor) (p : Planned) (graph : List Node)
+    → opening.nodes ≡ [] → IsPlanOf source options opening roots p → HasAll graph p.keys → HasAll graph roots
+roots_held source opening options roots p graph none plan held =
+    among_held graph p.keys roots held
+    (All-weaker (λ (k : Descriptor). (has_key opening.nodes k ≡ true) ⊎ Contains p.keys k) (λ (k : Descriptor). Contains p.keys k) among roots plan.roots_held)
+  where
+    among : (k : Descriptor) → (has_key opening.nodes k ≡ true) ⊎ Contains p.keys k → Contains p.keys k
+    among k (inl there) = absurd (true≢false (sym there ∙ ap (λ (nodes : List Node). has_key nodes k) none))
+    among k (inr planned) = planned
+
+-- a layout in memory that holds the planned keys is the one that the copy makes, once it is saved with
+-- what is selected
+pub is_outlined : {S M : Type 0} (from : S → Device) (memory : M → Device) (options : Options) (source : LayoutState S) (selected : Selected)
+    (plan : Planned) (empty held outline : LayoutState M)
+    → empty.graph ≡ [] → empty.tags ≡ [] → IsPlanOf (store_of from source) options (store_of memory empty) selected.0 plan
+    → HasAll held.graph plan.keys → All (IsListed (store_of from source) plan.keys) held.graph → held.tags ≡ [] → held.opened ≡ no_index
+    → (memory held.dir).is_honest → HasLayoutFile (memory held.dir).file → IsSavedOutline memory selected held outline
+    → IsOutlined from memory options source selected plan outline
+is_outlined from memory options source selected plan empty held outline no_keys no_tags planned all listed tags opened honest version saved =
+    record {
+      empty = empty;
+      no_keys = no_keys;
+      no_tags = no_tags;
+      planned = planned;
+      held = rw saved.graph all;
+      listed = rw saved.graph listed;
+      tagged = rw tags at saved.tagged;
+      brought = rw opened at saved.brought;
+      saved = saved.saved honest;
+      version = saved.version honest version;
+    }
+
+-- what was exported of such a layout is the archive that the words ask for
+pub is_archived : {S M : Type 0} (from : S → Device) (memory : M → Device) (words : CopyWords) (source_dir : S) (source : LayoutState S)
+    (selected : Selected) (plan : Planned) (outline : LayoutState M) (items : List Item) (answer : CopyAnswer)
+    → IsSelectedIn from words source_dir source selected → IsOutlined from memory (options_of words) source selected plan outline
+    → (memory outline.dir).is_honest
+    → IsExport (store_of from source) (memory outline.dir) outline.graph items → IsArchiveAnswer selected plan answer
+    → IsArchived from memory words source_dir items answer
+is_archived from memory words source_dir source selected plan outline items answer chosen outlined honest exported answers =
+    record {
+      source = source;
+      selected = selected;
+      plan = plan;
+      outline = outline;
+      chosen = chosen;
+      outlined = outlined;
+      exported = exported;
+      files = exported.files honest outlined.version outline.tags outline.opened outlined.saved;
+      answers = answers;
+    }

@@ -1,0 +1,118 @@
+-- What `copy --archive` did, in terms of the words of its command line.
+use Rattle.std.specs.Prelude.{◌≡◌, ℕ, ⊤, true, false, List, [], length, map, string_bytes, Option}
+use Rattle.std.specs.Io.KnownBytes.{Appends}
+use Rattle.std.specs.List.{All}
+use Rattle.oci_command_line.specs.declared.changing.CopyWords.{CopyWords}
+use Rattle.oci_copy.specs.Planned.{IsPlanOf}
+use Rattle.oci_copy.specs.declared.fault.CopyFault.TheVariants as copy
+use Rattle.oci_copy.specs.declared.options.Options.{Options}
+use Rattle.oci_export.specs.Archive.{archive_of, Item}
+use Rattle.oci_export.specs.Export.{IsExport, IsListed, IsNewFile}
+use Rattle.oci_export.specs.ReadBack.{file_in}
+use Rattle.oci_export.specs.declared.fault.ExportFault.{ExportFault}
+use Rattle.oci_export.specs.declared.fault.ExportFault.TheVariants as export
+use Rattle.oci_layout.specs.Blobs.{stored}
+use Rattle.oci_layout.specs.Brought.{Brings}
+use Rattle.oci_layout.specs.Device.{Device}
+use Rattle.oci_layout.specs.Entries.{entry_of}
+use Rattle.oci_layout.specs.Files.{HasFiles}
+use Rattle.oci_layout.specs.Index.{HasIndex, HasLayoutFile}
+use Rattle.oci_layout.specs.Layout.{no_index, LayoutState}
+use Rattle.oci_layout.specs.declared.fault.LayoutFault.TheVariants as layout
+use Rattle.oci_layout.specs.declared.mem_dir.MemDir.{MemDir}
+use Rattle.oci_plan.specs.Plan.{Planned}
+use Rattle.oci_store.specs.Keyed.{HasAll}
+use Rattle.oci_program.specs.declared.answer.Form.{Form}
+use Rattle.oci_program.specs.declared.answer.Form.TheVariants as form
+use Rattle.oci_program.specs.declared.fault.ProgramFault.{ProgramFault}
+use Rattle.oci_program.specs.declared.fault.ProgramFault.TheVariants as program
+use Rattle.oci_copy_commands.specs.Printed.{copy_text, plan_text, tags_of}
+use Rattle.oci_copy_commands.specs.Run.{options_of, store_of, IsAnsweredDryRun, IsSelectedIn}
+use Rattle.oci_copy_commands.specs.Selected.{set_tags, Selected}
+use Rattle.oci_copy_commands.specs.declared.answer.CopyAnswer.{CopyAnswer}
+use Rattle.oci_copy_commands.specs.declared.dry_run.PlanAnswer.{PlanAnswer}
+
+-- a directory in memory
+abbrev pub MemoryDir : Type 0
+MemoryDir = MemDir
+
+-- the selected tags were set, the selected entries were brought, and the layout was saved
+pub record IsSavedOutline {M : Type 0} (memory : M → Device) (selected : Selected) (old new : LayoutState M) : Type 0 where
+  pub graph : new.graph ≡ old.graph
+  pub tagged : new.tags ≡ set_tags old.tags selected.1
+  pub brought : Brings (map entry_of selected.2) new.tags old.opened new.opened
+  pub saved : (memory old.dir).is_honest → HasIndex (memory new.dir).file new.graph new.tags new.opened
+  pub version : (memory old.dir).is_honest → HasLayoutFile (memory old.dir).file → HasLayoutFile (memory new.dir).file
+
+-- The copy of what is selected into an empty layout was planned, and there is the layout that it makes:
+-- it holds exactly the planned keys, with what the source says that they list, and has the selected
+-- tags and entries. It is saved, but has no file of a blob.
+pub record IsOutlined {S M : Type 0} (from : S → Device) (memory : M → Device) (options : Options) (source : LayoutState S) (selected : Selected) (plan : Planned) (outline : LayoutState M) : Type 0 where
+  pub empty : LayoutState M
+  pub no_keys : empty.graph ≡ []
+  pub no_tags : empty.tags ≡ []
+  pub planned : IsPlanOf (store_of from source) options (store_of memory empty) selected.0 plan
+  pub held : HasAll outline.graph plan.keys
+  pub listed : All (IsListed (store_of from source) plan.keys) outline.graph
+  pub tagged : outline.tags ≡ set_tags [] selected.1
+  pub brought : Brings (map entry_of selected.2) outline.tags no_index outline.opened
+  pub saved : HasIndex (memory outline.dir).file outline.graph outline.tags outline.opened
+  pub version : HasLayoutFile (memory outline.dir).file
+
+-- the answer names the selected tags and the number of the planned keys
+pub record IsArchiveAnswer (selected : Selected) (plan : Planned) (answer : CopyAnswer) : Type 0 where
+  pub copied : tags_of answer.copied.items ≡ selected.1
+  pub planned : answer.report.planned ≡ length plan.keys
+  pub pushed : answer.report.pushed ≡ length plan.keys
+  pub skipped : answer.report.skipped ≡ length plan.skipped
+
+-- Items are what the archive has that a run with these words writes: the files of the layout that a
+-- copy of what they select into an empty layout makes.
+pub record IsArchived {S M : Type 0} (from : S → Device) (memory : M → Device) (words : CopyWords) (source_dir : S) (items : List Item) (answer : CopyAnswer) : Type 0 where
+  pub source : LayoutState S
+  pub selected : Selected
+  pub plan : Planned
+  pub outline : LayoutState M
+  pub chosen : IsSelectedIn from words source_dir source selected
+  pub outlined : IsOutlined from memory (options_of words) source selected plan outline
+  pub exported : IsExport (store_of from source) (memory outline.dir) outline.graph items
+  pub files : HasFiles (file_in items) (stored (file_in items) outline.graph) outline.graph outline.tags outline.opened
+  pub answers : IsArchiveAnswer selected plan answer
+
+-- such an archive was put into a new file of a directory, if that is honest
+abbrev pub IsArchivedTo : {S M T : Type 0} → (S → Device) → (M → Device) → (T → Device) → CopyWords → S → T → List ℕ → CopyAnswer → Type 0
+IsArchivedTo {T = T} from memory to words source_dir dir name answer = (left : T) × ((to dir).is_honest → (items : List Item)
+    × IsArchived from memory words source_dir items answer × IsNewFile (to dir) (to left) name (archive_of items))
+
+-- A run with these words wrote the archive that they ask for into a new file of a directory, or with
+-- `--dry-run` planned that copy. As lines, the text of its answer was appended.
+pub record IsFileRunOf {S M T : Type 0} (from : S → Device) (memory : M → Device) (to : T → Device) (words : CopyWords) (source_dir : S) (dir : T) (name : List ℕ) (printed : Form) (old new : Option (List ℕ)) : Type 0 where
+  pub archived : words.is_dry ≡ false → (answer : CopyAnswer) × IsArchivedTo from memory to words source_dir dir name answer × (printed ≡ form.Lines → Appends old new (copy_text answer))
+  pub planned : words.is_dry ≡ true → (answer : PlanAnswer) × (empty : M) × IsAnsweredDryRun from memory memory words source_dir empty answer × (printed ≡ form.Lines → Appends old new (plan_text answer))
+
+-- A run with these words appended the archive that they ask for, or with `--dry-run` planned that copy.
+pub record IsOutputRunOf {S M : Type 0} (from : S → Device) (memory : M → Device) (words : CopyWords) (source_dir : S) (printed : Form) (old new : Option (List ℕ)) : Type 0 where
+  pub archived : words.is_dry ≡ false → (answer : CopyAnswer) × (items : List Item) × IsArchived from memory words source_dir items answer × Appends old new (archive_of items)
+  pub planned : words.is_dry ≡ true → (answer : PlanAnswer) × (empty : M) × IsAnsweredDryRun from memory memory words source_dir empty answer × (printed ≡ form.Lines → Appends old new (plan_text answer))
+
+-- ---- refusals
+
+-- the refusal of an archive that is not written to an output
+abbrev pub refusal_of : ExportFault → ProgramFault
+refusal_of (export.Layout e) = program.Destination e
+refusal_of (export.Fetch k e) = program.Copy (copy.Fetch k e)
+refusal_of export.Output = program.Output
+refusal_of export.Exists = program.Output
+refusal_of export.Memory = program.Memory
+
+-- something is at the path of an archive
+abbrev pub IsNotWritable : List ℕ → ProgramFault → Type 0
+IsNotWritable path (program.NotWritable named) = string_bytes named ≡ path
+IsNotWritable path program.Memory = ⊤
+IsNotWritable path other = ⊥
+
+-- the refusal of an archive that is not written into the file at this path
+abbrev pub IsFileRefusal : List ℕ → ExportFault → ProgramFault → Type 0
+IsFileRefusal path export.Output refusal = refusal ≡ program.Destination layout.Device
+IsFileRefusal path export.Exists refusal = IsNotWritable path refusal
+IsFileRefusal path fault refusal = refusal ≡ refusal_of fault

@@ -1,0 +1,267 @@
+ghost use Rattle.std.specs.Prelude.{◌≡◌, List, true, false, IfOk, OnOk};
+ghost use Rattle.std.specs.Io.KnownBytes.{Appends};
+ghost use Rattle.oci_export.specs.Archive.{archive_of, Item};
+ghost use Rattle.oci_copy_commands.specs.Archived.{
+  refusal_of,
+  MemoryDir,
+  IsArchiveAnswer,
+  IsArchived,
+  IsArchivedTo,
+  IsFileRefusal,
+  IsOutlined,
+  IsSavedOutline,
+};
+ghost use Rattle.oci_copy_commands.specs.Printed.{copy_text, plan_text};
+ghost use Rattle.oci_copy_commands.specs.Run.{options_of, IsAnsweredDryRun, IsSelectedIn};
+ghost use Rattle.oci_copy_commands.specs.declared.answer.CopyAnswer.{CopyAnswer as Answer};
+ghost use Rattle.oci_copy_commands.specs.declared.dry_run.PlanAnswer.{PlanAnswer};
+ghost use Rattle.oci_store.specs.Keyed.{HasAll};
+
+use crate::Host;
+use crate::answer::CopyAnswer;
+use crate::between::tag_all;
+use crate::copy::{Copied, check_source_if, is_exact, options_of};
+use crate::dry_run::{empty_layout, show_plan};
+use crate::progress::Progress;
+use crate::selected::Selected;
+use oci_command_line::CopyWords;
+use oci_copy::{CopyFault, Report, plan_copy};
+use oci_digest::NoMemory;
+use oci_export::{ExportFault, outline, save_archive, write_archive};
+use oci_layout::{Dir, Layout, LayoutFault, MemDir};
+use oci_plan::Plan;
+use oci_program::{Form, Outcome, ProgramFault, print_answer};
+use std::alloc::Global;
+use std::io::Write;
+
+/// `copy --archive SRC SRCREF FILE [DSTREF]` and `copy --archive --all SRC FILE`: writes the layout
+/// that a copy into a new folder makes into a new file of a directory, as a tar archive, and prints what
+/// that copy prints. With `--dry-run` only the plan is printed.
+///
+/// # Errors
+///
+/// Those of [`run_copy`](crate::run_copy) for SRC, the selection and the plan, and
+///
+/// - 88 `Fetch` if SRC refuses a blob, or has other bytes.
+/// - 74 `Device` if the file cannot be written, or if it is not known whether it is on the disk. Only in
+///   the last case it may be there.
+/// - 95 `NotWritable` if there is a file.
+/// - 94 `Output` if `out` cannot be written. The archive is written.
+/// - Out of memory, at any point.
+pub fn run_archive<
+    R: Host,
+    S: Dir + Drop,
+    T: Dir + Drop,
+    W: Write,
+    X: Write,
+    F: From<ProgramFault>,
+>(
+    rt: &R,
+    source: S,
+    folder: T,
+    name: &str,
+    words: &CopyWords<'_>,
+    form: Form,
+    out: &mut W,
+    err: &mut X,
+) -> Result<Outcome, F>
+where
+    // Without `--dry-run` the archive was written that the words ask for. As lines, the text of the
+    // answer was printed.
+    ensures archived { words.now.is_dry ≡ false → OnOk result ((answer : Answer) × IsArchivedTo
+        S.device ⟦<MemDir as Dir>⟧.device T.device words.now source folder name.now answer
+        × (form ≡ Form.Lines → Appends (W.contents out.old) (W.contents out.new)
+        (copy_text answer))) }
+
+    // With it that copy was planned. As lines, the text of the plan's answer was printed.
+    ensures planned { words.now.is_dry ≡ true → OnOk result ((answer : PlanAnswer)
+        × (empty : MemoryDir) × IsAnsweredDryRun S.device ⟦<MemDir as Dir>⟧.device
+        ⟦<MemDir as Dir>⟧.device words.now source empty answer × (form ≡ Form.Lines
+        → Appends (W.contents out.old) (W.contents out.new) (plan_text answer))) }
+{
+    if words.is_dry {
+        let empty = MemDir::new(rt.alloc());
+        return Ok(show_plan(rt.alloc(), source, empty, words, form, out)?);
+    }
+    let answer = archive_into(rt, source, folder, name, words, err)?;
+    Ok(print_answer(rt.alloc(), &answer, form, out)?)
+}
+
+/// `copy --archive SRC SRCREF - [DSTREF]` and `copy --archive --all SRC -`: writes the archive to `out`,
+/// as [`run_archive`] writes it into a file, and prints what the copy prints on `err`. With `--dry-run`
+/// only the plan is printed, on `out`.
+///
+/// # Errors
+///
+/// Those of [`run_archive`] but 74 and 95, and 94 `Output` if `out` or `err` cannot be written. The
+/// archive on `out` is then cut off, unless only `err` failed.
+pub fn run_archive_to_output<R: Host, S: Dir + Drop, W: Write, X: Write, F: From<ProgramFault>>(
+    rt: &R,
+    source: S,
+    words: &CopyWords<'_>,
+    form: Form,
+    out: &mut W,
+    err: &mut X,
+) -> Result<Outcome, F>
+where
+    // Without `--dry-run` exactly the archive was written that the words ask for.
+    ensures archived { words.now.is_dry ≡ false → OnOk result ((answer : Answer)
+        × (items : List Item) × IsArchived S.device ⟦<MemDir as Dir>⟧.device words.now source
+        items answer × Appends (W.contents out.old) (W.contents out.new) (archive_of items)) }
+
+    // With it that copy was planned. As lines, the text of the plan's answer was printed.
+    ensures planned { words.now.is_dry ≡ true → OnOk result ((answer : PlanAnswer)
+        × (empty : MemoryDir) × IsAnsweredDryRun S.device ⟦<MemDir as Dir>⟧.device
+        ⟦<MemDir as Dir>⟧.device words.now source empty answer × (form ≡ Form.Lines
+        → Appends (W.contents out.old) (W.contents out.new) (plan_text answer))) }
+{
+    if words.is_dry {
+        let empty = MemDir::new(rt.alloc());
+        return Ok(show_plan(rt.alloc(), source, empty, words, form, out)?);
+    }
+    let answer = archive_onto(rt, source, words, out, err)?;
+    Ok(print_answer(rt.alloc(), &answer, form, err)?)
+}
+
+/// Writes the archive of what the words select into a new file of a directory.
+fn archive_into<R: Host, S: Dir + Drop, T: Dir + Drop, X: Write>(
+    rt: &R,
+    source: S,
+    folder: T,
+    name: &str,
+    words: &CopyWords<'_>,
+    err: &mut X,
+) -> Result<CopyAnswer, ProgramFault>
+    ensures { IfOk result (IsArchivedTo S.device ⟦<MemDir as Dir>⟧.device T.device words.now
+        source folder name.now) }
+{
+    let (source, selected) = open_selected(rt.alloc(), source, words)?;
+    let (plan, outline) = outline_of(rt.alloc(), &source, &selected, words)?;
+    let progress = Progress::new(rt, err, words.shown, &plan);
+    let mut folder = folder;
+    let saved = save_archive(rt.alloc(), &source, &outline, &progress, &mut folder, name);
+    progress.end();
+    match saved {
+        Ok(()) => Ok(answer_of(rt.alloc(), selected, &plan)?),
+        Err(fault) => Err(fault_of_file(rt.alloc(), words.destination, fault)),
+    }
+}
+
+/// Writes the archive of what the words select to an output.
+fn archive_onto<R: Host, S: Dir + Drop, W: Write, X: Write>(
+    rt: &R,
+    source: S,
+    words: &CopyWords<'_>,
+    out: &mut W,
+    err: &mut X,
+) -> Result<CopyAnswer, ProgramFault>
+    ensures { IfOk result (λ answer. (items : List Item) × IsArchived S.device
+        ⟦<MemDir as Dir>⟧.device words.now source items answer
+        × Appends (W.contents out.old) (W.contents out.new) (archive_of items)) }
+{
+    let (source, selected) = open_selected(rt.alloc(), source, words)?;
+    let (plan, outline) = outline_of(rt.alloc(), &source, &selected, words)?;
+    let progress = Progress::new(rt, err, words.shown, &plan);
+    let written = write_archive(rt.alloc(), &source, &outline, &progress, out);
+    progress.end();
+    match written {
+        Ok(()) => Ok(answer_of(rt.alloc(), selected, &plan)?),
+        Err(fault) => Err(fault_of(fault)),
+    }
+}
+
+/// Opens the source as it is, and selects there what the words name.
+fn open_selected<S: Dir + Drop>(
+    alloc: Global,
+    source: S,
+    words: &CopyWords<'_>,
+) -> Result<(Layout<S>, Selected), ProgramFault>
+    ensures { IfOk result (λ it. IsSelectedIn S.device words.now source it.0 it.1) }
+{
+    let source = Layout::open_as_is(alloc, source)?;
+    let selected = Selected::of(alloc, &source, words)?;
+    check_source_if(words.prunes, is_exact(words), &source)?;
+    Ok((source, selected))
+}
+
+/// Plans the copy of what is selected into an empty layout, and returns the plan and the layout that
+/// this copy makes, but for the files of its blobs.
+fn outline_of<S: Dir>(
+    alloc: Global,
+    source: &Layout<S>,
+    selected: &Selected,
+    words: &CopyWords<'_>,
+) -> Result<(Plan, Layout<MemDir>), ProgramFault>
+    ensures { IfOk result (λ it. IsOutlined S.device ⟦<MemDir as Dir>⟧.device
+        (options_of words.now) source.now selected.now it.0 it.1) }
+{
+    let empty = empty_layout(alloc)?;
+    let plan = plan_copy(alloc, source, &empty, selected.roots(), &options_of(words))?;
+    let mut layout = match outline(alloc, source, &plan) {
+        Ok(layout) => layout,
+        Err(fault) => return Err(fault_of(fault)),
+    };
+    save_selected(&mut layout, selected)?;
+    Ok((plan, layout))
+}
+
+/// Sets the selected tags in a layout in memory that holds their keys, brings the selected entries,
+/// and saves it.
+fn save_selected(layout: &mut Layout<MemDir>, selected: &Selected) -> Result<(), ProgramFault>
+    requires held { HasAll layout.old.graph selected.now.0 }
+    ensures saved { OnOk result (IsSavedOutline ⟦<MemDir as Dir>⟧.device selected.now
+        layout.old layout.new) }
+{
+    if let Err(fault) = tag_all(layout, selected.tags()) {
+        return Err(ProgramFault::Copy(CopyFault::from(fault)));
+    }
+    layout.bring(selected.entries())?;
+    match layout.save() {
+        Ok(()) => Ok(()),
+        Err(fault) => Err(ProgramFault::Destination(fault)),
+    }
+}
+
+/// Returns what a copy of the selected tags and this plan into a new folder prints.
+fn answer_of(alloc: Global, selected: Selected, plan: &Plan) -> Result<CopyAnswer, NoMemory>
+    ensures { IfOk result (IsArchiveAnswer selected plan.now) }
+{
+    let planned = plan.len() as u64;
+    let report = Report {
+        planned,
+        pushed: planned,
+        skipped: plan.skipped().len() as u64,
+    };
+    let done = Copied {
+        report,
+        removed: None,
+    };
+    let (answer, _) = CopyAnswer::of(alloc, selected, done)?;
+    Ok(answer)
+}
+
+/// The refusal of an archive that is written into a file.
+fn fault_of_file(alloc: Global, path: &str, fault: ExportFault) -> ProgramFault
+    ensures { IsFileRefusal path.now fault result }
+{
+    match fault {
+        ExportFault::Output => ProgramFault::Destination(LayoutFault::Device),
+        ExportFault::Exists => match String::from_str(alloc, path) {
+            Ok(path) => ProgramFault::NotWritable(path),
+            Err(_) => ProgramFault::Memory,
+        },
+        fault => fault_of(fault),
+    }
+}
+
+/// The refusal of an archive that is written to an output.
+fn fault_of(fault: ExportFault) -> ProgramFault
+    ensures { result ≡ refusal_of fault }
+{
+    match fault {
+        ExportFault::Layout(fault) => ProgramFault::Destination(fault),
+        ExportFault::Fetch(key, fault) => ProgramFault::Copy(CopyFault::Fetch(key, fault)),
+        ExportFault::Output | ExportFault::Exists => ProgramFault::Output,
+        ExportFault::Memory => ProgramFault::Memory,
+    }
+}
