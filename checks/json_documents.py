@@ -22,12 +22,12 @@ LAYOUTS = 40
 OF_REFERENCES = ["resolve L REF", "predecessors L REF", "tree L REF", "tree --referrers L REF", "copy --dry-run L REF M"]
 LOOKS = [
     "tags L", "verify L", "copy --dry-run --all --referrers L M", "copy --dry-run --all --descend L N", "copy --dry-run --all --prune L M",
-    "copy --dry-run --all --prune --referrers L N", *OF_REFERENCES,
+    "copy --dry-run --all --prune --referrers L N", "copy --archive --dry-run --all L N", *OF_REFERENCES,
 ]
 # (by one worker, since a copy by more that is refused may leave one or another blob)
 CHANGES = [
     "prune --dry-run L", "prune --dry-run --no-referrers L", "copy --workers 1 --progress L TAG M new",
-    "copy --workers 1 --referrers --depth 1 L DIGEST N", "copy --workers 1 --all --descend L M", "copy --workers 1 --all --prune L M",
+    "copy --archive L TAG made.tar", "copy --archive --all --progress L all.tar", "copy --workers 1 --referrers --depth 1 L DIGEST N", "copy --workers 1 --all --descend L M", "copy --workers 1 --all --prune L M",
     "tag L DIGEST newer", "tag L TAG newest", "untag L TAG", "untag M new", "prune --no-referrers L", "prune L", "prune M", "verify M", "tags M",
 ]
 # (a JSON text has some of these only as escapes)

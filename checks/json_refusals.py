@@ -35,11 +35,11 @@ OF_BAD = [
     "resolve bad sig", "predecessors bad new", "tree --referrers bad new", "tree bad sig", "copy --dry-run bad sig other",
     "copy --workers 1 --progress bad one other", "copy --dry-run good one bad", "copy --workers 1 --all good bad", "prune --dry-run bad",
     "copy --all --prune --workers 1 good bad", "copy --all --prune --workers 1 bad other", "tag bad one other", "untag bad one", "prune bad",
-    "cat bad one",
+    "cat bad one", "copy --archive bad one made.tar", "copy --archive --all --referrers bad missing/made.tar",
 ]
 REFERENCES = ["resolve good REF", "predecessors good REF", "tree good REF", "copy good REF other", "copy --dry-run good REF other",
               "tag good REF other", "untag good REF", "cat good REF"]
-ONTO_FILES = ["copy good one file", "copy --all good file", "tag file one two", "untag file one", "prune file"]
+ONTO_FILES = ["copy good one file", "copy --all good file", "copy --archive good one file", "copy --archive --all good other", "tag file one two", "untag file one", "prune file"]
 # Commands for a platform that the index does not have, and for one whose manifest is missing.
 OF_PLATFORMS = ["resolve --platform linux/s390x good all", "tree --platform linux/arm64/v7 good all", "tree --platform linux/arm64 good one",
                 "resolve --platform linux/amd64 good all", "tree --referrers --platform linux/amd64 good all"]

@@ -18,12 +18,14 @@ WRITING = [
     ["copy", "--all", "source", "mirror"],
     ["copy", "--all", "--prune", "source", "mirror"],
     ["copy", "--descend", "source", "both", "mirror"],
+    ["copy", "--archive", "source", "both", "made.tar"],
     ["tag", "mirror", "old", "other"],
     ["untag", "mirror", "old"],
     ["prune", "mirror"],
 ]
 PLANNING = [
     ["copy", "--dry-run", "source", "both", "new/deep/mirror"],
+    ["copy", "--archive", "--dry-run", "source", "both", "made.tar"],
     ["copy", "--all", "--prune", "--dry-run", "source", "mirror"],
     ["prune", "--dry-run", "mirror"],
 ]

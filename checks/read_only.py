@@ -1,7 +1,7 @@
 """Commands over a layout on a file system that may only be read. Wants `cc`.
 
 A library returns EROFS from each call that would change something below one folder. A command that reads makes no such call, and prints the
-same as elsewhere. A copy into that folder is refused, as `tag` and `untag` are, and the layout stays.
+same as elsewhere. A copy into that folder is refused, as `tag`, `untag` and an archive there are, and the layout stays.
 """
 from support import shim
 from support.layouts import BAR, E, FOO, I1, LAYER, M2, M3, S, Content, key, write_layout
@@ -33,6 +33,7 @@ READING = [
     ["copy", "--dry-run", "other", "bar", "source"],
     ["copy", "--all", "--prune", "--dry-run", "other", "source"],
     ["copy", "--referrers", "source", "one", "copied"],
+    ["copy", "--archive", "--referrers", "source", "one", "-"],
     ["prune", "--dry-run", "source"],
     ["repair", "--dry-run", "source", "other"],
     ["prune", "--dry-run", "--no-referrers", "source"],
@@ -72,5 +73,5 @@ def checks(room):
     for name, line in ("bar", "74 Device"), ("other", "82 Push %s 43 Device" % key(OTHER)):
         words = ["copy", "other", name, "source"]
         yield " ".join(words), wrong_write(library, words, room, "ocicp: %s\n" % line)
-    for words in ["tag", "source", "one", "new"], ["untag", "source", "signature"]:
+    for words in ["tag", "source", "one", "new"], ["untag", "source", "signature"], ["copy", "--archive", "other", "bar", "source/new.tar"]:
         yield " ".join(words), wrong_write(library, words, room, "ocicp: 74 Device\n")
