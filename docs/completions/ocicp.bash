@@ -8,7 +8,7 @@ _ocicp() {
   fi
   case ${COMP_WORDS[1]} in
     copy)
-      flags='--all --match --platform --referrers --depth --artifact-type --descend --prune --workers --progress --dry-run --hint --json --no-wait --no-sync --help' valued='--match --platform --depth --artifact-type --workers' kinds=(folder tag folder tag)
+      flags='--archive --all --match --platform --referrers --depth --artifact-type --descend --prune --workers --progress --dry-run --hint --json --no-wait --no-sync --help' valued='--match --platform --depth --artifact-type --workers' kinds=(folder tag folder tag)
       [[ " ${COMP_WORDS[*]} " != *' --all '* ]] || kinds=(folder folder)
       ;;
     tag)
