@@ -1,0 +1,6 @@
+mod archives;
+mod hooks;
+mod layouts;
+mod outlines;
+mod refusals;
+mod saved;
