@@ -1,5 +1,5 @@
 """`copy --referrers` of layouts made by hand and at random, also into mirrors and of some types, against what belongs to the image by the rules
-of README, worked out from the files. Mirrors of some tags likewise, also without `--referrers`."""
+of docs/howto.md, worked out from the files. Mirrors of some tags likewise, also without `--referrers`."""
 import json
 import os
 import random

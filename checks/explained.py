@@ -1,5 +1,5 @@
 """Compares the numbers of refusals, and their names, as the crates' faults declare them (tools/numbers reads them), the
-program explains them, docs/refusals.md and docs/json.md list them, and README.md uses them."""
+program explains them, docs/refusals.md and docs/json.md list them, and the pages for users name them."""
 import re
 
 from support.program import TOP, first, run, told
@@ -9,6 +9,13 @@ from support.tables import table
 NUMBERS = range(256)
 # The documents with columns that tools/numbers writes.
 DOCUMENTS = ["refusals.md", "json.md"]
+# The pages for users.
+PAGES = ["README.md", "docs/howto.md", "docs/damage.md"]
+# A number and the name after it, in code; the number that `explain` is asked for; and parentheses that begin with a number, such as (75, 77)
+# and (96; with `--referrers` 75, 77).
+NAMED = re.compile(r"\b(\d+) ([A-Z][A-Za-z]*[a-z])\b")
+ASKED = re.compile(r"\bexplain (\d+)()")
+ENCLOSED = re.compile(r"\((\d{2,3}\b[^()]*)\)")
 # In the place of a cause that is to be written.
 UNWRITTEN = "?"
 
@@ -24,11 +31,14 @@ def listed():
     return [(int(number), fault.split()[-1], cause) for number, fault, cause, _ in table("/docs/refusals.md", "# Refusals")]
 
 
-def used():
-    """Yield the numbers in the error lines of README.md, each with the name after it, or None."""
-    for row in table("/README.md", "## Errors"):
-        for line in re.findall(r"`([^`]*)`", row[1]):
-            yield from re.findall(r"(\d+)(?: ([A-Z]\w*[a-z]\w*))?", line)
+def used(page):
+    """Yield the numbers of refusals on a page, each with the name after it, or nothing."""
+    text = re.sub(r"\]\([^)]*\)", "]", read("%s/%s" % (TOP, page)))
+    for code in re.findall(r"`[^`\n]+`|^ocicp: .*$", text, re.M):
+        yield from NAMED.findall(code)
+    yield from ASKED.findall(text)
+    for numbers in ENCLOSED.findall(text):
+        yield from ((number, "") for number in re.findall(r"\b\d{2,3}\b", numbers))
 
 
 def wrong_document(file, room):
@@ -61,12 +71,15 @@ def wrong_explanation(number, name, folder):
         return "%d is %s in docs/refusals.md: %s" % (number, name or "no number", told(ended))
 
 
-def wrong_use(number, name, names):
-    """Return the problem with a number in README.md and the name after it, or None."""
-    if int(number) not in names:
-        return "README.md has %s, docs/refusals.md does not" % number
-    if name and names[int(number)] != name:
-        return "README.md has %s %s, docs/refusals.md has %s" % (number, name, names[int(number)])
+def wrong_use(page, names):
+    """Return the problem with the numbers of refusals on a page, or None."""
+    found = list(used(page))
+    for number, name in found:
+        if int(number) not in names:
+            return "it has %s, docs/refusals.md does not" % number
+        if name and names[int(number)] != name:
+            return "it has %s %s, docs/refusals.md has %s" % (number, name, names[int(number)])
+    return None if found else "it has no number"
 
 
 def checks(room):
@@ -77,8 +90,5 @@ def checks(room):
         yield "docs/%s is up to date" % file, told(made) if made.status else wrong_document(file, room)
     yield "docs/refusals.md", wrong_list(rows)
     yield "explain", first(wrong_explanation(number, names.get(number), room) for number in NUMBERS)
-    pairs = list(used())
-    yield "README.md", first([
-        None if pairs else "its table of errors has no number",
-        *(wrong_use(number, name, names) for number, name in pairs),
-    ])
+    for page in PAGES:
+        yield page, wrong_use(page, names)

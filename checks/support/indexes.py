@@ -1,4 +1,5 @@
-"""Indexes of layouts with entries that are no descriptors, made at random, and the indexes that a save makes of them by the rules of README."""
+"""Indexes of layouts with entries that are no descriptors, made at random, and the indexes that a save makes of them by the rules of
+docs/damage.md and docs/howto.md."""
 import json
 
 from support.files import read
