@@ -31,9 +31,9 @@ class Repository:
 
     def __init__(self, room):
         self.room = room
-        for folder in "bin", "python", "kit/bin", "release", *("crates/%s/src/tests" % name for name in CRATES):
+        for folder in "bin", "python", "kit/bin", "release", "tools", *("crates/%s/src/tests" % name for name in CRATES):
             os.makedirs("%s/%s" % (room, folder))
-        for path in "ocicp", "build", "HANDLES", "release/sum", "release/describe":
+        for path in "ocicp", "build", "HANDLES", "release/sum", "release/describe", "tools/prover.py":
             shutil.copy("%s/%s" % (TOP, path), "%s/%s" % (room, path))
         os.symlink(sys.executable, room + "/python/python3")
         self.write("crates.txt", "".join("%s: %s sha2\n" % it for it in CRATES.items()))
@@ -51,15 +51,25 @@ class Repository:
     def change(self, file):
         self.write("crates/%s.rt" % file, "//\n", "a")
 
-    def wrong(self, wanted, runs="a build", refusal=None, tools="bin", **how):
-        """Return the problem with a run of `ocicp`, or None. These crates are to be proved, each once and after those below it. Then
-        this program is to run, or the build to fail with this text."""
+    def run(self, words, tools="bin", **how):
+        """Return how a script ends, and the crates that it has proved."""
         self.write("asked", "")
         how["PATH"] = "%s/%s:%s/python:/usr/bin:/bin" % (self.room, tools, self.room)
-        ended = subprocess.run(["./ocicp", "these", "words"], cwd=self.room, env=how, capture_output=True, text=True, timeout=60)
+        ended = subprocess.run(words, cwd=self.room, env=how, capture_output=True, text=True, timeout=60)
         with open(self.room + "/asked") as file:
-            asked = file.read().split()
-        says = refusal or wanted and "build: proving %d of 5 crates; all of them take about 35 minutes on four cores\n" % len(asked)
+            return ended, file.read().split()
+
+    def wrong_try(self, wanted):
+        """Return the problem with `./build --again`, or None. These crates are to be proved, and then `ocicp` is to say what it runs."""
+        ended, asked = self.run(["./build", "--again"])
+        right = ended.returncode == 0 and "is for trying" in ended.stderr and sorted(asked) == sorted(wanted.split())
+        return self.wrong("", note="ocicp: this program is for trying") if right else "%s, %s" % (asked, ended)
+
+    def wrong(self, wanted, runs="a build", refusal=None, note=None, **how):
+        """Return the problem with a run of `ocicp`, or None. These crates are to be proved, each once and after those below it. Then
+        this program is to run, or the build to fail with this text."""
+        ended, asked = self.run(["./ocicp", "these", "words"], **how)
+        says = refusal or note or wanted and "build: proving %d of 5 crates; all of them take about 35 minutes on four cores\n" % len(asked)
         right = says in ended.stderr if says else ended.stderr == ""
         right = right and (ended.returncode, ended.stdout) == ((1, "") if refusal else (0, runs + " with these words\n"))
         return None if right and sorted(asked) == sorted(wanted.split()) else "%s, %s" % (asked, ended)
@@ -70,6 +80,12 @@ class Repository:
         total = subprocess.run(["release/sum"], cwd=self.room, capture_output=True, text=True, check=True).stdout.strip()
         text = {"sources": total, "program": hashlib.sha256(script.encode()).hexdigest(), "machine": "Linux x86_64", **said}
         self.write("release/ocicp.txt", "".join("%s %s\n" % it for it in text.items()))
+
+
+def wrong_flag(here):
+    """Return the problem with a run of `build` with a flag that it does not have, or None."""
+    ended, asked = here.run(["./build", "--agian"])
+    return None if (ended.returncode, ended.stderr, asked) == (1, "build: usage: ./build [--again]\n", []) else "%s, %s" % (asked, ended)
 
 
 def checks(room):
@@ -103,5 +119,10 @@ def checks(room):
     here.change("high/src/lib")
     yield "a release of other sources, without a toolchain", here.wrong("", refusal="there is no rt", tools="none")
     yield "a release of other sources", here.wrong("high ocicp")
+    here.change("high/src/lib")
+    yield "a build for trying", here.wrong_try("low left right high ocicp")
+    here.change("right/src/lib")
+    yield "a build for trying, again", here.wrong_try("right high ocicp")
+    yield "a wrong flag of the build", wrong_flag(here)
     with open(TOP + "/README.md") as file:
         yield "README.md has the minutes of a build", None if "in about 35 minutes on four cores" in file.read() else "it has not"
