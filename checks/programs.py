@@ -47,7 +47,8 @@ def wrong_store(room, name, *command):
     if found != {"sha256:" + digits(it): it.bytes for it in CONTENTS}:
         return "it stores %s" % sorted(found)
     ended = run(room, *command, "layout", "nope", name)
-    return None if ended.returncode == 1 and '"number":36' in ended.stdout else "a missing tag: status %d, %s" % (ended.returncode, ended.stdout)
+    is_refused = ended.returncode == 1 and '"number":36' in ended.stdout
+    return None if is_refused else "a missing tag: status %d, %s" % (ended.returncode, ended.stdout)
 
 
 def checks(room):

@@ -28,7 +28,8 @@ def platform(content, architecture):
     return dict(json.loads(descriptor(content)), platform={"os": "linux", "architecture": architecture})
 
 
-LIST = Content(INDEX, json.dumps({"schemaVersion": 2, "mediaType": INDEX, "manifests": [platform(ONE, "amd64"), platform(TWO, "arm64")]}).encode())
+PLATFORMS = [platform(ONE, "amd64"), platform(TWO, "arm64")]
+LIST = Content(INDEX, json.dumps({"schemaVersion": 2, "mediaType": INDEX, "manifests": PLATFORMS}).encode())
 SIGNATURE = image([], subject=ONE, artifact_type="application/signature")
 SBOM = image([], subject=SIGNATURE, artifact_type="application/sbom")
 # A signature as `cosign` pushes it, with a tag alone, and the list of a registry without the API of referrers.
@@ -106,10 +107,10 @@ class Here:
         here = self.registry
         held = {name: data for name, (_, data) in here.manifests.get(repository, {}).items()}
         held.update(here.blobs.get(repository, {}))
-        wanted = {digest(it): it.bytes for it in contents}
+        wanted, found = {digest(it): it.bytes for it in contents}, here.tags.get(repository, {})
         return first([
             None if held == wanted else "it has %d blobs and manifests, and not %d" % (len(held), len(wanted)),
-            None if here.tags.get(repository, {}) == {name: digest(it) for name, it in tags.items()} else "its tags are %s" % here.tags.get(repository),
+            None if found == {name: digest(it) for name, it in tags.items()} else "its tags are %s" % found,
         ])
 
 
@@ -150,7 +151,8 @@ def a_platform(room):
         asked = [("/manifests/", 2), ("/blobs/", 2)]
         wrong = here.wrong("pull --platform linux/arm64 HOST/some/image:v1 layout", pulled(TWO, 3, 2, [E, BAR]), asked=asked)
         yield "--platform", wrong or here.wrong_layout([E, BAR, TWO], {"v1": TWO})
-        yield "no such platform", here.wrong_refusal("pull --platform plan9/arm64 HOST/some/image:v1 new", "ocicp: 107 NoPlatform plan9/arm64 linux/amd64 linux/arm64\n")
+        line = "ocicp: 107 NoPlatform plan9/arm64 linux/amd64 linux/arm64\n"
+        yield "no such platform", here.wrong_refusal("pull --platform plan9/arm64 HOST/some/image:v1 new", line)
         yield "no index", here.wrong_refusal("pull --json --platform linux/arm64 HOST/some/image:one new", '{"error":[{"number":107,')
 
 
@@ -158,7 +160,8 @@ def referrers(room):
     tags, contents = {"v1": ONE, COSIGN_TAG: COSIGNED}, [E, FOO, BIG, BAR, ONE, *ATTACHED]
     for name, faults in ("api", {}), ("pages", {"page": 1}):
         with Here(room, name, contents, tags, **faults) as here:
-            yield "without --referrers, " + name, here.wrong("pull HOST/some/image:v1 plain") or here.wrong_layout([E, FOO, BIG, ONE], {"v1": ONE}, "plain")
+            wrong = here.wrong("pull HOST/some/image:v1 plain") or here.wrong_layout([E, FOO, BIG, ONE], {"v1": ONE}, "plain")
+            yield "without --referrers, " + name, wrong
             yield "--referrers, " + name, here.wrong("pull --referrers HOST/some/image:v1 layout") or here.wrong_layout(contents, tags)
     tags, contents = {**tags, **LIST_TAGS}, [*contents, OF_ONE, OF_SIGNATURE]
     with Here(room, "tags", contents, tags, has_referrers=False) as here:
@@ -180,14 +183,17 @@ def changed_bytes(room):
 
 
 def cut_answers(room):
+    image_one = [E, FOO, BIG, ONE], {"one": ONE}
     with Here(room, "cut", cuts=[10, 3 << 18, 0, 5]) as here:
-        wrong = here.wrong("pull --tries 4 HOST/some/image:one layout", pulled(ONE, 4, 1, LAYERS[:3]))
+        wrong = here.wrong("pull --tries 4 HOST/some/image:one layout", pulled(ONE, 4, 1, LAYERS[:3])) or here.wrong_layout(*image_one)
         ranges = [it.headers["Range"] for it in here.registry.asked("GET", digits(BIG)) if "Range" in it.headers]
-        yield "cut answers", first([wrong, here.wrong_layout([E, FOO, BIG, ONE], {"one": ONE}), None if ranges else "no Range is asked for"])
+        yield "cut answers", wrong or (None if ranges else "no Range is asked for")
     with Here(room, "whole", cuts=[1, 1, 3 << 18], has_ranges=False) as here:
-        yield "a registry without ranges", here.wrong("pull HOST/some/image:one layout") or here.wrong_layout([E, FOO, BIG, ONE], {"one": ONE})
-    with Here(room, "gone", cuts=[1] * 100) as here:
-        yield "answers that are always cut", here.wrong_refusal("pull --tries 2 HOST/some/image:one layout", "broke off")
+        yield "a registry without ranges", here.wrong("pull HOST/some/image:one layout") or here.wrong_layout(*image_one)
+    for name, size in ("gone", 1), ("never_more", 3 << 18):
+        with Here(room, name, cuts=[size] * 100, has_ranges=False) as here:
+            wrong = here.wrong_refusal("pull --tries 2 HOST/some/image:one layout", "broke off", seconds=SOON)
+            yield "answers that are always cut after %d bytes" % size, wrong
 
 
 def wrong_tokens(here, words):
@@ -221,7 +227,8 @@ def credentials(room):
             write_helper(here.room + "/docker/docker-credential-some", host)
             here.log_in({"credHelpers": {here.registry.host(): "some"}})
             words = "pull HOST/some/image:v1 layout"
-            yield "a credential helper for " + ("the host" if not err else host), here.wrong_refusal(words, err) if err else here.wrong(words)
+            wrong = here.wrong_refusal(words, err) if err else here.wrong(words)
+            yield "a credential helper for " + (host if err else "the host"), wrong
         here.log_in({"credsStore": "missing"})
         yield "a credential helper that is missing", here.wrong_refusal("pull HOST/some/image:v1 layout", "docker-credential-missing: ")
         with open(here.room + "/docker/config.json", "w") as file:
@@ -231,19 +238,21 @@ def credentials(room):
 
 def write_helper(path, host):
     answer = json.dumps({"ServerURL": host, "Username": "user", "Secret": "secret"})
+    lines = ["#!/bin/sh", "read -r host", "[ \"$host\" = %s ] || { echo 'credentials not found'; exit 1; }" % host, "echo '%s'" % answer]
     with open(path, "w") as file:
-        file.write("#!/bin/sh\nread -r host\nif [ \"$host\" = %s ]; then echo '%s'; else echo 'credentials not found'; exit 1; fi\n" % (host, answer))
+        file.write("\n".join([*lines, ""]))
     os.chmod(path, 0o755)
 
 
 def busy(room):
     with Here(room, "busy", busy=3, after={"Retry-After": "1"}) as here:
-        began = time.monotonic()
         wrong = here.wrong("pull HOST/some/image:v1 layout") or here.wrong_layout(IMAGES, {"v1": LIST})
-        yield "429", wrong or (None if time.monotonic() - began >= 3 else "it did not wait")
+        times = [it.time for it in here.registry.requests[:4]]
+        yield "429", wrong or first("it waits %.1f s" % (end - begin) for begin, end in zip(times, times[1:]) if end - begin < 1)
     with Here(room, "failing", busy=100, status=503) as here:
         yield "--tries, 503", here.wrong_refusal("pull --tries 2 HOST/some/image:v1 layout", "503")
-        yield "requests with two tries", None if len(here.registry.requests) == 2 else "%d" % len(here.registry.requests)
+        begin, end = here.registry.requests[0].time, here.registry.requests[-1].time
+        yield "two requests, with a pause", None if len(here.registry.requests) == 2 and end - begin >= 0.5 else "%.1f s" % (end - begin)
 
 
 def redirects(room):
@@ -251,10 +260,13 @@ def redirects(room):
         here.registry.faults.moved = lambda it: here.registry.url("/cdn/" + it, 1)
         here.log_in({"auths": {here.registry.host(): USER}})
         wrong = wrong_tokens(here, "pull HOST/some/image:v1 layout") or here.wrong_layout(IMAGES, {"v1": LIST})
-        yield "a redirect to another host", wrong or (None if len([it for it in here.registry.requests if it.host]) == 4 else "it is not followed")
+        followed = [it for it in here.registry.requests if it.host == 1]
+        yield "a redirect to another host", wrong or (None if len(followed) == 4 else "it is not followed")
     for name, place, err in [
-        ("to itself", lambda it: "/v2/some/image/blobs/" + it, "more than 8 redirects"), ("to a file", lambda it: "file:///etc/passwd", "is not https"),
-        ("to nowhere", lambda it: "http://[", "http://[ is not https"), ("into a header", lambda it: "http://127.0.0.1:1/a b", "/some/image: "),
+        ("to itself", lambda it: "/v2/some/image/blobs/" + it, "more than 8 redirects"),
+        ("to a file", lambda it: "file:///etc/passwd", "is not https"),
+        ("to nowhere", lambda it: "http://[", "http://[ is not https"),
+        ("into a header", lambda it: "http://127.0.0.1:1/a b", "/some/image: "),
     ]:
         with Here(room, "moved_" + name.replace(" ", "_"), moved=place) as here:
             yield "a redirect " + name, here.wrong_refusal("pull --tries 1 HOST/some/image:v1 layout", err)
@@ -289,8 +301,9 @@ def harmful_manifests(room):
         ("path", listing(digest="sha256:../../../escaped"), "no descriptor"), ("negative", listing(size=-1), "no descriptor"),
         ("text", listing(size="3"), "no descriptor"), ("large_size", listing(size=(1 << 63) - 1), "File too large"),
         ("other_size", listing(size=4), "broke off"), ("nested", b"[" * 100000, "no JSON object"), ("list", b"[]", "no JSON object"),
-        ("too_large", b'{"layers":[]}' + b" " * (4 << 20), "more than 4194304 bytes"), ("other_type", b'{"mediaType":"a/b"}', "has the type a/b"),
-        ("ambiguous", b'{"mediaType":"%s"}' % INDEX.encode(), "has the type"), ("missing", listing(mediaType=IMAGE, digest="sha256:" + "0" * 64), "no manifest"),
+        ("too_large", b'{"layers":[]}' + b" " * (4 << 20), "more than 4194304 bytes"),
+        ("other_type", b'{"mediaType":"a/b"}', "has the type a/b"), ("ambiguous", b'{"mediaType":"%s"}' % INDEX.encode(), "has the type"),
+        ("missing", listing(mediaType=IMAGE, digest="sha256:" + "0" * 64), "no manifest"),
     ]:
         bad = Content(IMAGE, data)
         with Here(room, name, [E, FOO, bad], {"v1": bad}) as here:
@@ -301,7 +314,7 @@ def harmful_manifests(room):
 def refused_pulls(room):
     with Here(room, "refused") as here:
         yield "no such tag", here.wrong_refusal("pull HOST/some/image:v9 layout", "there is no manifest v9")
-        yield "no such repository", here.wrong_refusal("pull --json HOST/some/other:v1 layout", '{"error": [{"name": "Registry", "text": "')
+        yield "no such repository", here.wrong_refusal("pull --json HOST/some/other:v1 layout", '{"error":[{"name":"Registry","text":"')
         yield "no folder for the layout", here.wrong_refusal("pull HOST/some/image:v1 none/layout", "No such file or directory")
         write_layout(here.room + "/layout", IMAGES, {"v1": LIST})
         os.remove("%s/layout/%s" % (here.room, blob(BIG)))
@@ -312,9 +325,11 @@ def refused_pulls(room):
         here.flags, before = [], len(here.registry.requests)
         wrong = here.wrong_refusal("pull --tries 1 HOST/some/image:v1 other", "/some/image: ")
         yield "without --plain-http", wrong or ("it sends requests" if len(here.registry.requests) > before else None)
-        for words in ["", "pull", "pull HOST/some/image layout", "pull HOST/some/image:v1 layout@" + digest(FOO), "pull HOST/Some:v1 layout",
-                      "pull --timeout 0 HOST/some/image:v1 layout", "push layout HOST/new:v1", "push layout:v1 HOST/new", "tags HOST/some:v1",
-                      "pull --platform", "pull HOST/../x:v1 layout", "push --from A layout:v1 HOST/new:v1", "pull --referrer HOST/some/image:v1 layout"]:
+        for words in [
+            "", "pull HOST/some/image layout", "pull HOST/some/image:v1 layout@" + digest(FOO), "pull HOST/Some:v1 layout",
+            "tags HOST/some:v1", "pull --timeout 0 HOST/some/image:v1 layout", "pull HOST/../x:v1 layout", "pull --referrer HOST/some/image:v1 layout",
+            "push layout HOST/new:v1", "push layout:v1 HOST/new", "push --from A layout:v1 HOST/new:v1",
+        ]:
             yield "an invalid command line: " + words, here.wrong_refusal(words, "usage: ", 2)
 
 
@@ -340,7 +355,8 @@ def a_push(room):
             write_layout(here.room + "/layout", [*IMAGES, SIGNATURE], {"v1": LIST}, [SIGNATURE])
             wrong = here.wrong("push layout:v1 HOST/new:v2", pushed([LIST], 7, 7, size=size)) or here.wrong_registry(IMAGES, {"v2": LIST})
             last = here.registry.requests[-1][1:3]
-            yield "a push, uploads %s" % place, wrong or (None if last == ("PUT", "/v2/new/manifests/v2") else "the last request is %s %s" % last)
+            wrong = wrong or (None if last == ("PUT", "/v2/new/manifests/v2") else "the last request is %s %s" % last)
+            yield "a push, uploads %s" % place, wrong
             asked = [("POST", 0), ("HEAD", 7), ("PUT", 1)]
             wrong = here.wrong("push layout:v1 HOST/new:v3", pushed([LIST], 7, 0), asked=asked)
             yield "a second push", wrong or here.wrong_registry(IMAGES, {"v2": LIST, "v3": LIST})
@@ -363,7 +379,8 @@ def more_pushes(room):
         yield "a push of a layer", here.wrong_refusal("push layout@%s HOST/fifth:v1" % digest(FOO), "is no manifest")
         yield "a push of a missing tag", here.wrong_refusal("push layout:v2 HOST/fifth:v1", "ocicp: 36 UnknownReference\n")
         shutil.copy(here.room + "/layout/" + blob(ONE), "%s/layout/%s" % (here.room, blob(TWO)))
-        yield "a push with a damaged manifest", here.wrong_refusal("push layout:v1 HOST/fifth:v1", "ocicp: 81 Plan 53 NotFound %s\n" % key(TWO))
+        line = "ocicp: 81 Plan 53 NotFound %s\n" % key(TWO)
+        yield "a push with a damaged manifest", here.wrong_refusal("push layout:v1 HOST/fifth:v1", line)
     with Here(room, "damaged", is_credulous=True) as here:
         damaged = Content(LAYER, BIG.bytes[:-1] + b"x")
         write_layout(here.room + "/layout", IMAGES, {"v1": LIST})
@@ -372,12 +389,12 @@ def more_pushes(room):
         wrong = here.wrong_refusal("push layout:v1 HOST/new:v1", "ocicp: 88 Fetch %s 21 Corrupt\n" % key(BIG))
         there = digest(BIG) in here.registry.blobs.get("new", {}) or here.registry.manifests.get("new")
         yield "a push of a damaged layer", wrong or ("the registry has it" if there else None)
-    for name, faults in ("busy", {"busy": 2, "status": 502}), ("strange", {"location": "file:///etc/passwd"}):
-        with Here(room, "push_" + name, **faults) as here:
-            write_layout(here.room + "/layout", IMAGES, {"v1": LIST})
-            words = "push layout:v1 HOST/new:v1"
-            wrong = here.wrong_refusal(words, "is not https") if name == "strange" else here.wrong(words) or here.wrong_registry(IMAGES, {"v1": LIST})
-            yield "a push, %s registry" % name, wrong
+    with Here(room, "failing", busy=2, status=502) as here:
+        write_layout(here.room + "/layout", IMAGES, {"v1": LIST})
+        yield "502", here.wrong("push layout:v1 HOST/new:v1") or here.wrong_registry(IMAGES, {"v1": LIST})
+    with Here(room, "strange", location="file:///etc/passwd") as here:
+        write_layout(here.room + "/layout", IMAGES, {"v1": LIST})
+        yield "uploads into a file", here.wrong_refusal("push layout:v1 HOST/new:v1", "is not https")
 
 
 def pushed_referrers(room):
@@ -385,7 +402,8 @@ def pushed_referrers(room):
     with Here(room, "attach") as here:
         write_layout(here.room + "/layout", contents, tags, [SIGNATURE, SBOM])
         yield "a push without --referrers", here.wrong("push layout:v1 HOST/new:v1") or here.wrong_registry([E, FOO, BIG, ONE], {"v1": ONE})
-        wrong = here.wrong("push --referrers layout:v1 HOST/new:v2", pushed([ONE, COSIGNED], 8, 4, 0, sum(len(it.bytes) for it in [BAR, *ATTACHED])))
+        size = sum(len(it.bytes) for it in [BAR, *ATTACHED])
+        wrong = here.wrong("push --referrers layout:v1 HOST/new:v2", pushed([ONE, COSIGNED], 8, 4, 0, size))
         yield "a push --referrers", wrong or here.wrong_registry(contents, {"v1": ONE, "v2": ONE, COSIGN_TAG: COSIGNED})
     with Here(room, "lists", has_referrers=False) as here:
         write_layout(here.room + "/layout", contents, tags, [SIGNATURE, SBOM])
@@ -395,7 +413,8 @@ def pushed_referrers(room):
         asked = [("POST", 0), ("PUT", 2)]
         yield "the same push again", here.wrong("push --referrers layout:v1 HOST/new:v1", asked=asked) or wrong_lists(here, other)
         wrong = here.wrong("pull --referrers HOST/new:v1 back") or here.wrong("pull --referrers HOST/new:v1 layout")
-        yield "what was pushed can be pulled", wrong or here.wrong("push --referrers back:v1 HOST/back:v1") or same_tags(here, "new", "back")
+        wrong = wrong or here.wrong("push --referrers back:v1 HOST/back:v1") or same_tags(here, "new", "back")
+        yield "what was pushed can be pulled", wrong
 
 
 def wrong_lists(here, other):
@@ -424,8 +443,10 @@ def listed_tags(room):
 
 
 def checks(room):
-    groups = [a_pull, a_platform, referrers, changed_bytes, cut_answers, credentials, busy, redirects, slow, harmful_manifests, refused_pulls,
-              a_push, more_pushes, pushed_referrers, listed_tags, *([secure] if shutil.which("openssl") else [])]
+    # (a process in the background may ignore this signal, and what it starts does then too)
+    signal.signal(signal.SIGINT, signal.default_int_handler)
+    groups = [a_pull, a_platform, referrers, changed_bytes, cut_answers, credentials, busy, redirects, slow, harmful_manifests]
+    groups += [refused_pulls, a_push, more_pushes, pushed_referrers, listed_tags, *([secure] if shutil.which("openssl") else [])]
     with ThreadPoolExecutor(AT_ONCE) as pool:
         folders = ["%s/%s" % (room, group.__name__) for group in groups]
         for folder in folders:

@@ -1,5 +1,5 @@
-"""A registry in memory, on loopback, that can be told to misbehave. It follows the OCI distribution specification 1.1, and is strict: it takes
-no blob with another digest, and no manifest before all that it lists."""
+"""A registry in memory, on loopback, that can be told to misbehave. It follows the OCI distribution specification 1.1, and is strict: it
+takes no blob with another digest, and no manifest before all that it lists."""
 import base64
 import hashlib
 import json
@@ -16,7 +16,8 @@ from support.layouts import INDEX
 MOST, SECONDS = 64 << 20, 20
 MEMBERS = ("config", "layers", "manifests", "blobs")
 PATH = re.compile(r"/v2/(.+?)/(?:(manifests|blobs|referrers)/([^/]+)|(tags)/list|blobs/(uploads)/(\w*))")
-Request = namedtuple("Request", "host method path query headers")
+# `time` is in seconds, by the monotonic clock.
+Request = namedtuple("Request", "host method path query headers time")
 Reply = namedtuple("Reply", "status headers body", defaults=[{}, b""])
 
 
@@ -269,7 +270,7 @@ class Handler(BaseHTTPRequestHandler):
         if len(body) < length:
             return None
         path, _, query = self.path.partition("?")
-        request = Request(self.server.number, self.command, path, urllib.parse.parse_qs(query), dict(self.headers))
+        request = Request(self.server.number, self.command, path, urllib.parse.parse_qs(query), dict(self.headers), time.monotonic())
         self.write(registry.answer(request, body), registry.faults, registry.next_cut(request))
 
     do_GET = do_HEAD = do_POST = do_PUT = serve
