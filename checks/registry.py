@@ -2,10 +2,12 @@
 import hashlib
 import json
 import os
+import re
 import shutil
 import signal
 import ssl
 import subprocess
+import sys
 import tarfile
 import time
 from concurrent.futures import ThreadPoolExecutor
@@ -15,8 +17,13 @@ from support.layouts import BAR, E, FOO, IMAGE, INDEX, LAYER, Content, blob, des
 from support.program import PROGRAM, SECONDS, TOP, first, leftovers, run, told, wrong_layout
 from support.registry import Faults, Registry
 from support.tar_files import pack
+from support.terminal import run_on_terminal
 
 HELPER = TOP + "/ocicp-registry"
+# A line on a terminal, as `ocicp` draws it, and its erasure.
+AMOUNT = r"[\d.]+ [KM]?B"
+LINE = re.compile(r"\r\x1b\[\?7l\d+ of \d+ blobs, %s of %s(, %s/s(, (\d+ min )?\d+ s left)?)?\x1b\[K\x1b\[\?7h" % (AMOUNT, AMOUNT, AMOUNT))
+ERASURE = "\r\x1b[K"
 # Runs at once, and the time in which a run ends that waits for a second.
 AT_ONCE, SOON = 4, 15
 MEGABYTE = 1 << 20
@@ -144,6 +151,11 @@ def a_pull(room):
         ended = here.run("pull --progress HOST/some/image:one listed")
         lines = sorted("fetched %s" % key(it) for it in LAYERS[:3]) + sorted("pushed %s" % key(it) for it in [*LAYERS[:3], ONE])
         yield "--progress", None if ended.status == 0 and sorted(ended.err.splitlines()) == lines else told(ended)
+        words = here.words("pull HOST/some/image:v1 shown")
+        status, text = run_on_terminal(words, here.room, program=HELPER, env=here.environment())
+        # (the copy then draws lines of its own)
+        is_right = status == 0 and LINE.match(text) and text.endswith(ERASURE) and not LINE.sub("", text).replace(ERASURE, "")
+        yield "a line on a terminal", None if is_right else "status %d, %r" % (status, text)
 
 
 def a_platform(room):
@@ -327,7 +339,8 @@ def refused_pulls(room):
         yield "without --plain-http", wrong or ("it sends requests" if len(here.registry.requests) > before else None)
         for words in [
             "", "pull HOST/some/image layout", "pull HOST/some/image:v1 layout@" + digest(FOO), "pull HOST/Some:v1 layout",
-            "tags HOST/some:v1", "pull --timeout 0 HOST/some/image:v1 layout", "pull HOST/../x:v1 layout", "pull --referrer HOST/some/image:v1 layout",
+            "tags HOST/some:v1", "pull --timeout 0 HOST/some/image:v1 layout", "pull HOST/../x:v1 layout",
+            "pull --referrer HOST/some/image:v1 layout",
             "push layout HOST/new:v1", "push layout:v1 HOST/new", "push --from A layout:v1 HOST/new:v1",
         ]:
             yield "an invalid command line: " + words, here.wrong_refusal(words, "usage: ", 2)
@@ -434,6 +447,26 @@ def same_tags(here, one, other):
     return None if tags[one] == tags[other] else "the tags are %s, and not %s" % (tags[other], tags[one])
 
 
+def found_programs(room):
+    """Check where `ocicp` is found: in the variable OCICP, beside the file, and in PATH."""
+    with Here(room, "found") as here:
+        for place in "python", "path", "beside", "apart":
+            os.mkdir("%s/%s" % (here.room, place))
+        os.symlink(sys.executable, here.room + "/python/python3")
+        for place in "path", "beside":
+            os.symlink(PROGRAM, "%s/%s/ocicp" % (here.room, place))
+        for place in "beside", "apart":
+            shutil.copy(HELPER, "%s/%s" % (here.room, place))
+        for number, (place, path, program, status, err) in enumerate([
+            ("apart", "", PROGRAM, 0, ""), ("beside", "", "", 0, ""), ("apart", ":%s/path" % here.room, "", 0, ""),
+            ("apart", "", "", 1, "ocicp-registry: there is no ocicp: "), ("beside", "", here.room + "/none", 1, "/none: No such file"),
+        ]):
+            environment = dict(here.environment(), OCICP=program, PATH="%s/python%s" % (here.room, path))
+            words = here.words("pull HOST/some/image:v1 layout%d" % number)
+            ended = run(words, here.room, program="%s/%s/ocicp-registry" % (here.room, place), env=environment)
+            yield "ocicp found, %d" % number, None if ended.status == status and err in ended.err else told(ended)
+
+
 def listed_tags(room):
     with Here(room, "list", page=1) as here:
         yield "tags, by pages", here.wrong("tags HOST/some/image", "one\nv1\n")
@@ -446,7 +479,8 @@ def checks(room):
     # (a process in the background may ignore this signal, and what it starts does then too)
     signal.signal(signal.SIGINT, signal.default_int_handler)
     groups = [a_pull, a_platform, referrers, changed_bytes, cut_answers, credentials, busy, redirects, slow, harmful_manifests]
-    groups += [refused_pulls, a_push, more_pushes, pushed_referrers, listed_tags, *([secure] if shutil.which("openssl") else [])]
+    groups += [refused_pulls, a_push, more_pushes, pushed_referrers, found_programs, listed_tags]
+    groups += [secure] if shutil.which("openssl") else []
     with ThreadPoolExecutor(AT_ONCE) as pool:
         folders = ["%s/%s" % (room, group.__name__) for group in groups]
         for folder in folders:

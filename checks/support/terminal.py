@@ -18,13 +18,13 @@ def read_all(terminal):
     return written.decode().replace("\r\n", "\n")
 
 
-def run_on_terminal(words, folder, seconds=SECONDS, shows_output=False, **how):
-    """Run the program with a terminal as its error output, with `shows_output` as its output too, and return its status and the text on the
+def run_on_terminal(words, folder, seconds=SECONDS, shows_output=False, program=PROGRAM, **how):
+    """Run a program with a terminal as its error output, with `shows_output` as its output too, and return its status and the text on the
     terminal. A run that takes longer is killed. `how` goes to `subprocess.Popen`."""
     terminal, end = pty.openpty()
     try:
         out = end if shows_output else subprocess.DEVNULL
-        process = subprocess.Popen([PROGRAM, *words], cwd=folder, stdin=subprocess.DEVNULL, stdout=out, stderr=end, **how)
+        process = subprocess.Popen([program, *words], cwd=folder, stdin=subprocess.DEVNULL, stdout=out, stderr=end, **how)
     finally:
         os.close(end)
     timer = threading.Timer(seconds, process.kill)
