@@ -394,13 +394,16 @@ def more_pushes(room):
         shutil.copy(here.room + "/layout/" + blob(ONE), "%s/layout/%s" % (here.room, blob(TWO)))
         line = "ocicp: 81 Plan 53 NotFound %s\n" % key(TWO)
         yield "a push with a damaged manifest", here.wrong_refusal("push layout:v1 HOST/fifth:v1", line)
+    # (`ocicp cat` writes a part of a blob of more than 4 MiB before it has checked all of it)
+    huge = Content(LAYER, bytes(5 * MEGABYTE))
     with Here(room, "damaged", is_credulous=True) as here:
-        damaged = Content(LAYER, BIG.bytes[:-1] + b"x")
-        write_layout(here.room + "/layout", IMAGES, {"v1": LIST})
-        with open("%s/layout/%s" % (here.room, blob(BIG)), "wb") as file:
-            file.write(damaged.bytes)
-        wrong = here.wrong_refusal("push layout:v1 HOST/new:v1", "ocicp: 88 Fetch %s 21 Corrupt\n" % key(BIG))
-        there = digest(BIG) in here.registry.blobs.get("new", {}) or here.registry.manifests.get("new")
+        write_layout(here.room + "/layout", [E, huge, image([huge])], {"v1": image([huge])})
+        with open("%s/layout/%s" % (here.room, blob(huge)), "r+b") as file:
+            file.write(b"x")
+        wrong = here.wrong_refusal("push layout:v1 HOST/new:v1", "ocicp: 88 Fetch %s 21 Corrupt\n" % key(huge))
+        # (it may still read what it was sent)
+        time.sleep(1)
+        there = digest(huge) in here.registry.blobs.get("new", {}) or here.registry.manifests.get("new")
         yield "a push of a damaged layer", wrong or ("the registry has it" if there else None)
     with Here(room, "failing", busy=2, status=502) as here:
         write_layout(here.room + "/layout", IMAGES, {"v1": LIST})
