@@ -19,9 +19,9 @@ use Rattle.oci_store.specs.Keyed.{has_key, HasAll}
 use Rattle.oci_store.specs.State.{State}
 use Rattle.oci_copy_commands.specs.Archived.{IsArchiveAnswer, IsArchived, IsOutlined, IsSavedOutline}
 use Rattle.oci_copy_commands.specs.Run.{options_of, store_of, IsSelectedIn}
-use Rattle.oci_copy_commands.specs.Selected.{Selected}
+use Rattle.oci_selection.specs.Selected.{Selected}
 use Rattle.oci_copy_commands.specs.declared.answer.CopyAnswer.{CopyAnswer}
-use Rattle.oci_copy_commands.proofs.Selections.{among_held}
+use Rattle.oci_selection.proofs.Selections.{among_held}
 
 -- where the planned keys of a copy into an empty layout are held, its roots are
 pub roots_held : (source opening : State) (options : Options) (roots : List Descriptor) (p : Planned) (graph : List Node)

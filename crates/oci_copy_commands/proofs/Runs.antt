@@ -8,13 +8,13 @@ use Rattle.oci_copy.specs.Planned.{IsPlanOf}
 use Rattle.oci_copy.specs.declared.options.Options.{Options}
 use Rattle.oci_layout.specs.Device.{Device}
 use Rattle.oci_layout.specs.Layout.{LayoutState}
-use Rattle.oci_copy_commands.specs.Goal.{patterns_of, Goal, IsPrepared}
-use Rattle.oci_copy_commands.specs.Mirror.{is_exact}
+use Rattle.oci_layout_copy.specs.Goal.{patterns_of, Goal, IsPrepared}
+use Rattle.oci_layout_copy.specs.Mirror.{is_exact}
 use Rattle.oci_copy_commands.specs.Run.{options_of, store_of, DryRun, IsCopyMade, IsCopyPlanned, IsMadeBy, IsMirrorMade, IsPlannedBy}
-use Rattle.oci_copy_commands.specs.PlannedMirror.{IsPlannedCleanUp}
-use Rattle.oci_copy_commands.specs.Selected.{Selected}
-use Rattle.oci_copy_commands.specs.declared.copy.Copied.{Copied}
-use Rattle.oci_copy_commands.specs.declared.planned.PlannedCleanUp.{PlannedCleanUp}
+use Rattle.oci_layout_copy.specs.PlannedMirror.{IsPlannedCleanUp}
+use Rattle.oci_selection.specs.Selected.{Selected}
+use Rattle.oci_layout_copy.specs.declared.copied.Copied.{Copied}
+use Rattle.oci_layout_copy.specs.declared.planned.PlannedCleanUp.{PlannedCleanUp}
 
 -- what follows of each success holds if there is one
 pub ok_gives : {X E : Type 0} {P : X → Type 0} (r : Result X E) → ((x : X) → r ≡ Ok x → P x) → IfOk r P

@@ -28,7 +28,7 @@ use Rattle.oci_program.specs.declared.fault.ProgramFault.{ProgramFault}
 use Rattle.oci_program.specs.declared.fault.ProgramFault.TheVariants as program
 use Rattle.oci_copy_commands.specs.Printed.{copy_text, plan_text, tags_of}
 use Rattle.oci_copy_commands.specs.Run.{options_of, store_of, IsAnsweredDryRun, IsSelectedIn}
-use Rattle.oci_copy_commands.specs.Selected.{set_tags, Selected}
+use Rattle.oci_selection.specs.Selected.{set_tags, Selected}
 use Rattle.oci_copy_commands.specs.declared.answer.CopyAnswer.{CopyAnswer}
 use Rattle.oci_copy_commands.specs.declared.dry_run.PlanAnswer.{PlanAnswer}
 

@@ -1,14 +1,3 @@
-pub mod Between
-pub mod Brought
-pub mod Goal
-pub mod Mirror
-pub mod Pattern
-pub mod Refusal
-pub mod Selected
-pub mod PlannedMirror
-pub mod Settled
 pub mod Printed
 pub mod Run
-pub mod Mem
-pub mod Tagged
 pub mod Archived

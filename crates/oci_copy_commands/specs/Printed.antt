@@ -10,13 +10,13 @@ use Rattle.oci_copy.specs.declared.report.Report.{Report}
 use Rattle.oci_prune.specs.declared.fault.PruneFault.{PruneFault}
 use Rattle.oci_program.specs.Pruned.{prune_text, ShowsPlan, ShowsPruned}
 use Rattle.oci_program.specs.declared.answer.Tagged.{Tagged}
-use Rattle.oci_copy_commands.specs.Selected.{Selected}
+use Rattle.oci_selection.specs.Selected.{Selected}
 use Rattle.oci_copy_commands.specs.declared.answer.CleanUpAnswer.{CleanUpAnswer}
 use Rattle.oci_copy_commands.specs.declared.answer.CopyAnswer.{CopyAnswer}
-use Rattle.oci_copy_commands.specs.declared.clean_up.CleanUp.{CleanUp}
-use Rattle.oci_copy_commands.specs.declared.copy.Copied.{Copied}
+use Rattle.oci_layout_copy.specs.declared.clean_up.CleanUp.{CleanUp}
+use Rattle.oci_layout_copy.specs.declared.copied.Copied.{Copied}
 use Rattle.oci_copy_commands.specs.declared.dry_run.PlanAnswer.{PlanAnswer}
-use Rattle.oci_copy_commands.specs.declared.planned.PlannedCleanUp.{PlannedCleanUp}
+use Rattle.oci_layout_copy.specs.declared.planned.PlannedCleanUp.{PlannedCleanUp}
 
 -- the tags of an answer, in their order
 abbrev pub tags_of : List Tagged → Tags

@@ -25,17 +25,17 @@ use Rattle.oci_layout.specs.Refusal.{IsOpenAsIsFault}
 use Rattle.oci_layout.specs.declared.fault.LayoutFault.TheVariants as layout
 use Rattle.oci_program.specs.declared.answer.Form.{Form}
 use Rattle.oci_program.specs.declared.answer.Form.TheVariants as form
-use Rattle.oci_copy_commands.specs.Between.{BringsOnlyMet, HasReached, IsCopiedBetween, IsTrusted}
-use Rattle.oci_copy_commands.specs.Goal.{patterns_of, Goal, IsPrepared}
-use Rattle.oci_copy_commands.specs.Mirror.{is_exact, HoldsOnlyReached, IsMirrored, IsWholeSource}
-use Rattle.oci_copy_commands.specs.PlannedMirror.{IsPlannedCleanUp}
+use Rattle.oci_layout_copy.specs.Between.{BringsOnlyMet, HasReached, IsCopiedBetween, IsTrusted}
+use Rattle.oci_layout_copy.specs.Goal.{patterns_of, Goal, IsPrepared}
+use Rattle.oci_layout_copy.specs.Mirror.{is_exact, HoldsOnlyReached, IsMirrored, IsWholeSource}
+use Rattle.oci_layout_copy.specs.PlannedMirror.{IsPlannedCleanUp}
 use Rattle.oci_copy_commands.specs.Printed.{copy_text, fault_in, plan_text, IsCopyAnswer, IsPlanAnswer}
-use Rattle.oci_copy_commands.specs.Selected.{set_tags, Selected, Selects}
-use Rattle.oci_copy_commands.specs.Settled.{StartsSettled}
+use Rattle.oci_selection.specs.Selected.{set_tags, Selected, Selects}
+use Rattle.oci_layout_copy.specs.Settled.{StartsSettled}
 use Rattle.oci_copy_commands.specs.declared.answer.CopyAnswer.{CopyAnswer}
-use Rattle.oci_copy_commands.specs.declared.copy.Copied.{Copied}
+use Rattle.oci_layout_copy.specs.declared.copied.Copied.{Copied}
 use Rattle.oci_copy_commands.specs.declared.dry_run.PlanAnswer.{PlanAnswer}
-use Rattle.oci_copy_commands.specs.declared.planned.PlannedCleanUp.{PlannedCleanUp}
+use Rattle.oci_layout_copy.specs.declared.planned.PlannedCleanUp.{PlannedCleanUp}
 
 -- a layout as a store
 abbrev pub store_of : {D : Type 0} → (D → Device) → LayoutState D → State

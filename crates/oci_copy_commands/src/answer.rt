@@ -9,15 +9,13 @@ ghost use Rattle.oci_copy_commands.specs.Printed.{
   IsRemovedAnswer,
 };
 
-use crate::clean_up::CleanUp;
-use crate::copy::Copied;
-use crate::planned::PlannedCleanUp;
-use crate::selected::Selected;
 use oci_copy::Report;
 use oci_digest::NoMemory;
+use oci_layout_copy::{CleanUp, Copied, PlannedCleanUp};
 use oci_manifest::Key;
 use oci_program::{PruneAnswer, Tagged};
 use oci_prune::PruneFault;
+use oci_selection::Selected;
 use serde::Serialize;
 use std::alloc::Global;
 use std::fmt;

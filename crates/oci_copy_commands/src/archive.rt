@@ -17,20 +17,19 @@ ghost use Rattle.oci_copy_commands.specs.declared.answer.CopyAnswer.{CopyAnswer 
 ghost use Rattle.oci_copy_commands.specs.declared.dry_run.PlanAnswer.{PlanAnswer};
 ghost use Rattle.oci_store.specs.Keyed.{HasAll};
 
-use crate::Host;
 use crate::answer::CopyAnswer;
-use crate::between::tag_all;
-use crate::copy::{Copied, check_source_if, is_exact, options_of};
+use crate::copy::{check_source_if, is_exact, options_of};
 use crate::dry_run::{empty_layout, show_plan};
 use crate::progress::Progress;
-use crate::selected::Selected;
 use oci_command_line::CopyWords;
 use oci_copy::{CopyFault, Report, plan_copy};
 use oci_digest::NoMemory;
 use oci_export::{ExportFault, outline, save_archive, write_archive};
 use oci_layout::{Dir, Layout, LayoutFault, MemDir};
+use oci_layout_copy::{Copied, Host, tag_all};
 use oci_plan::Plan;
 use oci_program::{Form, Outcome, ProgramFault, print_answer};
+use oci_selection::Selected;
 use std::alloc::Global;
 use std::io::Write;
 

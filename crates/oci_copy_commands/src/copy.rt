@@ -1,9 +1,9 @@
 ghost use Rattle.std.specs.Prelude.{◌≡◌, true, false, None, IfOk, OnOk};
 ghost use Rattle.std.specs.Io.KnownBytes.{Appends};
-ghost use Rattle.oci_copy_commands.specs.Mirror.{is_exact, HasGoal, IsWholeSource};
-ghost use Rattle.oci_copy_commands.specs.Pattern.{texts_of};
+ghost use Rattle.oci_layout_copy.specs.Mirror.{is_exact, HasGoal, IsWholeSource};
+ghost use Rattle.oci_entries.specs.Pattern.{texts_of};
 ghost use Rattle.oci_copy.specs.Planned.{IsPlanOf};
-ghost use Rattle.oci_copy_commands.specs.Goal.{patterns_of, Fits};
+ghost use Rattle.oci_layout_copy.specs.Goal.{patterns_of, Fits};
 ghost use Rattle.oci_copy_commands.specs.Printed.{copy_text, plan_text};
 ghost use Rattle.oci_copy_commands.specs.Run.{
   existing_of,
@@ -18,23 +18,19 @@ ghost use Rattle.oci_copy_commands.specs.Run.{
 ghost use Rattle.oci_copy_commands.specs.declared.answer.CopyAnswer.{CopyAnswer as Answer};
 ghost use Rattle.oci_copy_commands.specs.declared.dry_run.PlanAnswer.{PlanAnswer};
 
-use crate::Host;
 use crate::answer::CopyAnswer;
-use crate::between::copy_between;
-use crate::clean_up::CleanUp;
 use crate::destination::{make_blobs_folder, open_or_create, remove_leftovers};
 use crate::dry_run::show_plan;
-use crate::goal::Goal;
-use crate::mirror::{mirror, prepare_destination};
 use crate::progress::Progress;
-use crate::selected::Selected;
-use crate::whole::check_source;
 use oci_command_line::{CopyWords, Selection};
-use oci_copy::{Options, Report, plan_copy};
+use oci_copy::{Options, plan_copy};
 use oci_layout::{Dir, FolderLock, Layout, MemDir, PrunableDir};
+use oci_layout_copy::mirror::{mirror, prepare_destination};
+use oci_layout_copy::{Copied, Goal, Host, check_source, copy_between};
 use oci_plan::{Existing, Plan};
 use oci_program::{Form, Outcome, ProgramFault, make_and_lock_folder, print_answer_with_fault};
 use oci_prune::PruneFault;
+use oci_selection::Selected;
 use oci_store::Store;
 use std::alloc::Global;
 use std::io::Write;
@@ -128,15 +124,6 @@ where
     }
     let (answer, fault) = copy_layout(rt, source, destination, words, err)?;
     Ok(print_answer_with_fault(rt.alloc(), &answer, fault, form, out)?)
-}
-
-/// What a copy did.
-#[derive(Drop)]
-pub(crate) struct Copied {
-    /// The report of the copy.
-    pub(crate) report: Report,
-    /// What was removed, with `--prune`.
-    pub(crate) removed: Option<CleanUp>,
 }
 
 /// Copies from one directory into another, whose folder is locked during the copy. Returns what was

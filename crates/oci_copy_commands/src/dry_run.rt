@@ -15,7 +15,7 @@ ghost use Rattle.std.specs.Fmt.{DisplaysOnOk};
 ghost use Rattle.std.specs.Io.KnownBytes.{Appends};
 ghost use Rattle.oci_plan.specs.Plan.{keys_before};
 ghost use Rattle.oci_layout.specs.Refusal.{IsOpenAsIsFault};
-ghost use Rattle.oci_copy_commands.specs.Mirror.{is_exact, IsWholeSource};
+ghost use Rattle.oci_layout_copy.specs.Mirror.{is_exact, IsWholeSource};
 ghost use Rattle.oci_copy_commands.specs.Printed.{
   keys_in,
   plan_counts,
@@ -34,16 +34,16 @@ ghost use Rattle.oci_copy_commands.specs.declared.dry_run.PlanAnswer.{PlanAnswer
 
 use crate::answer::CleanUpAnswer;
 use crate::copy::{check_source_if, goal_of, is_exact, options_of};
-use crate::planned::{PlannedCleanUp, plan_mirror};
-use crate::selected::Selected;
 use oci_command_line::CopyWords;
 use oci_copy::plan_copy;
 use oci_digest::NoMemory;
 use oci_layout::{Dir, Layout, LayoutFault, MemDir, PrunableDir};
+use oci_layout_copy::{PlannedCleanUp, plan_mirror};
 use oci_manifest::Key;
 use oci_plan::Plan;
 use oci_program::{Form, Outcome, ProgramFault, Sum, print_answer};
 use oci_prune::PruneFault;
+use oci_selection::Selected;
 use serde::Serialize;
 use std::alloc::Global;
 use std::fmt;

@@ -15,9 +15,9 @@ use Rattle.oci_command_line.specs.declared.request.Request.{Request}
 use Rattle.oci_command_line.specs.declared.request.Request.TheVariants as request
 use Rattle.oci_copy.specs.declared.report.Report.{Report}
 use Rattle.oci_copy_commands.specs.Archived.{IsFileRunOf, IsOutputRunOf}
-use Rattle.oci_copy_commands.specs.Mem.{mem_text, IsMemRun}
+use Rattle.oci_tag_commands.specs.Mem.{mem_text, IsMemRun}
 use Rattle.oci_copy_commands.specs.Run.{IsRunOf}
-use Rattle.oci_copy_commands.specs.Tagged.{tagged_line, IsTagRun}
+use Rattle.oci_tag_commands.specs.Tagged.{tagged_line, IsTagRun}
 use Rattle.oci_layout.specs.Device.{Device, folder}
 use Rattle.oci_manifest.specs.Descriptor.{Descriptor}
 use Rattle.oci_program.specs.Pruned.{prune_text}

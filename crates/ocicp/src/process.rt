@@ -1,6 +1,6 @@
 use crate::escaped::Escaped;
 use crate::run::{form_of, run_words_on};
-use oci_copy_commands::Host;
+use oci_layout_copy::Host;
 use oci_program::{Ending, ProgramFault, end_early};
 use std::env::FillError;
 use std::io::{BufWriter, IsTerminal, Write};

@@ -24,13 +24,15 @@ use oci_command_line::{
     CommandLine, CommandLineFault, CopyWords, PruneWords, Query, RepairWords, Request, TagWords,
     UntagWords,
 };
-use oci_copy_commands::{Host, run_archive, run_archive_to_output, run_copy, run_mem, run_tag};
+use oci_copy_commands::{run_archive, run_archive_to_output, run_copy};
 use oci_layout::{Dir, FirstFailure, MemDir};
+use oci_layout_copy::Host;
 use oci_pool::MAX_WORKERS;
 use oci_program::{Ending, Form, Outcome, ProgramFault, end_early, finish_run, print_answer};
 use oci_prune_commands::{run_prune, run_untag};
 use oci_query_commands::run_query;
 use oci_repair_commands::run_repair;
+use oci_tag_commands::{run_mem, run_tag};
 use std::alloc::Global;
 use std::io::Write;
 

@@ -3,7 +3,7 @@ use Rattle.std.specs.Map.{values_of}
 use Rattle.oci_layout.specs.Index.{index_file}
 use Rattle.oci_layout.specs.Memory.{device_of}
 use Rattle.oci_layout.proofs.Files.{index_layout, HasLayoutFile-stays}
-use Rattle.oci_copy_commands.proofs.Selections.{among_held}
+use Rattle.oci_selection.proofs.Selections.{among_held}
 use Rattle.oci_copy_commands.proofs.archive.save_selected.Goals as goal
 
 pub tag_all-requires-clause-held : goal.tag_all-requires-clause-held

@@ -1,9 +1,0 @@
-use Rattle.std.proofs.Common.{take}
-use Rattle.std.specs.List.{All}
-use Rattle.oci_copy_commands.specs.Goal.{IsReadableIfStays}
-use Rattle.oci_copy_commands.specs.Pattern.{texts_of}
-use Rattle.oci_copy_commands.proofs.kept.check_staying.Given as goal
-
--- as far as the loop has come
-abbrev pub invariant-loop-place : goal.invariant-loop-place
-invariant-loop-place l = All (IsReadableIfStays (texts_of l.patterns) l.gone l.selected) (take l.place l.entries)

@@ -1,0 +1,2 @@
+pub mod BroughtEntries
+mod PatternRows

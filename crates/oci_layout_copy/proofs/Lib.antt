@@ -1,0 +1,11 @@
+mod Exact
+mod Goals
+mod Listed
+mod Mirrored
+mod Refusals
+mod Removed
+mod Retagged
+mod Saved
+mod Settled
+mod Cleaning
+mod PlannedCopies

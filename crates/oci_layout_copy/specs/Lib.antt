@@ -1,0 +1,6 @@
+pub mod Between
+pub mod Goal
+pub mod Mirror
+pub mod Refusal
+pub mod PlannedMirror
+pub mod Settled

@@ -1,0 +1,4 @@
+pub mod AttachedRoots
+pub mod NamedRoots
+mod Refusals
+pub mod Selections

@@ -1,0 +1,10 @@
+use Rattle.std.specs.Prelude.{◌≡◌, true}
+use Rattle.oci_store.specs.Keyed.{has_key}
+use Rattle.oci_layout.specs.Meaning.{meaning}
+use Rattle.oci_selection.proofs.Refusals.{subject_other}
+use Rattle.oci_selection.proofs.roots.source_belonging.Goals as goal
+
+pub returns-clause-refused : goal.returns-clause-refused
+returns-clause-refused g c =
+    let source = c.args.source.now in
+    subject_other (meaning (g.D.Dir.device source.dir) source.graph source.tags) (λ k. has_key source.graph k ≡ true) c.in-Err.fault c.in-Err.ensures.cause
