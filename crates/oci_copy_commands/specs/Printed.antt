@@ -7,8 +7,8 @@ use Rattle.oci_store.specs.Tags.{Tags, by_bytes}
 use Rattle.oci_plan.specs.Plan.{keys_before, Planned}
 use Rattle.oci_copy.specs.Report.{report_text}
 use Rattle.oci_copy.specs.declared.report.Report.{Report}
-use Rattle.oci_prune.specs.declared.fault.PruneFault.{PruneFault}
-use Rattle.oci_program.specs.Pruned.{prune_text, ShowsPlan, ShowsPruned}
+use Rattle.oci_prune_fault.specs.declared.fault.PruneFault.{PruneFault}
+use Rattle.oci_prune_answer.specs.Pruned.{prune_text, ShowsPlan, ShowsPruned}
 use Rattle.oci_program.specs.declared.answer.Tagged.{Tagged}
 use Rattle.oci_selection.specs.Selected.{Selected}
 use Rattle.oci_copy_commands.specs.declared.answer.CleanUpAnswer.{CleanUpAnswer}

@@ -42,7 +42,7 @@ use oci_layout_copy::{PlannedCleanUp, plan_mirror};
 use oci_manifest::Key;
 use oci_plan::Plan;
 use oci_program::{Form, Outcome, ProgramFault, Sum, print_answer};
-use oci_prune::PruneFault;
+use oci_prune_fault::PruneFault;
 use oci_selection::Selected;
 use serde::Serialize;
 use std::alloc::Global;

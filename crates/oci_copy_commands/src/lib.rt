@@ -10,7 +10,6 @@ mod archive;
 mod copy;
 mod destination;
 mod dry_run;
-mod progress;
 
 pub use archive::{run_archive, run_archive_to_output};
 pub use copy::run_copy;

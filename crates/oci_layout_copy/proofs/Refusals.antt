@@ -14,8 +14,8 @@ use Rattle.oci_program.specs.declared.fault.ProgramFault.{ProgramFault}
 use Rattle.oci_program.specs.declared.fault.ProgramFault.TheVariants as program
 use Rattle.oci_prune.specs.Plan.{roots_with}
 use Rattle.oci_prune.specs.Refusal.{IsDeviceFault, IsPlanFaultFrom, MayNotSave}
-use Rattle.oci_prune.specs.declared.fault.PruneFault.{PruneFault}
-use Rattle.oci_prune.specs.declared.fault.PruneFault.TheVariants as prune
+use Rattle.oci_prune_fault.specs.declared.fault.PruneFault.{PruneFault}
+use Rattle.oci_prune_fault.specs.declared.fault.PruneFault.TheVariants as prune
 use Rattle.oci_layout_copy.specs.Mirror.{of_prune, IsRefusedMirror}
 use Rattle.oci_layout_copy.specs.Refusal.{AfterRefusedCopy}
 use Rattle.oci_layout_copy.proofs.Saved.{refused_with}

@@ -28,8 +28,8 @@ use Rattle.oci_prune.specs.Belongs.{AllKnown}
 use Rattle.oci_prune.specs.Plan.{AreKept, IsPrunePlan, RefersIf, roots_of, roots_with}
 use Rattle.oci_prune.specs.Pruned.{flagged, is_gone, kept_of, AreDraftsGone, HasOnlyNeeded, IsTouchedBy, RemovesDrafts}
 use Rattle.oci_prune.specs.Refusal.{IsPlanFaultFrom}
-use Rattle.oci_prune.specs.declared.fault.PruneFault.{PruneFault}
-use Rattle.oci_prune.specs.declared.fault.PruneFault.TheVariants as prune
+use Rattle.oci_prune_fault.specs.declared.fault.PruneFault.{PruneFault}
+use Rattle.oci_prune_fault.specs.declared.fault.PruneFault.TheVariants as prune
 use Rattle.oci_prune.specs.declared.plan.PrunePlan.{PrunePlan}
 use Rattle.oci_prune.specs.declared.run.Pruned.{Pruned}
 use Rattle.oci_layout_copy.specs.Between.{BringsOnlyMet, IsTrusted}

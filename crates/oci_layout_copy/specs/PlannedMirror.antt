@@ -13,7 +13,7 @@ use Rattle.oci_program.specs.declared.fault.ProgramFault.TheVariants as program
 use Rattle.oci_prune.specs.After.{after_copy}
 use Rattle.oci_prune.specs.Plan.{IsPlanAfter}
 use Rattle.oci_prune.specs.Refusal.{IsFaultAfter}
-use Rattle.oci_prune.specs.declared.fault.PruneFault.{PruneFault}
+use Rattle.oci_prune_fault.specs.declared.fault.PruneFault.{PruneFault}
 use Rattle.oci_layout_copy.specs.Goal.{Goal}
 use Rattle.oci_layout_copy.specs.Mirror.{of_prune}
 use Rattle.oci_selection.specs.Selected.{other_tags}

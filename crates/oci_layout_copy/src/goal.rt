@@ -13,7 +13,7 @@ use oci_entries::matching_entries;
 use oci_layout::{Dir, Layout};
 use oci_manifest::Key;
 use oci_program::ProgramFault;
-use oci_prune::PruneFault;
+use oci_prune_fault::PruneFault;
 use oci_selection::{Selected, both, named_keys};
 use oci_store::Dest;
 use std::alloc::Global;

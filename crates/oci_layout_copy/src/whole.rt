@@ -6,7 +6,7 @@ ghost use Rattle.oci_layout_copy.specs.Mirror.{HoldsListedManifests, IsHeldManif
 use oci_layout::{Dir, Layout};
 use oci_manifest::{Key, Kind};
 use oci_program::ProgramFault;
-use oci_prune::PruneFault;
+use oci_prune_fault::PruneFault;
 use oci_store::{Dest, GraphSource};
 
 /// Refuses a source that a mirror must not follow: a prune of the mirror would remove what the

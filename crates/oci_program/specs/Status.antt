@@ -10,9 +10,9 @@ use Rattle.oci_manifest.specs.Fault.{number_of as manifest_number_of}
 use Rattle.oci_plan.specs.Fault.{plan_number_of}
 use Rattle.oci_plan.specs.declared.fault.PlanFault.{PlanFault}
 use Rattle.oci_plan.specs.declared.fault.PlanFault.TheVariants as plan
-use Rattle.oci_prune.specs.Numbers.{prune_number}
-use Rattle.oci_prune.specs.declared.fault.PruneFault.{PruneFault}
-use Rattle.oci_prune.specs.declared.fault.PruneFault.TheVariants as prune
+use Rattle.oci_prune_fault.specs.Numbers.{prune_number}
+use Rattle.oci_prune_fault.specs.declared.fault.PruneFault.{PruneFault}
+use Rattle.oci_prune_fault.specs.declared.fault.PruneFault.TheVariants as prune
 use Rattle.oci_store.specs.Numbers.{fetch_number, push_number, reference_number}
 use Rattle.oci_layout.specs.Numbers.{layout_number}
 use Rattle.oci_copy.specs.declared.fault.CopyFault.{CopyFault}

@@ -8,7 +8,7 @@ use oci_copy::CopyFault;
 use oci_digest::NoMemory;
 use oci_layout::{FirstFailure, LayoutFault};
 use oci_manifest::KeyFault;
-use oci_prune::PruneFault;
+use oci_prune_fault::PruneFault;
 use oci_store::{FetchFault, PushFault, RefFault};
 use oci_verify::VerifyFault;
 use std::alloc::{AllocError, AllocFailed};

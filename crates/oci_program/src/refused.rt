@@ -24,7 +24,7 @@ use oci_digest::NoMemory;
 use oci_layout::LayoutFault;
 use oci_manifest::{KeyFault, ManifestFault};
 use oci_plan::PlanFault;
-use oci_prune::PruneFault;
+use oci_prune_fault::PruneFault;
 use oci_store::{FetchFault, PushFault, RefFault};
 use std::alloc::Global;
 

@@ -5,7 +5,7 @@ use oci_digest::NoMemory;
 use oci_layout::{Failure, LayoutFault};
 use oci_manifest::Key;
 use oci_plan::PlanFault;
-use oci_prune::PruneFault;
+use oci_prune_fault::PruneFault;
 use oci_store::{FetchFault, PushFault};
 use oci_verify::VerifyFault;
 use std::alloc::Global;

@@ -22,8 +22,8 @@ use Rattle.oci_prune.specs.Plan.{AreHeld}
 use Rattle.oci_prune.specs.Subjects.{States, referrers_in}
 use Rattle.oci_prune.specs.declared.attachments.Attachments.{Attachments}
 use Rattle.oci_prune.specs.declared.belonging.Belonging.{Belonging}
-use Rattle.oci_prune.specs.declared.fault.PruneFault.{PruneFault}
-use Rattle.oci_prune.specs.declared.fault.PruneFault.TheVariants as fault
+use Rattle.oci_prune_fault.specs.declared.fault.PruneFault.{PruneFault}
+use Rattle.oci_prune_fault.specs.declared.fault.PruneFault.TheVariants as fault
 use Rattle.oci_prune.proofs.Elements.{no_element, next_element}
 use Rattle.oci_prune.proofs.Keeping.{held_from_kept}
 use Rattle.oci_prune.proofs.Plans.{Same, kept_same, are_kept_same}

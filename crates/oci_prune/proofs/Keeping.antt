@@ -20,8 +20,8 @@ use Rattle.oci_prune.specs.Belongs.{Needs, Belongs, given, needed, IsNeeded, IsU
 use Rattle.oci_prune.specs.Refusal.{IsUnknownFault}
 use Rattle.oci_prune.specs.declared.attachments.Attachments.{Attachments}
 use Rattle.oci_prune.specs.Walk.{IsVisit, KeepsHeld, HasOneMore, IsWalking}
-use Rattle.oci_prune.specs.declared.fault.PruneFault.{PruneFault}
-use Rattle.oci_prune.specs.declared.fault.PruneFault.TheVariants as fault
+use Rattle.oci_prune_fault.specs.declared.fault.PruneFault.{PruneFault}
+use Rattle.oci_prune_fault.specs.declared.fault.PruneFault.TheVariants as fault
 
 abbrev Relation : Type 1
 Relation = Descriptor → Descriptor → Type 0

@@ -6,8 +6,8 @@ use Rattle.oci_layout.specs.Device.{Device}
 use Rattle.oci_layout.specs.Prunable.{by_name}
 use Rattle.oci_prune.specs.Pruned.{IsDraftIn, IsPathAmong, IsPlanned, IsPlannedUnheld}
 use Rattle.oci_prune.specs.Refusal.{IsRemovalFault, Notes}
-use Rattle.oci_prune.specs.declared.fault.PruneFault.{PruneFault}
-use Rattle.oci_prune.specs.declared.fault.PruneFault.TheVariants as fault
+use Rattle.oci_prune_fault.specs.declared.fault.PruneFault.{PruneFault}
+use Rattle.oci_prune_fault.specs.declared.fault.PruneFault.TheVariants as fault
 use Rattle.oci_prune.specs.declared.plan.PrunedFile.{PrunedFile}
 use Rattle.oci_prune.specs.declared.plan.PrunePlan.{PrunePlan}
 use Rattle.oci_prune.proofs.Elements.{next_element}

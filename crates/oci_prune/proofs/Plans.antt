@@ -29,8 +29,8 @@ use Rattle.oci_prune.specs.Plan.{AreHeld, AreRemoved, RefersIf, IsSafe, roots_of
 use Rattle.oci_prune.specs.Refusal.{ChecksWhole, IsKeyFault, IsPlanFaultFrom, IsUnknownFault}
 use Rattle.oci_prune.specs.Subjects.{IsSubjectFault, States}
 use Rattle.oci_prune.specs.declared.attachments.Attachments.{Attachments}
-use Rattle.oci_prune.specs.declared.fault.PruneFault.{PruneFault}
-use Rattle.oci_prune.specs.declared.fault.PruneFault.TheVariants as fault
+use Rattle.oci_prune_fault.specs.declared.fault.PruneFault.{PruneFault}
+use Rattle.oci_prune_fault.specs.declared.fault.PruneFault.TheVariants as fault
 use Rattle.oci_prune.proofs.Elements.{no_element}
 use Rattle.oci_prune.proofs.Keeping.{held_from_kept}
 

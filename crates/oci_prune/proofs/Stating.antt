@@ -22,11 +22,11 @@ use Rattle.oci_manifest.proofs.Subjects.{subject_of-sound, subject_of-complete}
 use Rattle.oci_store.specs.Content.{Entry}
 use Rattle.oci_store.specs.Keyed.{value_at}
 use Rattle.oci_store.specs.State.{State}
-use Rattle.oci_prune.specs.Faults.{of_manifest}
+use Rattle.oci_prune_fault.specs.Faults.{of_manifest}
 use Rattle.oci_prune.specs.Subjects.{States, Referrers, RefersBy, AreReferrers, IsAdded, IsNoted, IsSubjectFault}
 use Rattle.oci_layout.specs.declared.fault.LayoutFault.TheVariants as layout
-use Rattle.oci_prune.specs.declared.fault.PruneFault.{PruneFault}
-use Rattle.oci_prune.specs.declared.fault.PruneFault.TheVariants as fault
+use Rattle.oci_prune_fault.specs.declared.fault.PruneFault.{PruneFault}
+use Rattle.oci_prune_fault.specs.declared.fault.PruneFault.TheVariants as fault
 use Rattle.oci_prune.specs.Typed.{IsOneOf, IsOfTypes, Passes, StatesBy}
 use Rattle.oci_prune.specs.declared.type_filter.TypeFilter.{TypeFilter}
 use Rattle.oci_prune.specs.declared.type_filter.TypeFilter.TheVariants as filter

@@ -1,5 +1,3 @@
-pub mod Numbers
-pub mod Faults
 pub mod Belongs
 pub mod Subjects
 pub mod Attached

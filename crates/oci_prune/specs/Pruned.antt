@@ -16,7 +16,7 @@ use Rattle.oci_layout.specs.Layout.{LayoutState, SameMemory}
 use Rattle.oci_layout.specs.Prunable.{by_name, Removes}
 use Rattle.oci_prune.specs.Plan.{NeedsFile}
 use Rattle.oci_prune.specs.Refusal.{Notes}
-use Rattle.oci_prune.specs.declared.fault.PruneFault.{PruneFault}
+use Rattle.oci_prune_fault.specs.declared.fault.PruneFault.{PruneFault}
 use Rattle.oci_prune.specs.declared.plan.PrunedFile.{PrunedFile}
 use Rattle.oci_prune.specs.declared.plan.PrunePlan.{PrunePlan}
 use Rattle.oci_prune.specs.declared.run.Pruned.{Pruned}

@@ -17,8 +17,8 @@ use Rattle.oci_layout.specs.declared.fault.LayoutFault.TheVariants as layout
 use Rattle.oci_prune.specs.Belongs.{IsUnknown}
 use Rattle.oci_prune.specs.Plan.{RefersIf, roots_of}
 use Rattle.oci_prune.specs.Subjects.{IsSubjectFault}
-use Rattle.oci_prune.specs.declared.fault.PruneFault.{PruneFault}
-use Rattle.oci_prune.specs.declared.fault.PruneFault.TheVariants as fault
+use Rattle.oci_prune_fault.specs.declared.fault.PruneFault.{PruneFault}
+use Rattle.oci_prune_fault.specs.declared.fault.PruneFault.TheVariants as fault
 
 -- why it is not known which keys are kept: a needed key is unknown, or a held manifest was to be
 -- read and was not

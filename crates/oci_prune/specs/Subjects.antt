@@ -16,8 +16,8 @@ use Rattle.oci_store.specs.State.{State}
 use Rattle.oci_store.specs.declared.fault.FetchFault.{FetchFault}
 use Rattle.oci_store.specs.declared.fault.FetchFault.TheVariants as fetch
 use Rattle.oci_layout.specs.declared.fault.LayoutFault.TheVariants as layout
-use Rattle.oci_prune.specs.declared.fault.PruneFault.{PruneFault}
-use Rattle.oci_prune.specs.declared.fault.PruneFault.TheVariants as fault
+use Rattle.oci_prune_fault.specs.declared.fault.PruneFault.{PruneFault}
+use Rattle.oci_prune_fault.specs.declared.fault.PruneFault.TheVariants as fault
 
 -- the bytes of the first key, which is held, state the second as their subject
 abbrev pub States : List Entry → Descriptor → Descriptor → Type 0

@@ -7,7 +7,6 @@ ghost use Rattle.oci_prune.specs.Attached.{AreAttachments, AreFollowers, Attache
 ghost use Rattle.oci_prune.specs.Subjects.{HasPairs, IsSubjectFault, referrers_in};
 ghost use Rattle.oci_prune.specs.Typed.{StatesBy};
 
-use crate::fault::PruneFault;
 use crate::followers::{cut, dashed, followers_of};
 use crate::held::held_keys;
 use crate::referrers::{referrers_by, referrers_of};
@@ -15,6 +14,7 @@ use crate::type_filter::TypeFilter;
 use oci_digest::{Digest, NoMemory};
 use oci_layout::{Dir, Layout};
 use oci_manifest::{Key, Kind};
+use oci_prune_fault::PruneFault;
 use oci_store::Source;
 use std::alloc::Global;
 use std::collections::BTreeMap;

@@ -11,12 +11,12 @@ ghost use Rattle.oci_prune.specs.Belonging.{AreAttachedTo, IsBelonging, IsComple
 ghost use Rattle.oci_prune.specs.Subjects.{IsSubjectFault};
 
 use crate::attachments::Attachments;
-use crate::fault::PruneFault;
 use crate::followers::following_tags;
 use crate::members::members_of;
 use oci_digest::NoMemory;
 use oci_layout::{Dir, Layout};
 use oci_manifest::Key;
+use oci_prune_fault::PruneFault;
 use oci_store::{KeyList, keys_of_set};
 use std::alloc::Global;
 use std::collections::BTreeSet;

@@ -5,11 +5,11 @@ ghost use Rattle.oci_prune.specs.Files.{AreNeeded, HasDigests, unneeded_in};
 ghost use Rattle.oci_prune.specs.Plan.{AreHeld, AreUnneeded};
 ghost use Rattle.oci_prune.specs.Refusal.{IsDeviceFault};
 
-use crate::fault::PruneFault;
 use crate::plan::PrunedFile;
 use oci_digest::{Digest, NoMemory};
 use oci_layout::{Layout, PrunableDir};
 use oci_manifest::Key;
+use oci_prune_fault::PruneFault;
 use oci_store::{GraphSource, keys_of_set};
 use std::alloc::Global;
 use std::collections::BTreeSet;

@@ -7,10 +7,10 @@ ghost use Rattle.oci_store.specs.Keyed.{HasAll};
 ghost use Rattle.oci_prune.specs.Plan.{AreHeld, roots_of, roots_with};
 
 use crate::attachments::add_copies;
-use crate::fault::PruneFault;
 use oci_digest::NoMemory;
 use oci_layout::{Dir, Layout};
 use oci_manifest::Key;
+use oci_prune_fault::PruneFault;
 use oci_store::{Dest, keys_of_set};
 use std::alloc::Global;
 use std::collections::BTreeSet;

@@ -8,10 +8,10 @@ ghost use Rattle.oci_prune.specs.Refusal.{IsKeyFault};
 ghost use Rattle.oci_prune.specs.Subjects.{IsSubjectFault};
 
 use crate::attachments::Attachments;
-use crate::fault::PruneFault;
 use crate::members::members_of;
 use crate::type_filter::TypeFilter;
 use oci_manifest::Key;
+use oci_prune_fault::PruneFault;
 use oci_store::{GraphSource, Source};
 use std::alloc::Global;
 use std::collections::BTreeSet;

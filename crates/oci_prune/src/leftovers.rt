@@ -10,13 +10,13 @@ ghost use Rattle.oci_store.specs.Content.{Entry};
 ghost use Rattle.oci_store.specs.Tags.{Tags};
 
 use crate::after::add_keys;
-use crate::fault::PruneFault;
 use crate::held::held_keys;
 use crate::plan::PrunePlan;
 use crate::removal::remove_drafts;
 use crate::run::{Pruned, flags};
 use oci_digest::NoMemory;
 use oci_layout::{Layout, PrunableDir};
+use oci_prune_fault::PruneFault;
 use std::alloc::Global;
 use std::collections::BTreeSet;
 

@@ -39,7 +39,6 @@
 mod after;
 mod attachments;
 mod belonging;
-mod fault;
 mod files;
 mod followers;
 mod held;
@@ -57,10 +56,10 @@ mod whole;
 
 pub use attachments::Attachments;
 pub use belonging::{Belonging, belonging_of};
-pub use fault::PruneFault;
 pub use followers::independent_tags;
 pub use laws::{belonging_is_reached, kept_is_reached};
 pub use leftovers::{plan_leftovers, prune_leftovers};
+pub use oci_prune_fault::PruneFault;
 pub use plan::{PrunePlan, PrunedFile, plan_prune, plan_prune_after, plan_prune_keeping};
 pub use run::{Pruned, prune};
 pub use typed::{belonging_of_types, referrers_of_types};

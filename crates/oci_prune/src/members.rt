@@ -9,9 +9,9 @@ ghost use Rattle.oci_prune.specs.Refusal.{IsUnknownFault};
 ghost use Rattle.oci_prune.specs.Walk.{IsVisit, KeepsHeld, HasOneMore};
 
 use crate::attachments::Attachments;
-use crate::fault::PruneFault;
 use oci_digest::NoMemory;
 use oci_manifest::{Key, Kind};
+use oci_prune_fault::PruneFault;
 use oci_store::{GraphSource, KeyList};
 use std::alloc::Global;
 use std::collections::BTreeSet;

@@ -10,7 +10,6 @@ ghost use Rattle.oci_prune.specs.Plan.{AreKept, IsPlanAfter, IsPrunePlan, IsSafe
 ghost use Rattle.oci_prune.specs.Refusal.{IsEntryFault, IsFaultAfter, IsLinkFault, IsPlanFault, IsPlanFaultFrom, IsUnknownFault};
 
 use crate::after::{AfterCopy, held_after};
-use crate::fault::PruneFault;
 use crate::files::plan_files;
 use crate::held::{held_keys, keys_without, root_keys};
 use crate::kept::plan_keys;
@@ -18,6 +17,7 @@ use crate::whole::check_whole;
 use oci_digest::{Digest, NoMemory};
 use oci_layout::{Dir, Layout, PrunableDir};
 use oci_manifest::Key;
+use oci_prune_fault::PruneFault;
 use oci_store::Store;
 use std::alloc::Global;
 use std::collections::BTreeSet;

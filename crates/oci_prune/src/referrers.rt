@@ -4,10 +4,10 @@ ghost use Rattle.oci_manifest.specs.Subject.{may_refer};
 ghost use Rattle.oci_prune.specs.Subjects.{AreReferrers, HasPairs, IsAdded, IsNoted, IsSubjectFault};
 ghost use Rattle.oci_prune.specs.Typed.{Passes, StatesBy};
 
-use crate::fault::{PruneFault, of_fetch, of_manifest};
 use crate::type_filter::TypeFilter;
 use oci_digest::{Digest, NoMemory};
 use oci_manifest::{Key, Kind, subject};
+use oci_prune_fault::{PruneFault, of_fetch, of_manifest};
 use oci_store::Source;
 use std::alloc::Global;
 use std::collections::BTreeMap;

@@ -8,10 +8,10 @@ ghost use Rattle.oci_prune.specs.Refusal.{IsNotRemoved};
 ghost use Rattle.oci_store.specs.Content.{Entry};
 ghost use Rattle.oci_store.specs.Tags.{Tags};
 
-use crate::fault::PruneFault;
 use crate::plan::PrunedFile;
 use oci_digest::NoMemory;
 use oci_layout::{Layout, LayoutFault, PrunableDir};
+use oci_prune_fault::PruneFault;
 use std::alloc::Global;
 
 /// Removes those of some files that a held key has, or those that none has, and notes which of them

@@ -16,11 +16,11 @@ ghost use Rattle.oci_prune.specs.Pruned.{is_gone, kept_of, AllAmong, AreDraftsGo
 ghost use Rattle.oci_prune.specs.Refusal.{IsDeviceFault, IsRemovalFault, MayNotSave};
 ghost use Rattle.oci_prune.specs.Settled.{CanSettle, LeavesOneOf};
 
-use crate::fault::PruneFault;
 use crate::plan::PrunePlan;
 use crate::removal::{remove_drafts, remove_files};
 use oci_digest::NoMemory;
 use oci_layout::{Layout, PrunableDir};
+use oci_prune_fault::PruneFault;
 use oci_store::{Dest, Store};
 use std::alloc::Global;
 

@@ -11,7 +11,6 @@ ghost use Rattle.oci_prune.specs.Typed.{IsOfTypes, IsReachedDigest, RefersByType
 
 use crate::attachments::Attachments;
 use crate::belonging::{Belonging, belonging_by};
-use crate::fault::PruneFault;
 use crate::files::digests_of;
 use crate::held::held_keys;
 use crate::members::members_of;
@@ -19,6 +18,7 @@ use crate::type_filter::TypeFilter;
 use oci_digest::{Digest, NoMemory};
 use oci_layout::{Dir, Layout};
 use oci_manifest::Key;
+use oci_prune_fault::PruneFault;
 use oci_store::{GraphSource, Source, keys_of_set};
 use std::alloc::Global;
 use std::collections::BTreeSet;

@@ -5,10 +5,10 @@ ghost use Rattle.oci_layout.specs.Entries.{said, unreadable_places};
 ghost use Rattle.oci_layout.specs.Layout.{manifests_of};
 ghost use Rattle.oci_prune.specs.Refusal.{ChecksWhole, IsCheckFault, IsLinkFault};
 
-use crate::fault::PruneFault;
 use oci_digest::NoMemory;
 use oci_layout::{Dir, Layout, PrunableDir};
 use oci_manifest::Key;
+use oci_prune_fault::PruneFault;
 use oci_store::Source;
 
 /// Refuses a layout with an absent entry, a damaged manifest that this store does not hold or an

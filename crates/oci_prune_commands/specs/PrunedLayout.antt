@@ -15,8 +15,8 @@ use Rattle.oci_prune.specs.Pruned.{flagged, is_gone, kept_of, AreDraftsGone, Has
 use Rattle.oci_prune.specs.declared.plan.PrunePlan.{PrunePlan}
 use Rattle.oci_prune.specs.declared.run.Pruned.{Pruned}
 use Rattle.oci_program.specs.Opened.{IsOpenedSettled}
-use Rattle.oci_program.specs.Pruned.{ShowsPlan, ShowsPruned}
-use Rattle.oci_program.specs.declared.prune_answer.PruneAnswer.{PruneAnswer}
+use Rattle.oci_prune_answer.specs.Pruned.{ShowsPlan, ShowsPruned}
+use Rattle.oci_prune_answer.specs.declared.prune_answer.PruneAnswer.{PruneAnswer}
 
 -- ---- a plan
 

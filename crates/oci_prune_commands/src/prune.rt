@@ -1,7 +1,7 @@
 ghost use Rattle.std.specs.Prelude.{◌≡◌, true, false, None, IfOk, OnOk};
 ghost use Rattle.std.specs.Io.KnownBytes.{Appends};
-ghost use Rattle.oci_program.specs.Pruned.{prune_text};
-ghost use Rattle.oci_program.specs.declared.prune_answer.PruneAnswer.{PruneAnswer};
+ghost use Rattle.oci_prune_answer.specs.Pruned.{prune_text};
+ghost use Rattle.oci_prune_answer.specs.declared.prune_answer.PruneAnswer.{PruneAnswer};
 ghost use Rattle.oci_prune_commands.specs.PrunedLayout.{
   IsDryPrune,
   IsPlannedBy,
@@ -14,12 +14,11 @@ ghost use Rattle.oci_prune_commands.specs.PrunedLayout.{
 use oci_command_line::PruneWords;
 use oci_layout::{FolderLock, Layout, Lockable, PrunableDir};
 use oci_program::{
-    Form, Outcome, ProgramFault, PruneAnswer, check_is_layout, lock_folder, open_settled,
-    print_answer, print_answer_with_fault,
+    Form, Outcome, ProgramFault, check_is_layout, lock_folder, open_settled, print_answer,
 };
-use oci_prune::{
-    PruneFault, PrunePlan, Pruned, plan_leftovers, plan_prune, prune, prune_leftovers,
-};
+use oci_prune::{PrunePlan, Pruned, plan_leftovers, plan_prune, prune, prune_leftovers};
+use oci_prune_answer::{PruneAnswer, print_answer_with_fault};
+use oci_prune_fault::PruneFault;
 use std::alloc::Global;
 use std::io::Write;
 use std::rt::Files;

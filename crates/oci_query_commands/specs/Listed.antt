@@ -11,7 +11,7 @@ use Rattle.oci_store.specs.Graph.{Node, IsEdge}
 use Rattle.oci_store.specs.Keyed.{has_key}
 use Rattle.oci_store.specs.State.{State}
 use Rattle.oci_store.specs.Tags.{Tags}
-use Rattle.oci_program.specs.Reference.{Names}
+use Rattle.oci_reference.specs.Reference.{Names}
 use Rattle.oci_prune.specs.Subjects.{Refers}
 use Rattle.oci_prune.specs.Typed.{IsOfTypes}
 use Rattle.oci_query_commands.specs.declared.listing.Listed.{Listed}

@@ -6,8 +6,8 @@ use Rattle.oci_store.specs.Graph.{Node}
 use Rattle.oci_store.specs.Tags.{Tags}
 use Rattle.oci_layout.specs.Device.{Device}
 use Rattle.oci_layout.specs.Layout.{LayoutState}
-use Rattle.oci_program.specs.Platform.{first_for, listed_by, IsPickFault}
-use Rattle.oci_program.specs.Reference.{IsReferenceFault, Names}
+use Rattle.oci_reference.specs.Platform.{first_for, listed_by, IsPickFault}
+use Rattle.oci_reference.specs.Reference.{IsReferenceFault, Names}
 use Rattle.oci_program.specs.declared.fault.ProgramFault.{ProgramFault}
 
 -- the first descriptor of an index that states the platform has this key

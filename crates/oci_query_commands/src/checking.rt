@@ -1,7 +1,7 @@
 ghost use Rattle.std.specs.Prelude.{◌≡◌, ◌≤◌, ℕ, None, Some};
 
 use oci_layout::{Dir, Layout};
-use oci_program::{Amount, ProgressLine};
+use oci_progress::{Amount, ProgressLine};
 use oci_store::{Dest, PartWatcher};
 use oci_verify::FileWatcher;
 use std::io::Write;

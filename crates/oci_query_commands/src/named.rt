@@ -1,11 +1,12 @@
 ghost use Rattle.std.specs.Prelude.{◌≡◌, true, option_copied, IfErr, IfOk};
 ghost use Rattle.oci_store.specs.Keyed.{has_key};
-ghost use Rattle.oci_program.specs.Platform.{IsPickFault};
+ghost use Rattle.oci_reference.specs.Platform.{IsPickFault};
 ghost use Rattle.oci_query_commands.specs.Named.{IsFirstFor, IsNamed, IsNamedFault};
 
 use oci_layout::{Dir, Layout};
 use oci_manifest::Key;
-use oci_program::{ProgramFault, pick_platform, resolve};
+use oci_program::ProgramFault;
+use oci_reference::{pick_platform, resolve};
 
 /// Returns the key that a reference of a layout names, or with a platform, that of the first manifest
 /// which the index that the reference names lists for the platform.

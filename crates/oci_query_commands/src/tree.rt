@@ -1,20 +1,21 @@
 use oci_layout::{Dir, Layout};
 use oci_manifest::Key;
 use oci_plan::climb;
-use oci_program::{ProgramFault, Readable};
+use oci_program::ProgramFault;
+use oci_progress::Readable;
 use oci_prune::belonging_of;
+use platforms::Platforms;
 use serde::Serialize;
 use std::alloc::Global;
 use std::collections::BTreeSet;
 use std::fmt;
+use walk::Walk;
 
 mod labels;
 mod platforms;
 mod walk;
 
 pub(crate) use labels::Labels;
-use platforms::Platforms;
-use walk::Walk;
 
 /// The blobs that a key reaches and its referrers, each as a list of nodes with depths. Of the
 /// referrers, those that list the blob come first, and then each blob to which something more is

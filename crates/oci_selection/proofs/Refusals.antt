@@ -6,8 +6,8 @@ use Rattle.oci_store.specs.Tags.{Tags}
 use Rattle.oci_program.specs.declared.fault.ProgramFault.{ProgramFault}
 use Rattle.oci_program.specs.declared.fault.ProgramFault.TheVariants as program
 use Rattle.oci_prune.specs.Subjects.{IsSubjectFault}
-use Rattle.oci_prune.specs.declared.fault.PruneFault.{PruneFault}
-use Rattle.oci_prune.specs.declared.fault.PruneFault.TheVariants as prune
+use Rattle.oci_prune_fault.specs.declared.fault.PruneFault.{PruneFault}
+use Rattle.oci_prune_fault.specs.declared.fault.PruneFault.TheVariants as prune
 use Rattle.oci_selection.specs.Refusal.{IsNoTagsFault, IsOtherFault}
 
 -- a fault of a subject says nothing of tags

@@ -2,7 +2,7 @@
 use Rattle.std.specs.Prelude.{◌≡◌, ◌≢◌, ℕ, List, []}
 use Rattle.oci_program.specs.declared.fault.ProgramFault.{ProgramFault}
 use Rattle.oci_program.specs.declared.fault.ProgramFault.TheVariants as program
-use Rattle.oci_prune.specs.declared.fault.PruneFault.TheVariants as prune
+use Rattle.oci_prune_fault.specs.declared.fault.PruneFault.TheVariants as prune
 use Rattle.oci_store.specs.Tags.{Tags}
 use Rattle.oci_entries.specs.Pattern.{matching_tags}
 

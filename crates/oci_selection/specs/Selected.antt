@@ -25,9 +25,9 @@ use Rattle.oci_entries.specs.Pattern.{matches_name, matching_entries, matching_t
 use Rattle.oci_selection.specs.declared.referrers.Referrers.{Referrers}
 use Rattle.oci_selection.specs.declared.referrers.Referrers.TheVariants.{LeftOut, Climbed, Attached, OfTypes}
 use Rattle.oci_plan.specs.Up.{HasPath, IsUp, IsWithinDepth}
-use Rattle.oci_program.specs.Platform.{entry_for, first_for, listed_by, picked_of}
-use Rattle.oci_program.specs.Reference.{Names}
-use Rattle.oci_program.specs.declared.platform.Picked.{Picked}
+use Rattle.oci_reference.specs.Platform.{entry_for, first_for, listed_by, picked_of}
+use Rattle.oci_reference.specs.Reference.{Names}
+use Rattle.oci_reference.specs.declared.platform.Picked.{Picked}
 use Rattle.oci_prune.specs.Attached.{AttachedBy}
 use Rattle.oci_prune.specs.Belonging.{IsBelonging, IsComplete}
 use Rattle.oci_prune.specs.Typed.{RefersByTypes}

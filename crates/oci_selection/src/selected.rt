@@ -32,8 +32,9 @@ use oci_entries::{
 };
 use oci_layout::{Dir, IndexEntry, Layout, unreadable_entry};
 use oci_manifest::Key;
-use oci_program::{ProgramFault, pick_platform, resolve};
-use oci_prune::PruneFault;
+use oci_program::ProgramFault;
+use oci_prune_fault::PruneFault;
+use oci_reference::{pick_platform, resolve};
 use oci_store::Dest;
 use std::alloc::Global;
 use std::marker::Model;

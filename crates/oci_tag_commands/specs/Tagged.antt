@@ -11,7 +11,7 @@ use Rattle.oci_layout.specs.Lasts.{Lasts}
 use Rattle.oci_layout.specs.Layout.{LayoutState}
 use Rattle.oci_layout.specs.Refusal.{IsSettledFault}
 use Rattle.oci_program.specs.Opened.{IsOpenedSettled}
-use Rattle.oci_program.specs.Reference.{IsReferenceFault, Names}
+use Rattle.oci_reference.specs.Reference.{IsReferenceFault, Names}
 use Rattle.oci_program.specs.declared.fault.ProgramFault.{ProgramFault}
 use Rattle.oci_program.specs.declared.fault.ProgramFault.TheVariants as program
 use Rattle.oci_prune.specs.Settled.{CanSettle}

@@ -8,7 +8,7 @@ ghost use Rattle.oci_layout.specs.Device.{Touches};
 ghost use Rattle.oci_layout.specs.Entries.{entry_of, said};
 ghost use Rattle.oci_layout.specs.Index.{index_file, HasIndex};
 ghost use Rattle.oci_layout.specs.Lasts.{Lasts};
-ghost use Rattle.oci_program.specs.Reference.{Names};
+ghost use Rattle.oci_reference.specs.Reference.{Names};
 ghost use Rattle.oci_prune.specs.Settled.{CanSettle, LeavesOneOf};
 ghost use Rattle.oci_store.specs.Content.{Entry};
 ghost use Rattle.oci_store.specs.Keyed.{has_key};
@@ -28,8 +28,9 @@ use oci_entries::entry_of_reference;
 use oci_layout::{Dir, FolderLock, IndexEntry, Layout, Lockable};
 use oci_manifest::Key;
 use oci_program::{
-    Form, Outcome, ProgramFault, check_is_layout, lock_folder, open_settled, print_answer, resolve,
+    Form, Outcome, ProgramFault, check_is_layout, lock_folder, open_settled, print_answer,
 };
+use oci_reference::resolve;
 use oci_store::{Dest, Store, Tagger};
 use serde::Serialize;
 use std::alloc::Global;

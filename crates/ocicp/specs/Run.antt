@@ -20,11 +20,11 @@ use Rattle.oci_copy_commands.specs.Run.{IsRunOf}
 use Rattle.oci_tag_commands.specs.Tagged.{tagged_line, IsTagRun}
 use Rattle.oci_layout.specs.Device.{Device, folder}
 use Rattle.oci_manifest.specs.Descriptor.{Descriptor}
-use Rattle.oci_program.specs.Pruned.{prune_text}
+use Rattle.oci_prune_answer.specs.Pruned.{prune_text}
 use Rattle.oci_program.specs.declared.answer.Form.{Form}
 use Rattle.oci_program.specs.declared.answer.Form.TheVariants as form
 use Rattle.oci_program.specs.declared.outcome.Outcome.{Outcome}
-use Rattle.oci_program.specs.declared.prune_answer.PruneAnswer.{PruneAnswer}
+use Rattle.oci_prune_answer.specs.declared.prune_answer.PruneAnswer.{PruneAnswer}
 use Rattle.oci_prune_commands.specs.PrunedLayout.{IsDryPrune, IsPruneRun}
 use Rattle.oci_prune_commands.specs.Untagged.{untagged_lines, IsUntagRun}
 use Rattle.oci_repair.specs.declared.source.RepairSource.{RepairSource}

@@ -1,6 +1,6 @@
 //! The line on a terminal, with a clock that the test sets.
 
-use oci_program::{Amount, ProgressLine, TimeLeft};
+use oci_progress::{Amount, ProgressLine, TimeLeft};
 use std::cell::Cell;
 use std::io;
 use std::process::Abort;

@@ -1,8 +1,9 @@
 use crate::tree::{Labels, Node, Platforms};
 use oci_digest::NoMemory;
 use oci_manifest::{Key, Kind, artifact_type};
-use oci_program::{ProgramFault, listed_platforms};
+use oci_program::ProgramFault;
 use oci_prune::Belonging;
+use oci_reference::listed_platforms;
 use oci_store::{GraphSource, keys_of_set};
 use std::alloc::Global;
 use std::collections::BTreeSet;

@@ -1,6 +1,6 @@
 use Rattle.std.proofs.Common.{◌++◌, ℕ, List, ap}
 use Rattle.std.proofs.lemmas.Grind.{put_two}
-use Rattle.oci_program.specs.Pruned.{prune_text}
+use Rattle.oci_prune_answer.specs.Pruned.{prune_text}
 use Rattle.oci_copy_commands.proofs.Printed.{untagged_all}
 use Rattle.oci_copy_commands.proofs.answer.CleanUpAnswerDisplay.fmt.Goals as goal
 

@@ -6,7 +6,7 @@ use Rattle.oci_store.specs.Tags.{by_bytes}
 use Rattle.oci_layout.specs.Meaning.{meaning}
 use Rattle.oci_layout.specs.Brought.{renamed, IsShallowEntry}
 use Rattle.oci_layout.specs.Entries.{IndexEntry, entry_of, said}
-use Rattle.oci_program.specs.Platform.{entry_for, picked_of}
+use Rattle.oci_reference.specs.Platform.{entry_for, picked_of}
 use Rattle.oci_entries.specs.Brought.{tag_entries, with_roots}
 use Rattle.oci_selection.specs.Selected.{AreReferenceRoots, IsOfRoot}
 use Rattle.oci_selection.proofs.AttachedRoots.{reference_there}

@@ -1,8 +1,0 @@
-use Rattle.std.proofs.Common.{◌≡◌, map, take}
-use Rattle.oci_layout.specs.Entries.{entry_of}
-use Rattle.oci_layout.specs.Saved.{last_place}
-use Rattle.oci_program.proofs.reference.last_place.Given as goal
-
--- as far as the loop has come
-abbrev pub invariant-loop-place : goal.invariant-loop-place
-invariant-loop-place l = l.last ≡ last_place l.name (map entry_of (take l.place l.entries))
