@@ -20,7 +20,7 @@ STANDARD = "std"
 # The folders of a crate's sources. A build leaves copies of them in another one.
 ROOMS = ["src", "specs", "proofs"]
 # The definitions that are closed to all sources but those whose paths begin so (docs/promises.md, "Not promised").
-FOLDER = ("crates/oci_layout/specs/Device.antt", "crates/oci_layout/src/fs_dir")
+FOLDER = ("crates/oci_folder/",)
 CLOSED = {name: FOLDER for name in ("IsWatched", "files_at", "drafts_at", "link_at", "may_leave_at")}
 CLOSED["IsUnchanged"] = ("crates/oci_archive/src/read_at.rt",)
 UNFOLDED = re.compile(r"\bunfold(?:ing)?\b(\s*\([^)]*\)|[^\n]*)")

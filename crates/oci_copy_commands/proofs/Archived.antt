@@ -9,9 +9,9 @@ use Rattle.oci_copy.specs.Planned.{IsPlanOf}
 use Rattle.oci_copy.specs.declared.options.Options.{Options}
 use Rattle.oci_export.specs.Archive.{Item}
 use Rattle.oci_export.specs.Export.{IsExport, IsListed}
-use Rattle.oci_layout.specs.Device.{Device}
-use Rattle.oci_layout.specs.Index.{HasLayoutFile}
-use Rattle.oci_layout.specs.Layout.{no_index, LayoutState}
+use Rattle.oci_dir.specs.Device.{Device}
+use Rattle.oci_layout_store.specs.Index.{HasLayoutFile}
+use Rattle.oci_layout_store.specs.Layout.{no_index, LayoutState}
 use Rattle.oci_manifest.specs.Descriptor.{Descriptor}
 use Rattle.oci_plan.specs.Plan.{Planned}
 use Rattle.oci_store.specs.Graph.{Node}

@@ -6,8 +6,8 @@ use Rattle.oci_command_line.specs.declared.changing.CopyWords.{CopyWords}
 use Rattle.oci_plan.specs.Plan.{Planned}
 use Rattle.oci_copy.specs.Planned.{IsPlanOf}
 use Rattle.oci_copy.specs.declared.options.Options.{Options}
-use Rattle.oci_layout.specs.Device.{Device}
-use Rattle.oci_layout.specs.Layout.{LayoutState}
+use Rattle.oci_dir.specs.Device.{Device}
+use Rattle.oci_layout_store.specs.Layout.{LayoutState}
 use Rattle.oci_layout_copy.specs.Goal.{patterns_of, Goal, IsPrepared}
 use Rattle.oci_layout_copy.specs.Mirror.{is_exact}
 use Rattle.oci_copy_commands.specs.Run.{options_of, store_of, DryRun, IsCopyMade, IsCopyPlanned, IsMadeBy, IsMirrorMade, IsPlannedBy}

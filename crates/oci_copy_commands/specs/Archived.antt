@@ -11,15 +11,15 @@ use Rattle.oci_export.specs.Export.{IsExport, IsListed, IsNewFile}
 use Rattle.oci_export.specs.ReadBack.{file_in}
 use Rattle.oci_export.specs.declared.fault.ExportFault.{ExportFault}
 use Rattle.oci_export.specs.declared.fault.ExportFault.TheVariants as export
-use Rattle.oci_layout.specs.Blobs.{stored}
-use Rattle.oci_layout.specs.Brought.{Brings}
-use Rattle.oci_layout.specs.Device.{Device}
-use Rattle.oci_layout.specs.Entries.{entry_of}
-use Rattle.oci_layout.specs.Files.{HasFiles}
-use Rattle.oci_layout.specs.Index.{HasIndex, HasLayoutFile}
-use Rattle.oci_layout.specs.Layout.{no_index, LayoutState}
-use Rattle.oci_layout.specs.declared.fault.LayoutFault.TheVariants as layout
-use Rattle.oci_layout.specs.declared.mem_dir.MemDir.{MemDir}
+use Rattle.oci_layout_store.specs.Blobs.{stored}
+use Rattle.oci_layout_store.specs.Brought.{Brings}
+use Rattle.oci_dir.specs.Device.{Device}
+use Rattle.oci_layout_store.specs.Entries.{entry_of}
+use Rattle.oci_layout_store.specs.Files.{HasFiles}
+use Rattle.oci_layout_store.specs.Index.{HasIndex, HasLayoutFile}
+use Rattle.oci_layout_store.specs.Layout.{no_index, LayoutState}
+use Rattle.oci_layout_store.specs.declared.fault.LayoutFault.TheVariants as layout
+use Rattle.oci_dir.specs.declared.mem_dir.MemDir.{MemDir}
 use Rattle.oci_plan.specs.Plan.{Planned}
 use Rattle.oci_store.specs.Keyed.{HasAll}
 use Rattle.oci_program.specs.declared.answer.Form.{Form}

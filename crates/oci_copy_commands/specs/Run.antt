@@ -10,19 +10,19 @@ use Rattle.oci_store.specs.State.{State}
 use Rattle.oci_copy.specs.Planned.{IsPlanOf}
 use Rattle.oci_copy.specs.Report.{IsReport}
 use Rattle.oci_copy.specs.declared.options.Options.{Options}
-use Rattle.oci_layout.specs.Brought.{Brings}
-use Rattle.oci_layout.specs.Crash.{IsSettled, OnlySettles}
-use Rattle.oci_layout.specs.Created.{IsCreated, IsFree}
-use Rattle.oci_layout.specs.Device.{Device}
-use Rattle.oci_layout.specs.Entries.{entry_of}
-use Rattle.oci_layout.specs.Files.{HasFiles}
-use Rattle.oci_layout.specs.Index.{index_file, layout_file, HasIndex}
-use Rattle.oci_layout.specs.Lasts.{Lasts}
-use Rattle.oci_layout.specs.Layout.{LayoutState, SameMemory, no_index}
-use Rattle.oci_layout.specs.Meaning.{meaning}
-use Rattle.oci_layout.specs.Opened.{IsOpenedAsIs}
-use Rattle.oci_layout.specs.Refusal.{IsOpenAsIsFault}
-use Rattle.oci_layout.specs.declared.fault.LayoutFault.TheVariants as layout
+use Rattle.oci_layout_store.specs.Brought.{Brings}
+use Rattle.oci_dir.specs.Crash.{IsSettled, OnlySettles}
+use Rattle.oci_layout_store.specs.Created.{IsCreated, IsFree}
+use Rattle.oci_dir.specs.Device.{Device}
+use Rattle.oci_layout_store.specs.Entries.{entry_of}
+use Rattle.oci_layout_store.specs.Files.{HasFiles}
+use Rattle.oci_layout_store.specs.Index.{index_file, layout_file, HasIndex}
+use Rattle.oci_layout_store.specs.Lasts.{Lasts}
+use Rattle.oci_layout_store.specs.Layout.{LayoutState, SameMemory, no_index}
+use Rattle.oci_layout_store.specs.Meaning.{meaning}
+use Rattle.oci_layout_store.specs.Opened.{IsOpenedAsIs}
+use Rattle.oci_layout_store.specs.Refusal.{IsOpenAsIsFault}
+use Rattle.oci_layout_store.specs.declared.fault.LayoutFault.TheVariants as layout
 use Rattle.oci_program.specs.declared.answer.Form.{Form}
 use Rattle.oci_program.specs.declared.answer.Form.TheVariants as form
 use Rattle.oci_layout_copy.specs.Between.{BringsOnlyMet, HasReached, IsCopiedBetween, IsTrusted}

@@ -1,7 +1,9 @@
 ghost use Rattle.std.specs.Prelude.{IfOk};
 ghost use Rattle.oci_copy_commands.specs.Run.{IsCreatedIn, IsFound, IsReady, IsSettledFrom};
 
-use oci_layout::{Dir, FirstFailure, FolderLock, Layout, LayoutFault, Lockable};
+use oci_dir::{Dir, FirstFailure};
+use oci_folder::{FolderLock, Lockable};
+use oci_layout_store::{Layout, LayoutFault};
 use oci_program::ProgramFault;
 use std::alloc::Global;
 use std::rt::Files;

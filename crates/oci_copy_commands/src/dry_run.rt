@@ -14,7 +14,7 @@ ghost use Rattle.std.specs.Prelude.{
 ghost use Rattle.std.specs.Fmt.{DisplaysOnOk};
 ghost use Rattle.std.specs.Io.KnownBytes.{Appends};
 ghost use Rattle.oci_plan.specs.Plan.{keys_before};
-ghost use Rattle.oci_layout.specs.Refusal.{IsOpenAsIsFault};
+ghost use Rattle.oci_layout_store.specs.Refusal.{IsOpenAsIsFault};
 ghost use Rattle.oci_layout_copy.specs.Mirror.{is_exact, IsWholeSource};
 ghost use Rattle.oci_copy_commands.specs.Printed.{
   keys_in,
@@ -37,8 +37,9 @@ use crate::copy::{check_source_if, goal_of, is_exact, options_of};
 use oci_command_line::CopyWords;
 use oci_copy::plan_copy;
 use oci_digest::NoMemory;
-use oci_layout::{Dir, Layout, LayoutFault, MemDir, PrunableDir};
+use oci_dir::{Dir, MemDir, PrunableDir};
 use oci_layout_copy::{PlannedCleanUp, plan_mirror};
+use oci_layout_store::{Layout, LayoutFault};
 use oci_manifest::Key;
 use oci_plan::Plan;
 use oci_program::{Form, Outcome, ProgramFault, Sum, print_answer};

@@ -10,12 +10,12 @@ use Rattle.oci_manifest.specs.Descriptor.{Descriptor, key_cmp}
 use Rattle.oci_store.specs.Tags.{Tags}
 use Rattle.oci_store.proofs.KeyOrder.{is_eq-key_cmp}
 use Rattle.oci_copy.proofs.Places.{Contains-from_slice_get}
-use Rattle.oci_layout.specs.Brought.{annotations_of, renamed, same_name, with_annotations, with_name, IsShallowEntry}
-use Rattle.oci_layout.specs.Entries.{IndexEntry, entry_of, is_this_key}
-use Rattle.oci_layout.specs.Saved.{later_place, no_name}
-use Rattle.oci_layout.specs.declared.index.IndexEntry.{IndexEntry as CodeEntry}
-use Rattle.oci_layout.proofs.Brought.{shallow_with}
-use Rattle.oci_layout.proofs.LastNames.{entries-more, later_place-cond, later_place-none, length-entries}
+use Rattle.oci_layout_store.specs.Brought.{annotations_of, renamed, same_name, with_annotations, with_name, IsShallowEntry}
+use Rattle.oci_layout_store.specs.Entries.{IndexEntry, entry_of, is_this_key}
+use Rattle.oci_layout_store.specs.Saved.{later_place, no_name}
+use Rattle.oci_layout_store.specs.declared.index.IndexEntry.{IndexEntry as CodeEntry}
+use Rattle.oci_layout_store.proofs.Brought.{shallow_with}
+use Rattle.oci_layout_store.proofs.LastNames.{entries-more, later_place-cond, later_place-none, length-entries}
 use Rattle.oci_entries.specs.Brought.{entry_at, if_there, is_of, last_such, place_of_key, place_of_reference, reference_entry, root_entry, tag_entries, with_roots, HasLastPlaces}
 
 -- ---- the last entry of each key

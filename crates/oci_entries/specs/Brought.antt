@@ -4,9 +4,9 @@ use Rattle.std.specs.BTreeMap.{BTreeMap, get}
 use Rattle.std.specs.List.{flat_map}
 use Rattle.oci_manifest.specs.Descriptor.{Descriptor, key_cmp}
 use Rattle.oci_store.specs.Tags.{Tags}
-use Rattle.oci_layout.specs.Brought.{renamed}
-use Rattle.oci_layout.specs.Entries.{IndexEntry, is_this_key}
-use Rattle.oci_layout.specs.Saved.{is_name, later_place, no_name}
+use Rattle.oci_layout_store.specs.Brought.{renamed}
+use Rattle.oci_layout_store.specs.Entries.{IndexEntry, is_this_key}
+use Rattle.oci_layout_store.specs.Saved.{is_name, later_place, no_name}
 
 -- ---- the last entry of a key
 

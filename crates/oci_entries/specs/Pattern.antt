@@ -2,8 +2,8 @@
 use Rattle.std.specs.Prelude.{◌≡◌, ℕ, ◌+◌, ◌≤◌, Bool, true, false, not, ◌&&◌, ◌||◌, ◌==◌, nat_le, List, [], ◌∷◌, map, filter, length, drop, get_or, Option, Some, None, if◌then◌else◌}
 use Rattle.std.specs.Borrow.{Bor}
 use Rattle.std.specs.List.{list_any}
-use Rattle.oci_layout.specs.Entries.{IndexEntry}
-use Rattle.oci_layout.specs.Saved.{no_name}
+use Rattle.oci_layout_store.specs.Entries.{IndexEntry}
+use Rattle.oci_layout_store.specs.Saved.{no_name}
 use Rattle.oci_store.specs.Tags.{Tags}
 
 -- ---- a text and a pattern

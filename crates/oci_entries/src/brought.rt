@@ -4,9 +4,9 @@ ghost use Rattle.std.specs.BTreeMap.{get};
 ghost use Rattle.std.specs.List.{flat_map};
 ghost use Rattle.oci_manifest.specs.Descriptor.{Descriptor, key_cmp};
 ghost use Rattle.oci_store.specs.Tags.{by_bytes};
-ghost use Rattle.oci_layout.specs.Brought.{renamed};
-ghost use Rattle.oci_layout.specs.Entries.{entry_of, is_this_key};
-ghost use Rattle.oci_layout.specs.Saved.{no_name};
+ghost use Rattle.oci_layout_store.specs.Brought.{renamed};
+ghost use Rattle.oci_layout_store.specs.Entries.{entry_of, is_this_key};
+ghost use Rattle.oci_layout_store.specs.Saved.{no_name};
 ghost use Rattle.oci_entries.specs.Brought.{
   entry_at,
   is_of,
@@ -23,7 +23,7 @@ ghost use Rattle.oci_entries.specs.Brought.{
 
 use crate::copy_roots::CopyRoots;
 use oci_digest::NoMemory;
-use oci_layout::IndexEntry;
+use oci_layout_store::IndexEntry;
 use oci_manifest::Key;
 use std::alloc::Global;
 use std::collections::BTreeMap;
@@ -50,9 +50,9 @@ impl<'l> Drop for LastEntries<'l> {
 impl<'l> Model for LastEntries<'l> {
     ghost use Rattle.std.specs.Prelude.{true, false, List, map};
     ghost use Rattle.std.specs.Coded.{coded_list};
-    ghost use Rattle.oci_layout.specs.declared.index.IndexEntry.{IndexEntry};
-    ghost use Rattle.oci_layout.specs.contracts.index.IndexEntry as entry;
-    ghost use Rattle.oci_layout.specs.Entries.{entry_of};
+    ghost use Rattle.oci_layout_store.specs.declared.index.IndexEntry.{IndexEntry};
+    ghost use Rattle.oci_layout_store.specs.contracts.index.IndexEntry as entry;
+    ghost use Rattle.oci_layout_store.specs.Entries.{entry_of};
     ghost use Rattle.oci_entries.specs.Brought.{HasLastPlaces};
 
     ghost Value = { List IndexEntry };

@@ -1,7 +1,7 @@
 //! The tags and the entries whose names match patterns.
 ghost use Rattle.std.specs.Prelude.{◌≡◌, ◌&&◌, not, map, IfOk};
-ghost use Rattle.oci_layout.specs.Entries.{entry_of};
-ghost use Rattle.oci_layout.specs.Saved.{no_name};
+ghost use Rattle.oci_layout_store.specs.Entries.{entry_of};
+ghost use Rattle.oci_layout_store.specs.Saved.{no_name};
 ghost use Rattle.oci_store.specs.Tags.{by_bytes};
 ghost use Rattle.oci_entries.specs.Pattern.{
   matches_name,
@@ -13,7 +13,7 @@ ghost use Rattle.oci_entries.specs.Pattern.{
 
 use crate::pattern::matches_one;
 use oci_digest::NoMemory;
-use oci_layout::IndexEntry;
+use oci_layout_store::IndexEntry;
 use oci_manifest::Key;
 use std::alloc::Global;
 

@@ -1,5 +1,6 @@
 use oci_digest::NoMemory;
-use oci_layout::{DirFault, LayoutFault};
+use oci_dir::DirFault;
+use oci_layout_store::LayoutFault;
 use oci_manifest::Key;
 use oci_store::FetchFault;
 use thiserror::Error;

@@ -1,14 +1,15 @@
 ghost use Rattle.std.specs.Prelude.{◌≡◌, [], ◌∷◌, IfErr, IfOk, OnOk};
 ghost use Rattle.std.specs.List.{All};
-ghost use Rattle.oci_layout.specs.Created.{IsFresh};
-ghost use Rattle.oci_layout.specs.Index.{HasLayoutFile};
-ghost use Rattle.oci_layout.specs.Layout.{no_index};
+ghost use Rattle.oci_layout_store.specs.Created.{IsFresh};
+ghost use Rattle.oci_layout_store.specs.Index.{HasLayoutFile};
+ghost use Rattle.oci_layout_store.specs.Layout.{no_index};
 ghost use Rattle.oci_store.specs.Keyed.{HasAll};
 ghost use Rattle.oci_export.specs.Export.{IsHeldOf, IsListed};
 ghost use Rattle.oci_export.specs.Refusal.{IsListFault};
 
 use crate::fault::ExportFault;
-use oci_layout::{Dir, Layout, MemDir};
+use oci_dir::{Dir, MemDir};
+use oci_layout_store::Layout;
 use oci_manifest::Key;
 use oci_plan::Plan;
 use oci_store::{FetchFault, Graph, GraphSource};

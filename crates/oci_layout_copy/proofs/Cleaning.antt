@@ -18,11 +18,11 @@ use Rattle.oci_store.proofs.Lookups.{has_key-append_left, has_key-from_Contains,
 use Rattle.oci_copy.specs.Copy.{OnlyGrows}
 use Rattle.oci_copy.specs.Grown.{BeginsWith, SameByDigest}
 use Rattle.oci_copy.specs.declared.fault.CopyFault.{CopyFault}
-use Rattle.oci_layout.specs.Blobs.{blob_path, keys_of-stored, stored, IsSound}
-use Rattle.oci_layout.specs.Crash.{IsSettled, OnlySettles}
-use Rattle.oci_layout.specs.Device.{Device, File, Same}
-use Rattle.oci_layout.specs.Lasts.{Lasts}
-use Rattle.oci_layout.specs.Layout.{LayoutState, OnlyIndex}
+use Rattle.oci_layout_store.specs.Blobs.{blob_path, keys_of-stored, stored, IsSound}
+use Rattle.oci_dir.specs.Crash.{IsSettled, OnlySettles}
+use Rattle.oci_dir.specs.Device.{Device, File, Same}
+use Rattle.oci_layout_store.specs.Lasts.{Lasts}
+use Rattle.oci_layout_store.specs.Layout.{LayoutState, OnlyIndex}
 use Rattle.oci_program.specs.declared.fault.ProgramFault.{ProgramFault}
 use Rattle.oci_prune.specs.Settled.{CanSettle, LeavesOneOf}
 use Rattle.oci_prune.proofs.Leaving.{held_from_node}

@@ -13,9 +13,9 @@ use Rattle.oci_prune.specs.Belongs.{Belongs, given, needed}
 use Rattle.oci_prune.specs.Plan.{roots_with, AreKept, IsSafe, RefersIf}
 use Rattle.oci_prune.specs.Pruned.{kept_of, KeepsReached}
 use Rattle.oci_prune.proofs.Leaving.{kept_from_left, reached_left}
-use Rattle.oci_layout.specs.Entries.{said}
-use Rattle.oci_layout.specs.Layout.{LayoutState}
-use Rattle.oci_layout.specs.Saved.{shadowed_keys}
+use Rattle.oci_layout_store.specs.Entries.{said}
+use Rattle.oci_layout_store.specs.Layout.{LayoutState}
+use Rattle.oci_layout_store.specs.Saved.{shadowed_keys}
 use Rattle.oci_layout_copy.specs.Mirror.{HoldsOnlyReached}
 use Rattle.oci_selection.specs.Selected.{IsOfRoot}
 use Rattle.oci_layout_copy.proofs.Mirrored.{reached_from_more}

@@ -12,11 +12,11 @@ use Rattle.oci_store.specs.Graph.{Node}
 use Rattle.oci_store.specs.Keyed.{has_key, HasAll}
 use Rattle.oci_store.specs.Tags.{Tags, tag_at}
 use Rattle.oci_store.proofs.Membership.{Keys, with_keys-append}
-use Rattle.oci_layout.specs.Brought.{gives_way, staying}
-use Rattle.oci_layout.specs.Device.{Device}
-use Rattle.oci_layout.specs.Entries.{IndexEntry, entry_keys, said}
-use Rattle.oci_layout.specs.Layout.{LayoutState}
-use Rattle.oci_layout.specs.Saved.{is_name, last_place, later_place, no_name}
+use Rattle.oci_layout_store.specs.Brought.{gives_way, staying}
+use Rattle.oci_dir.specs.Device.{Device}
+use Rattle.oci_layout_store.specs.Entries.{IndexEntry, entry_keys, said}
+use Rattle.oci_layout_store.specs.Layout.{LayoutState}
+use Rattle.oci_layout_store.specs.Saved.{is_name, last_place, later_place, no_name}
 use Rattle.oci_copy.specs.Grown.{BeginsWith}
 use Rattle.oci_prune.specs.Pruned.{KeepsReached}
 use Rattle.oci_prune.proofs.Elements.{Contains-cons, no_element}

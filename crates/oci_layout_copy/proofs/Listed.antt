@@ -9,7 +9,7 @@ use Rattle.oci_manifest.specs.Descriptor.{Descriptor}
 use Rattle.oci_store.specs.Graph.{Node}
 use Rattle.oci_store.specs.Keyed.{value_at}
 use Rattle.oci_store.proofs.Lookups.{Contains-from_has_key}
-use Rattle.oci_layout.proofs.Loose.{keys-more}
+use Rattle.oci_layout_store.proofs.Loose.{keys-more}
 use Rattle.oci_layout_copy.specs.Mirror.{HoldsListedManifests, IsHeldManifest, ListsHeldManifests}
 
 -- the keys so far, and one more

@@ -15,14 +15,14 @@ use Rattle.oci_copy.specs.Copy.{IsCopy, OnlyGrows}
 use Rattle.oci_copy.specs.Grown.{graph_of, BeginsWith, SameByDigest}
 use Rattle.oci_copy.specs.declared.options.Options.{Options}
 use Rattle.oci_copy.specs.declared.report.Report.{Report}
-use Rattle.oci_layout.specs.Layout.{LayoutState, OpenedIndex}
-use Rattle.oci_layout.specs.Saved.{shadowed_keys}
+use Rattle.oci_layout_store.specs.Layout.{LayoutState, OpenedIndex}
+use Rattle.oci_layout_store.specs.Saved.{shadowed_keys}
 use Rattle.oci_prune.specs.Plan.{roots_of}
 use Rattle.oci_prune.specs.Pruned.{KeepsReached}
 use Rattle.oci_plan.specs.declared.gathering.Existing.{Existing}
 use Rattle.oci_copy.specs.Report.{IsReport}
-use Rattle.oci_layout.specs.Device.{Device}
-use Rattle.oci_layout.specs.Meaning.{meaning}
+use Rattle.oci_dir.specs.Device.{Device}
+use Rattle.oci_layout_store.specs.Meaning.{meaning}
 use Rattle.oci_layout_copy.specs.Between.{BringsOnlyMet, IsTrusted}
 use Rattle.oci_layout_copy.specs.Goal.{Goal}
 use Rattle.oci_layout_copy.specs.Mirror.{IsCleanedCopySettled, IsMirrored}

@@ -5,11 +5,11 @@ use Rattle.oci_manifest.specs.Descriptor.{Descriptor}
 use Rattle.oci_copy.specs.Cause.{IsAnswerByWorkers, RefusedByWorkers}
 use Rattle.oci_copy.specs.declared.fault.CopyFault.{CopyFault}
 use Rattle.oci_copy.specs.declared.fault.CopyFault.TheVariants as copy
-use Rattle.oci_layout.specs.Device.{Device}
-use Rattle.oci_layout.specs.Layout.{LayoutState}
-use Rattle.oci_layout.specs.Refusal.{IsSettledFault}
-use Rattle.oci_layout.specs.declared.fault.LayoutFault.{LayoutFault}
-use Rattle.oci_layout.specs.declared.fault.LayoutFault.TheVariants as layout
+use Rattle.oci_dir.specs.Device.{Device}
+use Rattle.oci_layout_store.specs.Layout.{LayoutState}
+use Rattle.oci_layout_store.specs.Refusal.{IsSettledFault}
+use Rattle.oci_layout_store.specs.declared.fault.LayoutFault.{LayoutFault}
+use Rattle.oci_layout_store.specs.declared.fault.LayoutFault.TheVariants as layout
 use Rattle.oci_program.specs.declared.fault.ProgramFault.{ProgramFault}
 use Rattle.oci_program.specs.declared.fault.ProgramFault.TheVariants as program
 use Rattle.oci_prune.specs.Plan.{roots_with}

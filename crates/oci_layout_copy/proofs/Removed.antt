@@ -7,12 +7,12 @@ use Rattle.std.proofs.lemmas.List.Elements.{All-weaker}
 use Rattle.std.proofs.lemmas.Slice.Eq.{bytes_eq-Decides}
 use Rattle.oci_manifest.specs.Descriptor.{Descriptor}
 use Rattle.oci_store.specs.Graph.{Node}
-use Rattle.oci_layout.specs.Blobs.{blob_path, stored}
-use Rattle.oci_layout.specs.Device.{Device, File, Same, Touches}
-use Rattle.oci_layout.specs.Index.{index_file}
-use Rattle.oci_layout.specs.Layout.{LayoutState, OnlyFiles}
-use Rattle.oci_layout.specs.Prunable.{by_name}
-use Rattle.oci_layout.proofs.Files.{index_blob}
+use Rattle.oci_layout_store.specs.Blobs.{blob_path, stored}
+use Rattle.oci_dir.specs.Device.{Device, File, Same, Touches}
+use Rattle.oci_layout_store.specs.Index.{index_file}
+use Rattle.oci_layout_store.specs.Layout.{LayoutState, OnlyFiles}
+use Rattle.oci_dir.specs.Prunable.{by_name}
+use Rattle.oci_layout_store.proofs.Files.{index_blob}
 use Rattle.oci_prune.specs.Pruned.{is_gone, HasOnlyNeeded}
 use Rattle.oci_prune.specs.declared.plan.PrunedFile.{PrunedFile}
 use Rattle.oci_prune.specs.declared.plan.PrunePlan.{PrunePlan}

@@ -21,7 +21,7 @@ use Rattle.oci_store.specs.Tags.{IsUntagFault, Tags, by_bytes, set_tag, tag_at, 
 use Rattle.oci_store.specs.declared.fault.RefFault.{RefFault}
 use Rattle.oci_store.specs.declared.fault.RefFault.TheVariants as fault
 use Rattle.oci_store.proofs.TagNames.{tag_at-kept, tag_at-left, tag_at-removed, tag_at-set}
-use Rattle.oci_layout.proofs.OrderedTags.{IsOrdered, first_at, same_tags}
+use Rattle.oci_layout_store.proofs.OrderedTags.{IsOrdered, first_at, same_tags}
 use Rattle.oci_selection.specs.Selected.{other_tags, set_tags, without_tags}
 
 -- ---- the key of a name

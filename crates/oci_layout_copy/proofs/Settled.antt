@@ -11,14 +11,14 @@ use Rattle.oci_store.specs.Tags.{Tags}
 use Rattle.oci_copy.specs.Copy.{OnlyGrows}
 use Rattle.oci_copy.specs.Grown.{BeginsWith, SameByDigest}
 use Rattle.oci_copy.specs.declared.fault.CopyFault.{CopyFault}
-use Rattle.oci_layout.specs.Blobs.{stored}
-use Rattle.oci_layout.specs.Device.{Device, File}
-use Rattle.oci_layout.specs.Lasts.{AreKnown, HasLayout, Lasts}
-use Rattle.oci_layout.specs.Layout.{LayoutState, OnlyIndex}
-use Rattle.oci_layout.specs.Meaning.{meaning}
-use Rattle.oci_layout.specs.Refusal.{IsSettledFault}
-use Rattle.oci_layout.specs.declared.fault.LayoutFault.{LayoutFault}
-use Rattle.oci_layout.specs.declared.fault.LayoutFault.TheVariants as layout
+use Rattle.oci_layout_store.specs.Blobs.{stored}
+use Rattle.oci_dir.specs.Device.{Device, File}
+use Rattle.oci_layout_store.specs.Lasts.{AreKnown, HasLayout, Lasts}
+use Rattle.oci_layout_store.specs.Layout.{LayoutState, OnlyIndex}
+use Rattle.oci_layout_store.specs.Meaning.{meaning}
+use Rattle.oci_layout_store.specs.Refusal.{IsSettledFault}
+use Rattle.oci_layout_store.specs.declared.fault.LayoutFault.{LayoutFault}
+use Rattle.oci_layout_store.specs.declared.fault.LayoutFault.TheVariants as layout
 use Rattle.oci_program.specs.declared.fault.ProgramFault.{ProgramFault}
 use Rattle.oci_prune.specs.Settled.{CanSettle, LeavesOneOf}
 use Rattle.oci_prune.proofs.Settling.{can_settle_same, left_unsaved, own_known, IsKnown, SavesLasting, SavesWhole}

@@ -6,13 +6,13 @@ use Rattle.oci_command_line.specs.declared.changing.Selection.TheVariants as sel
 use Rattle.oci_manifest.specs.Descriptor.{Descriptor}
 use Rattle.oci_store.specs.Keyed.{has_key}
 use Rattle.oci_store.specs.Tags.{Tags, by_bytes, tag_at}
-use Rattle.oci_layout.specs.Meaning.{meaning}
-use Rattle.oci_layout.specs.Brought.{Forgets}
-use Rattle.oci_layout.specs.Device.{Device}
-use Rattle.oci_layout.specs.Entries.{IndexEntry, entry_of, said}
-use Rattle.oci_layout.specs.Layout.{LayoutState}
-use Rattle.oci_layout.specs.Saved.{no_name}
-use Rattle.oci_layout.specs.declared.index.IndexEntry.{IndexEntry as CodeEntry}
+use Rattle.oci_layout_store.specs.Meaning.{meaning}
+use Rattle.oci_layout_store.specs.Brought.{Forgets}
+use Rattle.oci_dir.specs.Device.{Device}
+use Rattle.oci_layout_store.specs.Entries.{IndexEntry, entry_of, said}
+use Rattle.oci_layout_store.specs.Layout.{LayoutState}
+use Rattle.oci_layout_store.specs.Saved.{no_name}
+use Rattle.oci_layout_store.specs.declared.index.IndexEntry.{IndexEntry as CodeEntry}
 use Rattle.oci_prune.specs.Attached.{AreIndependent}
 use Rattle.oci_prune.specs.declared.belonging.Belonging.{Belonging}
 use Rattle.oci_entries.specs.Brought.{named_entries}

@@ -15,13 +15,13 @@ use Rattle.oci_plan.specs.declared.gathering.Existing.{Existing}
 use Rattle.oci_copy.specs.Grown.{graph_of, BeginsWith}
 use Rattle.oci_copy.specs.Report.{IsReport}
 use Rattle.oci_copy.specs.declared.fault.CopyFault.{CopyFault}
-use Rattle.oci_layout.specs.Blobs.{stored}
-use Rattle.oci_layout.specs.Meaning.{meaning}
-use Rattle.oci_layout.specs.Device.{Device}
-use Rattle.oci_layout.specs.Entries.{said, unreadable_places}
-use Rattle.oci_layout.specs.Layout.{LayoutState, manifests_of}
-use Rattle.oci_layout.specs.Prunable.{by_name}
-use Rattle.oci_layout.specs.Refusal.{IsPutFault}
+use Rattle.oci_layout_store.specs.Blobs.{stored}
+use Rattle.oci_layout_store.specs.Meaning.{meaning}
+use Rattle.oci_dir.specs.Device.{Device}
+use Rattle.oci_layout_store.specs.Entries.{said, unreadable_places}
+use Rattle.oci_layout_store.specs.Layout.{LayoutState, manifests_of}
+use Rattle.oci_dir.specs.Prunable.{by_name}
+use Rattle.oci_layout_store.specs.Refusal.{IsPutFault}
 use Rattle.oci_program.specs.declared.fault.ProgramFault.{ProgramFault}
 use Rattle.oci_program.specs.declared.fault.ProgramFault.TheVariants as program
 use Rattle.oci_prune.specs.Belongs.{AllKnown}

@@ -6,8 +6,8 @@ use Rattle.oci_store.specs.Copied.{Agree, IsCopied}
 use Rattle.oci_store.specs.State.{State}
 use Rattle.oci_store.specs.Tags.{by_bytes}
 use Rattle.oci_copy.specs.Grown.{graph_of}
-use Rattle.oci_layout.specs.Device.{Device}
-use Rattle.oci_layout.specs.Layout.{OpenedIndex}
+use Rattle.oci_dir.specs.Device.{Device}
+use Rattle.oci_layout_store.specs.Layout.{OpenedIndex}
 use Rattle.oci_program.specs.declared.fault.ProgramFault.{ProgramFault}
 use Rattle.oci_program.specs.declared.fault.ProgramFault.TheVariants as program
 use Rattle.oci_prune.specs.After.{after_copy}

@@ -9,10 +9,10 @@ use Rattle.oci_store.specs.Keyed.{has_key, HasAll}
 use Rattle.oci_store.specs.State.{State}
 use Rattle.oci_store.specs.Tags.{Tags}
 use Rattle.oci_copy.specs.Grown.{SameByDigest}
-use Rattle.oci_layout.specs.Blobs.{blob_path, IsSound}
-use Rattle.oci_layout.specs.Crash.{IsSettled}
-use Rattle.oci_layout.specs.Device.{Device}
-use Rattle.oci_layout.specs.Lasts.{Lasts}
+use Rattle.oci_layout_store.specs.Blobs.{blob_path, IsSound}
+use Rattle.oci_dir.specs.Crash.{IsSettled}
+use Rattle.oci_dir.specs.Device.{Device}
+use Rattle.oci_layout_store.specs.Lasts.{Lasts}
 
 -- A copy starts from a destination that is on the disk: nobody else writes into either folder, each file
 -- that the destination has matches its key, all that its keys list is held, and a digest that is in both

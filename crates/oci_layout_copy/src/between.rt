@@ -9,11 +9,11 @@ ghost use Rattle.oci_copy.specs.Cause.{CanFail, IsStepCause, RefusedAt, RefusedB
 ghost use Rattle.oci_copy.specs.Grown.{BeginsWith};
 ghost use Rattle.oci_copy.specs.Planned.{IsPlanOf};
 ghost use Rattle.oci_copy.specs.Report.{IsReport};
-ghost use Rattle.oci_layout.specs.Brought.{Brings};
-ghost use Rattle.oci_layout.specs.Entries.{entry_of};
-ghost use Rattle.oci_layout.specs.Files.{HasFiles};
-ghost use Rattle.oci_layout.specs.Lasts.{Lasts};
-ghost use Rattle.oci_layout.specs.Layout.{OnlyIndex};
+ghost use Rattle.oci_layout_store.specs.Brought.{Brings};
+ghost use Rattle.oci_layout_store.specs.Entries.{entry_of};
+ghost use Rattle.oci_layout_store.specs.Files.{HasFiles};
+ghost use Rattle.oci_layout_store.specs.Lasts.{Lasts};
+ghost use Rattle.oci_layout_store.specs.Layout.{OnlyIndex};
 ghost use Rattle.oci_prune.specs.Settled.{CanSettle, LeavesOneOf};
 ghost use Rattle.oci_layout_copy.specs.Between.{BringsOnlyChecked, BringsOnlyMet, HasReached, HoldsWhatCame, IsCopiedBetween, IsSaved, IsTrusted};
 ghost use Rattle.oci_layout_copy.specs.Refusal.{AfterRefusedCopy, IsRefusedBetween, IsSaveFault};
@@ -21,7 +21,8 @@ ghost use Rattle.oci_selection.specs.Selected.{set_tags};
 ghost use Rattle.oci_layout_copy.specs.Settled.{StartsSettled};
 
 use oci_copy::{CopyFault, Options, Report, copy_plan};
-use oci_layout::{Dir, Layout, OpenedIndex};
+use oci_dir::Dir;
+use oci_layout_store::{Layout, OpenedIndex};
 use oci_manifest::Key;
 use oci_plan::Plan;
 use oci_pool::Hooks;

@@ -9,8 +9,9 @@ ghost use Rattle.oci_selection.specs.Selected.{AreOfRoots};
 
 use crate::kept::KeptTags;
 use oci_digest::NoMemory;
+use oci_dir::Dir;
 use oci_entries::matching_entries;
-use oci_layout::{Dir, Layout};
+use oci_layout_store::Layout;
 use oci_manifest::Key;
 use oci_program::ProgramFault;
 use oci_prune_fault::PruneFault;

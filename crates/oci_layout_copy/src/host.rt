@@ -1,5 +1,5 @@
 use oci_archive::ReadAt;
-use oci_layout::Lockable;
+use oci_folder::Lockable;
 use std::random::RandomSource;
 use std::rt::Files;
 use std::sync::Wait;

@@ -3,9 +3,9 @@ ghost use Rattle.std.specs.Prelude.{◌≡◌, ◌≢◌, [], ℕ, List, map, If
 ghost use Rattle.std.specs.List.{All};
 ghost use Rattle.std.specs.Map.{keys_of};
 ghost use Rattle.oci_store.specs.Tags.{by_bytes};
-ghost use Rattle.oci_layout.specs.Meaning.{meaning};
-ghost use Rattle.oci_layout.specs.Entries.{entry_of};
-ghost use Rattle.oci_layout.specs.Layout.{OnlyIndex};
+ghost use Rattle.oci_layout_store.specs.Meaning.{meaning};
+ghost use Rattle.oci_layout_store.specs.Entries.{entry_of};
+ghost use Rattle.oci_layout_store.specs.Layout.{OnlyIndex};
 ghost use Rattle.oci_layout_copy.specs.Goal.{
   AreKeptExactly,
   AreKeptTags,
@@ -23,8 +23,9 @@ ghost use Rattle.oci_selection.specs.Selected.{IsSourceBelonging};
 use crate::mirror::fault_of;
 use crate::retag::{has_tag, other_tags, set_of};
 use oci_digest::NoMemory;
+use oci_dir::Dir;
 use oci_entries::{is_matching, unmatched_tags};
-use oci_layout::{Dir, IndexEntry, Layout, unreadable_entry};
+use oci_layout_store::{IndexEntry, Layout, unreadable_entry};
 use oci_manifest::Key;
 use oci_program::ProgramFault;
 use oci_prune::{Belonging, belonging_of, independent_tags};

@@ -3,7 +3,8 @@ ghost use Rattle.std.specs.Prelude.{◌≡◌, [], true, OnOk};
 ghost use Rattle.std.specs.List.{All};
 ghost use Rattle.oci_layout_copy.specs.Mirror.{HoldsListedManifests, IsHeldManifest, IsWholeSource, ListsHeldManifests};
 
-use oci_layout::{Dir, Layout};
+use oci_dir::Dir;
+use oci_layout_store::Layout;
 use oci_manifest::{Key, Kind};
 use oci_program::ProgramFault;
 use oci_prune_fault::PruneFault;

@@ -1,11 +1,11 @@
 -- The layout that a command opens to change it.
 use Rattle.std.proofs.Common.{◌≡◌, List, sym, subst}
-use Rattle.oci_layout.specs.Crash.{IsSettled, OnlySettles}
-use Rattle.oci_layout.specs.Device.{Device}
-use Rattle.oci_layout.specs.Index.{index_file, layout_file}
-use Rattle.oci_layout.specs.Lasts.{Lasts}
-use Rattle.oci_layout.specs.Layout.{LayoutState, OpenedIndex, SameMemory}
-use Rattle.oci_layout.specs.Opened.{IsOpenedAsIs}
+use Rattle.oci_dir.specs.Crash.{IsSettled, OnlySettles}
+use Rattle.oci_dir.specs.Device.{Device}
+use Rattle.oci_layout_store.specs.Index.{index_file, layout_file}
+use Rattle.oci_layout_store.specs.Lasts.{Lasts}
+use Rattle.oci_layout_store.specs.Layout.{LayoutState, OpenedIndex, SameMemory}
+use Rattle.oci_layout_store.specs.Opened.{IsOpenedAsIs}
 use Rattle.oci_store.specs.Content.{Entry}
 use Rattle.oci_store.specs.Graph.{Node}
 use Rattle.oci_store.specs.Tags.{Tags}

@@ -14,11 +14,11 @@ use Rattle.oci_prune_fault.specs.Numbers.{prune_number}
 use Rattle.oci_prune_fault.specs.declared.fault.PruneFault.{PruneFault}
 use Rattle.oci_prune_fault.specs.declared.fault.PruneFault.TheVariants as prune
 use Rattle.oci_store.specs.Numbers.{fetch_number, push_number, reference_number}
-use Rattle.oci_layout.specs.Numbers.{layout_number}
+use Rattle.oci_layout_store.specs.Numbers.{layout_number}
 use Rattle.oci_copy.specs.declared.fault.CopyFault.{CopyFault}
 use Rattle.oci_copy.specs.declared.fault.CopyFault.TheVariants as copy
-use Rattle.oci_layout.specs.declared.fault.LayoutFault.{LayoutFault}
-use Rattle.oci_layout.specs.declared.fault.LayoutFault.TheVariants as layout
+use Rattle.oci_layout_store.specs.declared.fault.LayoutFault.{LayoutFault}
+use Rattle.oci_layout_store.specs.declared.fault.LayoutFault.TheVariants as layout
 use Rattle.oci_store.specs.declared.fault.FetchFault.TheVariants as fetch
 use Rattle.oci_store.specs.declared.fault.PushFault.{PushFault}
 use Rattle.oci_store.specs.declared.fault.PushFault.TheVariants as push

@@ -1,5 +1,7 @@
 use crate::fault::ProgramFault;
-use oci_layout::{Dir, FirstFailure, FolderLock, LayoutFault, Lockable};
+use oci_dir::{Dir, FirstFailure};
+use oci_folder::{FolderLock, Lockable};
+use oci_layout_store::LayoutFault;
 use std::io::Write;
 use std::rt::Files;
 

@@ -2,7 +2,8 @@ ghost use Rattle.std.specs.Prelude.{IfOk};
 ghost use Rattle.oci_program.specs.Opened.{IsOpenedSettled};
 
 use crate::fault::ProgramFault;
-use oci_layout::{Dir, Layout};
+use oci_dir::Dir;
+use oci_layout_store::Layout;
 use std::alloc::Global;
 
 /// Opens the layout in a directory as it is, and waits until its index is on the disk. A process

@@ -21,7 +21,7 @@ use crate::refusal_document::{Carried, Entry, add_entry};
 use oci_archive::ArchiveFault;
 use oci_copy::CopyFault;
 use oci_digest::NoMemory;
-use oci_layout::LayoutFault;
+use oci_layout_store::LayoutFault;
 use oci_manifest::{KeyFault, ManifestFault};
 use oci_plan::PlanFault;
 use oci_prune_fault::PruneFault;

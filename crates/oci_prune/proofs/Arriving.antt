@@ -21,7 +21,7 @@ use Rattle.oci_store.specs.declared.fault.FetchFault.TheVariants as fetch
 use Rattle.oci_store.proofs.KeyOrder.{key_cmp_total, key_cmp_exact}
 use Rattle.oci_store.proofs.Lookups.{found, has_key-append_left, has_key-same_keys, value_at-append_left}
 use Rattle.oci_store.proofs.Membership.{Contains-from_among, among_from_Contains, among-filter, among_filter_from}
-use Rattle.oci_layout.proofs.Loose.{set_more}
+use Rattle.oci_layout_store.proofs.Loose.{set_more}
 use Rattle.oci_prune.specs.After.{with_arriving}
 use Rattle.oci_prune.specs.Plan.{AreHeld}
 use Rattle.oci_prune.proofs.Elements.{next_element, no_element}

@@ -20,8 +20,8 @@ use Rattle.oci_manifest.specs.Descriptor.{Descriptor, key_cmp}
 use Rattle.oci_store.specs.Graph.{IsEdge, Node}
 use Rattle.oci_store.specs.Keyed.{has_key, value_at}
 use Rattle.oci_store.proofs.KeyOrder.{key_cmp_total, key_cmp_exact}
-use Rattle.oci_layout.specs.Device.{File}
-use Rattle.oci_layout.specs.Prunable.{AreBlobs}
+use Rattle.oci_dir.specs.Device.{File}
+use Rattle.oci_layout_store.specs.BlobFiles.{AreBlobs}
 use Rattle.oci_prune.proofs.Elements.{no_element, next_element, in_map_filter, map_filter_in}
 use Rattle.oci_prune.specs.Files.{AreNeeded, HasDigests, pruned_file, unneeded_in}
 use Rattle.oci_prune.specs.Plan.{AreHeld, AreUnneeded, IsUnneeded, HasDigestIn, NeedsFile}

@@ -6,8 +6,8 @@ use Rattle.std.proofs.lemmas.Bool.{cases_Bool}
 use Rattle.std.proofs.lemmas.List.{append-nil, length-map, length-take-le}
 use Rattle.std.proofs.lemmas.List.Elements.{Contains-push_cases}
 use Rattle.std.proofs.lemmas.Slice.Eq.{bytes_eq-Decides}
-use Rattle.oci_layout.specs.Device.{File, Same}
-use Rattle.oci_layout.specs.Prunable.{by_name, Removes}
+use Rattle.oci_dir.specs.Device.{File, Same}
+use Rattle.oci_dir.specs.Prunable.{by_name, Removes}
 use Rattle.oci_prune.specs.Pruned.{flagged, IsDraftIn, RemovesDrafts, RemovesIf}
 use Rattle.oci_prune.proofs.Elements.{no_element}
 use Rattle.oci_prune.proofs.Sparing.{by_name-next, draft_here, draft_later, Drafts}

@@ -13,7 +13,7 @@ use Rattle.std.proofs.lemmas.Slice.Eq.{bytes_eq-Decides}
 use Rattle.oci_manifest.specs.Descriptor.{Descriptor}
 use Rattle.oci_manifest.specs.MediaTypes.{kind_of}
 use Rattle.oci_store.specs.Tags.{Tags, by_bytes}
-use Rattle.oci_layout.specs.Layout.{is_manifest}
+use Rattle.oci_layout_store.specs.Layout.{is_manifest}
 use Rattle.oci_prune.specs.Attached.{stem, dashed, cut, is_stem_of, Followers, stemmed_in, followers_in, AreAttachments, AreFollowers, AreStemmed, IsStemAdded}
 use Rattle.oci_prune.specs.Subjects.{AreReferrers, referrers_in}
 use Rattle.oci_prune.specs.declared.attachments.Attachments.{Attachments}

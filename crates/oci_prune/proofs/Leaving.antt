@@ -16,8 +16,8 @@ use Rattle.oci_store.specs.Content.{Entry}
 use Rattle.oci_store.specs.Graph.{Node, IsEdge}
 use Rattle.oci_store.specs.Keyed.{value_at, has_key, HasAll, HasDistinctKeys}
 use Rattle.oci_store.proofs.KeyOrder.{same_key_laws}
-use Rattle.oci_layout.specs.Blobs.{blob_at, stored}
-use Rattle.oci_layout.specs.Device.{File}
+use Rattle.oci_layout_store.specs.Blobs.{blob_at, stored}
+use Rattle.oci_dir.specs.Device.{File}
 use Rattle.oci_prune.specs.Plan.{IsSafe, AreRemoved, HasDigestIn}
 use Rattle.oci_prune.specs.Pruned.{kept_of, KeepsReached}
 use Rattle.oci_prune.proofs.Elements.{no_element, Contains-cons}

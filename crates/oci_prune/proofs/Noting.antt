@@ -2,8 +2,8 @@
 use Rattle.std.proofs.Common.{◌≡◌, ℕ, Bool, true, false, ◌+◌, ◌<◌, ◌⊎◌, inl, inr, List, [], ◌∷◌, ◌++◌, length, take, get_or, Option, Some, None, String, Global, string_bytes, refl, sym, subst, ◌∙◌}
 use Rattle.std.specs.Prelude.{IfSome}
 use Rattle.std.proofs.lemmas.Option.{IfSome_then}
-use Rattle.oci_layout.specs.Device.{Device}
-use Rattle.oci_layout.specs.Prunable.{by_name}
+use Rattle.oci_dir.specs.Device.{Device}
+use Rattle.oci_dir.specs.Prunable.{by_name}
 use Rattle.oci_prune.specs.Pruned.{IsDraftIn, IsPathAmong, IsPlanned, IsPlannedUnheld}
 use Rattle.oci_prune.specs.Refusal.{IsRemovalFault, Notes}
 use Rattle.oci_prune_fault.specs.declared.fault.PruneFault.{PruneFault}

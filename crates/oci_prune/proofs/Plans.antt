@@ -14,15 +14,15 @@ use Rattle.oci_store.specs.Graph.{Node, Reaches, root as start, along}
 use Rattle.oci_store.specs.Keyed.{has_key, HasAll, first_missing}
 use Rattle.oci_store.specs.State.{State}
 use Rattle.oci_store.specs.Tags.{AreNames}
-use Rattle.oci_layout.specs.Device.{Device}
+use Rattle.oci_dir.specs.Device.{Device}
 use Rattle.oci_store.proofs.KeyOrder.{key_cmp_total, key_cmp_exact}
 use Rattle.oci_store.proofs.Membership.{Contains-from_among, among_from_Contains, among-filter, among_filter_from}
 use Rattle.oci_store.proofs.Lookups.{has_key-from_Contains, Contains-from_has_key, has_key-same_keys}
-use Rattle.oci_layout.specs.Entries.{said, unreadable_places}
-use Rattle.oci_layout.specs.Layout.{LayoutState, OpenedIndex, manifests_of}
-use Rattle.oci_layout.specs.Saved.{first_entries, shadowed_keys}
-use Rattle.oci_layout.proofs.Loose.{HasKeys}
-use Rattle.oci_layout.proofs.SavedEntries.{named_held-held}
+use Rattle.oci_layout_store.specs.Entries.{said, unreadable_places}
+use Rattle.oci_layout_store.specs.Layout.{LayoutState, OpenedIndex, manifests_of}
+use Rattle.oci_layout_store.specs.Saved.{first_entries, shadowed_keys}
+use Rattle.oci_layout_store.proofs.Loose.{HasKeys}
+use Rattle.oci_layout_store.proofs.SavedEntries.{named_held-held}
 use Rattle.oci_prune.specs.Attached.{AttachedIn, AreAttachments}
 use Rattle.oci_prune.specs.Belongs.{Needs, Belongs, given, needed, IsNeeded, IsUnknown, AreMembers, AllKnown}
 use Rattle.oci_prune.specs.Plan.{AreHeld, AreRemoved, RefersIf, IsSafe, roots_of}

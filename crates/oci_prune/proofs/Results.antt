@@ -21,13 +21,13 @@ use Rattle.oci_store.specs.Graph.{IsEdge, Node}
 use Rattle.oci_store.specs.Keyed.{has_key}
 use Rattle.oci_store.specs.Tags.{Tags}
 use Rattle.oci_store.proofs.Lookups.{has_key-from_Contains}
-use Rattle.oci_layout.specs.Blobs.{blob_path, stored}
-use Rattle.oci_layout.specs.Device.{Device, File, Touches}
-use Rattle.oci_layout.specs.Index.{index_file, HasIndex}
-use Rattle.oci_layout.specs.Layout.{OpenedIndex}
-use Rattle.oci_layout.proofs.Files.{index_blob}
-use Rattle.oci_layout.proofs.Prunable.{stored-apart, IsApart, IsSound-apart}
-use Rattle.oci_layout.proofs.Stored.{blob_path-injective}
+use Rattle.oci_layout_store.specs.Blobs.{blob_path, stored}
+use Rattle.oci_dir.specs.Device.{Device, File, Touches}
+use Rattle.oci_layout_store.specs.Index.{index_file, HasIndex}
+use Rattle.oci_layout_store.specs.Layout.{OpenedIndex}
+use Rattle.oci_layout_store.proofs.Files.{index_blob}
+use Rattle.oci_layout_store.proofs.Prunable.{stored-apart, IsApart, IsSound-apart}
+use Rattle.oci_layout_store.proofs.Stored.{blob_path-injective}
 use Rattle.oci_prune.specs.Plan.{AreUnneeded, HasDigestIn, IsSafe, NeedsFile}
 use Rattle.oci_prune.specs.Pruned.{is_gone, kept_of, AllAmong, AreApart, HasOnlyNeeded, IsGone, IsNone, IsOfNoKey, IsPathAmong, IsPathOf, IsThere, IsTouchedUnsaved, Spares}
 use Rattle.oci_prune.specs.declared.plan.PrunedFile.{PrunedFile}

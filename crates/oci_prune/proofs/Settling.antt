@@ -13,12 +13,13 @@ use Rattle.oci_store.specs.Graph.{Node}
 use Rattle.oci_store.specs.Keyed.{has_key, HasAll}
 use Rattle.oci_store.specs.Tags.{Tags}
 use Rattle.oci_store.proofs.Lookups.{Contains-from_has_key, has_key-same_keys}
-use Rattle.oci_layout.specs.Blobs.{blob_at, blob_path, keys_of-stored, stored, IsSound}
-use Rattle.oci_layout.specs.Crash.{IsLeft, IsSettled, KeepsSettled}
-use Rattle.oci_layout.specs.Device.{Device, File}
-use Rattle.oci_layout.specs.Lasts.{AreKnown, HasLayout, Lasts}
-use Rattle.oci_layout.specs.Layout.{LayoutState, OnlyFiles, SameMemory}
-use Rattle.oci_layout.proofs.Lasting.{lasting_is_left}
+use Rattle.oci_layout_store.specs.Blobs.{blob_at, blob_path, keys_of-stored, stored, IsSound}
+use Rattle.oci_dir.specs.Crash.{IsLeft, IsSettled}
+use Rattle.oci_layout_store.specs.Keeps.{KeepsSettled}
+use Rattle.oci_dir.specs.Device.{Device, File}
+use Rattle.oci_layout_store.specs.Lasts.{AreKnown, HasLayout, Lasts}
+use Rattle.oci_layout_store.specs.Layout.{LayoutState, OnlyFiles, SameMemory}
+use Rattle.oci_layout_store.proofs.Lasting.{lasting_is_left}
 use Rattle.oci_prune.specs.Pruned.{kept_of, AllAmong, IsOfNoEntry, IsOfNoKey, Spares}
 use Rattle.oci_prune.specs.Settled.{CanSettle, LeavesOneOf}
 use Rattle.oci_prune.specs.declared.plan.PrunedFile.{PrunedFile}

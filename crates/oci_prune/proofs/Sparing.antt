@@ -10,12 +10,12 @@ use Rattle.std.proofs.lemmas.Option.{slice_get-get_or}
 use Rattle.std.specs.List.{slice_get}
 use Rattle.std.proofs.lemmas.Slice.Eq.{bytes_eq-Decides}
 use Rattle.oci_store.specs.Graph.{Node}
-use Rattle.oci_layout.specs.Blobs.{blob_path, stored, IsSound}
-use Rattle.oci_layout.specs.Crash.{KeepsSettled}
-use Rattle.oci_layout.specs.Device.{Device, Touches}
-use Rattle.oci_layout.specs.Index.{index_file}
-use Rattle.oci_layout.specs.Layout.{LayoutState, SameMemory}
-use Rattle.oci_layout.specs.Prunable.{by_name}
+use Rattle.oci_layout_store.specs.Blobs.{blob_path, stored, IsSound}
+use Rattle.oci_layout_store.specs.Keeps.{KeepsSettled}
+use Rattle.oci_dir.specs.Device.{Device, Touches}
+use Rattle.oci_layout_store.specs.Index.{index_file}
+use Rattle.oci_layout_store.specs.Layout.{LayoutState, SameMemory}
+use Rattle.oci_dir.specs.Prunable.{by_name}
 use Rattle.oci_prune.specs.Pruned.{is_gone, AllAmong, AreApart, AreDraftsGone, IsDraftIn, IsGone, IsNone, IsPathAmong, IsPathOf, IsThere, Spares}
 use Rattle.oci_prune.specs.declared.plan.PrunedFile.{PrunedFile}
 use Rattle.oci_prune.proofs.Elements.{next_element, Contains-head, Contains-tail}

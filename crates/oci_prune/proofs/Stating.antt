@@ -24,7 +24,7 @@ use Rattle.oci_store.specs.Keyed.{value_at}
 use Rattle.oci_store.specs.State.{State}
 use Rattle.oci_prune_fault.specs.Faults.{of_manifest}
 use Rattle.oci_prune.specs.Subjects.{States, Referrers, RefersBy, AreReferrers, IsAdded, IsNoted, IsSubjectFault}
-use Rattle.oci_layout.specs.declared.fault.LayoutFault.TheVariants as layout
+use Rattle.oci_layout_store.specs.declared.fault.LayoutFault.TheVariants as layout
 use Rattle.oci_prune_fault.specs.declared.fault.PruneFault.{PruneFault}
 use Rattle.oci_prune_fault.specs.declared.fault.PruneFault.TheVariants as fault
 use Rattle.oci_prune.specs.Typed.{IsOneOf, IsOfTypes, Passes, StatesBy}

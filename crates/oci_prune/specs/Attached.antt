@@ -14,7 +14,7 @@ use Rattle.oci_manifest.specs.MediaTypes.{kind_of}
 use Rattle.oci_store.specs.Content.{Entry}
 use Rattle.oci_store.specs.Graph.{Node}
 use Rattle.oci_store.specs.Tags.{Tags}
-use Rattle.oci_layout.specs.Layout.{is_manifest}
+use Rattle.oci_layout_store.specs.Layout.{is_manifest}
 use Rattle.oci_prune.specs.Plan.{AreHeld}
 use Rattle.oci_prune.specs.Subjects.{Refers, RefersIn, referrers_in}
 use Rattle.oci_prune.specs.declared.attachments.Attachments.{Attachments}

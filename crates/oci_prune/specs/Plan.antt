@@ -11,11 +11,11 @@ use Rattle.oci_manifest.specs.Descriptor.{Descriptor, key_cmp}
 use Rattle.oci_store.specs.Graph.{Node, IsEdge, Reaches}
 use Rattle.oci_store.specs.Keyed.{has_key}
 use Rattle.oci_store.specs.State.{State}
-use Rattle.oci_layout.specs.Blobs.{blob_path}
-use Rattle.oci_layout.specs.Device.{Device, File}
-use Rattle.oci_layout.specs.Layout.{LayoutState}
-use Rattle.oci_layout.specs.Prunable.{HasLength, ListsFiles, by_name}
-use Rattle.oci_layout.specs.Saved.{shadowed_keys}
+use Rattle.oci_layout_store.specs.Blobs.{blob_path}
+use Rattle.oci_dir.specs.Device.{Device, File}
+use Rattle.oci_layout_store.specs.Layout.{LayoutState}
+use Rattle.oci_dir.specs.Prunable.{HasLength, ListsFiles, by_name}
+use Rattle.oci_layout_store.specs.Saved.{shadowed_keys}
 use Rattle.oci_prune.specs.Belongs.{AllKnown, AreMembers}
 use Rattle.oci_prune.specs.Subjects.{Refers}
 use Rattle.oci_prune.specs.declared.plan.PrunedFile.{PrunedFile}

@@ -8,12 +8,12 @@ use Rattle.oci_manifest.specs.Descriptor.{Descriptor, key_cmp}
 use Rattle.oci_store.specs.Content.{Entry}
 use Rattle.oci_store.specs.Graph.{Node, Reaches}
 use Rattle.oci_store.specs.Keyed.{value_at, has_key}
-use Rattle.oci_layout.specs.Blobs.{blob_path, stored, IsSound}
-use Rattle.oci_layout.specs.Crash.{KeepsSettled}
-use Rattle.oci_layout.specs.Device.{Device, File, Same}
-use Rattle.oci_layout.specs.Index.{index_file, HasIndex}
-use Rattle.oci_layout.specs.Layout.{LayoutState, SameMemory}
-use Rattle.oci_layout.specs.Prunable.{by_name, Removes}
+use Rattle.oci_layout_store.specs.Blobs.{blob_path, stored, IsSound}
+use Rattle.oci_layout_store.specs.Keeps.{KeepsSettled}
+use Rattle.oci_dir.specs.Device.{Device, File, Same}
+use Rattle.oci_layout_store.specs.Index.{index_file, HasIndex}
+use Rattle.oci_layout_store.specs.Layout.{LayoutState, SameMemory}
+use Rattle.oci_dir.specs.Prunable.{by_name, Removes}
 use Rattle.oci_prune.specs.Plan.{NeedsFile}
 use Rattle.oci_prune.specs.Refusal.{Notes}
 use Rattle.oci_prune_fault.specs.declared.fault.PruneFault.{PruneFault}

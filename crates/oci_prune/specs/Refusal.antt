@@ -7,13 +7,13 @@ use Rattle.oci_store.specs.Graph.{Node}
 use Rattle.oci_store.specs.Keyed.{has_key, first_missing}
 use Rattle.oci_store.specs.Push.{IsRaised}
 use Rattle.oci_store.specs.State.{State}
-use Rattle.oci_layout.specs.Meaning.{meaning}
-use Rattle.oci_layout.specs.Device.{Device}
-use Rattle.oci_layout.specs.Entries.{IndexEntry, said, unreadable_places}
-use Rattle.oci_layout.specs.Layout.{LayoutState, OpenedIndex, manifests_of}
-use Rattle.oci_layout.specs.Refusal.{IsFirstUnreadable}
-use Rattle.oci_layout.specs.declared.fault.LayoutFault.{LayoutFault}
-use Rattle.oci_layout.specs.declared.fault.LayoutFault.TheVariants as layout
+use Rattle.oci_layout_store.specs.Meaning.{meaning}
+use Rattle.oci_dir.specs.Device.{Device}
+use Rattle.oci_layout_store.specs.Entries.{IndexEntry, said, unreadable_places}
+use Rattle.oci_layout_store.specs.Layout.{LayoutState, OpenedIndex, manifests_of}
+use Rattle.oci_layout_store.specs.Refusal.{IsFirstUnreadable}
+use Rattle.oci_layout_store.specs.declared.fault.LayoutFault.{LayoutFault}
+use Rattle.oci_layout_store.specs.declared.fault.LayoutFault.TheVariants as layout
 use Rattle.oci_prune.specs.Belongs.{IsUnknown}
 use Rattle.oci_prune.specs.Plan.{RefersIf, roots_of}
 use Rattle.oci_prune.specs.Subjects.{IsSubjectFault}

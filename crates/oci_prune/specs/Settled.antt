@@ -4,10 +4,10 @@ use Rattle.oci_store.specs.Closed.{IsClosed}
 use Rattle.oci_store.specs.Content.{Entry}
 use Rattle.oci_store.specs.Graph.{Node}
 use Rattle.oci_store.specs.Tags.{Tags}
-use Rattle.oci_layout.specs.Blobs.{IsSound}
-use Rattle.oci_layout.specs.Crash.{IsLeft}
-use Rattle.oci_layout.specs.Device.{Device, File}
-use Rattle.oci_layout.specs.Lasts.{AreKnown, HasLayout, Lasts}
+use Rattle.oci_layout_store.specs.Blobs.{IsSound}
+use Rattle.oci_dir.specs.Crash.{IsLeft}
+use Rattle.oci_dir.specs.Device.{Device, File}
+use Rattle.oci_layout_store.specs.Lasts.{AreKnown, HasLayout, Lasts}
 
 -- A layout that is saved now may be saved whole: each of its files matches its key, it is closed, and a
 -- layout with these contents and tags lasts. Each key before the place is held there, or its file is on

@@ -15,7 +15,7 @@ use Rattle.oci_store.specs.Keyed.{value_at, has_key}
 use Rattle.oci_store.specs.State.{State}
 use Rattle.oci_store.specs.declared.fault.FetchFault.{FetchFault}
 use Rattle.oci_store.specs.declared.fault.FetchFault.TheVariants as fetch
-use Rattle.oci_layout.specs.declared.fault.LayoutFault.TheVariants as layout
+use Rattle.oci_layout_store.specs.declared.fault.LayoutFault.TheVariants as layout
 use Rattle.oci_prune_fault.specs.declared.fault.PruneFault.{PruneFault}
 use Rattle.oci_prune_fault.specs.declared.fault.PruneFault.TheVariants as fault
 

@@ -1,6 +1,6 @@
 ghost use Rattle.std.specs.Prelude.{◌≡◌, ◌++◌, true, Contains, IfOk, IfErr, OnOk};
 ghost use Rattle.oci_manifest.specs.Descriptor.{Descriptor};
-ghost use Rattle.oci_layout.specs.Meaning.{meaning};
+ghost use Rattle.oci_layout_store.specs.Meaning.{meaning};
 ghost use Rattle.oci_store.specs.Keyed.{has_key};
 ghost use Rattle.oci_store.specs.Tags.{by_bytes};
 ghost use Rattle.oci_prune.specs.Attached.{AreAttachments, AreFollowers, AttachedIn, HasAttached, attached_in, followers_in, stemmed_in, dashed, cut};
@@ -12,7 +12,8 @@ use crate::held::held_keys;
 use crate::referrers::{referrers_by, referrers_of};
 use crate::type_filter::TypeFilter;
 use oci_digest::{Digest, NoMemory};
-use oci_layout::{Dir, Layout};
+use oci_dir::Dir;
+use oci_layout_store::Layout;
 use oci_manifest::{Key, Kind};
 use oci_prune_fault::PruneFault;
 use oci_store::Source;

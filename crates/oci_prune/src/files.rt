@@ -7,7 +7,8 @@ ghost use Rattle.oci_prune.specs.Refusal.{IsDeviceFault};
 
 use crate::plan::PrunedFile;
 use oci_digest::{Digest, NoMemory};
-use oci_layout::{Layout, PrunableDir};
+use oci_dir::PrunableDir;
+use oci_layout_store::Layout;
 use oci_manifest::Key;
 use oci_prune_fault::PruneFault;
 use oci_store::{GraphSource, keys_of_set};

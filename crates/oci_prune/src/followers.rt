@@ -7,7 +7,8 @@ ghost use Rattle.oci_prune.specs.Attached.{AreFollowers, AreIndependent, HasStem
 use crate::held::held_keys;
 use crate::referrers::put;
 use oci_digest::{Digest, NoMemory};
-use oci_layout::{Dir, Layout};
+use oci_dir::Dir;
+use oci_layout_store::Layout;
 use oci_manifest::{Key, Kind};
 use std::alloc::Global;
 use std::collections::{BTreeMap, BTreeSet};

@@ -8,7 +8,8 @@ ghost use Rattle.oci_prune.specs.Plan.{AreHeld, roots_of, roots_with};
 
 use crate::attachments::add_copies;
 use oci_digest::NoMemory;
-use oci_layout::{Dir, Layout};
+use oci_dir::Dir;
+use oci_layout_store::Layout;
 use oci_manifest::Key;
 use oci_prune_fault::PruneFault;
 use oci_store::{Dest, keys_of_set};

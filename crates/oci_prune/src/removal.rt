@@ -1,8 +1,8 @@
 ghost use Rattle.std.specs.Prelude.{◌≡◌, ◌⊎◌, List, None, Some, IfSome, IfOk, length, map, string_bytes};
-ghost use Rattle.oci_layout.specs.Blobs.{blob_path};
-ghost use Rattle.oci_layout.specs.Device.{Same};
-ghost use Rattle.oci_layout.specs.Lasts.{Lasts};
-ghost use Rattle.oci_layout.specs.Prunable.{by_name};
+ghost use Rattle.oci_layout_store.specs.Blobs.{blob_path};
+ghost use Rattle.oci_dir.specs.Device.{Same};
+ghost use Rattle.oci_layout_store.specs.Lasts.{Lasts};
+ghost use Rattle.oci_dir.specs.Prunable.{by_name};
 ghost use Rattle.oci_prune.specs.Pruned.{is_gone, AllAmong, AreApart, AreDraftsGone, IsDraftIn, IsGone, IsNone, IsOfNoEntry, IsOfNoKey, IsPathAmong, IsThere, Removal, RemovesDrafts, RemovesIf, flagged};
 ghost use Rattle.oci_prune.specs.Refusal.{IsNotRemoved};
 ghost use Rattle.oci_store.specs.Content.{Entry};
@@ -10,7 +10,8 @@ ghost use Rattle.oci_store.specs.Tags.{Tags};
 
 use crate::plan::PrunedFile;
 use oci_digest::NoMemory;
-use oci_layout::{Layout, LayoutFault, PrunableDir};
+use oci_dir::PrunableDir;
+use oci_layout_store::{Layout, LayoutFault};
 use oci_prune_fault::PruneFault;
 use std::alloc::Global;
 

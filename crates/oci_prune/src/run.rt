@@ -7,10 +7,10 @@ ghost use Rattle.oci_store.specs.Closed.{IsClosed};
 ghost use Rattle.oci_store.specs.Content.{Entry};
 ghost use Rattle.oci_store.specs.Keyed.{HasAll};
 ghost use Rattle.oci_store.specs.Tags.{Tags};
-ghost use Rattle.oci_layout.specs.Blobs.{IsSound, stored};
-ghost use Rattle.oci_layout.specs.Index.{index_file, HasIndex};
-ghost use Rattle.oci_layout.specs.Lasts.{Lasts};
-ghost use Rattle.oci_layout.specs.Prunable.{by_name};
+ghost use Rattle.oci_layout_store.specs.Blobs.{IsSound, stored};
+ghost use Rattle.oci_layout_store.specs.Index.{index_file, HasIndex};
+ghost use Rattle.oci_layout_store.specs.Lasts.{Lasts};
+ghost use Rattle.oci_dir.specs.Prunable.{by_name};
 ghost use Rattle.oci_prune.specs.Plan.{AreRemoved, AreUnneeded, IsPrunePlan, roots_of};
 ghost use Rattle.oci_prune.specs.Pruned.{is_gone, kept_of, AllAmong, AreDraftsGone, HasOnlyNeeded, IsGone, IsPathAmong, IsPlanned, IsPlannedUnheld, IsSaved, IsTouchedBy, IsTouchedUnsaved, KeepsReached, OnlyIndex, OnSaved, Removal, RemovesDrafts, Spares, StaysOrDrops, flagged};
 ghost use Rattle.oci_prune.specs.Refusal.{IsDeviceFault, IsRemovalFault, MayNotSave};
@@ -19,7 +19,8 @@ ghost use Rattle.oci_prune.specs.Settled.{CanSettle, LeavesOneOf};
 use crate::plan::PrunePlan;
 use crate::removal::{remove_drafts, remove_files};
 use oci_digest::NoMemory;
-use oci_layout::{Layout, PrunableDir};
+use oci_dir::PrunableDir;
+use oci_layout_store::Layout;
 use oci_prune_fault::PruneFault;
 use oci_store::{Dest, Store};
 use std::alloc::Global;
@@ -87,9 +88,9 @@ impl Pruned {
 ///
 /// A power cut at any moment leaves the layout that was saved before, or the pruned one. For that the
 /// saved index has to be on the disk, as after
-/// [`settle_index`](oci_layout::Layout::settle_index). The layout has to hold all that was saved, and
+/// [`settle_index`](oci_layout_store::Layout::settle_index). The layout has to hold all that was saved, and
 /// each file of a key that was not saved has to be on the disk, as after
-/// [`settle_blobs`](oci_layout::Layout::settle_blobs).
+/// [`settle_blobs`](oci_layout_store::Layout::settle_blobs).
 ///
 /// A file that cannot be removed does not keep the others from being removed (tested).
 /// [`Pruned::fault`](crate::Pruned) has the first such fault. If the index cannot be saved,

@@ -1,12 +1,13 @@
 ghost use Rattle.std.specs.Prelude.{◌≡◌, ◌≢◌, [], None, IfOk, IfErr, OnOk};
 ghost use Rattle.std.specs.Option.{option_copied};
 ghost use Rattle.oci_store.specs.Keyed.{first_missing, has_key};
-ghost use Rattle.oci_layout.specs.Entries.{said, unreadable_places};
-ghost use Rattle.oci_layout.specs.Layout.{manifests_of};
+ghost use Rattle.oci_layout_store.specs.Entries.{said, unreadable_places};
+ghost use Rattle.oci_layout_store.specs.Layout.{manifests_of};
 ghost use Rattle.oci_prune.specs.Refusal.{ChecksWhole, IsCheckFault, IsLinkFault};
 
 use oci_digest::NoMemory;
-use oci_layout::{Dir, Layout, PrunableDir};
+use oci_dir::{Dir, PrunableDir};
+use oci_layout_store::Layout;
 use oci_manifest::Key;
 use oci_prune_fault::PruneFault;
 use oci_store::Source;

@@ -14,7 +14,7 @@ use Rattle.std.proofs.iter.Yields.{fronts}
 use Rattle.std.specs.Iterator.Adapters.{zip_first, zip_second}
 use Rattle.std.specs.Vec.Iter.{into_iter_items, into_iter_steps}
 use denote.Param.Members.{Mut}
-use Rattle.oci_layout.specs.Prunable.{by_name}
+use Rattle.oci_dir.specs.Prunable.{by_name}
 use Rattle.oci_prune.specs.Pruned.{flagged}
 use Rattle.oci_prune.specs.declared.plan.PrunedFile.{PrunedFile}
 use Rattle.oci_prune_answer.specs.Pruned.{of_both, of_draft, of_file, shown, NamedFile}

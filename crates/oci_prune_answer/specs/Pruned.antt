@@ -3,8 +3,8 @@ use Rattle.std.specs.Prelude.{◌≡◌, ◌+◌, ◌-◌, ◌^◌, ◌++◌, �
 use Rattle.std.specs.Cmp.Lexicographic.{slice_cmp}
 use Rattle.std.specs.Ordering.{nat_cmp}
 use Rattle.std.specs.Fmt.{decimal}
-use Rattle.oci_layout.specs.Blobs.{blob_path}
-use Rattle.oci_layout.specs.Prunable.{by_name}
+use Rattle.oci_layout_store.specs.Blobs.{blob_path}
+use Rattle.oci_dir.specs.Prunable.{by_name}
 use Rattle.oci_manifest.specs.Descriptor.{Descriptor, key_text}
 use Rattle.oci_prune.specs.Pruned.{flagged}
 use Rattle.oci_prune.specs.declared.plan.PrunedFile.{PrunedFile}

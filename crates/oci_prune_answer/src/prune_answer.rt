@@ -1,7 +1,7 @@
 ghost use Rattle.std.specs.Prelude.{◌≡◌, ◌++◌, ◌-◌, ◌^◌, map, min, string_bytes, sum_by, None, Some, IfOk, IfSome, OnOk};
 ghost use Rattle.std.specs.Fmt.{DisplaysOnOk};
 ghost use Rattle.std.specs.Io.KnownBytes.{Appends};
-ghost use Rattle.oci_layout.specs.Prunable.{by_name};
+ghost use Rattle.oci_dir.specs.Prunable.{by_name};
 ghost use Rattle.oci_prune.specs.Pruned.{flagged};
 ghost use Rattle.oci_prune_answer.specs.Pruned.{as_shown, counts_line, file_line, file_lines, of_draft, of_file, shown, ShowsPlan, ShowsPruned};
 

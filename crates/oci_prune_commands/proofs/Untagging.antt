@@ -5,14 +5,14 @@ use Rattle.std.specs.List.{slice_get}
 use Rattle.std.proofs.lemmas.List.{length-map}
 use Rattle.std.proofs.lemmas.Option.{slice_get-map}
 use Rattle.oci_manifest.specs.Descriptor.{Descriptor}
-use Rattle.oci_layout.specs.Blobs.{stored}
-use Rattle.oci_layout.specs.Brought.{Forgets}
-use Rattle.oci_layout.specs.Device.{Device, Touches}
-use Rattle.oci_layout.specs.Entries.{IndexEntry, entry_of, said}
-use Rattle.oci_layout.specs.Index.{HasIndex, index_file}
-use Rattle.oci_layout.specs.Lasts.{Lasts}
-use Rattle.oci_layout.specs.Layout.{LayoutState}
-use Rattle.oci_layout.specs.declared.index.IndexEntry.{IndexEntry as CodeEntry}
+use Rattle.oci_layout_store.specs.Blobs.{stored}
+use Rattle.oci_layout_store.specs.Brought.{Forgets}
+use Rattle.oci_dir.specs.Device.{Device, Touches}
+use Rattle.oci_layout_store.specs.Entries.{IndexEntry, entry_of, said}
+use Rattle.oci_layout_store.specs.Index.{HasIndex, index_file}
+use Rattle.oci_layout_store.specs.Lasts.{Lasts}
+use Rattle.oci_layout_store.specs.Layout.{LayoutState}
+use Rattle.oci_layout_store.specs.declared.index.IndexEntry.{IndexEntry as CodeEntry}
 use Rattle.oci_program.specs.Opened.{IsOpenedSettled}
 use Rattle.oci_program.specs.declared.fault.ProgramFault.{ProgramFault}
 use Rattle.oci_prune.specs.Settled.{CanSettle}

@@ -1,8 +1,8 @@
 -- The entries of a name.
 use Rattle.std.specs.Prelude.{List, ℕ, Option, filter, map}
 use Rattle.oci_manifest.specs.Descriptor.{Descriptor}
-use Rattle.oci_layout.specs.Entries.{IndexEntry}
-use Rattle.oci_layout.specs.Saved.{is_name}
+use Rattle.oci_layout_store.specs.Entries.{IndexEntry}
+use Rattle.oci_layout_store.specs.Saved.{is_name}
 
 -- the entries with the name
 abbrev pub entries_named : List ℕ → List IndexEntry → List IndexEntry

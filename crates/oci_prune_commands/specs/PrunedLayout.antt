@@ -3,13 +3,13 @@ use Rattle.std.specs.Prelude.{◌≡◌, ◌≢◌, ℕ, List, Bool, true, false
 use Rattle.std.specs.BTreeSet.{contains}
 use Rattle.oci_command_line.specs.declared.changing.PruneWords.{PruneWords}
 use Rattle.oci_manifest.specs.Descriptor.{key_cmp}
-use Rattle.oci_layout.specs.Blobs.{stored}
-use Rattle.oci_layout.specs.Device.{Device, Same}
-use Rattle.oci_layout.specs.Index.{HasIndex}
-use Rattle.oci_layout.specs.Layout.{LayoutState, SameMemory}
-use Rattle.oci_layout.specs.Meaning.{meaning}
-use Rattle.oci_layout.specs.Prunable.{by_name}
-use Rattle.oci_layout.specs.Opened.{IsOpenedAsIs}
+use Rattle.oci_layout_store.specs.Blobs.{stored}
+use Rattle.oci_dir.specs.Device.{Device, Same}
+use Rattle.oci_layout_store.specs.Index.{HasIndex}
+use Rattle.oci_layout_store.specs.Layout.{LayoutState, SameMemory}
+use Rattle.oci_layout_store.specs.Meaning.{meaning}
+use Rattle.oci_dir.specs.Prunable.{by_name}
+use Rattle.oci_layout_store.specs.Opened.{IsOpenedAsIs}
 use Rattle.oci_prune.specs.Plan.{AreKept, IsLeftoverPlan, IsPrunePlan, RefersIf, roots_of}
 use Rattle.oci_prune.specs.Pruned.{flagged, is_gone, kept_of, AreDraftsGone, HasOnlyNeeded, IsTouchedBy, RemovesDrafts}
 use Rattle.oci_prune.specs.declared.plan.PrunePlan.{PrunePlan}

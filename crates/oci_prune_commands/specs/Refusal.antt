@@ -1,7 +1,7 @@
 -- Why a tag is not removed.
 use Rattle.std.specs.Prelude.{ℕ, List}
 use Rattle.oci_store.specs.Tags.{Tags, IsUntagFault}
-use Rattle.oci_layout.specs.declared.fault.LayoutFault.{LayoutFault}
+use Rattle.oci_layout_store.specs.declared.fault.LayoutFault.{LayoutFault}
 use Rattle.oci_program.specs.declared.fault.ProgramFault.{ProgramFault}
 use Rattle.oci_program.specs.declared.fault.ProgramFault.TheVariants as program
 

@@ -1,13 +1,13 @@
 -- What `untag` does to the layout in a directory, and what it answers.
 use Rattle.std.specs.Prelude.{◌≡◌, ◌⊎◌, ◌-◌, ◌++◌, ℕ, List, codes, flat_map, length, slice_get, Option, Some, None}
 use Rattle.oci_manifest.specs.Descriptor.{Descriptor, key_text}
-use Rattle.oci_layout.specs.Blobs.{stored}
-use Rattle.oci_layout.specs.Brought.{Forgets}
-use Rattle.oci_layout.specs.Device.{Device, Touches}
-use Rattle.oci_layout.specs.Entries.{said}
-use Rattle.oci_layout.specs.Index.{HasIndex, index_file}
-use Rattle.oci_layout.specs.Lasts.{Lasts}
-use Rattle.oci_layout.specs.Layout.{LayoutState}
+use Rattle.oci_layout_store.specs.Blobs.{stored}
+use Rattle.oci_layout_store.specs.Brought.{Forgets}
+use Rattle.oci_dir.specs.Device.{Device, Touches}
+use Rattle.oci_layout_store.specs.Entries.{said}
+use Rattle.oci_layout_store.specs.Index.{HasIndex, index_file}
+use Rattle.oci_layout_store.specs.Lasts.{Lasts}
+use Rattle.oci_layout_store.specs.Layout.{LayoutState}
 use Rattle.oci_program.specs.Opened.{IsOpenedSettled}
 use Rattle.oci_prune.specs.Settled.{CanSettle}
 use Rattle.oci_store.specs.Content.{Entry}

@@ -12,7 +12,9 @@ ghost use Rattle.oci_prune_commands.specs.PrunedLayout.{
 };
 
 use oci_command_line::PruneWords;
-use oci_layout::{FolderLock, Layout, Lockable, PrunableDir};
+use oci_dir::PrunableDir;
+use oci_folder::{FolderLock, Lockable};
+use oci_layout_store::Layout;
 use oci_program::{
     Form, Outcome, ProgramFault, check_is_layout, lock_folder, open_settled, print_answer,
 };

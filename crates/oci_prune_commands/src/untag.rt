@@ -15,13 +15,13 @@ ghost use Rattle.std.specs.Prelude.{
 };
 ghost use Rattle.std.specs.Io.KnownBytes.{Appends};
 ghost use Rattle.oci_manifest.specs.Descriptor.{Descriptor};
-ghost use Rattle.oci_layout.specs.Brought.{Forgets};
-ghost use Rattle.oci_layout.specs.Device.{Touches};
-ghost use Rattle.oci_layout.specs.Entries.{entry_of, said, text_of, IndexEntry as EntryOfIndex};
-ghost use Rattle.oci_layout.specs.Index.{index_file, HasIndex};
-ghost use Rattle.oci_layout.specs.Lasts.{Lasts};
-ghost use Rattle.oci_layout.specs.Refusal.{IsSettledFault};
-ghost use Rattle.oci_layout.specs.Saved.{is_name};
+ghost use Rattle.oci_layout_store.specs.Brought.{Forgets};
+ghost use Rattle.oci_dir.specs.Device.{Touches};
+ghost use Rattle.oci_layout_store.specs.Entries.{entry_of, said, text_of, IndexEntry as EntryOfIndex};
+ghost use Rattle.oci_layout_store.specs.Index.{index_file, HasIndex};
+ghost use Rattle.oci_layout_store.specs.Lasts.{Lasts};
+ghost use Rattle.oci_layout_store.specs.Refusal.{IsSettledFault};
+ghost use Rattle.oci_layout_store.specs.Saved.{is_name};
 ghost use Rattle.oci_prune.specs.Settled.{CanSettle, LeavesOneOf};
 ghost use Rattle.oci_store.specs.Content.{Entry};
 ghost use Rattle.oci_store.specs.Tags.{Tags, tag_at, without_tag};
@@ -36,7 +36,9 @@ ghost use Rattle.oci_prune_commands.specs.Untagged.{
 
 use oci_command_line::UntagWords;
 use oci_digest::NoMemory;
-use oci_layout::{Dir, FolderLock, IndexEntry, Layout, Lockable};
+use oci_dir::Dir;
+use oci_folder::{FolderLock, Lockable};
+use oci_layout_store::{IndexEntry, Layout};
 use oci_manifest::Key;
 use oci_program::{
     Form, Outcome, ProgramFault, check_is_layout, lock_folder, open_settled, print_answer,

@@ -1,6 +1,6 @@
 -- The numbers of the faults.
 use Rattle.std.specs.Prelude.{ℕ}
-use Rattle.oci_layout.specs.Numbers.{layout_number}
+use Rattle.oci_layout_store.specs.Numbers.{layout_number}
 use Rattle.oci_prune_fault.specs.declared.fault.PruneFault.{PruneFault}
 use Rattle.oci_prune_fault.specs.declared.fault.PruneFault.TheVariants as fault
 

@@ -3,7 +3,7 @@ ghost use Rattle.oci_prune_fault.specs.Faults.{of_fetch, of_manifest};
 ghost use Rattle.oci_prune_fault.specs.Numbers.{prune_number};
 
 use oci_digest::NoMemory;
-use oci_layout::LayoutFault;
+use oci_layout_store::LayoutFault;
 use oci_manifest::{Key, ManifestFault};
 use oci_store::FetchFault;
 use thiserror::Error;

@@ -5,10 +5,10 @@ use Rattle.std.specs.BTreeSet.{BTreeSet, contains}
 use Rattle.std.specs.List.Sorted.{IsStrictlySortedBy}
 use Rattle.std.proofs.lemmas.List.Kept.{IsStrictlySortedBy-filter}
 use Rattle.std.proofs.lemmas.Map.Views.{btree_set_contains_iff}
-use Rattle.oci_layout.specs.Entries.{entry_of}
-use Rattle.oci_layout.specs.Layout.{OpenedIndex}
-use Rattle.oci_layout.specs.Saved.{unnamed_keys}
-use Rattle.oci_layout.specs.declared.index.IndexEntry.{IndexEntry as CodeEntry}
+use Rattle.oci_layout_store.specs.Entries.{entry_of}
+use Rattle.oci_layout_store.specs.Layout.{OpenedIndex}
+use Rattle.oci_layout_store.specs.Saved.{unnamed_keys}
+use Rattle.oci_layout_store.specs.declared.index.IndexEntry.{IndexEntry as CodeEntry}
 use Rattle.oci_manifest.specs.Descriptor.{Descriptor, key_cmp}
 use Rattle.oci_store.specs.Graph.{Node}
 use Rattle.oci_store.specs.Keyed.{has_key}

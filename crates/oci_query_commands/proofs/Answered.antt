@@ -2,9 +2,9 @@
 use Rattle.std.proofs.Common.{◌≡◌, Bool, true, false, List, [], ◌∷◌, take, refl, sym, subst}
 use Rattle.std.specs.List.{All}
 use Rattle.std.proofs.lemmas.List.Elements.{All-filter, All-head, All-nil, filter_passes}
-use Rattle.oci_layout.specs.Device.{Device}
-use Rattle.oci_layout.specs.Layout.{OpenedIndex, is_manifest, manifests_of}
-use Rattle.oci_layout.specs.Opened.{IsOpenedAsIs, is_damaged}
+use Rattle.oci_dir.specs.Device.{Device}
+use Rattle.oci_layout_store.specs.Layout.{OpenedIndex, is_manifest, manifests_of}
+use Rattle.oci_layout_store.specs.Opened.{IsOpenedAsIs, is_damaged}
 use Rattle.oci_manifest.specs.Descriptor.{Descriptor}
 use Rattle.oci_manifest.specs.MediaTypes.{kind_of}
 use Rattle.oci_store.specs.Graph.{Node}

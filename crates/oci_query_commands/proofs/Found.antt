@@ -10,9 +10,9 @@ use Rattle.std.proofs.lemmas.List.Elements.{All-head, All-tail, Contains-get_or}
 use Rattle.std.proofs.lemmas.Map.Views.{lookup-from_Contains}
 use Rattle.std.proofs.lemmas.Option.{same_Some, slice_get-get_or}
 use Rattle.std.proofs.lemmas.Slice.Eq.{bytes_eq-Decides}
-use Rattle.oci_layout.specs.Entries.{IndexEntry, entry_of, text_of}
-use Rattle.oci_layout.specs.Saved.{is_name, is_place, last_place, later_place}
-use Rattle.oci_layout.specs.declared.index.IndexEntry.{IndexEntry as CodeEntry}
+use Rattle.oci_layout_store.specs.Entries.{IndexEntry, entry_of, text_of}
+use Rattle.oci_layout_store.specs.Saved.{is_name, is_place, last_place, later_place}
+use Rattle.oci_layout_store.specs.declared.index.IndexEntry.{IndexEntry as CodeEntry}
 use Rattle.oci_manifest.specs.Descriptor.{Descriptor, is_among, key_cmp, same_key}
 use Rattle.oci_store.specs.Closed.{IsClosed, missing_successor_in, with_predecessor}
 use Rattle.oci_store.specs.Graph.{Node}

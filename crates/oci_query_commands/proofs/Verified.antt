@@ -6,12 +6,12 @@ use Rattle.std.specs.List.{All, filter}
 use Rattle.std.specs.Option.{unwrap_or}
 use Rattle.std.proofs.lemmas.Bool.{cases_Bool}
 use Rattle.std.proofs.lemmas.List.Elements.{All-nil, All-cons, All-head, All-tail, All-weaker, All-contains_itself, Contains-append_left, Contains-push}
-use Rattle.oci_layout.specs.Blobs.{blob_path, blob_at, HasMatchingFiles}
-use Rattle.oci_layout.specs.Device.{Device, File}
-use Rattle.oci_layout.specs.Layout.{OpenedIndex}
-use Rattle.oci_layout.specs.Opened.{IsOpenedAsIs}
-use Rattle.oci_layout.proofs.Loose.{no_element}
-use Rattle.oci_layout.proofs.Walk.{held_there}
+use Rattle.oci_layout_store.specs.Blobs.{blob_path, blob_at, HasMatchingFiles}
+use Rattle.oci_dir.specs.Device.{Device, File}
+use Rattle.oci_layout_store.specs.Layout.{OpenedIndex}
+use Rattle.oci_layout_store.specs.Opened.{IsOpenedAsIs}
+use Rattle.oci_layout_store.proofs.Loose.{no_element}
+use Rattle.oci_layout_store.proofs.Walk.{held_there}
 use Rattle.oci_manifest.specs.Descriptor.{Descriptor, Matches, is_among, key_cmp}
 use Rattle.oci_prune.proofs.Leaving.{held_from_node}
 use Rattle.oci_store.specs.Graph.{Node}

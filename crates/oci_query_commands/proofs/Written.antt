@@ -3,9 +3,9 @@ use Rattle.std.proofs.Common.{◌≡◌, ℕ, ◌-◌, Bool, true, false, inl, i
 use Rattle.std.specs.Prelude.{IfErr, IsSome, OnOk}
 use Rattle.std.specs.Io.KnownBytes.{Appends, Keeps}
 use Rattle.std.specs.Option.{unwrap_or}
-use Rattle.oci_layout.specs.Blobs.{blob_at, blob_path, IsFetch, IsNotOf}
-use Rattle.oci_layout.specs.Device.{Device}
-use Rattle.oci_layout.proofs.Stored.{has_key-stored}
+use Rattle.oci_layout_store.specs.Blobs.{blob_at, blob_path, IsFetch, IsNotOf}
+use Rattle.oci_dir.specs.Device.{Device}
+use Rattle.oci_layout_store.proofs.Stored.{has_key-stored}
 use Rattle.oci_manifest.specs.Descriptor.{Descriptor, Matches}
 use Rattle.oci_store.specs.Graph.{Node}
 use Rattle.oci_store.specs.declared.fault.FetchFault.{FetchFault}

@@ -3,10 +3,10 @@ use Rattle.std.specs.Prelude.{◌≡◌, Bool, true, false, List, []}
 use Rattle.std.specs.List.{All}
 use Rattle.oci_command_line.specs.declared.request.Query.{Query}
 use Rattle.oci_command_line.specs.declared.request.Query.TheVariants as query
-use Rattle.oci_layout.specs.Device.{Device}
-use Rattle.oci_layout.specs.Entries.{said, unreadable_places}
-use Rattle.oci_layout.specs.Layout.{OpenedIndex, manifests_of}
-use Rattle.oci_layout.specs.Opened.{IsOpenedAsIs, is_damaged}
+use Rattle.oci_dir.specs.Device.{Device}
+use Rattle.oci_layout_store.specs.Entries.{said, unreadable_places}
+use Rattle.oci_layout_store.specs.Layout.{OpenedIndex, manifests_of}
+use Rattle.oci_layout_store.specs.Opened.{IsOpenedAsIs, is_damaged}
 use Rattle.oci_store.specs.Graph.{Node}
 use Rattle.oci_store.specs.Tags.{Tags}
 use Rattle.oci_manifest.specs.Descriptor.{Descriptor}

@@ -1,10 +1,10 @@
 -- What `verify` finds.
 use Rattle.std.specs.Prelude.{◌≡◌, ◌+◌, ◌-◌, ◌^◌, ◌||◌, ◌++◌, ◌∷◌, ℕ, Bool, if◌then◌else◌, not, min, List, [], length, map, filter, find, Option, Some, None, option_map, string_bytes}
 use Rattle.std.specs.List.{list_any}
-use Rattle.oci_layout.specs.Device.{Device}
-use Rattle.oci_layout.specs.Entries.{IndexEntry, said}
-use Rattle.oci_layout.specs.Layout.{OpenedIndex}
-use Rattle.oci_layout.specs.Saved.{is_name}
+use Rattle.oci_dir.specs.Device.{Device}
+use Rattle.oci_layout_store.specs.Entries.{IndexEntry, said}
+use Rattle.oci_layout_store.specs.Layout.{OpenedIndex}
+use Rattle.oci_layout_store.specs.Saved.{is_name}
 use Rattle.oci_manifest.specs.Descriptor.{Descriptor, is_among}
 use Rattle.oci_store.specs.Closed.{with_predecessor}
 use Rattle.oci_store.specs.Graph.{Node}

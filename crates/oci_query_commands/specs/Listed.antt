@@ -2,9 +2,9 @@
 use Rattle.std.specs.Prelude.{◌≡◌, ◌≢◌, ◌↔◌, ◌++◌, ℕ, Bool, true, false, List, [], map, Option, Some, None, option_map, string_bytes, Contains}
 use Rattle.std.specs.List.Sorted.{IsStrictlySortedBy}
 use Rattle.std.specs.Map.{keys_of}
-use Rattle.oci_layout.specs.Entries.{said}
-use Rattle.oci_layout.specs.Layout.{OpenedIndex}
-use Rattle.oci_layout.specs.Saved.{unnamed_keys}
+use Rattle.oci_layout_store.specs.Entries.{said}
+use Rattle.oci_layout_store.specs.Layout.{OpenedIndex}
+use Rattle.oci_layout_store.specs.Saved.{unnamed_keys}
 use Rattle.oci_manifest.specs.Descriptor.{Descriptor, key_cmp}
 use Rattle.oci_store.specs.Before.{IsBefore}
 use Rattle.oci_store.specs.Graph.{Node, IsEdge}

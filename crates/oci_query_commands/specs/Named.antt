@@ -4,8 +4,8 @@ use Rattle.std.specs.Map.{keys_of}
 use Rattle.oci_manifest.specs.Descriptor.{Descriptor}
 use Rattle.oci_store.specs.Graph.{Node}
 use Rattle.oci_store.specs.Tags.{Tags}
-use Rattle.oci_layout.specs.Device.{Device}
-use Rattle.oci_layout.specs.Layout.{LayoutState}
+use Rattle.oci_dir.specs.Device.{Device}
+use Rattle.oci_layout_store.specs.Layout.{LayoutState}
 use Rattle.oci_reference.specs.Platform.{first_for, listed_by, IsPickFault}
 use Rattle.oci_reference.specs.Reference.{IsReferenceFault, Names}
 use Rattle.oci_program.specs.declared.fault.ProgramFault.{ProgramFault}

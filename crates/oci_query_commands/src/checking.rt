@@ -1,6 +1,7 @@
 ghost use Rattle.std.specs.Prelude.{◌≡◌, ◌≤◌, ℕ, None, Some};
 
-use oci_layout::{Dir, Layout};
+use oci_dir::Dir;
+use oci_layout_store::Layout;
 use oci_progress::{Amount, ProgressLine};
 use oci_store::{Dest, PartWatcher};
 use oci_verify::FileWatcher;

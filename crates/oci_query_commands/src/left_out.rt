@@ -1,9 +1,10 @@
 ghost use Rattle.std.specs.Prelude.{◌≡◌, ◌≢◌, true, None, [], IfSome, OnOk};
 ghost use Rattle.std.specs.Io.KnownBytes.{Appends};
-ghost use Rattle.oci_layout.specs.Layout.{manifests_of};
+ghost use Rattle.oci_layout_store.specs.Layout.{manifests_of};
 ghost use Rattle.oci_query_commands.specs.Answered.{AreReadable, AreUndamaged, LeavesNothingOut};
 
-use oci_layout::{Dir, Layout, LayoutFault, unreadable_entry};
+use oci_dir::Dir;
+use oci_layout_store::{Layout, LayoutFault, unreadable_entry};
 use oci_manifest::Key;
 use oci_program::{Ending, Form, Outcome, ProgramFault, print_answer};
 use serde::Serialize;

@@ -1,5 +1,5 @@
 ghost use Rattle.std.specs.Prelude.{◌≡◌, ◌∷◌, ◌++◌, [], map, filter, Some, option_copied, IfErr, IfOk, OnOk};
-ghost use Rattle.oci_layout.specs.Meaning.{meaning};
+ghost use Rattle.oci_layout_store.specs.Meaning.{meaning};
 ghost use Rattle.oci_store.specs.Keyed.{has_key};
 ghost use Rattle.oci_store.specs.Tags.{by_bytes};
 ghost use Rattle.oci_query_commands.specs.Listed.{listing_of, named_listing, unnamed_listing, ArePredecessors, ArePredecessorsOf, AreTags};
@@ -7,7 +7,8 @@ ghost use Rattle.oci_query_commands.specs.Named.{IsNamed, IsNamedFault};
 
 use crate::named::named_key;
 use oci_digest::NoMemory;
-use oci_layout::{Dir, Layout, unnamed_keys};
+use oci_dir::Dir;
+use oci_layout_store::{Layout, unnamed_keys};
 use oci_manifest::Key;
 use oci_program::ProgramFault;
 use oci_prune::referrers_of_types;

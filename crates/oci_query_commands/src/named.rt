@@ -3,7 +3,8 @@ ghost use Rattle.oci_store.specs.Keyed.{has_key};
 ghost use Rattle.oci_reference.specs.Platform.{IsPickFault};
 ghost use Rattle.oci_query_commands.specs.Named.{IsFirstFor, IsNamed, IsNamedFault};
 
-use oci_layout::{Dir, Layout};
+use oci_dir::Dir;
+use oci_layout_store::Layout;
 use oci_manifest::Key;
 use oci_program::ProgramFault;
 use oci_reference::{pick_platform, resolve};

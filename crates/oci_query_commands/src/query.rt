@@ -1,5 +1,5 @@
 ghost use Rattle.std.specs.Prelude.{◌≡◌, ◌↔◌, true, map, option_copied, IfOk, OnOk};
-ghost use Rattle.oci_layout.specs.Meaning.{meaning};
+ghost use Rattle.oci_layout_store.specs.Meaning.{meaning};
 ghost use Rattle.oci_query_commands.specs.Answered.{is_of_all, IsReadable, LeavesNothingOut};
 ghost use Rattle.oci_query_commands.specs.Found.{AreFindings};
 ghost use Rattle.oci_verify.specs.Intact.{HasFiles};
@@ -17,7 +17,8 @@ use crate::named::named_key;
 use crate::tree::{Labels, Tree};
 use crate::verify::verify;
 use oci_command_line::Query;
-use oci_layout::{Dir, Layout};
+use oci_dir::Dir;
+use oci_layout_store::Layout;
 use oci_manifest::Key;
 use oci_program::{Form, Outcome, ProgramFault, print_answer};
 use std::alloc::Global;
@@ -42,7 +43,7 @@ use std::time::Clock;
 /// `err` has the refusals of all but the last, which is returned; as JSON, the first is returned, and
 /// no other is told.
 ///
-/// - 70 to 74, as from [`oci_layout::Layout::open_as_is`].
+/// - 70 to 74, as from [`oci_layout_store::Layout::open_as_is`].
 /// - 73 `BadIndex` with 14 `BadDescriptor("manifests", place)` for the entry at this place of the
 ///   index, which is no descriptor: of `tags`, `predecessors`, `tree` with referrers, and `verify`
 ///   after the answer, and if it is the last one of the name that is the reference.

@@ -1,4 +1,5 @@
-use oci_layout::{Dir, Layout};
+use oci_dir::Dir;
+use oci_layout_store::Layout;
 use oci_manifest::Key;
 use oci_plan::climb;
 use oci_program::ProgramFault;

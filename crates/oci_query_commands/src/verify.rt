@@ -1,8 +1,8 @@
 ghost use Rattle.std.specs.Prelude.{◌≡◌, ◌↔◌, ◌++◌, ◌∷◌, [], not, filter, flat_map, map, None, Some, option_and_then, option_map, string_bytes, IfOk, OnOk};
 ghost use Rattle.std.specs.BTreeSet.{contains};
 ghost use Rattle.std.specs.Fmt.{WritesOnOk};
-ghost use Rattle.oci_layout.specs.Entries.{entry_of, text_of};
-ghost use Rattle.oci_layout.specs.Saved.{is_place, last_place};
+ghost use Rattle.oci_layout_store.specs.Entries.{entry_of, text_of};
+ghost use Rattle.oci_layout_store.specs.Saved.{is_place, last_place};
 ghost use Rattle.oci_manifest.specs.Descriptor.{key_cmp};
 ghost use Rattle.oci_store.specs.Keyed.{value_at};
 ghost use Rattle.oci_query_commands.specs.Found.{first_without_file, has_file, pair_of, shadowed_in, tagged_if, tagged_of, without_file, AreFindings};
@@ -11,7 +11,8 @@ ghost use Rattle.oci_query_commands.specs.Verified.{FindsNothing};
 
 use crate::checking::{Progress, number_of_workers};
 use oci_digest::NoMemory;
-use oci_layout::{Dir, IndexEntry, Layout, Names};
+use oci_dir::Dir;
+use oci_layout_store::{IndexEntry, Layout, Names};
 use oci_manifest::Key;
 use oci_program::{Outcome, ProgramFault, Tagged};
 use oci_store::{Dest, GraphSource};

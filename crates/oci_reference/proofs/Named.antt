@@ -13,10 +13,10 @@ use Rattle.std.proofs.lemmas.Slice.Eq.{bytes_eq-Decides}
 use Rattle.oci_manifest.specs.Descriptor.{Descriptor, key_cmp}
 use Rattle.oci_store.specs.Tags.{IsLeastOf, IsLeastWith}
 use Rattle.oci_store.proofs.KeyOrder.{key_cmp_total}
-use Rattle.oci_layout.specs.Entries.{IndexEntry, entry_of}
-use Rattle.oci_layout.specs.Saved.{is_name, last_place, later_place}
-use Rattle.oci_layout.specs.declared.index.IndexEntry.{IndexEntry as CodeEntry}
-use Rattle.oci_layout.proofs.LastNames.{entries-more, later_place-cond, later_place-none, length-entries}
+use Rattle.oci_layout_store.specs.Entries.{IndexEntry, entry_of}
+use Rattle.oci_layout_store.specs.Saved.{is_name, last_place, later_place}
+use Rattle.oci_layout_store.specs.declared.index.IndexEntry.{IndexEntry as CodeEntry}
+use Rattle.oci_layout_store.proofs.LastNames.{entries-more, later_place-cond, later_place-none, length-entries}
 use Rattle.oci_reference.specs.Reference.{comes_first}
 
 -- ---- the last entry with a name

@@ -13,8 +13,8 @@ use Rattle.oci_store.specs.Keyed.{has_key}
 use Rattle.oci_store.specs.Tags.{by_bytes, tag_at, IsLeastWith}
 use Rattle.oci_store.proofs.Lookups.{has_key-from_Contains}
 use Rattle.oci_store.proofs.Membership.{Contains-from_among, among_from_Contains, among-filter, among_filter_from}
-use Rattle.oci_layout.specs.Layout.{is_manifest, manifests_of}
-use Rattle.oci_layout.proofs.Loose.{keys-more}
+use Rattle.oci_layout_store.specs.Layout.{is_manifest, manifests_of}
+use Rattle.oci_layout_store.proofs.Loose.{keys-more}
 use Rattle.oci_reference.specs.Reference.{IsNamedBy}
 
 -- ---- manifests among keys

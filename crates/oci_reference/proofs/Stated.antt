@@ -17,10 +17,10 @@ use Rattle.oci_manifest.specs.MediaTypes.{kind_of}
 use Rattle.oci_manifest.specs.Reading.{reading}
 use Rattle.oci_store.specs.Graph.{Node}
 use Rattle.oci_store.specs.Keyed.{value_at}
-use Rattle.oci_layout.specs.Blobs.{stored}
-use Rattle.oci_layout.specs.Device.{File}
-use Rattle.oci_layout.proofs.Members.{AtMost, get-depth}
-use Rattle.oci_layout.proofs.Texts.{utf8_read}
+use Rattle.oci_layout_store.specs.Blobs.{stored}
+use Rattle.oci_dir.specs.Device.{File}
+use Rattle.oci_layout_store.proofs.Members.{AtMost, get-depth}
+use Rattle.oci_layout_store.proofs.Texts.{utf8_read}
 use Rattle.oci_reference.specs.Platform.{first_for, is_index, key_for, listed_by, manifests_in, picked_of, platform_of, platforms_after, with_platform}
 use Rattle.oci_reference.specs.declared.platform.Picked.{Picked}
 

@@ -15,12 +15,12 @@ use Rattle.oci_manifest.specs.declared.kind.Kind.TheVariants.{Index, DockerList}
 use Rattle.oci_manifest.specs.declared.fault.ManifestFault.TheVariants as manifest
 use Rattle.oci_store.specs.Graph.{Node}
 use Rattle.oci_store.specs.Keyed.{has_key, value_at}
-use Rattle.oci_layout.specs.Blobs.{blob_path, stored, IsFetch, IsNotOf}
-use Rattle.oci_layout.specs.Device.{Device, File}
-use Rattle.oci_layout.specs.Entries.{IndexEntry, name_of}
-use Rattle.oci_layout.specs.Opened.{is_damaged}
-use Rattle.oci_layout.specs.Refusal.{IsDamageFault}
-use Rattle.oci_layout.specs.declared.fault.LayoutFault.TheVariants as layout
+use Rattle.oci_layout_store.specs.Blobs.{blob_path, stored, IsFetch, IsNotOf}
+use Rattle.oci_dir.specs.Device.{Device, File}
+use Rattle.oci_layout_store.specs.Entries.{IndexEntry, name_of}
+use Rattle.oci_layout_store.specs.Opened.{is_damaged}
+use Rattle.oci_layout_store.specs.Refusal.{IsDamageFault}
+use Rattle.oci_layout_store.specs.declared.fault.LayoutFault.TheVariants as layout
 use Rattle.oci_store.specs.declared.fault.FetchFault.{FetchFault}
 use Rattle.oci_prune_fault.specs.declared.fault.PruneFault.TheVariants as prune
 use Rattle.oci_program.specs.declared.fault.ProgramFault.{ProgramFault}

@@ -10,13 +10,13 @@ use Rattle.oci_store.specs.Graph.{Node}
 use Rattle.oci_store.specs.Tags.{Tags, IsLeastOf, IsLeastWith, Resolves, tag_at}
 use Rattle.oci_store.specs.declared.fault.RefFault.{RefFault}
 use Rattle.oci_store.specs.declared.fault.RefFault.TheVariants as reference
-use Rattle.oci_layout.specs.Device.{Device}
-use Rattle.oci_layout.specs.Entries.{IndexEntry, said}
-use Rattle.oci_layout.specs.Layout.{LayoutState, OpenedIndex, manifests_of}
-use Rattle.oci_layout.specs.Opened.{is_damaged}
-use Rattle.oci_layout.specs.Refusal.{IsDamageFault, IsUnreadable}
-use Rattle.oci_layout.specs.Saved.{last_entry, last_place}
-use Rattle.oci_layout.specs.declared.fault.LayoutFault.{LayoutFault}
+use Rattle.oci_dir.specs.Device.{Device}
+use Rattle.oci_layout_store.specs.Entries.{IndexEntry, said}
+use Rattle.oci_layout_store.specs.Layout.{LayoutState, OpenedIndex, manifests_of}
+use Rattle.oci_layout_store.specs.Opened.{is_damaged}
+use Rattle.oci_layout_store.specs.Refusal.{IsDamageFault, IsUnreadable}
+use Rattle.oci_layout_store.specs.Saved.{last_entry, last_place}
+use Rattle.oci_layout_store.specs.declared.fault.LayoutFault.{LayoutFault}
 use Rattle.oci_program.specs.declared.fault.ProgramFault.{ProgramFault}
 use Rattle.oci_program.specs.declared.fault.ProgramFault.TheVariants as fault
 

@@ -6,7 +6,7 @@ ghost use Rattle.serde_json.specs.View.{view, items_view};
 ghost use Rattle.oci_manifest.specs.MediaTypes.{kind_of};
 ghost use Rattle.oci_manifest.specs.Reading.{reading};
 ghost use Rattle.oci_store.specs.Keyed.{has_key};
-ghost use Rattle.oci_layout.specs.Entries.{entry_of, name_of, text_of};
+ghost use Rattle.oci_layout_store.specs.Entries.{entry_of, name_of, text_of};
 ghost use Rattle.oci_reference.specs.Platform.{
   entry_for,
   first_for,
@@ -32,7 +32,8 @@ ghost use Rattle.oci_reference.specs.Platform.{
 };
 
 use oci_digest::NoMemory;
-use oci_layout::{Dir, IndexEntry, Layout, LayoutFault};
+use oci_dir::Dir;
+use oci_layout_store::{IndexEntry, Layout, LayoutFault};
 use oci_manifest::{Key, Kind, ManifestFault, key_of, read_json};
 use oci_program::ProgramFault;
 use oci_prune_fault::PruneFault;
@@ -95,7 +96,7 @@ fn name_of(alloc: Global, descriptor: &Value) -> Result<Option<String>, NoMemory
 }
 
 /// Returns the annotation of a descriptor that names it in an index.
-#[tactic(auto, unfolding(oci_layout::specs::Entries::name_of))]
+#[tactic(auto, unfolding(oci_layout_store::specs::Entries::name_of))]
 fn stated_name<'v>(descriptor: &'v Value) -> Option<&'v str>
     ensures { option_copied result ≡ name_of (view descriptor.now) }
 {

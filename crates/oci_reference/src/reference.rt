@@ -7,13 +7,14 @@ ghost use Rattle.oci_digest.specs.Digest.{is_digest};
 ghost use Rattle.oci_manifest.specs.MediaTypes.{kind_of};
 ghost use Rattle.oci_store.specs.Keyed.{has_key};
 ghost use Rattle.oci_store.specs.Tags.{tag_at, IsLeastOf, Resolves};
-ghost use Rattle.oci_layout.specs.Entries.{entry_of, said, text_of};
-ghost use Rattle.oci_layout.specs.Layout.{is_manifest, manifests_of};
-ghost use Rattle.oci_layout.specs.Saved.{is_name, last_entry, last_place};
+ghost use Rattle.oci_layout_store.specs.Entries.{entry_of, said, text_of};
+ghost use Rattle.oci_layout_store.specs.Layout.{is_manifest, manifests_of};
+ghost use Rattle.oci_layout_store.specs.Saved.{is_name, last_entry, last_place};
 ghost use Rattle.oci_reference.specs.Reference.{comes_first, damaged_in, last_key, IsReferenceFault, IsUnresolved, Names, NamesDamaged, NamesUnreadable};
 
 use oci_digest::{Digest, NoMemory};
-use oci_layout::{Dir, IndexEntry, Layout, unreadable_entry};
+use oci_dir::Dir;
+use oci_layout_store::{IndexEntry, Layout, unreadable_entry};
 use oci_manifest::{Key, Kind};
 use oci_program::ProgramFault;
 use oci_store::{Dest, RefFault, Tagger};

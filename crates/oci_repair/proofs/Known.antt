@@ -5,11 +5,11 @@ use Rattle.std.specs.List.{All, filter}
 use Rattle.std.specs.Option.{unwrap_or}
 use Rattle.std.proofs.lemmas.Bool.{cases_Bool, eq-eqb}
 use Rattle.std.proofs.lemmas.List.Elements.{All-nil, All-cons}
-use Rattle.oci_layout.specs.Blobs.{blob_at, blob_path}
-use Rattle.oci_layout.specs.Device.{File}
-use Rattle.oci_layout.specs.Layout.{OpenedIndex}
-use Rattle.oci_layout.specs.Opened.{is_damaged, is_right, is_whole, listed_in, IsOpenedAsIs}
-use Rattle.oci_layout.proofs.Walk.{held_sound}
+use Rattle.oci_layout_store.specs.Blobs.{blob_at, blob_path}
+use Rattle.oci_dir.specs.Device.{File}
+use Rattle.oci_layout_store.specs.Layout.{OpenedIndex}
+use Rattle.oci_layout_store.specs.Opened.{is_damaged, is_right, is_whole, listed_in, IsOpenedAsIs}
+use Rattle.oci_layout_store.proofs.Walk.{held_sound}
 use Rattle.oci_manifest.specs.Descriptor.{Descriptor, is_among}
 use Rattle.oci_manifest.specs.MediaTypes.{kind_of}
 use Rattle.oci_manifest.specs.declared.kind.Kind.{Kind}

@@ -13,11 +13,11 @@ use Rattle.std.proofs.lemmas.Map.Text.{is_eq-slice_cmp}
 use Rattle.std.proofs.lemmas.Slice.Eq.{bytes_eq-Decides}
 use Rattle.oci_digest.specs.Digest.{Verifies}
 use Rattle.oci_digest.proofs.DigestLemmas.{IsDigest-from_Verifies}
-use Rattle.oci_layout.specs.Blobs.{blob_path}
-use Rattle.oci_layout.specs.Device.{Device, File}
-use Rattle.oci_layout.specs.declared.fault.DirFault.{DirFault}
-use Rattle.oci_layout.specs.Layout.{LayoutState, SameMemory}
-use Rattle.oci_layout.proofs.Stored.{blob_path-injective}
+use Rattle.oci_layout_store.specs.Blobs.{blob_path}
+use Rattle.oci_dir.specs.Device.{Device, File}
+use Rattle.oci_dir.specs.declared.fault.DirFault.{DirFault}
+use Rattle.oci_layout_store.specs.Layout.{LayoutState, SameMemory}
+use Rattle.oci_layout_store.proofs.Stored.{blob_path-injective}
 use Rattle.oci_manifest.specs.Descriptor.{Descriptor}
 use Rattle.oci_repair.specs.Fault.{IsMendFault}
 use Rattle.oci_repair.specs.Repaired.{size_in, ArePut, HasMatch, IsOldOrMatch, IsOldOrOf}

@@ -5,8 +5,8 @@ use Rattle.std.specs.List.{All}
 use Rattle.std.proofs.lemmas.Grind.{flat_map-append}
 use Rattle.std.proofs.lemmas.Bool.{cases_Bool}
 use Rattle.std.proofs.lemmas.List.{length-map, length-take-le, map-append, take-append-drop, take_more}
-use Rattle.oci_layout.specs.Device.{File}
-use Rattle.oci_layout.specs.Opened.{listed_in}
+use Rattle.oci_dir.specs.Device.{File}
+use Rattle.oci_layout_store.specs.Opened.{listed_in}
 use Rattle.oci_manifest.specs.Descriptor.{Descriptor}
 use Rattle.oci_repair.specs.Planned.{links_of, place_of}
 use Rattle.oci_repair.specs.Whole.{has_whole, lists_in, place_in}

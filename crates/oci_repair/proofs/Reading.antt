@@ -5,8 +5,8 @@ use Rattle.std.proofs.lemmas.List.{length-append, length-drop, length-take}
 use Rattle.std.proofs.lemmas.Option.{same_Some}
 use Rattle.oci_digest.specs.Digest.{Verifies}
 use Rattle.oci_digest.specs.declared.hasher.Hasher.{Hasher}
-use Rattle.oci_layout.specs.Blobs.{IsNotOf}
-use Rattle.oci_layout.specs.Device.{part_in}
+use Rattle.oci_layout_store.specs.Blobs.{IsNotOf}
+use Rattle.oci_dir.specs.Device.{part_in}
 use Rattle.oci_manifest.specs.Descriptor.{Descriptor}
 use Rattle.oci_store.specs.Content.{Matches}
 use Rattle.oci_store.specs.Parts.{IsPart, IsReading}

@@ -3,8 +3,8 @@ use Rattle.std.proofs.Common.{◌≡◌, ℕ, zero, suc, ◌+◌, ◌<◌, ◌�
 use Rattle.std.specs.List.{slice_get}
 use Rattle.std.proofs.lemmas.List.{take_more, take-append-le}
 use Rattle.std.proofs.lemmas.Option.{get_or_from_slice_get, slice_get_within}
-use Rattle.oci_layout.specs.Opened.{any}
-use Rattle.oci_layout.proofs.Walk.{take_next}
+use Rattle.oci_layout_store.specs.Opened.{any}
+use Rattle.oci_layout_store.proofs.Walk.{take_next}
 use Rattle.oci_manifest.specs.Descriptor.{Descriptor}
 use Rattle.oci_manifest.specs.Manifest.{first_places}
 use Rattle.oci_store.specs.Visiting.{candidates, next_visit, with_keys, IsVisiting, start, next}

@@ -13,9 +13,9 @@ use Rattle.oci_store.specs.Push.{Refusal, content_check}
 use Rattle.oci_store.proofs.Checks.{content_check-ok, push_check-fresh}
 use Rattle.oci_store.proofs.Contents.{IsNew-from_check}
 use Rattle.oci_store.proofs.Leaves.{IsChecked-leaf}
-use Rattle.oci_layout.specs.Blobs.{blob_path, IsNotOf}
-use Rattle.oci_layout.specs.Device.{File}
-use Rattle.oci_layout.specs.Opened.{is_damaged, is_right, is_there, is_whole}
+use Rattle.oci_layout_store.specs.Blobs.{blob_path, IsNotOf}
+use Rattle.oci_dir.specs.Device.{File}
+use Rattle.oci_layout_store.specs.Opened.{is_damaged, is_right, is_there, is_whole}
 use Rattle.oci_repair.specs.Whole.{has_whole}
 
 checked : (k : Descriptor) (bytes : List ℕ) (r : Result (List Descriptor) Refusal) → content_check k bytes ≡ r → is_ok r ≡ true → Matches k bytes

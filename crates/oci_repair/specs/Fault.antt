@@ -1,8 +1,8 @@
 -- Why a layout is not repaired.
 use Rattle.std.specs.Prelude.{◌≡◌, ◌⊎◌, ℕ, true, List, Contains}
-use Rattle.oci_layout.specs.Device.{Device}
-use Rattle.oci_layout.specs.declared.fault.DirFault.{DirFault}
-use Rattle.oci_layout.specs.declared.fault.DirFault.TheVariants as dir
+use Rattle.oci_dir.specs.Device.{Device}
+use Rattle.oci_dir.specs.declared.fault.DirFault.{DirFault}
+use Rattle.oci_dir.specs.declared.fault.DirFault.TheVariants as dir
 use Rattle.oci_manifest.specs.Descriptor.{Descriptor}
 use Rattle.oci_repair.specs.declared.fault.RepairFault.{RepairFault}
 use Rattle.oci_repair.specs.declared.fault.RepairFault.TheVariants as fault

@@ -1,7 +1,7 @@
 -- The plan of a repair.
 use Rattle.std.specs.Prelude.{◌≡◌, ℕ, zero, suc, Bool, true, false, List, [], ◌∷◌, length, flat_map, Option, None, Some}
-use Rattle.oci_layout.specs.Device.{File}
-use Rattle.oci_layout.specs.Opened.{listed_in}
+use Rattle.oci_dir.specs.Device.{File}
+use Rattle.oci_layout_store.specs.Opened.{listed_in}
 use Rattle.oci_manifest.specs.Descriptor.{Descriptor}
 use Rattle.oci_store.specs.Graph.{Node}
 use Rattle.oci_store.specs.Keyed.{value_at}

@@ -1,7 +1,7 @@
 -- The directories of a repair: that of the layout, and those of its sources.
 use Rattle.std.specs.Prelude.{◌≡◌, true, List, ◌∷◌, map, Contains}
 use Rattle.std.specs.List.{All}
-use Rattle.oci_layout.specs.Device.{Device, File}
+use Rattle.oci_dir.specs.Device.{Device, File}
 use Rattle.oci_repair.specs.declared.source.RepairSource.{RepairSource}
 use Rattle.oci_repair.specs.declared.source.RepairSource.TheVariants as source
 

@@ -1,9 +1,9 @@
 -- Whole blobs, and the first place that has one.
 use Rattle.std.specs.Prelude.{◌≡◌, ◌+◌, ℕ, Bool, false, List, [], ◌∷◌, Option, None, Some, is_ok, option_map, if◌then◌else◌}
 use Rattle.std.specs.Option.{unwrap_or}
-use Rattle.oci_layout.specs.Blobs.{blob_path}
-use Rattle.oci_layout.specs.Device.{File}
-use Rattle.oci_layout.specs.Opened.{any, listed_in}
+use Rattle.oci_layout_store.specs.Blobs.{blob_path}
+use Rattle.oci_dir.specs.Device.{File}
+use Rattle.oci_layout_store.specs.Opened.{any, listed_in}
 use Rattle.oci_manifest.specs.Descriptor.{Descriptor}
 use Rattle.oci_store.specs.Push.{content_check}
 use Rattle.oci_store.specs.Visiting.{IsVisiting, next_visit}

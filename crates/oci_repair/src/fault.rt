@@ -2,7 +2,7 @@ ghost use Rattle.std.specs.Prelude.{◌≡◌};
 ghost use Rattle.oci_repair.specs.Fault.{number_of, of_layout, of_source};
 
 use oci_digest::NoMemory;
-use oci_layout::DirFault;
+use oci_dir::DirFault;
 use oci_manifest::Key;
 use thiserror::Error;
 

@@ -1,6 +1,6 @@
 ghost use Rattle.std.specs.Prelude.{◌≡◌, ◌↔◌, ◌⊎◌, ◌∷◌, [], ℕ, List, true, map, Some, IfErr, OnOk};
 ghost use Rattle.std.specs.List.{All};
-ghost use Rattle.oci_layout.specs.Layout.{SameMemory};
+ghost use Rattle.oci_layout_store.specs.Layout.{SameMemory};
 ghost use Rattle.oci_store.specs.Content.{Matches};
 ghost use Rattle.oci_repair.specs.Fault.{IsMendFault};
 ghost use Rattle.oci_repair.specs.Repaired.{size_in, ArePut, HasMatch, IsOldOrMatch, IsOldOrOf};
@@ -10,7 +10,8 @@ use crate::blob::copy_blob;
 use crate::fault::RepairFault;
 use crate::source::RepairSource;
 use oci_digest::Digest;
-use oci_layout::{Dir, Layout, LayoutFault};
+use oci_dir::Dir;
+use oci_layout_store::{Layout, LayoutFault};
 use oci_manifest::Key;
 use oci_store::PartWatcher;
 use std::alloc::Global;

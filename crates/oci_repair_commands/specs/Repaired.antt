@@ -2,10 +2,10 @@
 use Rattle.std.specs.Prelude.{◌≡◌, ◌↔◌, ◌⊎◌, ℕ, List, ◌∷◌, map, Contains}
 use Rattle.std.specs.List.{All}
 use Rattle.std.specs.List.Sorted.{IsStrictlySortedBy}
-use Rattle.oci_layout.specs.Device.{Device, Same}
-use Rattle.oci_layout.specs.Entries.{entry_keys, said}
-use Rattle.oci_layout.specs.Layout.{LayoutState}
-use Rattle.oci_layout.specs.Opened.{IsOpenedAsIs}
+use Rattle.oci_dir.specs.Device.{Device, Same}
+use Rattle.oci_layout_store.specs.Entries.{entry_keys, said}
+use Rattle.oci_layout_store.specs.Layout.{LayoutState}
+use Rattle.oci_layout_store.specs.Opened.{IsOpenedAsIs}
 use Rattle.oci_manifest.specs.Descriptor.{Descriptor, key_cmp}
 use Rattle.oci_repair.specs.Planned.{IsPlan}
 use Rattle.oci_repair.specs.Repaired.{HasMatch, IsOldOrMatch}

@@ -2,14 +2,16 @@ ghost use Rattle.std.specs.Prelude.{◌≡◌, true, false, IfOk, OnOk};
 ghost use Rattle.std.specs.Io.KnownBytes.{Appends};
 ghost use Rattle.oci_repair_commands.specs.Answered.{repair_text, IsOutcome};
 ghost use Rattle.oci_repair_commands.specs.Repaired.{IsDryRepair, IsOpened, IsRepairRun};
-ghost use Rattle.oci_layout.specs.Crash.{OnlySettles};
+ghost use Rattle.oci_dir.specs.Crash.{OnlySettles};
 ghost use Rattle.oci_repair_commands.specs.declared.answer.RepairAnswer.{RepairAnswer};
 
 use crate::answer::RepairAnswer;
 use crate::plan::{Task, check_sources, of_repair, plan};
 use oci_command_line::RepairWords;
 use oci_digest::NoMemory;
-use oci_layout::{Dir, FolderLock, Layout, LayoutFault, Lockable, blob_path};
+use oci_dir::Dir;
+use oci_folder::{FolderLock, Lockable};
+use oci_layout_store::{Layout, LayoutFault, blob_path};
 use oci_manifest::Key;
 use oci_program::{Form, Outcome, ProgramFault, lock_folder};
 use oci_query_commands::print_findings_of_all;

@@ -10,11 +10,11 @@ use Rattle.oci_manifest.specs.Descriptor.{Descriptor, is_among}
 use Rattle.oci_store.specs.Graph.{Node}
 use Rattle.oci_store.specs.Tags.{Tags}
 use Rattle.oci_store.proofs.Membership.{Keys}
-use Rattle.oci_layout.specs.Brought.{annotations_of, comes, gives_way, renamed, same_name, with_annotations, with_name, Brings}
-use Rattle.oci_layout.specs.Entries.{IndexEntry, entry_keys, is_held, is_this_key, said}
-use Rattle.oci_layout.specs.Layout.{OpenedIndex}
-use Rattle.oci_layout.specs.Saved.{first_entries, first_from, is_first, is_name, later_place, no_name, shadowed_keys, unnamed_keys}
-use Rattle.oci_layout.proofs.EntryKeys.{all_keys, first_key, key_or_none, no_first_key, this_key_is}
+use Rattle.oci_layout_store.specs.Brought.{annotations_of, comes, gives_way, renamed, same_name, with_annotations, with_name, Brings}
+use Rattle.oci_layout_store.specs.Entries.{IndexEntry, entry_keys, is_held, is_this_key, said}
+use Rattle.oci_layout_store.specs.Layout.{OpenedIndex}
+use Rattle.oci_layout_store.specs.Saved.{first_entries, first_from, is_first, is_name, later_place, no_name, shadowed_keys, unnamed_keys}
+use Rattle.oci_layout_store.proofs.EntryKeys.{all_keys, first_key, key_or_none, no_first_key, this_key_is}
 use Rattle.oci_entries.specs.Brought.{entry_at, first_of, if_there, is_of, is_tagged, last_such, place_of_key, place_of_reference, reference_entry, root_entry, tag_entries, with_roots}
 use Rattle.oci_selection.specs.Selected.{IsOfRoot}
 

@@ -16,10 +16,10 @@ use Rattle.oci_store.specs.declared.fault.RefFault.{RefFault}
 use Rattle.oci_store.specs.declared.fault.RefFault.TheVariants as fault
 use Rattle.oci_store.proofs.Membership.{Keys, Contains-from_among, among_from_Contains, among-append_cases, among-with_keys, stays-with_keys, there-with_keys, with_keys-append}
 use Rattle.oci_copy.proofs.Places.{Contains-from_slice_get}
-use Rattle.oci_layout.specs.Entries.{IndexEntry, entry_keys, entry_of}
-use Rattle.oci_layout.specs.declared.index.IndexEntry.{IndexEntry as CodeEntry}
-use Rattle.oci_layout.proofs.EntryKeys.{entry_keys-append}
-use Rattle.oci_layout.proofs.LastNames.{entries-more}
+use Rattle.oci_layout_store.specs.Entries.{IndexEntry, entry_keys, entry_of}
+use Rattle.oci_layout_store.specs.declared.index.IndexEntry.{IndexEntry as CodeEntry}
+use Rattle.oci_layout_store.proofs.EntryKeys.{entry_keys-append}
+use Rattle.oci_layout_store.proofs.LastNames.{entries-more}
 use Rattle.oci_prune.proofs.Elements.{next_element}
 use Rattle.oci_selection.specs.Selected.{AreClimbed, AreClimbedOfKeys, IsClimbed, IsClimbedOfKeys}
 

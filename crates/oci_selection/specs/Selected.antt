@@ -13,13 +13,13 @@ use Rattle.oci_store.specs.Keyed.{has_key}
 use Rattle.oci_store.specs.State.{State}
 use Rattle.oci_store.specs.Tags.{Tags, by_bytes, set_tag, tag_at, without_tag}
 use Rattle.oci_store.specs.Visiting.{with_keys}
-use Rattle.oci_layout.specs.Meaning.{meaning}
-use Rattle.oci_layout.specs.Brought.{renamed, IsShallowEntry}
-use Rattle.oci_layout.specs.Device.{Device}
-use Rattle.oci_layout.specs.Entries.{IndexEntry, entry_keys, entry_of, is_held, said, text_of, unreadable_places}
-use Rattle.oci_layout.specs.Layout.{LayoutState, manifests_of}
-use Rattle.oci_layout.specs.Saved.{no_name}
-use Rattle.oci_layout.specs.declared.index.IndexEntry.{IndexEntry as CodeEntry}
+use Rattle.oci_layout_store.specs.Meaning.{meaning}
+use Rattle.oci_layout_store.specs.Brought.{renamed, IsShallowEntry}
+use Rattle.oci_dir.specs.Device.{Device}
+use Rattle.oci_layout_store.specs.Entries.{IndexEntry, entry_keys, entry_of, is_held, said, text_of, unreadable_places}
+use Rattle.oci_layout_store.specs.Layout.{LayoutState, manifests_of}
+use Rattle.oci_layout_store.specs.Saved.{no_name}
+use Rattle.oci_layout_store.specs.declared.index.IndexEntry.{IndexEntry as CodeEntry}
 use Rattle.oci_entries.specs.Brought.{reference_entry, tag_entries, with_roots}
 use Rattle.oci_entries.specs.Pattern.{matches_name, matching_entries, matching_tags, texts_of, unmatched_tags}
 use Rattle.oci_selection.specs.declared.referrers.Referrers.{Referrers}

@@ -4,8 +4,8 @@ ghost use Rattle.std.specs.Map.{values_of};
 ghost use Rattle.oci_manifest.specs.Descriptor.{Descriptor};
 ghost use Rattle.oci_store.specs.Tags.{by_bytes, without_tag, AreNames};
 ghost use Rattle.oci_store.specs.Visiting.{with_keys};
-ghost use Rattle.oci_layout.specs.Meaning.{meaning};
-ghost use Rattle.oci_layout.specs.Entries.{entry_keys, entry_of};
+ghost use Rattle.oci_layout_store.specs.Meaning.{meaning};
+ghost use Rattle.oci_layout_store.specs.Entries.{entry_keys, entry_of};
 ghost use Rattle.oci_entries.specs.Pattern.{texts_of};
 ghost use Rattle.oci_selection.specs.Refusal.{IsOtherFault};
 ghost use Rattle.oci_selection.specs.Selected.{
@@ -26,8 +26,9 @@ ghost use Rattle.oci_selection.specs.Selected.{
 
 use crate::referrers::Referrers;
 use oci_digest::NoMemory;
+use oci_dir::Dir;
 use oci_entries::{CopyRoots, unmatched_tags};
-use oci_layout::{Dir, IndexEntry, Layout};
+use oci_layout_store::{IndexEntry, Layout};
 use oci_manifest::Key;
 use oci_plan::climb;
 use oci_program::ProgramFault;

@@ -3,9 +3,9 @@ ghost use Rattle.std.specs.List.{All};
 ghost use Rattle.oci_copy.specs.Tagged.{name_of};
 ghost use Rattle.oci_store.specs.Tags.{by_bytes, AreNames};
 ghost use Rattle.oci_store.specs.Keyed.{has_key};
-ghost use Rattle.oci_layout.specs.Brought.{IsShallowEntry};
-ghost use Rattle.oci_layout.specs.Entries.{entry_of, said};
-ghost use Rattle.oci_layout.specs.Layout.{manifests_of};
+ghost use Rattle.oci_layout_store.specs.Brought.{IsShallowEntry};
+ghost use Rattle.oci_layout_store.specs.Entries.{entry_of, said};
+ghost use Rattle.oci_layout_store.specs.Layout.{manifests_of};
 ghost use Rattle.oci_entries.specs.Brought.{tag_entries, with_roots};
 ghost use Rattle.oci_entries.specs.Pattern.{matching_tags, texts_of};
 ghost use Rattle.oci_selection.specs.Refusal.{IsNoTagsFault, IsOtherFault};
@@ -26,11 +26,12 @@ use crate::referrers::{Referrers, referrers_of};
 use crate::roots::{named_keys, roots_of_keys, roots_of_reference};
 use oci_command_line::{CopyWords, Selection};
 use oci_digest::NoMemory;
+use oci_dir::Dir;
 use oci_entries::{
     CopyRoots, entries_of_listed, entries_of_reference, entries_of_tags, is_matching,
     matching_entries, matching_tags,
 };
-use oci_layout::{Dir, IndexEntry, Layout, unreadable_entry};
+use oci_layout_store::{IndexEntry, Layout, unreadable_entry};
 use oci_manifest::Key;
 use oci_program::ProgramFault;
 use oci_prune_fault::PruneFault;
@@ -52,9 +53,9 @@ impl Model for Selected {
     ghost use Rattle.std.specs.Coded.{codes};
     ghost use Rattle.oci_manifest.specs.Descriptor.{Descriptor};
     ghost use Rattle.oci_store.specs.Tags.{Tags, by_bytes};
-    ghost use Rattle.oci_layout.specs.Entries.{entry_of};
-    ghost use Rattle.oci_layout.specs.contracts.index.IndexEntry as entry;
-    ghost use Rattle.oci_layout.specs.declared.index.IndexEntry.{IndexEntry};
+    ghost use Rattle.oci_layout_store.specs.Entries.{entry_of};
+    ghost use Rattle.oci_layout_store.specs.contracts.index.IndexEntry as entry;
+    ghost use Rattle.oci_layout_store.specs.declared.index.IndexEntry.{IndexEntry};
     ghost use Rattle.oci_selection.specs.Selected.{IsSelected};
 
     ghost Value = { List Descriptor × Tags × List IndexEntry };

@@ -4,13 +4,13 @@ use Rattle.std.specs.Prelude.{Result, Ok, Err, IfOk}
 use Rattle.std.specs.List.{All}
 use Rattle.std.proofs.lemmas.Bool.{true≢false}
 use Rattle.oci_manifest.specs.Descriptor.{Descriptor}
-use Rattle.oci_layout.specs.Blobs.{stored}
-use Rattle.oci_layout.specs.Brought.{IsShallowEntry}
-use Rattle.oci_layout.specs.Device.{Device}
-use Rattle.oci_layout.specs.Entries.{IndexEntry, entry_of}
-use Rattle.oci_layout.specs.Lasts.{Lasts}
-use Rattle.oci_layout.specs.Layout.{LayoutState, OnlyFiles, OnlyIndex, OnlyTags}
-use Rattle.oci_layout.specs.declared.index.IndexEntry.{IndexEntry as CodeEntry}
+use Rattle.oci_layout_store.specs.Blobs.{stored}
+use Rattle.oci_layout_store.specs.Brought.{IsShallowEntry}
+use Rattle.oci_dir.specs.Device.{Device}
+use Rattle.oci_layout_store.specs.Entries.{IndexEntry, entry_of}
+use Rattle.oci_layout_store.specs.Lasts.{Lasts}
+use Rattle.oci_layout_store.specs.Layout.{LayoutState, OnlyFiles, OnlyIndex, OnlyTags}
+use Rattle.oci_layout_store.specs.declared.index.IndexEntry.{IndexEntry as CodeEntry}
 use Rattle.oci_program.specs.Opened.{IsOpenedSettled}
 use Rattle.oci_program.specs.declared.fault.ProgramFault.{ProgramFault}
 use Rattle.oci_prune.specs.Settled.{CanSettle, LeavesOneOf}

@@ -2,14 +2,14 @@
 use Rattle.std.specs.Prelude.{◌≡◌, ◌⊎◌, ◌++◌, ℕ, List, [], codes, length}
 use Rattle.std.specs.Map.{keys_of}
 use Rattle.oci_manifest.specs.Descriptor.{Descriptor, key_text}
-use Rattle.oci_layout.specs.Blobs.{stored}
-use Rattle.oci_layout.specs.Brought.{Brings}
-use Rattle.oci_layout.specs.Device.{Device, Touches}
-use Rattle.oci_layout.specs.Entries.{said}
-use Rattle.oci_layout.specs.Index.{HasIndex, index_file}
-use Rattle.oci_layout.specs.Lasts.{Lasts}
-use Rattle.oci_layout.specs.Layout.{LayoutState}
-use Rattle.oci_layout.specs.Refusal.{IsSettledFault}
+use Rattle.oci_layout_store.specs.Blobs.{stored}
+use Rattle.oci_layout_store.specs.Brought.{Brings}
+use Rattle.oci_dir.specs.Device.{Device, Touches}
+use Rattle.oci_layout_store.specs.Entries.{said}
+use Rattle.oci_layout_store.specs.Index.{HasIndex, index_file}
+use Rattle.oci_layout_store.specs.Lasts.{Lasts}
+use Rattle.oci_layout_store.specs.Layout.{LayoutState}
+use Rattle.oci_layout_store.specs.Refusal.{IsSettledFault}
 use Rattle.oci_program.specs.Opened.{IsOpenedSettled}
 use Rattle.oci_reference.specs.Reference.{IsReferenceFault, Names}
 use Rattle.oci_program.specs.declared.fault.ProgramFault.{ProgramFault}

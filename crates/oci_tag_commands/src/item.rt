@@ -6,7 +6,7 @@ ghost use Rattle.oci_tag_commands.specs.Mem.{algorithm_of, type_of, IsDigestedBy
 use bytes::Bytes;
 use oci_command_line::Algorithm;
 use oci_digest::Digest;
-use oci_layout::FirstFailure;
+use oci_dir::FirstFailure;
 use oci_manifest::Key;
 use oci_program::ProgramFault;
 use oci_store::CheckedContent;

@@ -11,7 +11,7 @@ ghost use Rattle.oci_tag_commands.specs.Mem.{algorithm_of, mem_text, AreItems, A
 use crate::item::Item;
 use oci_command_line::{Algorithm, MemWords};
 use oci_copy::{CopyFault, Options, Report, copy_memory, copy_memory_by_workers};
-use oci_layout::FirstFailure;
+use oci_dir::FirstFailure;
 use oci_manifest::Key;
 use oci_plan::Existing;
 use oci_pool::NoHooks;

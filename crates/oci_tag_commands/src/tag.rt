@@ -3,11 +3,11 @@ ghost use Rattle.std.specs.Io.KnownBytes.{Appends};
 ghost use Rattle.std.specs.List.{All};
 ghost use Rattle.std.specs.Map.{keys_of};
 ghost use Rattle.oci_manifest.specs.Descriptor.{Descriptor};
-ghost use Rattle.oci_layout.specs.Brought.{Brings, IsShallowEntry};
-ghost use Rattle.oci_layout.specs.Device.{Touches};
-ghost use Rattle.oci_layout.specs.Entries.{entry_of, said};
-ghost use Rattle.oci_layout.specs.Index.{index_file, HasIndex};
-ghost use Rattle.oci_layout.specs.Lasts.{Lasts};
+ghost use Rattle.oci_layout_store.specs.Brought.{Brings, IsShallowEntry};
+ghost use Rattle.oci_dir.specs.Device.{Touches};
+ghost use Rattle.oci_layout_store.specs.Entries.{entry_of, said};
+ghost use Rattle.oci_layout_store.specs.Index.{index_file, HasIndex};
+ghost use Rattle.oci_layout_store.specs.Lasts.{Lasts};
 ghost use Rattle.oci_reference.specs.Reference.{Names};
 ghost use Rattle.oci_prune.specs.Settled.{CanSettle, LeavesOneOf};
 ghost use Rattle.oci_store.specs.Content.{Entry};
@@ -24,8 +24,10 @@ ghost use Rattle.oci_tag_commands.specs.Tagged.{
 
 use oci_command_line::TagWords;
 use oci_digest::NoMemory;
+use oci_dir::Dir;
 use oci_entries::entry_of_reference;
-use oci_layout::{Dir, FolderLock, IndexEntry, Layout, Lockable};
+use oci_folder::{FolderLock, Lockable};
+use oci_layout_store::{IndexEntry, Layout};
 use oci_manifest::Key;
 use oci_program::{
     Form, Outcome, ProgramFault, check_is_layout, lock_folder, open_settled, print_answer,

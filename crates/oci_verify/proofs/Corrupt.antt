@@ -7,8 +7,8 @@ use Rattle.std.specs.Map.{keys_of}
 use Rattle.std.proofs.lemmas.List.Elements.{Contains-push, Contains-push_cases, Contains-append_left}
 use Rattle.std.proofs.lemmas.Option.{none-some, slice_get_cases}
 use Rattle.std.proofs.lemmas.Map.Views.{btree_set_contains_iff}
-use Rattle.oci_layout.specs.Device.{File}
-use Rattle.oci_layout.proofs.Loose.{keys-more, no_element}
+use Rattle.oci_dir.specs.Device.{File}
+use Rattle.oci_layout_store.proofs.Loose.{keys-more, no_element}
 use Rattle.oci_manifest.specs.Descriptor.{Descriptor, is_among, key_cmp}
 use Rattle.oci_store.specs.Graph.{Node}
 use Rattle.oci_store.proofs.KeyOrder.{key_cmp_total, key_cmp_exact}

@@ -3,8 +3,8 @@ use denote.RattleType.{RattleType}
 use denote.Ref.{NamedLft}
 use denote.Param.Send.{IsSync, recorded_sync, shr_sync, struct_sync}
 use denote.Struct.Declared.{shape}
-use Rattle.oci_layout.specs.declared.dir.Dir as dir
-use Rattle.oci_layout.proofs.Crosses.{layout_sync}
+use Rattle.oci_dir.specs.declared.dir.Dir as dir
+use Rattle.oci_layout_store.proofs.Crosses.{layout_sync}
 use Rattle.oci_store.specs.declared.draft.Drafting as drafting
 use Rattle.oci_verify.specs.contracts.job.FileCheck as check
 

@@ -11,9 +11,9 @@ use Rattle.std.proofs.lemmas.Option.{get_or_from_slice_get, slice_get-get_or, sl
 use Rattle.oci_digest.proofs.DigestLemmas.{Decides-verifies}
 use Rattle.oci_digest.specs.Digest.{Verifies}
 use Rattle.oci_digest.specs.declared.hasher.Hasher.{Hasher}
-use Rattle.oci_layout.specs.Blobs.{blob_at, blob_path, stored, IsFetch, IsNotOf}
-use Rattle.oci_layout.specs.Device.{Device, File}
-use Rattle.oci_layout.proofs.Stored.{has_key-stored, value_at-stored}
+use Rattle.oci_layout_store.specs.Blobs.{blob_at, blob_path, stored, IsFetch, IsNotOf}
+use Rattle.oci_dir.specs.Device.{Device, File}
+use Rattle.oci_layout_store.proofs.Stored.{has_key-stored, value_at-stored}
 use Rattle.oci_manifest.specs.Descriptor.{Descriptor, Matches}
 use Rattle.oci_store.specs.Graph.{Node}
 use Rattle.oci_store.specs.Keyed.{has_key, value_at}

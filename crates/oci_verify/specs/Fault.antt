@@ -1,6 +1,6 @@
 -- Why files were not checked.
 use Rattle.std.specs.Prelude.{◌≡◌, ◌≤◌, ◌<◌, ℕ, true, false, List, length}
-use Rattle.oci_layout.specs.Device.{Device}
+use Rattle.oci_dir.specs.Device.{Device}
 use Rattle.oci_manifest.specs.Descriptor.{Descriptor}
 use Rattle.oci_store.specs.Graph.{Node}
 use Rattle.oci_store.specs.Keyed.{has_key}

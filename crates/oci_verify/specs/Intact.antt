@@ -2,8 +2,8 @@
 use Rattle.std.specs.Prelude.{◌==◌, ◌&&◌, ℕ, Bool, List, length, IsSome}
 use Rattle.std.specs.List.{All}
 use Rattle.oci_digest.specs.Digest.{verifies}
-use Rattle.oci_layout.specs.Blobs.{blob_at, blob_path}
-use Rattle.oci_layout.specs.Device.{Device, File}
+use Rattle.oci_layout_store.specs.Blobs.{blob_at, blob_path}
+use Rattle.oci_dir.specs.Device.{Device, File}
 use Rattle.oci_manifest.specs.Descriptor.{Descriptor}
 use Rattle.oci_store.specs.Graph.{Node}
 

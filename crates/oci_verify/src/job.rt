@@ -1,6 +1,7 @@
 use crate::file_check::is_corrupt;
 use crate::watcher::FileWatcher;
-use oci_layout::{Dir, Layout};
+use oci_dir::Dir;
+use oci_layout_store::Layout;
 use oci_pool::{Job, Pass};
 use oci_store::FetchFault;
 

@@ -4,7 +4,7 @@ use Rattle.std.proofs.lemmas.List.{take_more}
 use Rattle.std.specs.Borrow.{Bor}
 use Rattle.std.specs.Prelude.{IfOk, OnOk}
 use Rattle.oci_command_line.specs.declared.request.Query.{Query}
-use Rattle.oci_layout.specs.Device.{Device}
+use Rattle.oci_dir.specs.Device.{Device}
 use Rattle.oci_program.specs.declared.answer.Form.{Form}
 use Rattle.oci_program.specs.declared.answer.Form.TheVariants as form
 use Rattle.oci_program.specs.declared.outcome.Outcome.{Outcome}

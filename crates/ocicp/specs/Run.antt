@@ -18,7 +18,8 @@ use Rattle.oci_copy_commands.specs.Archived.{IsFileRunOf, IsOutputRunOf}
 use Rattle.oci_tag_commands.specs.Mem.{mem_text, IsMemRun}
 use Rattle.oci_copy_commands.specs.Run.{IsRunOf}
 use Rattle.oci_tag_commands.specs.Tagged.{tagged_line, IsTagRun}
-use Rattle.oci_layout.specs.Device.{Device, folder}
+use Rattle.oci_dir.specs.Device.{Device}
+use Rattle.oci_folder.specs.Folder.{folder}
 use Rattle.oci_manifest.specs.Descriptor.{Descriptor}
 use Rattle.oci_prune_answer.specs.Pruned.{prune_text}
 use Rattle.oci_program.specs.declared.answer.Form.{Form}

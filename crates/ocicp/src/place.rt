@@ -4,7 +4,8 @@ ghost use Rattle.ocicp.specs.Run.{AreSourcesAt, IsFileAt, IsPlaceAt, IsSourceAt}
 use crate::sides::Failures;
 use oci_archive::{ReadAt, TarDir};
 use oci_command_line::{CopyWords, RepairWords};
-use oci_layout::{FirstFailure, FsDir};
+use oci_dir::FirstFailure;
+use oci_folder::FsDir;
 use oci_program::ProgramFault;
 use oci_repair::RepairSource;
 use std::fs;

@@ -25,7 +25,7 @@ use oci_command_line::{
     UntagWords,
 };
 use oci_copy_commands::{run_archive, run_archive_to_output, run_copy};
-use oci_layout::{Dir, FirstFailure, MemDir};
+use oci_dir::{Dir, FirstFailure, MemDir};
 use oci_layout_copy::Host;
 use oci_pool::MAX_WORKERS;
 use oci_program::{Ending, Form, Outcome, ProgramFault, end_early, finish_run, print_answer};

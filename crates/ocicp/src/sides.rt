@@ -1,6 +1,6 @@
 use crate::place::is_file;
 use oci_command_line::{RepairWords, Request};
-use oci_layout::FirstFailure;
+use oci_dir::FirstFailure;
 use oci_program::{Side, Sides};
 use std::alloc::Global;
 use std::fs;

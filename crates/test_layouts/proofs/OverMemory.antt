@@ -1,12 +1,12 @@
 -- A directory over one in memory, with another premise and another count of failures.
 use Rattle.std.proofs.Common.{ℕ, List, true, None, Result, Ok, Err, refl}
 use Rattle.std.specs.Prelude.{IsErrOf}
-use Rattle.oci_layout.specs.Crash.{IsReplaced, IsSettling}
-use Rattle.oci_layout.specs.Device.{Device, AfterPuts}
-use Rattle.oci_layout.specs.Memory.{device_of}
-use Rattle.oci_layout.specs.declared.fault.DirFault.{DirFault}
-use Rattle.oci_layout.specs.declared.fault.DirFault.TheVariants as dir
-use Rattle.oci_layout.specs.declared.mem_dir.MemDir.{MemDir}
+use Rattle.oci_dir.specs.Crash.{IsReplaced, IsSettling}
+use Rattle.oci_dir.specs.Device.{Device, AfterPuts}
+use Rattle.oci_dir.specs.Memory.{device_of}
+use Rattle.oci_dir.specs.declared.fault.DirFault.{DirFault}
+use Rattle.oci_dir.specs.declared.fault.DirFault.TheVariants as dir
+use Rattle.oci_dir.specs.declared.mem_dir.MemDir.{MemDir}
 
 -- the directory, with this premise and this count
 abbrev pub over : MemDir → Type 0 → ℕ → Device

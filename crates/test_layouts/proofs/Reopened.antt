@@ -11,13 +11,13 @@ use Rattle.oci_store.specs.Content.{Entry}
 use Rattle.oci_store.specs.Graph.{Node}
 use Rattle.oci_store.specs.Keyed.{value_at}
 use Rattle.oci_store.specs.Tags.{Tags, AreNames}
-use Rattle.oci_layout.specs.Blobs.{stored, IsSound}
-use Rattle.oci_layout.specs.Device.{File}
-use Rattle.oci_layout.specs.Entries.{nothing_read}
-use Rattle.oci_layout.specs.Files.{HasFiles}
-use Rattle.oci_layout.specs.Law.{OpensAsSaved}
-use Rattle.oci_layout.specs.Layout.{OpenedIndex}
-use Rattle.oci_layout.specs.Opened.{IsOpened}
+use Rattle.oci_layout_store.specs.Blobs.{stored, IsSound}
+use Rattle.oci_dir.specs.Device.{File}
+use Rattle.oci_layout_store.specs.Entries.{nothing_read}
+use Rattle.oci_layout_store.specs.Files.{HasFiles}
+use Rattle.oci_layout_store.specs.Law.{OpensAsSaved}
+use Rattle.oci_layout_store.specs.Layout.{OpenedIndex}
+use Rattle.oci_layout_store.specs.Opened.{IsOpened}
 
 -- the clauses of `tags`, `save` and `open` are the premises of the law: `old` are the files before
 -- the save, `new` those after it

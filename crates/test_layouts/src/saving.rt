@@ -2,8 +2,8 @@ ghost use Rattle.std.specs.Prelude.{◌≡◌, [], IfOk};
 ghost use Rattle.oci_manifest.specs.Descriptor.{Descriptor};
 ghost use Rattle.oci_store.specs.Closed.{IsClosed};
 ghost use Rattle.oci_store.specs.Keyed.{value_at};
-ghost use Rattle.oci_layout.specs.Blobs.{stored, IsSound};
-ghost use Rattle.oci_layout.specs.Entries.{nothing_read};
+ghost use Rattle.oci_layout_store.specs.Blobs.{stored, IsSound};
+ghost use Rattle.oci_layout_store.specs.Entries.{nothing_read};
 
 use oci_layout::{Dir, Layout, LayoutFault, opens_as_saved};
 use std::alloc::Global;

@@ -14,7 +14,7 @@ use Rattle.oci_store.specs.Keyed.{value_at, has_key}
 use Rattle.oci_store.specs.Predecessors.{lists_key}
 use Rattle.oci_store.proofs.Membership.{Contains-from_among, among_from_Contains}
 use Rattle.oci_store.proofs.Predecessors.{lists_key-edge}
-use Rattle.oci_layout.specs.Layout.{is_manifest}
+use Rattle.oci_layout_store.specs.Layout.{is_manifest}
 use Rattle.oci_prune.proofs.Elements.{no_element, Contains-head, Contains-tail, Contains-cons}
 use Rattle.oci_prune.proofs.Keeping.{held_from_kept}
 use Rattle.oci_prune.specs.Belongs.{Belongs, given, needed, AreMembers}

@@ -8,7 +8,7 @@ use Rattle.oci_manifest.specs.Descriptor.{Descriptor, key_cmp, is_among}
 use Rattle.oci_manifest.specs.MediaTypes.{kind_of}
 use Rattle.oci_store.specs.Graph.{Node}
 use Rattle.oci_store.specs.Predecessors.{lists_key}
-use Rattle.oci_layout.specs.Layout.{is_manifest}
+use Rattle.oci_layout_store.specs.Layout.{is_manifest}
 use Rattle.test_prunes.specs.declared.plain.Held.{Held}
 
 -- the graph of held keys

@@ -2,7 +2,7 @@ ghost use Rattle.std.specs.Prelude.{◌≡◌, IfOk, OnOk, find};
 ghost use Rattle.std.specs.Option.{option_copied};
 ghost use Rattle.oci_manifest.specs.Descriptor.{same_key};
 ghost use Rattle.oci_manifest.specs.MediaTypes.{kind_of};
-ghost use Rattle.oci_layout.specs.Layout.{is_manifest};
+ghost use Rattle.oci_layout_store.specs.Layout.{is_manifest};
 ghost use Rattle.oci_store.specs.Predecessors.{lists_key};
 ghost use Rattle.oci_prune.specs.Plan.{AreKept};
 ghost use Rattle.oci_prune.specs.Walk.{HasOneMore};

@@ -1,7 +1,7 @@
 use denote.Exit.{no}
 use denote.Param.{param}
 use denote.Param.Send.{param_send, param_sync, arg_send, arg_sync}
-use Rattle.oci_layout.proofs.Crosses.{layout_send, layout_sync}
+use Rattle.oci_layout_store.proofs.Crosses.{layout_send, layout_sync}
 use Rattle.example_copy.proofs.copy_hello.Goals as goal
 
 pub copy-mirror-requires-send-D : goal.copy-mirror-requires-send-D

@@ -1,5 +1,6 @@
 use oci_digest::{Digest, NoMemory};
-use oci_layout::{Dir, Layout};
+use oci_dir::Dir;
+use oci_layout_store::Layout;
 use oci_manifest::Key;
 use oci_store::Dest;
 use std::alloc::Global;

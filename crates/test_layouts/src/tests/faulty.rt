@@ -1,9 +1,9 @@
 //! A directory in memory with failures or changes.
 
 ghost use Rattle.std.specs.Prelude.{◌≡◌, None, ⊤};
-ghost use Rattle.oci_layout.specs.Crash.{LeavesPut};
-ghost use Rattle.oci_layout.specs.Device.{Touches};
-ghost use Rattle.oci_layout.specs.Memory.{device_of};
+ghost use Rattle.oci_dir.specs.Crash.{LeavesPut};
+ghost use Rattle.oci_dir.specs.Device.{Touches};
+ghost use Rattle.oci_dir.specs.Memory.{device_of};
 
 use bytes::Bytes;
 use oci_digest::NoMemory;
@@ -138,7 +138,7 @@ impl FaultyDir {
 
 impl Dir for FaultyDir {
     ghost use Rattle.std.specs.Prelude.{true, None};
-    ghost use Rattle.oci_layout.specs.Memory.{device_of};
+    ghost use Rattle.oci_dir.specs.Memory.{device_of};
 
     ghost device = { λ d. record {
       file = (device_of d.dir).file;

@@ -1,4 +1,4 @@
-use Rattle.oci_layout.specs.Memory.{device_of}
+use Rattle.oci_dir.specs.Memory.{device_of}
 use Rattle.oci_copy_commands.proofs.Archived.{is_archived}
 use Rattle.oci_copy_commands.proofs.archive.archive_onto.Goals as goal
 

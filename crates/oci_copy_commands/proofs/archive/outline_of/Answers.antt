@@ -1,4 +1,4 @@
-use Rattle.oci_layout.specs.Memory.{device_of}
+use Rattle.oci_dir.specs.Memory.{device_of}
 use Rattle.oci_copy_commands.specs.Run.{options_of, store_of}
 use Rattle.oci_copy_commands.proofs.Archived.{is_outlined, roots_held}
 use Rattle.oci_copy_commands.proofs.archive.outline_of.Goals as goal

@@ -1,8 +1,8 @@
 use Rattle.std.proofs.Common.{◌∙◌}
 use Rattle.std.specs.Map.{values_of}
-use Rattle.oci_layout.specs.Index.{index_file}
-use Rattle.oci_layout.specs.Memory.{device_of}
-use Rattle.oci_layout.proofs.Files.{index_layout, HasLayoutFile-stays}
+use Rattle.oci_layout_store.specs.Index.{index_file}
+use Rattle.oci_dir.specs.Memory.{device_of}
+use Rattle.oci_layout_store.proofs.Files.{index_layout, HasLayoutFile-stays}
 use Rattle.oci_selection.proofs.Selections.{among_held}
 use Rattle.oci_copy_commands.proofs.archive.save_selected.Goals as goal
 

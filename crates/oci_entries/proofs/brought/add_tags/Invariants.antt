@@ -1,6 +1,6 @@
 use Rattle.std.proofs.Common.{◌≡◌, ◌++◌, drop, map}
 use Rattle.oci_store.specs.Tags.{by_bytes}
-use Rattle.oci_layout.specs.Entries.{entry_of}
+use Rattle.oci_layout_store.specs.Entries.{entry_of}
 use Rattle.oci_entries.specs.Brought.{tag_entries}
 use Rattle.oci_entries.proofs.brought.add_tags.Given as goal
 

@@ -1,5 +1,5 @@
 use Rattle.std.proofs.Common.{Bool, cond, Some, map, take, sym, ap, ◌∙◌}
-use Rattle.oci_layout.specs.Entries.{entry_of}
+use Rattle.oci_layout_store.specs.Entries.{entry_of}
 use Rattle.oci_entries.specs.Brought.{is_tagged, last_such}
 use Rattle.oci_entries.proofs.BroughtEntries.{last_such-next}
 use Rattle.oci_entries.proofs.brought.last_tagged.Goals as goal

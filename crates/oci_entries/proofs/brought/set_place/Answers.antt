@@ -1,5 +1,5 @@
 use Rattle.std.proofs.Common.{◌≡◌, ◌∙◌, true, Some, rules, sym, ap}
-use Rattle.oci_layout.specs.Entries.{entry_of}
+use Rattle.oci_layout_store.specs.Entries.{entry_of}
 use Rattle.oci_entries.proofs.BroughtEntries.{set_key}
 use Rattle.oci_entries.proofs.brought.set_place.Goals as goal
 

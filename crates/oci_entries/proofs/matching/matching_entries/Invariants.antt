@@ -1,5 +1,5 @@
 use Rattle.std.proofs.Common.{◌≡◌, ◌++◌, drop, map}
-use Rattle.oci_layout.specs.Entries.{entry_of}
+use Rattle.oci_layout_store.specs.Entries.{entry_of}
 use Rattle.oci_entries.specs.Pattern.{matching_entries, texts_of}
 use Rattle.oci_entries.proofs.matching.matching_entries.Given as goal
 

@@ -4,10 +4,10 @@ use denote.Param.Send.{param_send, param_sync, arg_send, arg_sync}
 use Rattle.std.proofs.Common.{inl, refl, List}
 use Rattle.oci_store.specs.Content.{Entry}
 use Rattle.oci_copy.specs.declared.report.Report.{Report}
-use Rattle.oci_layout.specs.Files.{HasFiles}
-use Rattle.oci_layout.specs.Meaning.{meaning}
-use Rattle.oci_layout.proofs.Crosses.{layout_send, layout_sync}
-use Rattle.oci_layout.proofs.Law.{keys_of_one_digest}
+use Rattle.oci_layout_store.specs.Files.{HasFiles}
+use Rattle.oci_layout_store.specs.Meaning.{meaning}
+use Rattle.oci_layout_store.proofs.Crosses.{layout_send, layout_sync}
+use Rattle.oci_layout_store.proofs.Law.{keys_of_one_digest}
 use Rattle.oci_layout_copy.proofs.Saved.{after_report, sound_after, came_after, checked_after, met_after, report_after, copied_after, reached_after, files_after, refused_after, workers_after}
 use Rattle.oci_layout_copy.proofs.Settled.{lasts_between, left_between}
 use Rattle.oci_layout_copy.proofs.between.copy_between.Goals as goal

@@ -4,9 +4,9 @@ use Rattle.std.specs.List.{All}
 use Rattle.std.specs.Map.{values_of}
 use Rattle.oci_store.specs.Graph.{Node}
 use Rattle.oci_store.specs.Tags.{Tags}
-use Rattle.oci_layout.specs.Brought.{Brings}
-use Rattle.oci_layout.specs.Entries.{entry_of}
-use Rattle.oci_layout.specs.Layout.{LayoutState}
+use Rattle.oci_layout_store.specs.Brought.{Brings}
+use Rattle.oci_layout_store.specs.Entries.{entry_of}
+use Rattle.oci_layout_store.specs.Layout.{LayoutState}
 use Rattle.oci_prune.specs.Plan.{roots_of, roots_with}
 use Rattle.oci_prune.specs.Pruned.{KeepsReached}
 use Rattle.oci_layout_copy.specs.Mirror.{relabeled, HoldsOnlyReached, IsPruned}

@@ -1,16 +1,16 @@
 use Rattle.std.proofs.Common.{◌≡◌, ◌≢◌, ℕ, nat_eq, false, List, [], length, sym, ap, subst, ◌∙◌, arith}
 use Rattle.std.specs.Vec.{vec_len}
 use Rattle.std.proofs.lemmas.Bool.{eqb-true}
-use Rattle.oci_layout.specs.Blobs.{stored}
-use Rattle.oci_layout.specs.Lasts.{Lasts}
-use Rattle.oci_layout.proofs.Loose.{empty_list}
+use Rattle.oci_layout_store.specs.Blobs.{stored}
+use Rattle.oci_layout_store.specs.Lasts.{Lasts}
+use Rattle.oci_layout_store.proofs.Loose.{empty_list}
 use Rattle.oci_prune.specs.Settled.{LeavesOneOf}
 use Rattle.oci_prune.proofs.Settling.{lasts_saved, left_saved}
 use Rattle.oci_store.specs.Graph.{Node}
 use Rattle.oci_copy.specs.declared.fault.CopyFault.{CopyFault}
 use Rattle.oci_copy.specs.declared.fault.CopyFault.TheVariants as copy
-use Rattle.oci_layout.specs.Meaning.{meaning}
-use Rattle.oci_layout.specs.Layout.{LayoutState}
+use Rattle.oci_layout_store.specs.Meaning.{meaning}
+use Rattle.oci_layout_store.specs.Layout.{LayoutState}
 use Rattle.oci_prune.specs.Plan.{roots_with, AreKept, RefersIf}
 use Rattle.oci_prune.specs.Pruned.{kept_of, KeepsReached}
 use Rattle.oci_prune.proofs.Leaving.{reached_left, whole_left}

@@ -1,5 +1,5 @@
 use Rattle.std.proofs.Common.{◌≡◌, ◌++◌, drop, map}
-use Rattle.oci_layout.specs.Entries.{entry_of}
+use Rattle.oci_layout_store.specs.Entries.{entry_of}
 use Rattle.oci_layout_copy.specs.Goal.{entries_of_names}
 use Rattle.oci_layout_copy.proofs.kept.entries_of_names.Given as goal
 

@@ -1,7 +1,7 @@
 use Rattle.std.proofs.Common.{◌≡◌, ◌∙◌, [], List, map, ap, subst}
 use Rattle.oci_store.specs.Tags.{Tags, by_bytes}
-use Rattle.oci_layout.specs.Brought.{Forgets}
-use Rattle.oci_layout.specs.Entries.{IndexEntry, entry_of}
+use Rattle.oci_layout_store.specs.Brought.{Forgets}
+use Rattle.oci_layout_store.specs.Entries.{IndexEntry, entry_of}
 use Rattle.oci_layout_copy.specs.Goal.{forgotten_entries}
 use Rattle.oci_entries.specs.Pattern.{texts_of}
 use Rattle.oci_selection.specs.Selected.{other_tags, set_tags}

@@ -1,5 +1,5 @@
 use Rattle.std.proofs.Common.{◌≡◌, ◌++◌, drop, map}
-use Rattle.oci_layout.specs.Entries.{entry_of}
+use Rattle.oci_layout_store.specs.Entries.{entry_of}
 use Rattle.oci_layout_copy.specs.Goal.{forgotten_entries}
 use Rattle.oci_entries.specs.Pattern.{texts_of}
 use Rattle.oci_layout_copy.proofs.kept.forgotten_entries.Given as goal

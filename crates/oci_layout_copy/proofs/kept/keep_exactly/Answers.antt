@@ -3,7 +3,7 @@ use Rattle.std.specs.List.{All}
 use Rattle.std.specs.Map.{keys_of}
 use Rattle.oci_manifest.specs.Descriptor.{Descriptor}
 use Rattle.oci_store.specs.Tags.{Tags, by_bytes}
-use Rattle.oci_layout.specs.Entries.{entry_of, said}
+use Rattle.oci_layout_store.specs.Entries.{entry_of, said}
 use Rattle.oci_prune.specs.Attached.{follows_one}
 use Rattle.oci_layout_copy.specs.Goal.{entries_of_names}
 use Rattle.oci_selection.specs.Selected.{set_tags}

@@ -3,8 +3,8 @@ use Rattle.std.specs.Prelude.{IsOk}
 use Rattle.std.specs.List.{All}
 use Rattle.oci_copy.specs.declared.fault.CopyFault.{CopyFault}
 use Rattle.oci_copy.specs.declared.fault.CopyFault.TheVariants as copy
-use Rattle.oci_layout.specs.Entries.{said}
-use Rattle.oci_layout.specs.Layout.{OpenedIndex}
+use Rattle.oci_layout_store.specs.Entries.{said}
+use Rattle.oci_layout_store.specs.Layout.{OpenedIndex}
 use Rattle.oci_selection.specs.Selected.{IsOfRoot}
 use Rattle.oci_layout_copy.proofs.Refusals.{cleaned_refused}
 use Rattle.oci_layout_copy.proofs.mirror.finish.Goals as goal

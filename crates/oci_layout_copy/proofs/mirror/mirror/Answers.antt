@@ -5,9 +5,9 @@ use Rattle.std.proofs.Common.{inl, refl}
 use Rattle.std.proofs.lemmas.Result.{on_ok_weaker}
 use Rattle.std.specs.Map.{values_of}
 use Rattle.oci_copy.specs.Grown.{BeginsWith}
-use Rattle.oci_layout.specs.Meaning.{meaning}
-use Rattle.oci_layout.proofs.Crosses.{layout_send, layout_sync}
-use Rattle.oci_layout.proofs.Law.{keys_of_one_digest}
+use Rattle.oci_layout_store.specs.Meaning.{meaning}
+use Rattle.oci_layout_store.proofs.Crosses.{layout_send, layout_sync}
+use Rattle.oci_layout_store.proofs.Law.{keys_of_one_digest}
 use Rattle.oci_layout_copy.specs.Mirror.{KeepsContents}
 use Rattle.oci_layout_copy.specs.declared.copied.Copied.{Copied}
 use Rattle.oci_copy.proofs.Roots.{on_ok_from}

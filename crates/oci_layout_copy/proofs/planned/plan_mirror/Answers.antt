@@ -1,4 +1,4 @@
-use Rattle.oci_layout.specs.Meaning.{meaning}
+use Rattle.oci_layout_store.specs.Meaning.{meaning}
 use Rattle.oci_layout_copy.proofs.PlannedCopies.{copied_after}
 use Rattle.oci_layout_copy.proofs.planned.plan_mirror.Goals as goal
 

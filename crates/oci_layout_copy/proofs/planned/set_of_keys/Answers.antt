@@ -3,7 +3,7 @@ use Rattle.std.specs.BTreeSet.{contains}
 use Rattle.std.specs.Ordering.{is_eq}
 use Rattle.std.proofs.lemmas.List.{take_all}
 use Rattle.oci_manifest.specs.Descriptor.{Descriptor, key_cmp}
-use Rattle.oci_layout.proofs.Loose.{HasKeys-more, HasKeys-nil}
+use Rattle.oci_layout_store.proofs.Loose.{HasKeys-more, HasKeys-nil}
 use Rattle.oci_prune.proofs.Elements.{next_element}
 use Rattle.oci_layout_copy.specs.PlannedMirror.{HasKeys}
 use Rattle.oci_layout_copy.proofs.planned.set_of_keys.Goals as goal

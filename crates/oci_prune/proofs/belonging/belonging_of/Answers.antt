@@ -1,5 +1,5 @@
 use Rattle.oci_store.specs.Tags.{by_bytes}
-use Rattle.oci_layout.specs.Blobs.{stored}
+use Rattle.oci_layout_store.specs.Blobs.{stored}
 use Rattle.oci_prune.specs.Attached.{AttachedBy}
 use Rattle.oci_prune.proofs.Bringing.{belonging_from, memory_fault, ok_both}
 use Rattle.oci_prune.proofs.belonging.belonging_of.Goals as goal

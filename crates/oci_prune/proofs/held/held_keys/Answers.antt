@@ -6,7 +6,7 @@ use Rattle.std.specs.Ordering.{is_eq}
 use Rattle.std.proofs.lemmas.List.{take_all}
 use Rattle.oci_manifest.specs.Descriptor.{Descriptor, key_cmp}
 use Rattle.oci_store.specs.Graph.{Node}
-use Rattle.oci_layout.proofs.Loose.{HasKeys, HasKeys-more, keys-more}
+use Rattle.oci_layout_store.proofs.Loose.{HasKeys, HasKeys-more, keys-more}
 use Rattle.oci_prune.proofs.Plans.{held_from_set}
 use Rattle.oci_prune.proofs.held.held_keys.Goals as goal
 

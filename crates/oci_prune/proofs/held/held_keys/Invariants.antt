@@ -1,6 +1,6 @@
 use Rattle.std.proofs.Common.{take}
 use Rattle.std.specs.Map.{keys_of}
-use Rattle.oci_layout.proofs.Loose.{HasKeys}
+use Rattle.oci_layout_store.proofs.Loose.{HasKeys}
 use Rattle.oci_prune.proofs.held.held_keys.Given as goal
 
 -- as far as the loop has come

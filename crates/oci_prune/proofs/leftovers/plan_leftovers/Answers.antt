@@ -1,7 +1,7 @@
 use Rattle.std.proofs.Common.{inl, inr, List, sym, subst}
 use Rattle.std.specs.Prelude.{Contains}
 use Rattle.oci_manifest.specs.Descriptor.{Descriptor}
-use Rattle.oci_layout.proofs.Loose.{HasKeys-nil}
+use Rattle.oci_layout_store.proofs.Loose.{HasKeys-nil}
 use Rattle.oci_prune.proofs.Elements.{no_element}
 use Rattle.oci_prune.proofs.leftovers.plan_leftovers.Goals as goal
 

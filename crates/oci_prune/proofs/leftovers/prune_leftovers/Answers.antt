@@ -1,5 +1,5 @@
 use Rattle.std.proofs.Common.{None, subst}
-use Rattle.oci_layout.specs.Prunable.{by_name}
+use Rattle.oci_dir.specs.Prunable.{by_name}
 use Rattle.oci_prune.specs.Pruned.{flagged, IsDraftIn, RemovesDrafts}
 use Rattle.oci_prune.specs.Refusal.{Notes}
 use Rattle.oci_prune.proofs.Noting.{only_new}

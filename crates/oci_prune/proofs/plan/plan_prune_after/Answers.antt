@@ -1,6 +1,6 @@
 use Rattle.oci_store.proofs.Lookups.{HasAll-from_first_missing}
-use Rattle.oci_layout.specs.Meaning.{meaning}
-use Rattle.oci_layout.specs.Layout.{manifests_of}
+use Rattle.oci_layout_store.specs.Meaning.{meaning}
+use Rattle.oci_layout_store.specs.Layout.{manifests_of}
 use Rattle.oci_prune.specs.After.{after_copy}
 use Rattle.oci_prune.proofs.Plans.{are_removed}
 use Rattle.oci_prune.proofs.plan.plan_prune_after.Goals as goal

@@ -2,7 +2,7 @@ use Rattle.std.proofs.Common.{List, sym, subst, ◌∙◌}
 use Rattle.std.proofs.lemmas.Result.{err_from_is_err_and}
 use Rattle.oci_manifest.specs.Descriptor.{Descriptor}
 use Rattle.oci_store.proofs.Lookups.{HasAll-from_first_missing}
-use Rattle.oci_layout.specs.Layout.{manifests_of}
+use Rattle.oci_layout_store.specs.Layout.{manifests_of}
 use Rattle.oci_prune.specs.Plan.{AreHeld, IsSafe, roots_of, roots_with}
 use Rattle.oci_prune.proofs.Plans.{tags_fault, are_removed, safe_for_fewer, roots_kept}
 use Rattle.oci_prune.proofs.plan.plan_prune_keeping.Goals as goal

@@ -1,6 +1,6 @@
 use Rattle.std.proofs.Common.{◌≡◌, List, None, length, take}
-use Rattle.oci_layout.specs.Lasts.{Lasts}
-use Rattle.oci_layout.specs.Prunable.{by_name}
+use Rattle.oci_layout_store.specs.Lasts.{Lasts}
+use Rattle.oci_dir.specs.Prunable.{by_name}
 use Rattle.oci_prune.specs.Pruned.{flagged, AreDraftsGone, IsDraftIn, IsNone, Removal, RemovesDrafts}
 use Rattle.oci_store.specs.Content.{Entry}
 use Rattle.oci_store.specs.Tags.{Tags}

@@ -1,6 +1,6 @@
 use Rattle.std.proofs.Common.{◌≡◌, List, None, length, map, take}
-use Rattle.oci_layout.specs.Device.{Same}
-use Rattle.oci_layout.specs.Lasts.{Lasts}
+use Rattle.oci_dir.specs.Device.{Same}
+use Rattle.oci_layout_store.specs.Lasts.{Lasts}
 use Rattle.oci_prune.specs.Pruned.{is_gone, AllAmong, IsGone, IsOfNoEntry, IsPathAmong, Removal}
 use Rattle.oci_store.specs.Content.{Entry}
 use Rattle.oci_store.specs.Tags.{Tags}

@@ -6,11 +6,11 @@ use Rattle.oci_store.specs.Content.{Entry}
 use Rattle.oci_store.specs.Graph.{Node}
 use Rattle.oci_store.specs.Keyed.{HasAll}
 use Rattle.oci_store.specs.Tags.{Tags}
-use Rattle.oci_layout.specs.Blobs.{stored}
-use Rattle.oci_layout.specs.Index.{index_file}
-use Rattle.oci_layout.specs.Lasts.{Lasts}
-use Rattle.oci_layout.specs.Layout.{LayoutState}
-use Rattle.oci_layout.specs.Prunable.{by_name}
+use Rattle.oci_layout_store.specs.Blobs.{stored}
+use Rattle.oci_layout_store.specs.Index.{index_file}
+use Rattle.oci_layout_store.specs.Lasts.{Lasts}
+use Rattle.oci_layout_store.specs.Layout.{LayoutState}
+use Rattle.oci_dir.specs.Prunable.{by_name}
 use Rattle.oci_prune.specs.Plan.{roots_of}
 use Rattle.oci_prune.specs.Pruned.{flagged, is_gone, kept_of, AllAmong, AreApart, IsGone, IsPathAmong, IsThere, Removal}
 use Rattle.oci_prune.specs.declared.plan.PrunedFile.{PrunedFile}

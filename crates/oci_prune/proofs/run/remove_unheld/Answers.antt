@@ -1,5 +1,5 @@
 use Rattle.std.proofs.Common.{◌≡◌, ◌∙◌, List, None, false, inl, inr, map, refl, sym, subst}
-use Rattle.oci_layout.specs.Prunable.{by_name}
+use Rattle.oci_dir.specs.Prunable.{by_name}
 use Rattle.oci_prune.specs.Pruned.{flagged, is_gone, AllAmong, AreApart, IsDraftIn, IsGone, IsNone, IsOfNoEntry, IsOfNoKey, IsPathAmong, IsPlannedUnheld, IsThere, Removal, RemovesDrafts}
 use Rattle.oci_prune.proofs.Flagging.{removes_later}
 use Rattle.oci_prune.proofs.Noting.{notes_both}

@@ -2,9 +2,9 @@ use Rattle.std.proofs.Common.{◌≡◌, ℕ, List, [], refl, sym, subst, ◌∙
 use Rattle.std.specs.Vec.{vec_len}
 use Rattle.std.proofs.lemmas.Bool.{eqb-true}
 use Rattle.oci_store.specs.Graph.{Node}
-use Rattle.oci_layout.specs.Blobs.{IsSound}
-use Rattle.oci_layout.specs.Index.{index_file}
-use Rattle.oci_layout.proofs.Loose.{empty_list}
+use Rattle.oci_layout_store.specs.Blobs.{IsSound}
+use Rattle.oci_layout_store.specs.Index.{index_file}
+use Rattle.oci_layout_store.proofs.Loose.{empty_list}
 use Rattle.oci_prune.specs.Pruned.{Spares}
 use Rattle.oci_prune.proofs.Leaving.{not_empty, whole_left}
 use Rattle.oci_prune.proofs.Plans.{tags_kept}

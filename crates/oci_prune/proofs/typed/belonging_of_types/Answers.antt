@@ -1,7 +1,7 @@
 use Rattle.std.proofs.Common.{ℕ, List, [], map, subst}
 use Rattle.oci_manifest.specs.Descriptor.{Descriptor}
-use Rattle.oci_layout.specs.Blobs.{stored, keys_of-stored}
-use Rattle.oci_layout.specs.Meaning.{meaning}
+use Rattle.oci_layout_store.specs.Blobs.{stored, keys_of-stored}
+use Rattle.oci_layout_store.specs.Meaning.{meaning}
 use Rattle.oci_prune.specs.Attached.{AreAttachments}
 use Rattle.oci_prune.specs.Typed.{RefersByTypes, StatesOfTypes}
 use Rattle.oci_prune.proofs.Bringing.{belonging_from, memory_fault, ok_both}

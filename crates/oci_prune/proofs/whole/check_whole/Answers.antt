@@ -1,7 +1,7 @@
 use Rattle.std.proofs.Common.{◌≡◌, ◌∙◌, None, sym}
 use Rattle.std.specs.List.{slice_get}
 use Rattle.oci_store.specs.Keyed.{first_missing}
-use Rattle.oci_layout.specs.Layout.{manifests_of}
+use Rattle.oci_layout_store.specs.Layout.{manifests_of}
 use Rattle.oci_prune.proofs.Plans.{checks_whole}
 use Rattle.oci_prune.proofs.whole.check_whole.Goals as goal
 

@@ -1,5 +1,5 @@
 use Rattle.std.proofs.Common.{◌≡◌, ◌++◌, map}
-use Rattle.oci_layout.specs.Prunable.{by_name}
+use Rattle.oci_dir.specs.Prunable.{by_name}
 use Rattle.oci_prune.specs.Pruned.{flagged}
 use Rattle.oci_prune_answer.specs.Pruned.{of_draft, shown}
 use Rattle.oci_prune_answer.proofs.prune_answer.add_drafts.Given as goal

@@ -1,5 +1,5 @@
 use Rattle.std.proofs.Common.{◌≡◌, ◌++◌, drop, map}
-use Rattle.oci_layout.specs.Entries.{entry_of}
+use Rattle.oci_layout_store.specs.Entries.{entry_of}
 use Rattle.oci_prune_commands.specs.Named.{entries_named}
 use Rattle.oci_prune_commands.proofs.untag.entries_named.Given as goal
 

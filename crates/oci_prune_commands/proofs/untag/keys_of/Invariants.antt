@@ -1,5 +1,5 @@
 use Rattle.std.proofs.Common.{◌≡◌, map, take}
-use Rattle.oci_layout.specs.Entries.{IndexEntry, entry_of}
+use Rattle.oci_layout_store.specs.Entries.{IndexEntry, entry_of}
 use Rattle.oci_prune_commands.proofs.untag.keys_of.Given as goal
 
 -- as far as the loop has come

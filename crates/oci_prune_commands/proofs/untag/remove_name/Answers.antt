@@ -1,5 +1,5 @@
 use Rattle.std.proofs.Common.{◌≡◌, ap, subst, ◌∙◌}
-use Rattle.oci_layout.specs.Refusal.{IsSettledFault}
+use Rattle.oci_layout_store.specs.Refusal.{IsSettledFault}
 use Rattle.oci_program.specs.declared.fault.ProgramFault.{ProgramFault}
 use Rattle.oci_program.specs.declared.fault.ProgramFault.TheVariants as program
 use Rattle.oci_prune_commands.specs.Refusal.{IsRefusedUntag}

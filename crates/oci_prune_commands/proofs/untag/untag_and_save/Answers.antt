@@ -1,6 +1,6 @@
 use Rattle.std.proofs.Common.{length, sym, ap, subst, ◌∙◌}
-use Rattle.oci_layout.specs.Blobs.{stored}
-use Rattle.oci_layout.specs.Lasts.{Lasts}
+use Rattle.oci_layout_store.specs.Blobs.{stored}
+use Rattle.oci_layout_store.specs.Lasts.{Lasts}
 use Rattle.oci_prune.proofs.Settling.{can_settle_same, lasts_saved, left_saved, left_unsaved}
 use Rattle.oci_prune_commands.proofs.untag.untag_and_save.Goals as goal
 

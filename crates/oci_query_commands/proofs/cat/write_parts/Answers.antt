@@ -1,7 +1,7 @@
 use Rattle.std.proofs.Common.{◌≡◌, [], ◌++◌, ◌≤◌, ◌<◌, ◌-◌, None, length, refl, arith}
 use Rattle.std.specs.Io.KnownBytes.{Appends}
 use Rattle.std.proofs.lemmas.Result.{err_from_is_err_and}
-use Rattle.oci_layout.specs.Blobs.{blob_path, stored}
+use Rattle.oci_layout_store.specs.Blobs.{blob_path, stored}
 use Rattle.oci_store.specs.Keyed.{value_at}
 use Rattle.oci_store.proofs.Leaves.{IsReading-on, IsDraftOf-end}
 use Rattle.oci_verify.proofs.Intact.{matching-end, matching-long}

@@ -1,6 +1,6 @@
 use Rattle.std.proofs.Common.{List, ℕ}
 use Rattle.std.specs.Io.KnownBytes.{Appends}
-use Rattle.oci_layout.specs.Blobs.{stored}
+use Rattle.oci_layout_store.specs.Blobs.{stored}
 use Rattle.oci_store.specs.Keyed.{value_at}
 use Rattle.oci_store.specs.Parts.{IsReading}
 use Rattle.oci_query_commands.proofs.cat.write_parts.Given as goal

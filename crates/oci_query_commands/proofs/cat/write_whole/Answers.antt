@@ -1,6 +1,6 @@
 use Rattle.std.proofs.Common.{inl, inr}
 use Rattle.std.proofs.lemmas.Result.{on_ok_weaker, IfErr-weaker}
-use Rattle.oci_layout.specs.Blobs.{blob_path, IsNotOf}
+use Rattle.oci_layout_store.specs.Blobs.{blob_path, IsNotOf}
 use Rattle.oci_query_commands.proofs.Written.{IsBlobFault-read, IsWriteFault-output, Keeps-same}
 use Rattle.oci_query_commands.proofs.cat.write_whole.Goals as goal
 

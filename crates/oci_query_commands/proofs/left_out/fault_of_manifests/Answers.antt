@@ -1,7 +1,7 @@
 use Rattle.std.proofs.Common.{◌≡◌, true, false, List, subst}
 use Rattle.std.proofs.lemmas.List.{take_all}
 use Rattle.std.proofs.lemmas.List.Elements.{All-more}
-use Rattle.oci_layout.specs.Opened.{is_damaged}
+use Rattle.oci_layout_store.specs.Opened.{is_damaged}
 use Rattle.oci_manifest.specs.Descriptor.{Descriptor}
 use Rattle.oci_query_commands.specs.Answered.{AreUndamaged}
 use Rattle.oci_query_commands.proofs.Answered.{AreUndamaged-none}

@@ -2,7 +2,7 @@ use Rattle.std.proofs.Common.{List, ℕ, Bor, map, sym, ap, subst}
 use Rattle.std.specs.Prelude.{OnOk}
 use Rattle.std.proofs.lemmas.Result.{on_ok_weaker}
 use Rattle.oci_command_line.specs.declared.request.Query.{Query}
-use Rattle.oci_layout.specs.Meaning.{meaning}
+use Rattle.oci_layout_store.specs.Meaning.{meaning}
 use Rattle.oci_query_commands.specs.Lines.{key_lines}
 use Rattle.oci_query_commands.specs.Listed.{ArePredecessorsOf}
 use Rattle.oci_query_commands.specs.Printed.{Prints, PrintsAnswer}

@@ -1,7 +1,7 @@
 use Rattle.std.proofs.Common.{◌≡◌, ◌++◌, List, map, not, subst}
-use Rattle.oci_layout.specs.Entries.{entry_of, text_of}
-use Rattle.oci_layout.specs.Saved.{is_place, last_place}
-use Rattle.oci_layout.specs.declared.index.IndexEntry.{IndexEntry as CodeEntry}
+use Rattle.oci_layout_store.specs.Entries.{entry_of, text_of}
+use Rattle.oci_layout_store.specs.Saved.{is_place, last_place}
+use Rattle.oci_layout_store.specs.declared.index.IndexEntry.{IndexEntry as CodeEntry}
 use Rattle.oci_query_commands.specs.Found.{tagged_if, tagged_of}
 use Rattle.oci_query_commands.proofs.Found.{next_shadowed}
 use Rattle.oci_query_commands.proofs.verify.shadowed_entries.Goals as goal

@@ -1,5 +1,5 @@
 use Rattle.std.proofs.Common.{◌≡◌, ◌++◌, drop, map}
-use Rattle.oci_layout.specs.Entries.{entry_of}
+use Rattle.oci_layout_store.specs.Entries.{entry_of}
 use Rattle.oci_query_commands.specs.Found.{shadowed_in, tagged_of}
 use Rattle.oci_query_commands.proofs.verify.shadowed_entries.Given as goal
 

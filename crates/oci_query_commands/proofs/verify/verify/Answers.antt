@@ -1,7 +1,7 @@
 use Rattle.std.proofs.Common.{◌≡◌, List, map, ap, ◌∙◌}
 use Rattle.std.specs.BTreeSet.{contains}
-use Rattle.oci_layout.specs.Entries.{entry_of}
-use Rattle.oci_layout.specs.declared.index.IndexEntry.{IndexEntry}
+use Rattle.oci_layout_store.specs.Entries.{entry_of}
+use Rattle.oci_layout_store.specs.declared.index.IndexEntry.{IndexEntry}
 use Rattle.oci_manifest.specs.Descriptor.{Descriptor, is_among, key_cmp}
 use Rattle.oci_query_commands.specs.Found.{shadowed_in}
 use Rattle.oci_query_commands.proofs.Found.{found_in_set}

@@ -1,5 +1,5 @@
 use Rattle.std.proofs.Common.{sym, ◌∙◌}
-use Rattle.oci_layout.proofs.Stored.{has_key-stored}
+use Rattle.oci_layout_store.proofs.Stored.{has_key-stored}
 use Rattle.oci_reference.proofs.platform.if_held.Goals as goal
 
 pub returns-then-exists-clause-held : goal.returns-then-exists-clause-held

@@ -1,6 +1,6 @@
 use Rattle.std.proofs.Common.{◌≡◌, take}
 use Rattle.std.specs.Map.{keys_of}
-use Rattle.oci_layout.specs.Layout.{manifests_of}
+use Rattle.oci_layout_store.specs.Layout.{manifests_of}
 use Rattle.oci_reference.proofs.reference.held_manifests.Given as goal
 
 -- as far as the loop has come

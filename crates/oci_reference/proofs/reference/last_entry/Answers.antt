@@ -1,7 +1,7 @@
 use Rattle.std.proofs.Common.{◌≡◌, map, Some, sym}
-use Rattle.oci_layout.specs.Entries.{entry_of}
-use Rattle.oci_layout.specs.Saved.{last_place}
-use Rattle.oci_layout.proofs.LastNames.{last_entry-at, last_place-there}
+use Rattle.oci_layout_store.specs.Entries.{entry_of}
+use Rattle.oci_layout_store.specs.Saved.{last_place}
+use Rattle.oci_layout_store.proofs.LastNames.{last_entry-at, last_place-there}
 use Rattle.oci_reference.proofs.reference.last_entry.Goals as goal
 
 pub returns-in_err-entry-clause-place : goal.returns-in_err-entry-clause-place

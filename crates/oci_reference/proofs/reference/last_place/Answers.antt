@@ -1,6 +1,6 @@
 use Rattle.std.proofs.Common.{Bool, cond, Some, map, take, sym, ap, ◌∙◌}
-use Rattle.oci_layout.specs.Entries.{entry_of}
-use Rattle.oci_layout.specs.Saved.{last_place}
+use Rattle.oci_layout_store.specs.Entries.{entry_of}
+use Rattle.oci_layout_store.specs.Saved.{last_place}
 use Rattle.oci_reference.proofs.Named.{last_place-next}
 use Rattle.oci_reference.proofs.reference.last_place.Goals as goal
 use Rattle.oci_reference.proofs.reference.last_place.Goals.{then-is_named, else-is_named}

@@ -1,6 +1,6 @@
 use Rattle.std.proofs.Common.{◌≡◌, map, take}
-use Rattle.oci_layout.specs.Entries.{entry_of}
-use Rattle.oci_layout.specs.Saved.{last_place}
+use Rattle.oci_layout_store.specs.Entries.{entry_of}
+use Rattle.oci_layout_store.specs.Saved.{last_place}
 use Rattle.oci_reference.proofs.reference.last_place.Given as goal
 
 -- as far as the loop has come

@@ -5,7 +5,7 @@ use Rattle.std.proofs.lemmas.Result.{IfOk-weaker}
 use Rattle.oci_manifest.specs.Descriptor.{Descriptor}
 use Rattle.oci_store.specs.Keyed.{has_key}
 use Rattle.oci_store.specs.Tags.{tag_at, IsLeastOf, IsLeastWith}
-use Rattle.oci_layout.specs.Layout.{manifests_of}
+use Rattle.oci_layout_store.specs.Layout.{manifests_of}
 use Rattle.oci_reference.specs.Reference.{Names}
 use Rattle.oci_reference.proofs.Preferred.{manifest_held, names_least, names_manifest}
 use Rattle.oci_reference.proofs.reference.named_key.Goals as goal

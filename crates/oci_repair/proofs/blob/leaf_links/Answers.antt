@@ -1,5 +1,5 @@
 use Rattle.std.proofs.Common.{◌≡◌, true, false, inl, inr, sym, ◌∙◌, refl}
-use Rattle.oci_layout.proofs.Walk.{leaf_lists}
+use Rattle.oci_layout_store.proofs.Walk.{leaf_lists}
 use Rattle.oci_repair.proofs.Whole.{leaf_matches, not_of}
 use Rattle.oci_repair.proofs.blob.leaf_links.Goals as goal
 

@@ -1,6 +1,6 @@
 use Rattle.std.proofs.Common.{true, refl}
-use Rattle.oci_layout.specs.declared.fault.LayoutFault.TheVariants as fault
-use Rattle.oci_layout.proofs.Walk.{fault_damaged}
+use Rattle.oci_layout_store.specs.declared.fault.LayoutFault.TheVariants as fault
+use Rattle.oci_layout_store.proofs.Walk.{fault_damaged}
 use Rattle.oci_repair.proofs.Whole.{damaged_is_not}
 use Rattle.oci_repair.proofs.blob.manifest_links.Goals as goal
 

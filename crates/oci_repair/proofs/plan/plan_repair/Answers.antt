@@ -3,8 +3,8 @@ use Rattle.std.specs.Prelude.{flat_map}
 use Rattle.std.specs.Option.{option_copied}
 use Rattle.std.specs.List.{slice_get}
 use Rattle.std.proofs.lemmas.Grind.{flat_map-append}
-use Rattle.oci_layout.specs.Entries.{entry_keys, said}
-use Rattle.oci_layout.proofs.Walk.{take_next}
+use Rattle.oci_layout_store.specs.Entries.{entry_keys, said}
+use Rattle.oci_layout_store.proofs.Walk.{take_next}
 use Rattle.oci_manifest.specs.Descriptor.{Descriptor}
 use Rattle.oci_store.specs.Visiting.{with_keys}
 use Rattle.oci_store.proofs.Membership.{past_from_none}

@@ -1,7 +1,7 @@
 use Rattle.std.proofs.Common.{◌≡◌, ◌∷◌, ◌-◌, take}
 use Rattle.std.specs.Prelude.{flat_map}
-use Rattle.oci_layout.specs.Entries.{entry_keys, said}
-use Rattle.oci_layout.specs.Opened.{IsOpenedAsIs}
+use Rattle.oci_layout_store.specs.Entries.{entry_keys, said}
+use Rattle.oci_layout_store.specs.Opened.{IsOpenedAsIs}
 use Rattle.oci_verify.specs.Corrupt.{AreCorrupt}
 use Rattle.oci_repair.specs.Planned.{mend_at, missing_at}
 use Rattle.oci_repair.specs.Sources.{files_in, AreHonest}

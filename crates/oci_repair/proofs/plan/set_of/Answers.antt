@@ -1,4 +1,4 @@
-use Rattle.oci_layout.proofs.SavedEntries.{HasAmong-more}
+use Rattle.oci_layout_store.proofs.SavedEntries.{HasAmong-more}
 use Rattle.oci_repair.proofs.plan.set_of.Goals as goal
 
 pub loop-key-preserved : goal.loop-key-preserved

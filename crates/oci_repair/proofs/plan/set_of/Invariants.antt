@@ -1,5 +1,5 @@
 use Rattle.std.proofs.Common.{take}
-use Rattle.oci_layout.proofs.SavedEntries.{HasAmong}
+use Rattle.oci_layout_store.proofs.SavedEntries.{HasAmong}
 use Rattle.oci_repair.proofs.plan.set_of.Given as goal
 
 -- as far as the loop has come

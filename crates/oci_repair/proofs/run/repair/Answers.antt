@@ -3,7 +3,7 @@ use Rattle.std.specs.Prelude.{Contains}
 use Rattle.std.specs.List.{All}
 use Rattle.std.proofs.lemmas.List.{take_all, take_more, map-append}
 use Rattle.std.proofs.lemmas.Result.{err_from_is_err_and}
-use Rattle.oci_layout.specs.Layout.{SameMemory}
+use Rattle.oci_layout_store.specs.Layout.{SameMemory}
 use Rattle.oci_manifest.specs.Descriptor.{Descriptor}
 use Rattle.oci_repair.specs.Repaired.{IsOldOrMatch}
 use Rattle.oci_repair.proofs.Mended.{all_match, all_noted, firsts, next_keys, old_or_more, same_then, wider, IsNoted}

@@ -1,7 +1,7 @@
 use Rattle.std.proofs.Common.{take}
 use Rattle.std.specs.Prelude.{◌↔◌}
 use Rattle.std.specs.List.{All}
-use Rattle.oci_layout.specs.Layout.{SameMemory}
+use Rattle.oci_layout_store.specs.Layout.{SameMemory}
 use Rattle.oci_repair.specs.Repaired.{ArePut, IsOldOrMatch}
 use Rattle.oci_repair.proofs.Mended.{firsts, IsNoted}
 use Rattle.oci_repair.proofs.run.repair.Given as goal

@@ -1,7 +1,7 @@
 use Rattle.std.proofs.Common.{subst, arith}
 use Rattle.std.proofs.lemmas.List.{take_all}
 use Rattle.std.proofs.lemmas.Result.{IfOk-weaker}
-use Rattle.oci_layout.proofs.SavedEntries.{HasAmong, HasAmong-more}
+use Rattle.oci_layout_store.proofs.SavedEntries.{HasAmong, HasAmong-more}
 use Rattle.oci_repair_commands.proofs.Tasks.{in_set}
 use Rattle.oci_repair_commands.proofs.plan.in_order.Goals as goal
 

@@ -3,7 +3,7 @@ use Rattle.std.specs.Map.{values_of}
 use Rattle.oci_store.specs.Tags.{by_bytes}
 use Rattle.oci_store.specs.Visiting.{with_keys}
 use Rattle.oci_store.proofs.Membership.{Keys}
-use Rattle.oci_layout.specs.Entries.{entry_keys, entry_of}
+use Rattle.oci_layout_store.specs.Entries.{entry_keys, entry_of}
 use Rattle.oci_selection.proofs.Selections.{placed_both}
 use Rattle.oci_selection.proofs.roots.named_keys.Goals as goal
 

@@ -1,7 +1,7 @@
 use Rattle.std.proofs.Common.{[], ◌∷◌, sym, ap, ◌∙◌}
 use Rattle.oci_store.specs.Visiting.{with_keys}
 use Rattle.oci_store.proofs.Membership.{Keys}
-use Rattle.oci_layout.specs.Entries.{entry_keys, entry_of}
+use Rattle.oci_layout_store.specs.Entries.{entry_keys, entry_of}
 use Rattle.oci_selection.proofs.Selections.{placed_next}
 use Rattle.oci_selection.proofs.roots.place_named.Goals as goal
 

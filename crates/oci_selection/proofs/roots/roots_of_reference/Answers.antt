@@ -1,7 +1,7 @@
 use Rattle.std.proofs.Common.{◌≡◌, ℕ, List, [], map, ap}
 use Rattle.std.proofs.lemmas.Result.{IfOk-weaker}
 use Rattle.oci_store.specs.Tags.{by_bytes}
-use Rattle.oci_layout.specs.Meaning.{meaning}
+use Rattle.oci_layout_store.specs.Meaning.{meaning}
 use Rattle.oci_selection.specs.Selected.{AddsTyped, AreReferenceRoots, AreWithAttached}
 use Rattle.oci_selection.specs.declared.referrers.Referrers.TheVariants.{Climbed, Attached, OfTypes}
 use Rattle.oci_entries.specs.declared.copy_roots.CopyRoots.{CopyRoots}

@@ -1,6 +1,6 @@
 use Rattle.std.specs.Prelude.{◌≡◌, true}
 use Rattle.oci_store.specs.Keyed.{has_key}
-use Rattle.oci_layout.specs.Meaning.{meaning}
+use Rattle.oci_layout_store.specs.Meaning.{meaning}
 use Rattle.oci_selection.proofs.Refusals.{subject_other}
 use Rattle.oci_selection.proofs.roots.source_belonging.Goals as goal
 

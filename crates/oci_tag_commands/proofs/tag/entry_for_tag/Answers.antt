@@ -1,8 +1,8 @@
 use Rattle.std.proofs.Common.{map, sym, ap, subst}
 use Rattle.std.specs.List.{All}
 use Rattle.std.proofs.lemmas.Result.{IfOk-weaker}
-use Rattle.oci_layout.specs.Brought.{IsShallowEntry}
-use Rattle.oci_layout.specs.Entries.{entry_of}
+use Rattle.oci_layout_store.specs.Brought.{IsShallowEntry}
+use Rattle.oci_layout_store.specs.Entries.{entry_of}
 use Rattle.oci_tag_commands.proofs.Tagging.{entry_shallow}
 use Rattle.oci_tag_commands.proofs.tag.entry_for_tag.Goals as goal
 

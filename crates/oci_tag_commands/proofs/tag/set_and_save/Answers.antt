@@ -1,5 +1,5 @@
 use Rattle.std.proofs.Common.{length, ◌∙◌}
-use Rattle.oci_layout.specs.Blobs.{stored}
+use Rattle.oci_layout_store.specs.Blobs.{stored}
 use Rattle.oci_tag_commands.proofs.Tagging.{lasts_set, left_same, left_set, name_fault}
 use Rattle.oci_tag_commands.proofs.tag.set_and_save.Goals as goal
 

@@ -1,5 +1,5 @@
 use Rattle.std.proofs.Common.{inl, inr, refl}
-use Rattle.oci_layout.specs.Blobs.{stored}
+use Rattle.oci_layout_store.specs.Blobs.{stored}
 use Rattle.oci_prune.proofs.Settling.{left_unsaved}
 use Rattle.oci_tag_commands.proofs.tag.tag_and_save.Goals as goal
 

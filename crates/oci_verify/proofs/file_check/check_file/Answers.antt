@@ -1,5 +1,5 @@
 use Rattle.std.proofs.lemmas.Result.{err_from_is_err_and}
-use Rattle.oci_layout.specs.Blobs.{blob_path, IsNotOf}
+use Rattle.oci_layout_store.specs.Blobs.{blob_path, IsNotOf}
 use Rattle.oci_verify.proofs.Intact.{as_read, matching-read, matching-wrong, read_fault}
 use Rattle.oci_verify.proofs.file_check.check_file.Goals as goal
 

@@ -1,6 +1,6 @@
 use Rattle.std.proofs.Common.{List, ℕ}
 use Rattle.std.specs.Prelude.{⊤}
-use Rattle.oci_layout.specs.Blobs.{stored}
+use Rattle.oci_layout_store.specs.Blobs.{stored}
 use Rattle.oci_store.specs.Keyed.{value_at}
 use Rattle.oci_store.specs.Parts.{IsReading}
 use Rattle.oci_verify.proofs.file_check.check_parts.Given as goal

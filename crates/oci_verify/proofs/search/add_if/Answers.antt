@@ -1,5 +1,5 @@
 use Rattle.std.proofs.Common.{◌≡◌, true}
-use Rattle.oci_layout.proofs.Loose.{key_added}
+use Rattle.oci_layout_store.proofs.Loose.{key_added}
 use Rattle.oci_verify.proofs.search.add_if.Goals as goal
 
 pub returns-in_ok-insert : goal.returns-in_ok-insert

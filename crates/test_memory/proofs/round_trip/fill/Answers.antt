@@ -1,7 +1,7 @@
 use denote.Exit.{no}
 use denote.Param.Send.{param_send, arg_send}
-use Rattle.oci_layout.proofs.Crosses.{layout_send}
-use Rattle.oci_layout.proofs.mem_dir.MemDir.TheSendSync as directory
+use Rattle.oci_layout_store.proofs.Crosses.{layout_send}
+use Rattle.oci_dir.proofs.mem_dir.MemDir.TheSendSync as directory
 use Rattle.oci_store.specs.contracts.draft.MemoryDraft as draft
 use Rattle.oci_store.specs.contracts.draft.MemoryDraftDrafting.TheImpl as drafting
 use Rattle.test_memory.proofs.round_trip.fill.Goals as goal

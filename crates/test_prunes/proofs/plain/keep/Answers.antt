@@ -2,7 +2,7 @@ use Rattle.std.proofs.Common.{◌≡◌, true, cond, subst}
 use Rattle.std.specs.BTreeSet.{contains}
 use Rattle.std.specs.Ordering.{is_eq}
 use Rattle.oci_manifest.specs.Descriptor.{Descriptor, key_cmp}
-use Rattle.oci_layout.proofs.Loose.{set_more}
+use Rattle.oci_layout_store.proofs.Loose.{set_more}
 use Rattle.test_prunes.proofs.plain.keep.Goals as goal
 
 pub returns : goal.returns

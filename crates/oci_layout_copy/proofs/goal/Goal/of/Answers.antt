@@ -6,7 +6,7 @@ use Rattle.std.proofs.lemmas.List.Elements.{All-contains_itself, All-weaker, Con
 use Rattle.oci_manifest.specs.Descriptor.{Descriptor}
 use Rattle.oci_store.specs.Keyed.{HasAll}
 use Rattle.oci_store.specs.Tags.{by_bytes}
-use Rattle.oci_layout.specs.Entries.{entry_keys, entry_of, said}
+use Rattle.oci_layout_store.specs.Entries.{entry_keys, entry_of, said}
 use Rattle.oci_entries.specs.Brought.{named_entries}
 use Rattle.oci_entries.specs.Pattern.{matching_entries}
 use Rattle.oci_selection.specs.Selected.{each_once, named_keys, AreOfRoots}

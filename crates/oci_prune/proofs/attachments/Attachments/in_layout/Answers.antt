@@ -2,7 +2,7 @@ use Rattle.std.proofs.Common.{List, subst}
 use Rattle.std.proofs.lemmas.Result.{IfOk-weaker}
 use Rattle.oci_manifest.specs.Descriptor.{Descriptor}
 use Rattle.oci_store.specs.Tags.{by_bytes}
-use Rattle.oci_layout.specs.Blobs.{stored, keys_of-stored}
+use Rattle.oci_layout_store.specs.Blobs.{stored, keys_of-stored}
 use Rattle.oci_prune.specs.Attached.{AreAttachments}
 use Rattle.oci_prune.specs.Subjects.{States}
 use Rattle.oci_prune.proofs.Bringing.{attached_same}

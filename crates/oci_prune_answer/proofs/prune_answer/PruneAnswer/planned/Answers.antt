@@ -1,7 +1,7 @@
 use Rattle.std.proofs.Common.{◌≡◌, ℕ, List, string_bytes, ap, subst, ◌∙◌, arith}
 use Rattle.std.proofs.lemmas.List.{length-map}
 use Rattle.std.proofs.lemmas.Result.{IfOk-weaker}
-use Rattle.oci_layout.specs.Prunable.{by_name}
+use Rattle.oci_dir.specs.Prunable.{by_name}
 use Rattle.oci_prune.specs.Pruned.{flagged}
 use Rattle.oci_prune_answer.specs.Pruned.{of_both, ShowsFiles}
 use Rattle.oci_prune_answer.proofs.Naming.{flagged-all}

@@ -6,10 +6,10 @@ use Rattle.std.proofs.lemmas.Result.{err_from_is_err_and, IfErr-weaker}
 use Rattle.std.proofs.lemmas.List.Elements.{All-filter, Contains-append_left, Contains-append_right}
 use Rattle.oci_manifest.specs.Descriptor.{Descriptor}
 use Rattle.oci_store.specs.Tags.{Tags, by_bytes}
-use Rattle.oci_layout.specs.Meaning.{meaning}
-use Rattle.oci_layout.specs.Brought.{IsShallowEntry}
-use Rattle.oci_layout.specs.Entries.{IndexEntry, entry_keys, entry_of, said}
-use Rattle.oci_layout.specs.Saved.{no_name}
+use Rattle.oci_layout_store.specs.Meaning.{meaning}
+use Rattle.oci_layout_store.specs.Brought.{IsShallowEntry}
+use Rattle.oci_layout_store.specs.Entries.{IndexEntry, entry_keys, entry_of, said}
+use Rattle.oci_layout_store.specs.Saved.{no_name}
 use Rattle.oci_program.specs.declared.fault.ProgramFault.{ProgramFault}
 use Rattle.oci_program.specs.declared.fault.ProgramFault.TheVariants as program
 use Rattle.oci_entries.specs.Brought.{tag_entries, with_roots}

@@ -3,9 +3,9 @@ use Rattle.std.specs.List.{All}
 use Rattle.oci_manifest.specs.Descriptor.{Descriptor}
 use Rattle.oci_copy.specs.Tagged.{name_of}
 use Rattle.oci_store.specs.Tags.{by_bytes}
-use Rattle.oci_layout.specs.Meaning.{meaning}
-use Rattle.oci_layout.specs.Brought.{renamed, IsShallowEntry}
-use Rattle.oci_layout.specs.Entries.{IndexEntry, entry_of, said}
+use Rattle.oci_layout_store.specs.Meaning.{meaning}
+use Rattle.oci_layout_store.specs.Brought.{renamed, IsShallowEntry}
+use Rattle.oci_layout_store.specs.Entries.{IndexEntry, entry_of, said}
 use Rattle.oci_reference.specs.Platform.{entry_for, picked_of}
 use Rattle.oci_entries.specs.Brought.{tag_entries, with_roots}
 use Rattle.oci_selection.specs.Selected.{AreReferenceRoots, IsOfRoot}

@@ -5,8 +5,8 @@ use Rattle.std.specs.Map.{values_of}
 use Rattle.std.proofs.lemmas.List.Elements.{All-append}
 use Rattle.oci_manifest.specs.Descriptor.{Descriptor}
 use Rattle.oci_store.specs.Tags.{by_bytes}
-use Rattle.oci_layout.specs.Brought.{IsShallowEntry}
-use Rattle.oci_layout.specs.Entries.{entry_of}
+use Rattle.oci_layout_store.specs.Brought.{IsShallowEntry}
+use Rattle.oci_layout_store.specs.Entries.{entry_of}
 use Rattle.oci_entries.specs.Brought.{tag_entries}
 use Rattle.oci_selection.specs.Selected.{AreOfRoots, IsOfRoot}
 use Rattle.oci_selection.proofs.AttachedRoots.{both_of_roots}

@@ -1,6 +1,6 @@
 use denote.Exit.{no}
 use denote.Param.Send.{param_sync, arg_sync}
-use Rattle.oci_layout.proofs.Crosses.{layout_sync}
+use Rattle.oci_layout_store.proofs.Crosses.{layout_sync}
 use Rattle.oci_store.specs.contracts.draft.MemoryDraft as draft
 use Rattle.oci_store.specs.contracts.draft.MemoryDraftDrafting.TheImpl as drafting
 use Rattle.test_layouts.proofs.tests.faulty.FaultyDir.TheSendSync as faulty

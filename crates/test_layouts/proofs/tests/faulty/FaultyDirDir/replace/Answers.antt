@@ -1,5 +1,5 @@
 use Rattle.std.proofs.Common.{◌≡◌, None, rules}
-use Rattle.oci_layout.specs.declared.fault.DirFault.TheVariants as dir
+use Rattle.oci_dir.specs.declared.fault.DirFault.TheVariants as dir
 use Rattle.test_layouts.proofs.OverMemory.{replaces-over, fails-over}
 use Rattle.test_layouts.proofs.tests.faulty.FaultyDirDir.replace.Goals as goal
 

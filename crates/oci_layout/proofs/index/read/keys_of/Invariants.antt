@@ -1,6 +1,0 @@
-use Rattle.std.proofs.Common.{◌≡◌, map, take}
-use Rattle.oci_layout.specs.Entries.{entry_keys, entry_of}
-use Rattle.oci_layout.proofs.index.read.keys_of.Given as goal
-
-abbrev pub invariant-loop-entry : goal.invariant-loop-entry
-invariant-loop-entry l = l.keys.items ≡ entry_keys (map entry_of (take l.entry-index l.entries))

@@ -1,7 +1,0 @@
-use Rattle.std.proofs.Common.{◌≡◌, ◌++◌, map}
-use Rattle.oci_layout.specs.Entries.{entry_of}
-use Rattle.oci_layout.specs.Saved.{loose_entry}
-use Rattle.oci_layout.proofs.index.saved.add_loose.Given as goal
-
-abbrev pub invariant-loop-key : goal.invariant-loop-key
-invariant-loop-key l = map entry_of l.saved.items ≡ map entry_of l.initial.saved.items ++ map (loose_entry (map entry_of l.entries)) l.yielded

@@ -1,6 +1,0 @@
-use Rattle.std.proofs.Common.{take}
-use Rattle.oci_layout.proofs.SavedEntries.{HasAmong}
-use Rattle.oci_layout.proofs.index.saved.set_of.Given as goal
-
-abbrev pub invariant-loop-key : goal.invariant-loop-key
-invariant-loop-key l = HasAmong l.set (take l.key-index l.keys)

@@ -1,7 +1,0 @@
-use Rattle.std.proofs.Common.{◌≡◌, map, take, []}
-use Rattle.oci_layout.specs.Entries.{entry_of, named}
-use Rattle.oci_store.specs.Tags.{AreNames}
-use Rattle.oci_layout.proofs.index.tags.tags_of.Given as goal
-
-abbrev pub invariant-loop-entry : goal.invariant-loop-entry
-invariant-loop-entry l = (l.tags ≡ named l.graph (map entry_of (take l.entry-index l.entries)) []) × AreNames l.graph l.tags

@@ -1,4 +1,0 @@
-use Rattle.oci_layout.proofs.layout.Layout.tags.Goals as goal
-
-pub returns-clause-keys : goal.returns-clause-keys
-returns-clause-keys g c = rw (← c.self.view_is) c.len.ensures.keys

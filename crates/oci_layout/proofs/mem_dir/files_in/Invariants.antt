@@ -1,6 +1,0 @@
-use Rattle.oci_layout.specs.Prunable.{by_name}
-use Rattle.oci_layout.proofs.Listed.{AreFound}
-use Rattle.oci_layout.proofs.mem_dir.files_in.Given as goal
-
-abbrev pub invariant-loop-path : goal.invariant-loop-path
-invariant-loop-path l = AreFound l.folder l.files.entries (by_name l.found.items) l.path-iterator

@@ -1,0 +1,6 @@
+use Rattle.std.proofs.Common.{take}
+use Rattle.oci_layout_store.proofs.SavedEntries.{HasAmong}
+use Rattle.oci_layout_store.proofs.index.saved.set_of.Given as goal
+
+abbrev pub invariant-loop-key : goal.invariant-loop-key
+invariant-loop-key l = HasAmong l.set (take l.key-index l.keys)

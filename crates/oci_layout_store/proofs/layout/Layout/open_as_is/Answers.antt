@@ -1,0 +1,14 @@
+use Rattle.std.proofs.Common.{true}
+use Rattle.oci_layout_store.specs.Entries.{entry_keys, said}
+use Rattle.oci_layout_store.proofs.Walk.{IsSound-opened}
+use Rattle.oci_layout_store.proofs.layout.Layout.open_as_is.Goals as goal
+
+pub returns-in-Ok-clause-opened : goal.returns-in-Ok-clause-opened
+returns-in-Ok-clause-opened g c = rw c.of.ensures c.in-Ok.ensures.opened
+
+pub returns-in-Ok-clause-sound : goal.returns-in-Ok-clause-sound
+returns-in-Ok-clause-sound g c =
+    let dir = g.D.Dir.device c.args.dir in
+    rw c.of.ensures (λ honest matching.
+    (let o = c.in-Ok.ensures.opened honest in
+    IsSound-opened dir.is_honest true dir.file (entry_keys (said c.in-Ok.opened.content).entries) c.in-Ok.held.graph honest c.in-Ok.ensures.distinct o.read.walked matching))

@@ -1,0 +1,11 @@
+use Rattle.oci_layout_store.proofs.Unchanged.{AreRemembered-same, IsLayout-same}
+use Rattle.oci_layout_store.proofs.layout.Layout.settle_blobs.Goals as goal
+
+pub invariant_of-self : goal.invariant_of-self
+invariant_of-self g c =
+    let s = c.self.inside in
+    let old = g.D.Dir.device s.dir in
+    let new = g.D.Dir.device c.settle_files.new.dir in (
+      IsLayout-same old new s.graph s.tags c.settle_files.ensures.only.honest.1 c.settle_files.ensures.only.files c.self.invariant.0,
+      AreRemembered-same old new s.graph s.subjects c.settle_files.ensures.only.honest.1 c.settle_files.ensures.only.files c.self.invariant.1,
+    )

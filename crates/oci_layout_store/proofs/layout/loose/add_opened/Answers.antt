@@ -1,0 +1,14 @@
+use Rattle.std.proofs.Common.{◌≡◌, ◌+◌, true, sym, ◌∙◌}
+use Rattle.std.proofs.lemmas.Bool.{not-false}
+use Rattle.oci_manifest.specs.Descriptor.{Descriptor}
+use Rattle.oci_store.specs.Keyed.{has_key}
+use Rattle.oci_layout_store.specs.Entries.{entry_of}
+use Rattle.oci_layout_store.specs.Saved.{no_name}
+use Rattle.oci_layout_store.proofs.Loose.{opened_added}
+use Rattle.oci_layout_store.proofs.layout.loose.add_opened.Goals as goal
+
+pub returns : goal.returns
+returns c =
+    opened_added c.args.loose.now c.insert.new.self c.args.entry.now.key c.in-Some.key c.in_ok-try_clone.field-0 (c.args.place + 1) (no_name (entry_of c.args.entry.now).name ≡ true)
+    (λ (k : Descriptor). has_key c.args.graph.now k ≡ true) c.in-Some.is c.in_ok-try_clone.ensures c.in_ok-insert.ensures.updates.0
+    (not-false (no_name (entry_of c.args.entry.now).name) (sym c.has_name.ensures ∙ c.if-has_name.false)) (sym c.holds.ensures ∙ c.if-not-holds.false)
