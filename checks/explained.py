@@ -1,5 +1,7 @@
 """Compares the numbers of refusals, and their names, as the crates' faults declare them (tools/numbers reads them), the
-program explains them, docs/refusals.md and docs/json.md list them, and the pages for users name them."""
+program explains them, docs/refusals.md and docs/json.md list them, and the pages for users name them. The text of each fault begins with the
+number that its `number()` returns, and has all that it carries, in order."""
+import glob
 import re
 
 from support.program import TOP, first, run, told
@@ -18,6 +20,8 @@ ASKED = re.compile(r"\bexplain (\d+)()")
 ENCLOSED = re.compile(r"\((\d{2,3}\b[^()]*)\)")
 # In the place of a cause that is to be written.
 UNWRITTEN = "?"
+# A fault: the number in its text, the rest of the text, what the text is filled with, the variant's name, and the types that it carries.
+FAULT = re.compile(r'#\[error\("(\d+) \w+([^"]*)"([^\]]*)\)\]\n(?: *///.*\n)* *(\w+)(?:\((.*)\))?,')
 
 
 def read(path):
@@ -39,6 +43,28 @@ def used(page):
     yield from ASKED.findall(text)
     for numbers in ENCLOSED.findall(text):
         yield from ((number, "") for number in re.findall(r"\b\d{2,3}\b", numbers))
+
+
+def wrong_text(source, fault):
+    """Return the problem with the text of a fault of a source, or None."""
+    number, rest, filled, name, types = fault.groups()
+    variant = "%s::%s" % (re.findall(r"pub enum (\w+)", source[: fault.start()])[-1], name)
+    returned = re.findall(r"\b%s\b(?:\(.*\))? => (?:Some\()?(\d+)" % variant, source)
+    places = re.findall(r"\.(\d)", filled) if filled else re.findall(r"\{(\d)\}", rest)
+    carried = [str(place) for place in range(len(types.split(",")))] if types else []
+    if returned != [number] and (returned or "fn number(" in source):
+        return "the text of %s begins with %s, and number() returns %s" % (variant, number, ", ".join(returned) or "no number")
+    if places != carried or rest.count("{") != len(carried):
+        return "the text of %s does not have all that it carries, in order" % variant
+
+
+def wrong_texts():
+    """Return the problem with the text of a fault of the crates, or None."""
+    sources = [read(path) for path in sorted(glob.glob(TOP + "/crates/*/src/**/*.rt", recursive=True))]
+    found = [(source, fault) for source in sources for fault in FAULT.finditer(source)]
+    declared = sum(len(re.findall(r'#\[error\("\d', source)) for source in sources)
+    missing = None if found and len(found) == declared else "of %d faults with a number %d can be read" % (declared, len(found))
+    return missing or first(wrong_text(*it) for it in found)
 
 
 def wrong_document(file, room):
@@ -89,6 +115,7 @@ def checks(room):
     for file in DOCUMENTS:
         yield "docs/%s is up to date" % file, told(made) if made.status else wrong_document(file, room)
     yield "docs/refusals.md", wrong_list(rows)
+    yield "the texts of the faults", wrong_texts()
     yield "explain", first(wrong_explanation(number, names.get(number), room) for number in NUMBERS)
     for page in PAGES:
         yield page, wrong_use(page, names)
