@@ -1,5 +1,2 @@
 mod belonging;
-mod by_tag;
-mod layouts;
-mod random;
 mod removals;

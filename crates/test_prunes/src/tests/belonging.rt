@@ -1,199 +1,104 @@
-//! What belongs to the index of a layout with referrers, and with tags by digest.
+//! What belongs to a key of a layout in memory, and what a prune keeps that is given a key.
 
-use crate::tests::layouts::{OCTETS, created};
-use bytes::Bytes;
 use oci_layout::{Layout, MemDir};
 use oci_manifest::Key;
-use oci_prune::belonging_of;
-use oci_store::{Dest, Source, keys_of_set};
+use oci_prune::{Belonging, PrunePlan, belonging_of, plan_prune_keeping};
+use oci_store::{Dest, Tagger, keys_of_set};
 use std::alloc::Global;
 use std::collections::BTreeSet;
 use std::process::Abort;
 use std::slice;
 use std::test::Fail;
-use test_support::{Content, Sample, descriptor, image, index};
+use test_support::Sample::{Bar, Empty, Foo, Image0, Image2, Referrer};
+use test_support::{Sample, keys};
 
-/// The first 64 of the 128 SHA-512 digits of the second platform's image.
-const CUT_DIGITS: &str = "829463233ab1e876c463df1ad5637b08364e33810330e3ecb292b64dfbd430b6";
+/// The tag of a signature of `image_2`: its digest with `-` in place of `:`, and a suffix.
+const SIGNATURE: &str =
+    "sha256-7e1df211bc4556d2a9db939a81721c52e5e53c59e3dfb45a57205a794dd412b7.sig";
 
-/// A layout with some tags, the keys that belong to its index, and those that are attached.
-#[derive(Drop)]
-struct Prepared {
-    layout: Layout<MemDir>,
-    /// The tag of the index's digest, one that names no digest, and that of the cut digest.
-    tags: Vec<(String, Key)>,
-    members: Vec<Key>,
-    attached: Vec<Key>,
-}
-
-/// Pushes a content under a key.
-fn push(layout: &mut Layout<MemDir>, key: &Key, content: Content) -> Result<(), Fail> {
-    let Content { bytes, .. } = content;
-    layout.push_closed(key, Bytes::from_vec(bytes.into_bytes())?)?;
+/// Pushes a sample.
+fn push(alloc: Global, layout: &mut Layout<MemDir>, sample: Sample) -> Result<(), Fail> {
+    let key = sample.key(alloc)?;
+    layout.push_closed(&key, sample.bytes(alloc)?)?;
     Ok(())
 }
 
-/// Pushes a content under a key that belongs to the index, and returns the key.
-fn push_member(made: &mut Prepared, key: Key, content: Content) -> Result<Key, Fail> {
-    push(&mut made.layout, &key, content)?;
-    made.members.push(key.try_clone()?)?;
-    Ok(key)
-}
-
-/// Returns the image of a number, whose text goes on with `rest`.
-fn image_of(alloc: Global, number: u32, rest: &str) -> Result<Content, Fail> {
-    let text = format!(in alloc; "[],\"number\":{number}{rest}}}")?;
-    image(alloc, text.as_str())
-}
-
-/// Pushes an image that belongs to the index.
-fn push_image(alloc: Global, made: &mut Prepared, number: u32, rest: &str) -> Result<Key, Fail> {
-    let content = image_of(alloc, number, rest)?;
-    let key = content.key(alloc)?;
-    push_member(made, key, content)
-}
-
-/// Pushes an image that belongs to the index under its SHA-512 digest.
-fn push_by_sha512(alloc: Global, made: &mut Prepared) -> Result<Key, Fail> {
-    let content = image(alloc, "[]}")?;
-    let key = content.key_by_sha512(alloc)?;
-    push_member(made, key, content)
-}
-
-/// Pushes an image that is attached, and returns its key.
-fn push_attached(alloc: Global, made: &mut Prepared, number: u32, rest: &str) -> Result<Key, Fail> {
-    let key = push_image(alloc, made, number, rest)?;
-    made.attached.push(key.try_clone()?)?;
-    Ok(key)
-}
-
-/// Pushes an image that refers to a key.
-fn push_referrer(
-    alloc: Global,
-    made: &mut Prepared,
-    number: u32,
-    subject: &Key,
-) -> Result<(), Fail> {
-    let subject = descriptor(alloc, subject)?;
-    let rest = format!(in alloc; ",\"subject\":{subject}")?;
-    push_attached(alloc, made, number, rest.as_str())?;
-    Ok(())
-}
-
-/// Pushes an image with a tag that names a digest.
-fn push_tagged(alloc: Global, made: &mut Prepared, number: u32, name: String) -> Result<(), Fail> {
-    let key = push_attached(alloc, made, number, "")?;
-    made.tags.push((name, key))?;
-    Ok(())
-}
-
-/// Pushes an image with a tag that names no digest.
-fn push_other(alloc: Global, made: &mut Prepared) -> Result<(), Fail> {
-    let content = image_of(alloc, 6, "")?;
-    let key = content.key(alloc)?;
-    push(&mut made.layout, &key, content)?;
-    made.tags.push((String::from_str(alloc, "other")?, key))?;
-    Ok(())
-}
-
-/// Pushes the bytes of a key again, as octets.
-fn push_octets(alloc: Global, made: &mut Prepared, key: &Key) -> Result<Key, Fail> {
-    let octets = Key::new(String::from_str(alloc, OCTETS)?, *key.digest(), key.size())?;
-    let bytes = made.layout.fetch(key)?;
-    made.layout.push_closed(&octets, bytes)?;
-    made.members.push(octets.try_clone()?)?;
-    Ok(octets)
-}
-
-/// Pushes an index of two platforms, a referrer of the first one's image, and returns its key.
-fn push_index(alloc: Global, made: &mut Prepared) -> Result<Key, Fail> {
-    let first = push_image(alloc, made, 1, "")?;
-    let first_text = descriptor(alloc, &first)?;
-    push_referrer(alloc, made, 2, &first)?;
-    let second = push_by_sha512(alloc, made)?;
-    let second_text = descriptor(alloc, &second)?;
-    let list = format!(in alloc; "{first_text},{second_text}")?;
-    let content = index(alloc, list.as_str())?;
-    let key = content.key(alloc)?;
-    push_member(made, key, content)
-}
-
-/// Pushes what is attached to the index: an image whose subject is its bytes as octets, one that is
-/// tagged by its digest, and one that is tagged by the cut digest of its second image.
-fn push_attachments(alloc: Global, made: &mut Prepared, index: &Key) -> Result<(), Fail> {
-    let octets = push_octets(alloc, made, index)?;
-    push_referrer(alloc, made, 3, &octets)?;
-    let digits = index.digest().encoded(alloc)?;
-    push_tagged(alloc, made, 4, format!(in alloc; "sha256-{digits}.sig")?)?;
-    push_other(alloc, made)?;
-    push_tagged(alloc, made, 5, format!(in alloc; "sha512-{CUT_DIGITS}")?)
-}
-
-/// Returns an empty layout.
-fn empty_layout(alloc: Global) -> Result<Prepared, Fail> {
-    Ok(Prepared {
-        layout: created(alloc)?,
-        tags: Vec::new(alloc),
-        members: Vec::new(alloc),
-        attached: Vec::new(alloc),
-    })
-}
-
-/// Pushes the config of the images.
-fn push_config(alloc: Global, made: &mut Prepared) -> Result<(), Fail> {
-    let content = Sample::Empty.content(alloc)?;
-    let key = content.key(alloc)?;
-    push_member(made, key, content)?;
-    Ok(())
-}
-
-/// Returns keys in key order, each once.
-fn sorted(alloc: Global, keys: &[Key]) -> Result<Vec<Key>, Fail> {
-    let mut set = BTreeSet::new(alloc);
-    for key in keys {
-        set.insert(key.try_clone()?)?;
+/// Pushes an image with its referrer, another image, and a layer that nothing lists.
+fn push_all(alloc: Global, layout: &mut Layout<MemDir>) -> Result<(), Fail> {
+    for sample in [Empty, Foo, Bar, Image2, Referrer, Image0] {
+        push(alloc, layout, sample)?;
     }
-    Ok(keys_of_set(alloc, &set)?)
+    Ok(())
 }
 
-/// Returns the name of the tag at a place.
-fn name_at(tags: &[(String, Key)], place: usize) -> Option<&str> {
-    match tags.get(place) {
-        Some((name, _)) => Some(name.as_str()),
-        None => None,
+/// Returns a layout of these contents.
+fn filled(alloc: Global) -> Result<Layout<MemDir>, Fail> {
+    match Layout::create(alloc, MemDir::new(alloc)) {
+        Ok(mut layout) => {
+            push_all(alloc, &mut layout)?;
+            Ok(layout)
+        }
+        Err((_, fault)) => Err(Fail::from(fault)),
     }
 }
 
-/// Compares what belongs to a key with what was pushed for it.
-fn assert_belonging<R: AllocGlobal + Abort>(
+/// Returns a tag of a sample.
+fn tag_of(alloc: Global, name: &str, sample: Sample) -> Result<(String, Key), Fail> {
+    let name = String::from_str(alloc, name)?;
+    Ok((name, sample.key(alloc)?))
+}
+
+/// Returns the tags of a signature of the image, and of the layer.
+fn tags(alloc: Global) -> Result<Vec<(String, Key)>, Fail> {
+    let mut tags = Vec::new(alloc);
+    tags.push(tag_of(alloc, SIGNATURE, Image0)?)?;
+    tags.push(tag_of(alloc, "other", Bar)?)?;
+    Ok(tags)
+}
+
+/// Asserts that these are the keys of the samples, in order.
+fn assert_keys<R: AllocGlobal + Abort>(rt: &R, found: &[Key], want: &[Sample]) -> Result<(), Fail> {
+    assert!(rt; found == keys(rt.alloc(), want)?.as_slice(), "not {want:?}");
+    Ok(())
+}
+
+/// Asserts that these are the keys of the samples, which are in key order.
+fn assert_set<R: AllocGlobal + Abort>(
     rt: &R,
-    made: &Prepared,
-    key: &Key,
+    found: &BTreeSet<Key>,
+    want: &[Sample],
 ) -> Result<(), Fail> {
-    let alloc = rt.alloc();
-    let found = belonging_of(alloc, &made.layout, slice::from_ref(key), &made.tags)?;
-    assert_eq!(rt;
-        keys_of_set(alloc, &found.members)?,
-        sorted(alloc, &made.members)?
-    );
-    assert_eq!(rt;
-        sorted(alloc, &found.attached)?,
-        sorted(alloc, &made.attached)?
-    );
-    assert_eq!(rt; found.attached.len(), made.attached.len());
-    assert_eq!(rt; found.tags.len(), 2);
-    assert_eq!(rt; name_at(&found.tags, 0), name_at(&made.tags, 0));
-    assert_eq!(rt; name_at(&found.tags, 1), name_at(&made.tags, 2));
+    assert_keys(rt, &keys_of_set(rt.alloc(), found)?, want)
+}
+
+/// Returns what belongs to the image.
+fn found(alloc: Global, layout: &Layout<MemDir>) -> Result<Belonging, Fail> {
+    let key = Image2.key(alloc)?;
+    Ok(belonging_of(alloc, layout, slice::from_ref(&key), &tags(alloc)?)?)
+}
+
+/// With the image come its config and its layer, its referrer, and the other image, which has the
+/// tag of a signature of it. The referrer and the other image are attached to it.
+#[test]
+fn what_belongs_to_an_image(rt: HostRuntime) -> Result<(), Fail> {
+    let found = found(rt.alloc(), &filled(rt.alloc())?)?;
+    assert_set(&rt, &found.members, &[Empty, Foo, Image2, Image0, Referrer])?;
+    assert_eq!(rt; (found.attached.len(), found.tags.len()), (2, 1));
     Ok(())
 }
 
-/// With the index come its images, their config, the referrers, the key that is a subject, and what
-/// is tagged by a digest, with these tags; nothing else.
+/// Returns the plan of a prune that keeps the layer, and the tagged image.
+fn planned(alloc: Global, layout: &mut Layout<MemDir>) -> Result<PrunePlan, Fail> {
+    let key = Bar.key(alloc)?;
+    layout.tag(&Image0.key(alloc)?, "v1")?;
+    Ok(plan_prune_keeping(alloc, layout, slice::from_ref(&key), true)?)
+}
+
+/// Of a layout with one tag, a key that is given is kept like the tagged image. The other image goes,
+/// with its layer and its referrer.
 #[test]
-fn what_belongs_to_an_index(rt: HostRuntime) -> Result<(), Fail> {
-    let mut made = empty_layout(rt.alloc())?;
-    push_config(rt.alloc(), &mut made)?;
-    let index = push_index(rt.alloc(), &mut made)?;
-    push_attachments(rt.alloc(), &mut made, &index)?;
-    assert_belonging(&rt, &made, &index)
+fn a_plan_that_keeps_a_key(rt: HostRuntime) -> Result<(), Fail> {
+    let plan = planned(rt.alloc(), &mut filled(rt.alloc())?)?;
+    assert_set(&rt, &plan.kept, &[Empty, Bar, Image0])?;
+    assert_keys(&rt, &plan.removed, &[Foo, Image2, Referrer])
 }
