@@ -1,6 +1,5 @@
 mod climbs;
 mod digests;
-mod faults;
 mod graphs;
 mod manifests;
 mod orders;

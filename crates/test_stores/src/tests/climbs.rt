@@ -3,16 +3,11 @@ use oci_manifest::Key;
 use oci_plan::climb;
 use oci_store::MemoryStore;
 use std::alloc::Global;
-use std::process::Abort;
 use std::test::Fail;
 use test_support::Sample::{
     Bar, Empty, Foo, Image0, Image2, Index3, Index4, Index5, Index6, Referrer,
 };
 use test_support::{Sample, memory, put_chain};
-
-/// The sample at which a climb starts, its depth, and the samples of the keys that it returns, in
-/// order.
-type Climb = (Sample, u32, &'static [Sample]);
 
 /// Returns the keys of a climb from the sample's key.
 fn climbed(
@@ -25,99 +20,57 @@ fn climbed(
     Ok(climb(alloc, source, &key, depth)?)
 }
 
-/// Returns whether a climb returns the expected keys.
+/// Returns whether a climb in a store of samples returns the expected keys.
 fn is_climb(
     alloc: Global,
-    source: &MemoryStore,
-    (sample, depth, want): Climb,
+    held: &[Sample],
+    sample: Sample,
+    depth: u32,
+    want: &[Sample],
 ) -> Result<bool, Fail> {
-    are_keys(alloc, &climbed(alloc, source, sample, depth)?, want)
+    let source = memory(alloc, held)?;
+    are_keys(alloc, &climbed(alloc, &source, sample, depth)?, want)
 }
 
-fn assert_climb<R: AllocGlobal + Abort>(
-    rt: &R,
-    source: &MemoryStore,
-    (sample, depth, want): Climb,
-) -> Result<(), Fail> {
-    let is_wanted = is_climb(rt.alloc(), source, (sample, depth, want))?;
-    assert!(rt; is_wanted, "row {sample:?} to depth {depth}: not {want:?}");
-    Ok(())
-}
+/// An image that a longer path leads to from `index_5`, and one with a referrer.
+const FIVE: &[Sample] = &[Empty, Foo, Image2, Index3, Index4, Index5, Index6];
 
-fn assert_each<R: AllocGlobal + Abort>(
-    rt: &R,
-    source: &MemoryStore,
-    climbs: &[Climb],
-) -> Result<(), Fail> {
-    for row in climbs {
-        assert_climb(rt, source, *row)?;
+const REFERRERS: &[Sample] = &[Empty, Foo, Image2, Referrer, Index3, Index4];
+
+const ALL: &[Sample] = &[Index5, Index4, Index6, Index3, Image2];
+
+/// The samples of a store, the one at which a climb starts, its depth, and the samples of the keys
+/// that it returns, in order. `index_6` is two edges above `image_2`, although a longer path also
+/// reaches `index_5` between them. The result contains the key itself, held or not.
+const CLIMBS: [(&[Sample], Sample, u32, &[Sample]); 8] = [
+    (FIVE, Image2, 1, &[Index5, Index3, Image2]),
+    (FIVE, Image2, 2, ALL),
+    (FIVE, Image2, 3, ALL),
+    (FIVE, Image2, 0, ALL),
+    (REFERRERS, Image2, 1, &[Index3, Image2, Referrer]),
+    (REFERRERS, Image2, 0, &[Index4, Index3, Image2, Referrer]),
+    (&[Image0], Bar, 3, &[Bar]),
+    (&[Image0], Empty, 1, &[Empty, Image0]),
+];
+
+#[test]
+fn climbs(rt: HostRuntime) -> Result<(), Fail> {
+    for (held, sample, depth, want) in &CLIMBS {
+        let is_wanted = is_climb(rt.alloc(), held, *sample, *depth, want)?;
+        assert!(rt; is_wanted, "row {sample:?} to depth {depth}: not {want:?}");
     }
     Ok(())
 }
 
-/// Asserts climbs in a store of these samples.
-fn assert_climbs<R: AllocGlobal + Abort>(
-    rt: &R,
-    samples: &[Sample],
-    climbs: &[Climb],
-) -> Result<(), Fail> {
-    assert_each(rt, &memory(rt.alloc(), samples)?, climbs)
-}
-
-const ALL: [Sample; 5] = [Index5, Index4, Index6, Index3, Image2];
-
-/// `index_6` is two edges above `image_2`, although a longer path also reaches `index_5` between
-/// them.
-#[test]
-fn met_again_after_more_edges(rt: HostRuntime) -> Result<(), Fail> {
-    static SAMPLES: [Sample; 7] = [Empty, Foo, Image2, Index3, Index4, Index5, Index6];
-    static CLIMBS: [Climb; 4] = [
-        (Image2, 1, &[Index5, Index3, Image2]),
-        (Image2, 2, &ALL),
-        (Image2, 3, &ALL),
-        (Image2, 0, &ALL),
-    ];
-    assert_climbs(&rt, &SAMPLES, &CLIMBS)
-}
-
-#[test]
-fn referrers_climbed(rt: HostRuntime) -> Result<(), Fail> {
-    static SAMPLES: [Sample; 6] = [Empty, Foo, Image2, Referrer, Index3, Index4];
-    static CLIMBS: [Climb; 3] = [
-        (Image2, 1, &[Index3, Image2, Referrer]),
-        (Image2, 2, &[Index4, Index3, Image2, Referrer]),
-        (Image2, 0, &[Index4, Index3, Image2, Referrer]),
-    ];
-    assert_climbs(&rt, &SAMPLES, &CLIMBS)
-}
-
-/// The result contains the key itself, held or not.
-#[test]
-fn climb_of_a_key_that_is_not_held(rt: HostRuntime) -> Result<(), Fail> {
-    static SAMPLES: [Sample; 1] = [Image0];
-    static CLIMBS: [Climb; 3] = [
-        (Bar, 0, &[Bar]),
-        (Bar, 3, &[Bar]),
-        (Empty, 1, &[Empty, Image0]),
-    ];
-    assert_climbs(&rt, &SAMPLES, &CLIMBS)
-}
-
-/// Returns a store of a chain of images.
-fn chain(alloc: Global, length: u32) -> Result<MemoryStore, Fail> {
-    let mut store = memory(alloc, &[Empty])?;
-    put_chain(alloc, &mut store, length)?;
-    Ok(store)
-}
-
 /// Returns the number of keys in a climb from the first image of a chain.
-fn found(alloc: Global, length: u32) -> Result<usize, Fail> {
-    let store = chain(alloc, length)?;
-    Ok(climbed(alloc, &store, Image0, 0)?.len())
+fn found(alloc: Global, store: &mut MemoryStore, length: u32) -> Result<usize, Fail> {
+    put_chain(alloc, store, length)?;
+    Ok(climbed(alloc, store, Image0, 0)?.len())
 }
 
 #[test]
 fn climb_of_a_long_chain(rt: HostRuntime) -> Result<(), Fail> {
-    assert_eq!(rt; found(rt.alloc(), 3_000)?, 3_000);
+    let mut store = memory(rt.alloc(), &[Empty])?;
+    assert_eq!(rt; found(rt.alloc(), &mut store, 3_000)?, 3_000);
     Ok(())
 }

@@ -1,90 +1,54 @@
-//! Expected texts, made of words and of the printed forms of samples.
+//! Expected texts, which are joined from parts.
 
+use oci_manifest::Key;
 use std::alloc::Global;
 use std::fmt::Debug;
 use std::process::Abort;
 use std::test::Fail;
-use test_support::{Sample, descriptor};
 
-/// A part of a text.
-#[derive(Clone, Copy, Debug)]
-pub(crate) enum Part {
-    /// Literal words.
-    Words(&'static str),
-    /// The key of a sample.
-    KeyOf(Sample),
-    /// The key of a sample, and the end of the line.
-    LineOf(Sample),
-    /// The digest of a sample.
-    DigestOf(Sample),
-    /// The bytes of a sample.
-    BytesOf(Sample),
-    /// The descriptor of a sample as JSON.
-    DescriptorOf(Sample),
-    /// The descriptor of a sample under another media type, as JSON.
-    DescriptorAs(Sample, &'static str),
-    /// This number of opening brackets, followed by the same number of closing ones.
-    Brackets(usize),
-}
+/// The printed keys of samples. Python's hashlib computed the digests from the texts of the
+/// contents.
+pub(crate) const EMPTY: &str =
+    "sha256:44136fa355b3678a1146ad16f7e8649e94fb4fc21fe77e8310c060f61caaff8a 2 application/vnd.oci.empty.v1+json";
 
-fn key(alloc: Global, sample: Sample) -> Result<String, Fail> {
-    let key = sample.key(alloc)?;
-    Ok(key.to_string(alloc)?)
-}
+pub(crate) const FOO: &str =
+    "sha256:2c26b46b68ffc68ff99b453c1d30413413422d706483bfa0f98a5e886266e7ae 3 application/vnd.oci.image.layer.v1.tar";
 
-fn line(alloc: Global, sample: Sample) -> Result<String, Fail> {
-    let key = sample.key(alloc)?;
-    Ok(format!(in alloc; "{key}\n")?)
-}
+pub(crate) const BAR: &str =
+    "sha256:fcde2b2edba56bf408601fb721fe9b5c338d10ee429ea04fae5511b68fbf8fb9 3 application/vnd.oci.image.layer.v1.tar";
 
-fn digest(alloc: Global, sample: Sample) -> Result<String, Fail> {
-    let digest = *sample.key(alloc)?.digest();
-    Ok(digest.to_string(alloc)?)
-}
+pub(crate) const IMAGE_0: &str =
+    "sha256:88028e7a699c392898fd180bf967edbcdb6227a9b7434a3ba0c9efff269e613f 241 application/vnd.oci.image.manifest.v1+json";
 
-fn descriptor_as(alloc: Global, sample: Sample, media_type: &str) -> Result<String, Fail> {
-    let key = sample.content(alloc)?.key_as(alloc, media_type)?;
-    descriptor(alloc, &key)
-}
+pub(crate) const IMAGE_2: &str =
+    "sha256:7e1df211bc4556d2a9db939a81721c52e5e53c59e3dfb45a57205a794dd412b7 385 application/vnd.oci.image.manifest.v1+json";
 
-fn push_brackets(text: &mut String, bracket: &str, depth: usize) -> Result<(), Fail> {
-    for _ in 0..depth {
-        text.push_str(bracket)?;
-    }
-    Ok(())
-}
+pub(crate) const IMAGE_3: &str =
+    "sha256:3f167608abdb6f3e8f7a3c6ac3957c7da7b621d2536c484e8419ae104fba9b34 532 application/vnd.oci.image.manifest.v1+json";
 
-fn brackets(alloc: Global, depth: usize) -> Result<String, Fail> {
+pub(crate) const INDEX_1: &str =
+    "sha256:8ede3797b5d175cf105016f170f6e4a175a141a2865be8e6822edd38acd70711 339 application/vnd.oci.image.index.v1+json";
+
+/// Returns the text of these parts.
+fn joined(alloc: Global, parts: &[&str]) -> Result<String, Fail> {
     let mut text = String::new(alloc);
-    push_brackets(&mut text, "[", depth)?;
-    push_brackets(&mut text, "]", depth)?;
+    for part in parts {
+        text.push_str(part)?;
+    }
     Ok(text)
 }
 
-/// Returns a part as text.
-fn written(alloc: Global, part: Part) -> Result<String, Fail> {
-    match part {
-        Part::Words(words) => Ok(String::from_str(alloc, words)?),
-        Part::KeyOf(sample) => key(alloc, sample),
-        Part::LineOf(sample) => line(alloc, sample),
-        Part::DigestOf(sample) => digest(alloc, sample),
-        Part::BytesOf(sample) => Ok(sample.content(alloc)?.bytes),
-        Part::DescriptorOf(sample) => sample.content(alloc)?.descriptor(alloc),
-        Part::DescriptorAs(sample, media_type) => descriptor_as(alloc, sample, media_type),
-        Part::Brackets(depth) => brackets(alloc, depth),
-    }
-}
-
-fn push_part(alloc: Global, text: &mut String, part: Part) -> Result<(), Fail> {
-    text.push_str(written(alloc, part)?.as_str())?;
+fn push_key(alloc: Global, text: &mut String, words: &str, key: &Key) -> Result<(), Fail> {
+    text.push_str(words)?;
+    text.push_str(format!(in alloc; "{key};")?.as_str())?;
     Ok(())
 }
 
-/// Returns the text of these parts.
-pub(crate) fn text(alloc: Global, parts: &[Part]) -> Result<String, Fail> {
+/// Returns keys as text, each after these words and with a `;`.
+pub(crate) fn line(alloc: Global, words: &str, keys: &[Key]) -> Result<String, Fail> {
     let mut text = String::new(alloc);
-    for part in parts {
-        push_part(alloc, &mut text, *part)?;
+    for key in keys {
+        push_key(alloc, &mut text, words, key)?;
     }
     Ok(text)
 }
@@ -94,15 +58,14 @@ pub(crate) fn assert_same<T: Debug>(rt: &impl Abort, row: &T, got: &str, want: &
     assert!(rt; got == want, "row {row:?}: {got}, not {want}");
 }
 
-/// Asserts that `got` is the text of these parts. A failure also prints the row.
-pub(crate) fn assert_text<T: Debug>(
-    rt: &impl Abort,
-    alloc: Global,
+/// Asserts that a text is that of these parts. A failure also prints the row.
+pub(crate) fn assert_text<R: AllocGlobal + Abort, T: Debug>(
+    rt: &R,
     row: &T,
     got: &str,
-    want: &[Part],
+    want: &[&str],
 ) -> Result<(), Fail> {
-    let want = text(alloc, want)?;
+    let want = joined(rt.alloc(), want)?;
     assert_same(rt, row, got, want.as_str());
     Ok(())
 }

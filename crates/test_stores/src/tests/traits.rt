@@ -1,5 +1,7 @@
-//! Each trait of stores, called through its bound on three kinds of stores.
+//! Each trait of stores, called through its bound: on the stores in memory, and on two stores that
+//! fail.
 
+use crate::tests::graphs::{are_keys, are_predecessors};
 use bytes::Bytes;
 use oci_digest::Digest;
 use oci_manifest::Key;
@@ -7,7 +9,8 @@ use oci_store::{ClosedStore, Dest, GraphSource, MemoryStore, Source, Tagger};
 use std::alloc::Global;
 use std::process::Abort;
 use std::test::Fail;
-use test_support::{Device, DeviceStore, PublishedStore};
+use test_support::Sample::{Empty, Image0};
+use test_support::{Device, DeviceStore, PublishedStore, Sample};
 
 /// A content: its media type and its bytes.
 type Content = (&'static str, &'static [u8]);
@@ -39,40 +42,19 @@ fn key_of(alloc: Global, (media_type, bytes): Content) -> Result<Key, Fail> {
     Ok(Key::new(media_type, Digest::of(bytes), bytes.len() as u64)?)
 }
 
-/// Pushes bytes, and returns the number of the error, or 0.
-fn push<D: Dest>(store: &mut D, key: &Key, bytes: &'static [u8]) -> u8 {
-    match &store.push_closed(key, Bytes::from_static(bytes)) {
+fn pushed<D: Dest>(store: &mut D, key: &Key, bytes: &'static [u8]) -> Pushed {
+    let number = match &store.push_closed(key, Bytes::from_static(bytes)) {
         Ok(_) => 0,
         Err(fault) => fault.number(),
-    }
-}
-
-fn is_closed<D: Dest>(store: &D) -> bool {
-    match &store.missing() {
-        Ok(None) => true,
-        _ => false,
-    }
-}
-
-fn pushed<D: Dest>(store: &mut D, key: &Key, bytes: &'static [u8]) -> Pushed {
-    let number = push(store, key, bytes);
+    };
+    let is_closed = matches!(store.missing(), Ok(None));
     (
         number,
         store.has(key),
         store.count(),
-        is_closed(store),
+        is_closed,
         store.failures(),
     )
-}
-
-fn assert_push<D: Dest>(
-    rt: &impl Abort,
-    store: &mut D,
-    key: &Key,
-    bytes: &'static [u8],
-    want: Pushed,
-) {
-    assert_eq!(rt; pushed(store, key, bytes), want, "row {key}");
 }
 
 fn assert_pushed<R: AllocGlobal + Abort, D: Dest>(
@@ -82,7 +64,7 @@ fn assert_pushed<R: AllocGlobal + Abort, D: Dest>(
     want: Pushed,
 ) -> Result<(), Fail> {
     let key = key_of(rt.alloc(), content)?;
-    assert_push(rt, store, &key, content.1, want);
+    assert_eq!(rt; pushed(store, &key, content.1), want, "row {key}");
     Ok(())
 }
 
@@ -94,10 +76,6 @@ fn fetched<A: Source>(store: &A, key: &Key) -> Fetched {
     (store.exists(key), store.may_fail(key), number, length)
 }
 
-fn assert_fetch<A: Source>(rt: &impl Abort, store: &A, key: &Key, want: Fetched) {
-    assert_eq!(rt; fetched(store, key), want, "row {key}");
-}
-
 fn assert_fetched<R: AllocGlobal + Abort, A: Source>(
     rt: &R,
     store: &A,
@@ -105,19 +83,8 @@ fn assert_fetched<R: AllocGlobal + Abort, A: Source>(
     want: Fetched,
 ) -> Result<(), Fail> {
     let key = key_of(rt.alloc(), content)?;
-    assert_fetch(rt, store, &key, want);
+    assert_eq!(rt; fetched(store, &key), want, "row {key}");
     Ok(())
-}
-
-fn assert_call<R: AllocGlobal + Abort, D: Source + Dest>(
-    rt: &R,
-    store: &mut D,
-    call: Call,
-) -> Result<(), Fail> {
-    match call {
-        Call::Push(content, want) => assert_pushed(rt, store, content, want),
-        Call::Fetch(content, want) => assert_fetched(rt, store, content, want),
-    }
 }
 
 fn assert_calls<R: AllocGlobal + Abort, D: Source + Dest>(
@@ -126,93 +93,83 @@ fn assert_calls<R: AllocGlobal + Abort, D: Source + Dest>(
     calls: &[Call],
 ) -> Result<(), Fail> {
     for call in calls {
-        assert_call(rt, store, *call)?;
+        match *call {
+            Call::Push(content, want) => assert_pushed(rt, store, content, want)?,
+            Call::Fetch(content, want) => assert_fetched(rt, store, content, want)?,
+        }
     }
     Ok(())
 }
 
-/// Returns the number of keys that list the key.
-fn predecessors<G: GraphSource>(store: &G, key: &Key) -> Option<usize> {
-    match &store.predecessors(key) {
-        Ok(keys) => Some(keys.len()),
-        Err(_) => None,
+fn push_sample<D: Dest>(alloc: Global, store: &mut D, sample: Sample) -> Result<(), Fail> {
+    let key = sample.key(alloc)?;
+    store.push_closed(&key, sample.bytes(alloc)?)?;
+    Ok(())
+}
+
+/// Returns whether the store lists the config of the image, and the image as what lists it.
+fn is_linked<G: GraphSource>(alloc: Global, store: &G) -> Result<bool, Fail> {
+    let key = Image0.key(alloc)?;
+    match &store.successors(&key)? {
+        Some(found) => {
+            Ok(
+                are_keys(alloc, found, &[Empty])?
+                    && are_predecessors(alloc, store, Empty, &[Image0])?,
+            )
+        }
+        None => Ok(false),
     }
 }
 
-/// Tags a key, and returns the number of the error, or 0.
-fn tag<T: Tagger>(store: &mut T, key: &Key, name: &str) -> u8 {
-    match &store.tag(key, name) {
-        Ok(()) => 0,
-        Err(fault) => fault.number(),
-    }
+/// Tags the image, and returns whether the name resolves to it.
+fn is_tagged<T: Tagger>(alloc: Global, store: &mut T) -> Result<bool, Fail> {
+    let key = Image0.key(alloc)?;
+    store.tag(&key, "v1")?;
+    Ok(store.resolve("v1")? == key)
 }
 
-/// Resolves a name, and returns the number of the error, or 0.
-fn resolve<T: Tagger>(store: &T, name: &str) -> u8 {
-    match &store.resolve(name) {
-        Ok(_) => 0,
-        Err(fault) => fault.number(),
-    }
-}
+/// Calls of an empty store in memory.
+const CALLS: [Call; 4] = [
+    Call::Push(FOO, (0, true, 1, true, 0)),
+    Call::Push(FOO, (30, true, 1, true, 0)),
+    Call::Fetch(FOO, (true, false, 0, 3)),
+    Call::Fetch(BAR, (false, false, 20, 0)),
+];
 
-/// Tags a key and resolves the name. Returns the numbers of both errors, or 0.
-fn tagged<T: Tagger>(store: &mut T, key: &Key, name: &str) -> (u8, u8) {
-    (tag(store, key, name), resolve(store, name))
-}
-
-/// Asserts the results of calls with `foo` on an empty store.
-fn assert_foo<R: AllocGlobal + Abort, S: GraphSource + Dest + Tagger>(
+/// Asserts the results of calls on an empty store, and then with an image.
+fn assert_store<R: AllocGlobal + Abort, S: GraphSource + Dest + Tagger>(
     rt: &R,
     store: &mut S,
 ) -> Result<(), Fail> {
-    assert_pushed(rt, store, FOO, (0, true, 1, true, 0))?;
-    assert_fetched(rt, store, FOO, (true, false, 0, 3))?;
-    assert_names(rt, store)
-}
-
-/// Asserts that no key lists a held key, and that it can be tagged.
-fn assert_listed_and_tagged<S: GraphSource + Tagger>(rt: &impl Abort, store: &mut S, key: &Key) {
-    assert_eq!(rt; predecessors(store, key), Some(0));
-    assert_eq!(rt; tagged(store, key, "v1"), (0, 0));
-}
-
-/// Asserts that no key lists `foo`, which is held, and that it can be tagged.
-fn assert_names<R: AllocGlobal + Abort, S: GraphSource + Tagger>(
-    rt: &R,
-    store: &mut S,
-) -> Result<(), Fail> {
-    let foo = key_of(rt.alloc(), FOO)?;
-    assert_listed_and_tagged(rt, store, &foo);
+    assert_calls(rt, store, &CALLS)?;
+    push_sample(rt.alloc(), store, Empty)?;
+    push_sample(rt.alloc(), store, Image0)?;
+    assert!(rt; is_linked(rt.alloc(), store)?);
+    assert!(rt; is_tagged(rt.alloc(), store)?);
     Ok(())
 }
 
 #[test]
 fn stores_in_memory(rt: HostRuntime) -> Result<(), Fail> {
-    assert_foo(&rt, &mut MemoryStore::new(rt.alloc()))?;
-    assert_foo(&rt, &mut ClosedStore::new(rt.alloc()))
+    assert_store(&rt, &mut MemoryStore::new(rt.alloc()))?;
+    assert_store(&rt, &mut ClosedStore::new(rt.alloc()))
 }
 
-fn assert_pushes<R: AllocGlobal + Abort>(
-    rt: &R,
-    store: &mut PublishedStore,
-    pushes: &[(Content, Pushed)],
-) -> Result<(), Fail> {
-    for (content, want) in pushes {
-        assert_pushed(rt, store, *content, *want)?;
-    }
-    Ok(())
-}
+/// Pushes into a store whose second publication fails, and the next one.
+const PUBLISHED: [(Content, Pushed); 4] = [
+    (FOO, (0, true, 1, true, 0)),
+    (BAR, (34, false, 1, true, 0)),
+    (BAR, (44, false, 1, true, 0)),
+    (FOO, (30, true, 1, true, 0)),
+];
 
 #[test]
 fn published_store(rt: HostRuntime) -> Result<(), Fail> {
-    static PUSHES: [(Content, Pushed); 4] = [
-        (FOO, (0, true, 1, true, 0)),
-        // A publication that fails, and then the next one.
-        (BAR, (34, false, 1, true, 0)),
-        (BAR, (44, false, 1, true, 0)),
-        (FOO, (30, true, 1, true, 0)),
-    ];
-    assert_pushes(&rt, &mut PublishedStore::new(rt.alloc(), 1), &PUSHES)
+    let mut store = PublishedStore::new(rt.alloc(), 1);
+    for (content, want) in &PUBLISHED {
+        assert_pushed(&rt, &mut store, *content, *want)?;
+    }
+    Ok(())
 }
 
 /// Calls of a store on a device whose second put and fourth get fail.
@@ -228,14 +185,14 @@ const DEVICE_CALLS: [Call; 8] = [
     Call::Fetch(FOO, (true, true, 22, 0)),
 ];
 
-fn assert_device<R: AllocGlobal + Abort>(rt: &R, device: &Device) -> Result<(), Fail> {
-    assert_calls(rt, &mut DeviceStore::new(rt.alloc(), device), &DEVICE_CALLS)
-}
-
 #[test]
 fn device_store(rt: HostRuntime) -> Result<(), Fail> {
     let device = Device::failing(Some(1), Some(3));
-    assert_device(&rt, &device)?;
+    assert_calls(
+        &rt,
+        &mut DeviceStore::new(rt.alloc(), &device),
+        &DEVICE_CALLS,
+    )?;
     assert_eq!(rt; device.puts(), 3);
     Ok(())
 }
