@@ -1,9 +1,7 @@
 mod calls;
 mod copies;
 mod descending;
-mod descending_graphs;
 mod failing;
-mod faults;
 mod graphs;
 mod hooks;
 mod large;

@@ -1,30 +1,60 @@
-//! The calls that copy, on the calling thread and by workers, with their results as text.
+//! The calls that copy, on the calling thread and by workers, and the texts of their results.
 
-use crate::tests::copies::{Call, Run, Word, assert_same, printed, sized, text_of};
 use oci_copy::{
-    CopyFault, Options, Report, copy, copy_graph, copy_memory, copy_memory_by_workers, copy_one,
-    copy_plan, extended_copy, extended_copy_graph, plan_copy, repair_memory,
-    repair_memory_by_workers,
+    CopyFault, Options, Report, copy_graph, copy_memory, copy_memory_by_workers, copy_one,
+    copy_plan, plan_copy, repair_memory, repair_memory_by_workers,
 };
 use oci_manifest::Key;
 use oci_plan::Existing;
-use oci_pool::{Hooks, NoHooks};
-use oci_store::{ClosedStore, Dest, MemoryStore, Source, Tagger};
+use oci_pool::NoHooks;
+use oci_store::{ClosedStore, Dest, MemoryStore, Source};
 use std::alloc::Global;
+use std::fmt::{self, Display, Formatter, Write};
 use std::process::Abort;
 use std::sync::Wait;
 use std::test::Fail;
 use std::thread::Threads;
-use test_support::{Sample, keys};
 
 /// The number of workers; `None` is for the calling thread.
 pub(crate) type Workers = Option<u32>;
 
-/// The destination that a copy returns, and its report or fault.
-pub(crate) type Copied<D> = (D, Result<String, Fail>);
-
 /// The calling thread, and one, three and 64 workers.
 pub(crate) const EACH: [Workers; 4] = [None, Some(1), Some(3), Some(64)];
+
+pub(crate) const ONE_AND_THREE: [Workers; 2] = [None, Some(3)];
+
+/// The printed keys of samples.
+pub(crate) const EMPTY: &str =
+    "sha256:44136fa355b3678a1146ad16f7e8649e94fb4fc21fe77e8310c060f61caaff8a 2 application/vnd.oci.empty.v1+json";
+
+pub(crate) const FOO: &str =
+    "sha256:2c26b46b68ffc68ff99b453c1d30413413422d706483bfa0f98a5e886266e7ae 3 application/vnd.oci.image.layer.v1.tar";
+
+pub(crate) const BAR: &str =
+    "sha256:fcde2b2edba56bf408601fb721fe9b5c338d10ee429ea04fae5511b68fbf8fb9 3 application/vnd.oci.image.layer.v1.tar";
+
+pub(crate) const IMAGE_0: &str =
+    "sha256:88028e7a699c392898fd180bf967edbcdb6227a9b7434a3ba0c9efff269e613f 241 application/vnd.oci.image.manifest.v1+json";
+
+pub(crate) const IMAGE_2: &str =
+    "sha256:7e1df211bc4556d2a9db939a81721c52e5e53c59e3dfb45a57205a794dd412b7 385 application/vnd.oci.image.manifest.v1+json";
+
+/// One run of a row, as a failure prints it.
+#[derive(Clone, Copy)]
+pub(crate) struct Run<'a> {
+    /// The name of the row.
+    pub name: &'a str,
+    pub workers: Workers,
+}
+
+impl<'a> Display for Run<'a> {
+    fn fmt<W: Write>(&self, f: &mut Formatter<W>) -> fmt::Result {
+        match self.workers {
+            Some(workers) => write!(f, "row '{}' by {workers} workers", self.name),
+            None => write!(f, "row '{}' on the calling thread", self.name),
+        }
+    }
+}
 
 /// The options of a copy.
 pub(crate) fn options(workers: Workers, existing: Existing, max_metadata_bytes: u64) -> Options {
@@ -35,79 +65,47 @@ pub(crate) fn options(workers: Workers, existing: Existing, max_metadata_bytes: 
     }
 }
 
-fn line(alloc: Global, answer: &Result<Report, CopyFault>) -> Result<String, Fail> {
-    match answer {
-        Ok(report) => printed(alloc, report),
-        Err(fault) => printed(alloc, fault),
+/// Returns the text of these parts.
+fn joined(alloc: Global, parts: &[&str]) -> Result<String, Fail> {
+    let mut text = String::new(alloc);
+    for part in parts {
+        text.push_str(part)?;
     }
+    Ok(text)
 }
 
-fn line_of_key(alloc: Global, key: &Key, report: &Report) -> Result<String, Fail> {
-    Ok(format!(in alloc; "{key} {report}")?)
-}
-
-fn line_of_reference(
-    alloc: Global,
-    answer: &Result<(Key, Report), CopyFault>,
-) -> Result<String, Fail> {
-    match answer {
-        Ok((key, report)) => line_of_key(alloc, key, report),
-        Err(fault) => printed(alloc, fault),
-    }
+/// A text is that of these parts.
+pub(crate) fn assert_text<R: AllocGlobal + Abort>(
+    rt: &R,
+    found: &str,
+    want: &[&str],
+    run: Run<'_>,
+) -> Result<(), Fail> {
+    let want = joined(rt.alloc(), want)?;
+    assert_eq!(rt; found, want.as_str(), "{run}");
+    Ok(())
 }
 
 /// Returns the report or the fault of a copy as text.
-fn told<D>(alloc: Global, copied: (D, Result<Report, CopyFault>)) -> Copied<D> {
-    let (destination, answer) = copied;
-    (destination, line(alloc, &answer))
+pub(crate) fn told(alloc: Global, answer: &Result<Report, CopyFault>) -> Result<String, Fail> {
+    match answer {
+        Ok(report) => Ok(report.to_string(alloc)?),
+        Err(fault) => Ok(fault.to_string(alloc)?),
+    }
 }
 
-/// Returns the report or the fault of a copy by reference as text.
-fn told_of_reference<D>(alloc: Global, copied: (D, Result<(Key, Report), CopyFault>)) -> Copied<D> {
-    let (destination, answer) = copied;
-    (destination, line_of_reference(alloc, &answer))
-}
-
-/// Copies keys by workers.
-pub(crate) fn copied_by_workers<
-    R: AllocGlobal + Threads + Wait + Sync,
-    A: Source + Sync,
-    D: Dest + Drop + Send,
-    H: Hooks + Sync,
->(rt: &R, source: &A, destination: D, roots: &[Key], options: &Options, hooks: &H) -> Copied<D>
-where
-    D::Draft: Send,
-{
-    let alloc = rt.alloc();
-    told(
-        alloc,
-        copy_graph(rt, alloc, source, destination, roots, options, hooks),
-    )
-}
-
-/// Copies samples by workers, and returns the report or the fault.
-pub(crate) fn told_by_workers<
-    R: AllocGlobal + Threads + Wait + Sync,
-    A: Source + Sync,
-    D: Dest + Drop + Send,
-    H: Hooks + Sync,
->(
+/// The report or the fault of a copy is this.
+pub(crate) fn assert_told<R: AllocGlobal + Abort>(
     rt: &R,
-    source: &A,
-    destination: D,
-    roots: &[Sample],
-    options: &Options,
-    hooks: &H,
-) -> Result<String, Fail>
-where
-    D::Draft: Send,
-{
-    let roots = keys(rt.alloc(), roots)?;
-    let (_, told) = copied_by_workers(rt, source, destination, &roots, options, hooks);
-    told
+    answer: &Result<Report, CopyFault>,
+    want: &[&str],
+    run: Run<'_>,
+) -> Result<(), Fail> {
+    let told = told(rt.alloc(), answer)?;
+    assert_text(rt, told.as_str(), want, run)
 }
 
-/// Copies keys with no hooks.
+/// Copies keys with no hooks, by `copy_graph`, or by `copy_one` on the calling thread.
 pub(crate) fn copied<
     R: AllocGlobal + Threads + Wait + Sync,
     A: Source + Sync,
@@ -119,29 +117,18 @@ pub(crate) fn copied<
     roots: &[Key],
     workers: Workers,
     options: &Options,
-) -> Copied<D>
+) -> (D, Result<Report, CopyFault>)
 where
     D::Draft: Send,
 {
     let alloc = rt.alloc();
     match workers {
-        Some(_) => copied_by_workers(rt, source, destination, roots, options, &NoHooks),
-        None => told(alloc, copy_one(alloc, source, destination, roots, options)),
+        Some(_) => copy_graph(rt, alloc, source, destination, roots, options, &NoHooks),
+        None => copy_one(alloc, source, destination, roots, options),
     }
 }
 
-/// The report or the fault of the run is this.
-pub(crate) fn assert_told(
-    rt: &impl Abort,
-    told: Result<String, Fail>,
-    want: &str,
-    run: Run<'_>,
-) -> Result<(), Fail> {
-    assert_same(rt, told?.as_str(), want, run);
-    Ok(())
-}
-
-/// Returns the store that the copy of a key leaves, and asserts its report or fault.
+/// Returns the store that a copy leaves, and asserts its report or fault.
 pub(crate) fn left<
     R: AllocGlobal + Threads + Wait + Sync + Abort,
     A: Source + Sync,
@@ -150,77 +137,30 @@ pub(crate) fn left<
     rt: &R,
     source: &A,
     destination: D,
-    root: &Key,
+    roots: &[Key],
     by: (Run<'_>, Existing),
-    want: &str,
+    want: &[&str],
 ) -> Result<D, Fail>
 where
     D::Draft: Send,
 {
     let (run, existing) = by;
     let options = options(run.workers, existing, 0);
-    let roots = std::slice::from_ref(root);
-    let (destination, told) = copied(rt, source, destination, roots, run.workers, &options);
-    assert_told(rt, told, want, run)?;
+    let (destination, answer) = copied(rt, source, destination, roots, run.workers, &options);
+    assert_told(rt, &answer, want, run)?;
     Ok(destination)
 }
 
-/// Copies samples with no hooks.
-pub(crate) fn copied_samples<
-    R: AllocGlobal + Threads + Wait + Sync,
-    A: Source + Sync,
-    D: Dest + Drop + Send,
->(
-    rt: &R,
-    source: &A,
-    destination: D,
-    roots: &[Sample],
-    workers: Workers,
-    options: &Options,
-) -> Copied<D>
-where
-    D::Draft: Send,
-{
-    match keys(rt.alloc(), roots) {
-        Ok(roots) => copied(rt, source, destination, &roots, workers, options),
-        Err(fault) => (destination, Err(fault)),
-    }
-}
-
-/// Copies the key of an image that is no sample.
-fn copied_sized<R: AllocGlobal + Threads + Wait + Sync, D: Dest + Drop + Send>(
-    rt: &R,
-    source: &MemoryStore,
-    destination: D,
-    size: u64,
-    workers: Workers,
-    options: &Options,
-) -> Copied<D>
-where
-    D::Draft: Send,
-{
-    match sized(rt.alloc(), size) {
-        Ok(root) => {
-            let roots = std::slice::from_ref(&root);
-            copied(rt, source, destination, roots, workers, options)
-        }
-        Err(fault) => (destination, Err(fault)),
-    }
-}
-
 /// Plans the copy of keys, and then runs the plan by workers.
-fn planned_keys<R: AllocGlobal + Threads + Wait + Sync, D: Dest + Drop + Send>(
+pub(crate) fn planned<R: AllocGlobal + Threads + Wait + Sync>(
     rt: &R,
     source: &MemoryStore,
-    destination: D,
+    destination: MemoryStore,
     roots: &[Key],
     options: &Options,
-) -> Copied<D>
-where
-    D::Draft: Send,
-{
+) -> (MemoryStore, Result<Report, CopyFault>) {
     let alloc = rt.alloc();
-    let copied = match plan_copy(alloc, source, &destination, roots, options) {
+    match plan_copy(alloc, source, &destination, roots, options) {
         Ok(plan) => copy_plan(
             rt,
             alloc,
@@ -232,162 +172,11 @@ where
             &NoHooks,
         ),
         Err(fault) => (destination, Err(fault)),
-    };
-    told(alloc, copied)
-}
-
-/// Plans the copy of samples, and then runs the plan by workers.
-fn planned<R: AllocGlobal + Threads + Wait + Sync, D: Dest + Drop + Send>(
-    rt: &R,
-    source: &MemoryStore,
-    destination: D,
-    roots: &[Sample],
-    options: &Options,
-) -> Copied<D>
-where
-    D::Draft: Send,
-{
-    match keys(rt.alloc(), roots) {
-        Ok(roots) => planned_keys(rt, source, destination, &roots, options),
-        Err(fault) => (destination, Err(fault)),
-    }
-}
-
-/// Copies by reference.
-fn copied_reference<R: AllocGlobal + Threads + Wait + Sync, D: Dest + Tagger + Drop + Send>(
-    rt: &R,
-    source: &MemoryStore,
-    destination: D,
-    from: &str,
-    to: &str,
-    options: &Options,
-) -> Copied<D>
-where
-    D::Draft: Send,
-{
-    let alloc = rt.alloc();
-    let copied = copy(rt, alloc, source, from, destination, to, options, &NoHooks);
-    told_of_reference(alloc, copied)
-}
-
-/// Copies by a reference that is the text of a word.
-fn copied_word<R: AllocGlobal + Threads + Wait + Sync, D: Dest + Tagger + Drop + Send>(
-    rt: &R,
-    source: &MemoryStore,
-    destination: D,
-    from: Word<'_>,
-    to: &str,
-    options: &Options,
-) -> Copied<D>
-where
-    D::Draft: Send,
-{
-    match text_of(rt.alloc(), from) {
-        Ok(from) => copied_reference(rt, source, destination, from.as_str(), to, options),
-        Err(fault) => (destination, Err(fault)),
-    }
-}
-
-/// Copies the keys that lead to a key.
-fn extended_key<R: AllocGlobal + Threads + Wait + Sync, D: Dest + Drop + Send>(
-    rt: &R,
-    source: &MemoryStore,
-    destination: D,
-    key: &Key,
-    depth: u32,
-    options: &Options,
-) -> Copied<D>
-where
-    D::Draft: Send,
-{
-    let alloc = rt.alloc();
-    told(
-        alloc,
-        extended_copy_graph(
-            rt,
-            alloc,
-            source,
-            key,
-            depth,
-            destination,
-            options,
-            &NoHooks,
-        ),
-    )
-}
-
-/// Copies the keys that lead to the key of a sample.
-fn extended<R: AllocGlobal + Threads + Wait + Sync, D: Dest + Drop + Send>(
-    rt: &R,
-    source: &MemoryStore,
-    destination: D,
-    sample: Sample,
-    depth: u32,
-    options: &Options,
-) -> Copied<D>
-where
-    D::Draft: Send,
-{
-    match sample.key(rt.alloc()) {
-        Ok(key) => extended_key(rt, source, destination, &key, depth, options),
-        Err(fault) => (destination, Err(fault)),
-    }
-}
-
-/// Copies the keys that lead to a reference within one step.
-fn extended_reference<R: AllocGlobal + Threads + Wait + Sync, D: Dest + Tagger + Drop + Send>(
-    rt: &R,
-    source: &MemoryStore,
-    destination: D,
-    from: &str,
-    options: &Options,
-) -> Copied<D>
-where
-    D::Draft: Send,
-{
-    let alloc = rt.alloc();
-    let copied = extended_copy(
-        rt,
-        alloc,
-        source,
-        from,
-        1,
-        destination,
-        "",
-        options,
-        &NoHooks,
-    );
-    told_of_reference(alloc, copied)
-}
-
-/// Copies by the call that is named.
-pub(crate) fn copied_case<R: AllocGlobal + Threads + Wait + Sync, D: Dest + Tagger + Drop + Send>(
-    rt: &R,
-    source: &MemoryStore,
-    destination: D,
-    call: Call<'_>,
-    workers: Workers,
-    options: &Options,
-) -> Copied<D>
-where
-    D::Draft: Send,
-{
-    match call {
-        Call::Graph(roots) | Call::InMemory(roots) => {
-            copied_samples(rt, source, destination, roots, workers, options)
-        }
-        Call::Planned(roots) => planned(rt, source, destination, roots, options),
-        Call::Sized(size) => copied_sized(rt, source, destination, size, workers, options),
-        Call::Reference(from, to) => copied_word(rt, source, destination, from, to, options),
-        Call::Extended(sample, depth) => extended(rt, source, destination, sample, depth, options),
-        Call::ExtendedReference(from) => {
-            extended_reference(rt, source, destination, from, options)
-        }
     }
 }
 
 /// Copies keys by the calls between stores in memory into a closed one.
-fn copied_keys_in_memory<R: AllocGlobal + Threads + Wait + Sync>(
+pub(crate) fn copied_in_memory<R: AllocGlobal + Threads + Wait + Sync>(
     rt: &R,
     source: &MemoryStore,
     destination: ClosedStore,
@@ -404,27 +193,8 @@ fn copied_keys_in_memory<R: AllocGlobal + Threads + Wait + Sync>(
     }
 }
 
-/// Copies samples by the calls between stores in memory into a closed one.
-pub(crate) fn copied_in_memory<R: AllocGlobal + Threads + Wait + Sync>(
-    rt: &R,
-    source: &MemoryStore,
-    destination: ClosedStore,
-    roots: &[Sample],
-    workers: Workers,
-    options: &Options,
-) -> Copied<ClosedStore> {
-    let alloc = rt.alloc();
-    match keys(alloc, roots) {
-        Ok(roots) => told(
-            alloc,
-            copied_keys_in_memory(rt, source, destination, &roots, workers, options),
-        ),
-        Err(fault) => (destination, Err(fault)),
-    }
-}
-
 /// Repairs below keys by the calls between stores in memory.
-fn repaired_keys<R: AllocGlobal + Threads + Wait + Sync>(
+pub(crate) fn repaired<R: AllocGlobal + Threads + Wait + Sync>(
     rt: &R,
     source: &MemoryStore,
     destination: MemoryStore,
@@ -438,24 +208,5 @@ fn repaired_keys<R: AllocGlobal + Threads + Wait + Sync>(
             repair_memory_by_workers(rt, alloc, source, destination, roots, options, &NoHooks)
         }
         None => repair_memory(alloc, source, destination, roots, options),
-    }
-}
-
-/// Repairs below samples by the calls between stores in memory.
-pub(crate) fn repaired<R: AllocGlobal + Threads + Wait + Sync>(
-    rt: &R,
-    source: &MemoryStore,
-    destination: MemoryStore,
-    roots: &[Sample],
-    workers: Workers,
-    options: &Options,
-) -> Copied<MemoryStore> {
-    let alloc = rt.alloc();
-    match keys(alloc, roots) {
-        Ok(roots) => told(
-            alloc,
-            repaired_keys(rt, source, destination, &roots, workers, options),
-        ),
-        Err(fault) => (destination, Err(fault)),
     }
 }

@@ -1,9 +1,12 @@
 //! Copies of small graphs into a closed store, on one thread and with each number of workers.
 
-use crate::tests::calls::Workers;
-use crate::tests::copies::Word::{KeyOf, Text};
+use crate::tests::calls::{
+    FOO, ONE_AND_THREE, Run, Workers, assert_told, copied_in_memory, options,
+};
 use crate::tests::copies::{Call, Case, NOTHING, assert_cases, assert_copied_by};
-use std::alloc::Global;
+use oci_manifest::Key;
+use oci_plan::Existing;
+use oci_store::{ClosedStore, MemoryStore};
 use std::process::Abort;
 use std::sync::Wait;
 use std::test::Fail;
@@ -12,7 +15,7 @@ use test_support::Sample::{
     Bar, DockerImage, Empty, Foo, FooBySha512, Image0, Image0AsLayer, Image1, Image2, Image3,
     Image4, Image5, Index1, Index2,
 };
-use test_support::{Sample, descriptor};
+use test_support::{Sample, closed, holds, keys, memory};
 
 const IMAGE: [Sample; 2] = [Empty, Image0];
 
@@ -21,9 +24,9 @@ const IMAGE: [Sample; 2] = [Empty, Image0];
 fn one_image(rt: HostRuntime) -> Result<(), Fail> {
     static CASES: [Case<'static>; 1] = [Case {
         name: "an image",
-        call: Call::Graph(&[Image0]),
+        roots: &[Image0],
         source: &IMAGE,
-        told: &[Text("planned 2 pushed 2 skipped 0")],
+        told: &["planned 2 pushed 2 skipped 0"],
         copied: &IMAGE,
         is_in_order: true,
         ..NOTHING
@@ -31,17 +34,28 @@ fn one_image(rt: HostRuntime) -> Result<(), Fail> {
     assert_cases(&rt, &CASES)
 }
 
+/// An image that is there is not copied again. Without roots, nothing is copied.
 #[test]
 fn copy_again(rt: HostRuntime) -> Result<(), Fail> {
-    static CASES: [Case<'static>; 1] = [Case {
-        name: "a held image",
-        call: Call::Graph(&[Image0]),
-        source: &IMAGE,
-        destination: &IMAGE,
-        told: &[Text("planned 0 pushed 0 skipped 1")],
-        copied: &IMAGE,
-        ..NOTHING
-    }];
+    static CASES: [Case<'static>; 2] = [
+        Case {
+            name: "a held image",
+            roots: &[Image0],
+            source: &IMAGE,
+            destination: &IMAGE,
+            told: &["planned 0 pushed 0 skipped 1"],
+            copied: &IMAGE,
+            ..NOTHING
+        },
+        Case {
+            name: "no roots",
+            source: &IMAGE,
+            destination: &[Foo],
+            told: &["planned 0 pushed 0 skipped 0"],
+            copied: &[Foo],
+            ..NOTHING
+        },
+    ];
     assert_cases(&rt, &CASES)
 }
 
@@ -50,25 +64,10 @@ fn copy_again(rt: HostRuntime) -> Result<(), Fail> {
 fn doubled_layer(rt: HostRuntime) -> Result<(), Fail> {
     static CASES: [Case<'static>; 1] = [Case {
         name: "a layer twice",
-        call: Call::Graph(&[Image1]),
+        roots: &[Image1],
         source: &[Empty, Foo, Image1],
-        told: &[Text("planned 3 pushed 3 skipped 0")],
+        told: &["planned 3 pushed 3 skipped 0"],
         copied: &[Empty, Foo, Image1],
-        ..NOTHING
-    }];
-    assert_cases(&rt, &CASES)
-}
-
-/// Without roots, nothing is copied.
-#[test]
-fn no_roots(rt: HostRuntime) -> Result<(), Fail> {
-    static CASES: [Case<'static>; 1] = [Case {
-        name: "no roots",
-        call: Call::Graph(&[]),
-        source: &IMAGE,
-        destination: &[Foo],
-        told: &[Text("planned 0 pushed 0 skipped 0")],
-        copied: &[Foo],
         ..NOTHING
     }];
     assert_cases(&rt, &CASES)
@@ -78,44 +77,32 @@ const ALL: [Sample; 6] = [Empty, Foo, Bar, Image2, Image3, Index1];
 
 const TWO_IMAGES: Case<'static> = Case {
     name: "two images",
-    call: Call::Graph(&[Index1]),
+    roots: &[Index1],
+    workers: &[None],
     source: &ALL,
-    told: &[Text("planned 6 pushed 6 skipped 0")],
+    told: &["planned 6 pushed 6 skipped 0"],
     copied: &ALL,
     ..NOTHING
 };
-
-/// The copy with each number of workers.
-fn assert_by_each<R: AllocGlobal + Threads + Wait + Sync + Abort>(
-    rt: &R,
-    case: &Case<'_>,
-) -> Result<(), Fail> {
-    for workers in 0..65 {
-        assert_copied_by(rt, case, Some(workers))?;
-    }
-    Ok(())
-}
 
 /// An index of two images is copied completely on one thread and with each number of workers; with
 /// more than 64 workers nothing is copied.
 #[test]
 fn two_images(rt: HostRuntime) -> Result<(), Fail> {
-    static BY_EACH: Case<'static> = TWO_IMAGES;
+    static EACH: Case<'static> = TWO_IMAGES;
     static CASES: [Case<'static>; 2] = [
-        Case {
-            name: "on one thread",
-            workers: &[None],
-            ..TWO_IMAGES
-        },
+        TWO_IMAGES,
         Case {
             name: "too many workers",
             workers: &[Some(65)],
-            told: &[Text("85 BadWorkers")],
+            told: &["85 BadWorkers"],
             copied: &[],
             ..TWO_IMAGES
         },
     ];
-    assert_by_each(&rt, &BY_EACH)?;
+    for workers in 0..65 {
+        assert_copied_by(&rt, &EACH, Some(workers))?;
+    }
     assert_cases(&rt, &CASES)
 }
 
@@ -123,26 +110,25 @@ fn two_images(rt: HostRuntime) -> Result<(), Fail> {
 /// root is counted; with more than 64 workers nothing is copied.
 #[test]
 fn two_images_planned(rt: HostRuntime) -> Result<(), Fail> {
-    const WORKERS: [Workers; 4] = [Some(0), Some(1), Some(3), Some(64)];
     const PLANNED: Case<'static> = Case {
         name: "planned before",
-        call: Call::Planned(&[Index1]),
-        workers: &WORKERS,
+        call: Call::Planned,
+        workers: &[Some(0), Some(1), Some(3), Some(64)],
         ..TWO_IMAGES
     };
     static CASES: [Case<'static>; 3] = [
         PLANNED,
         Case {
             name: "planned before, with a held root",
-            call: Call::Planned(&[Foo, Index1, Foo]),
+            roots: &[Foo, Index1, Foo],
             destination: &[Foo],
-            told: &[Text("planned 5 pushed 5 skipped 1")],
+            told: &["planned 5 pushed 5 skipped 1"],
             ..PLANNED
         },
         Case {
             name: "planned before, too many workers",
             workers: &[Some(65)],
-            told: &[Text("85 BadWorkers")],
+            told: &["85 BadWorkers"],
             copied: &[],
             ..PLANNED
         },
@@ -150,66 +136,35 @@ fn two_images_planned(rt: HostRuntime) -> Result<(), Fail> {
     assert_cases(&rt, &CASES)
 }
 
+/// The calls between stores in memory copy two images and skip a held layer. Returns what they leave.
+fn left_in_memory<R: AllocGlobal + Threads + Wait + Sync + Abort>(
+    rt: &R,
+    source: &MemoryStore,
+    roots: &[Key],
+    workers: Workers,
+) -> Result<ClosedStore, Fail> {
+    let run = Run {
+        name: "between stores in memory",
+        workers,
+    };
+    let (options, held) = (
+        options(workers, Existing::Skip, 0),
+        closed(rt.alloc(), &[Bar])?,
+    );
+    let (store, answer) = copied_in_memory(rt, source, held, roots, workers, &options);
+    assert_told(rt, &answer, &["planned 4 pushed 4 skipped 1"], run)?;
+    Ok(store)
+}
+
 /// The calls between stores in memory make the same copy, on one thread and by workers.
 #[test]
 fn two_images_in_memory(rt: HostRuntime) -> Result<(), Fail> {
-    const WORKERS: [Workers; 2] = [None, Some(3)];
-    static CASES: [Case<'static>; 1] = [Case {
-        name: "between stores in memory",
-        call: Call::InMemory(&[Image2, Bar, Image3]),
-        workers: &WORKERS,
-        source: &ALL,
-        destination: &[Bar],
-        told: &[Text("planned 4 pushed 4 skipped 1")],
-        copied: &[Bar, Empty, Foo, Image2, Image3],
-        ..NOTHING
-    }];
-    assert_cases(&rt, &CASES)
-}
-
-/// Several roots are copied, each key once: roots that list the same key, and a root that is held.
-#[test]
-fn many_roots(rt: HostRuntime) -> Result<(), Fail> {
-    const SOURCE: [Sample; 7] = [Empty, Foo, Bar, Image0, Image2, Image3, Index1];
-    const COPIED: [Sample; 5] = [Empty, Foo, Bar, Image2, Image3];
-    static CASES: [Case<'static>; 2] = [
-        Case {
-            name: "two images as roots",
-            call: Call::Graph(&[Image2, Image3]),
-            source: &SOURCE,
-            told: &[Text("planned 5 pushed 5 skipped 0")],
-            copied: &COPIED,
-            ..NOTHING
-        },
-        Case {
-            name: "a held layer as a root",
-            call: Call::Graph(&[Image3, Foo, Image2]),
-            source: &SOURCE,
-            destination: &[Empty, Foo],
-            told: &[Text("planned 3 pushed 3 skipped 1")],
-            copied: &COPIED,
-            ..NOTHING
-        },
-    ];
-    assert_cases(&rt, &CASES)
-}
-
-/// Returns the length of the descriptor of a sample.
-fn descriptor_length(alloc: Global, sample: Sample) -> Result<usize, Fail> {
-    let key = sample.key(alloc)?;
-    Ok(descriptor(alloc, &key)?.len())
-}
-
-fn size(alloc: Global, sample: Sample) -> Result<u64, Fail> {
-    Ok(sample.key(alloc)?.size())
-}
-
-/// The descriptors of the layer and the image have their known lengths.
-fn assert_sizes<R: AllocGlobal + Abort>(rt: &R) -> Result<(), Fail> {
-    let length = descriptor_length(rt.alloc(), FooBySha512)?;
-    let size = size(rt.alloc(), Image5)?;
-    assert_eq!(rt; length, 210);
-    assert_eq!(rt; size, 449);
+    let source = memory(rt.alloc(), &ALL)?;
+    let roots = keys(rt.alloc(), &[Image2, Bar, Image3])?;
+    for workers in ONE_AND_THREE {
+        let store = left_in_memory(&rt, &source, &roots, workers)?;
+        assert!(rt; holds(rt.alloc(), &store, &[Bar, Empty, Foo, Image2, Image3])?);
+    }
     Ok(())
 }
 
@@ -218,13 +173,12 @@ fn assert_sizes<R: AllocGlobal + Abort>(rt: &R) -> Result<(), Fail> {
 fn sha512_layer(rt: HostRuntime) -> Result<(), Fail> {
     static CASES: [Case<'static>; 1] = [Case {
         name: "a layer by SHA-512",
-        call: Call::Graph(&[Image5]),
+        roots: &[Image5],
         source: &[Empty, FooBySha512, Image5],
-        told: &[Text("planned 3 pushed 3 skipped 0")],
+        told: &["planned 3 pushed 3 skipped 0"],
         copied: &[Empty, FooBySha512, Image5],
         ..NOTHING
     }];
-    assert_sizes(&rt)?;
     assert_cases(&rt, &CASES)
 }
 
@@ -233,9 +187,9 @@ fn sha512_layer(rt: HostRuntime) -> Result<(), Fail> {
 fn foreign_layer(rt: HostRuntime) -> Result<(), Fail> {
     static CASES: [Case<'static>; 1] = [Case {
         name: "a foreign layer",
-        call: Call::Graph(&[DockerImage]),
+        roots: &[DockerImage],
         source: &[Empty, DockerImage],
-        told: &[Text("planned 2 pushed 2 skipped 0")],
+        told: &["planned 2 pushed 2 skipped 0"],
         copied: &[Empty, DockerImage],
         ..NOTHING
     }];
@@ -248,9 +202,9 @@ fn two_media_types(rt: HostRuntime) -> Result<(), Fail> {
     const IMAGES: [Sample; 5] = [Empty, Image0, Image0AsLayer, Image4, Index2];
     static CASES: [Case<'static>; 1] = [Case {
         name: "two media types",
-        call: Call::Graph(&[Index2]),
+        roots: &[Index2],
         source: &IMAGES,
-        told: &[Text("planned 5 pushed 5 skipped 0")],
+        told: &["planned 5 pushed 5 skipped 0"],
         copied: &IMAGES,
         ..NOTHING
     }];
@@ -261,9 +215,9 @@ fn two_media_types(rt: HostRuntime) -> Result<(), Fail> {
 fn missing_layer(rt: HostRuntime) -> Result<(), Fail> {
     static CASES: [Case<'static>; 1] = [Case {
         name: "a missing layer",
-        call: Call::Graph(&[Image2]),
+        roots: &[Image2],
         source: &[Empty, Image2],
-        told: &[Text("81 Plan 53 NotFound "), KeyOf(Foo)],
+        told: &["81 Plan 53 NotFound ", FOO],
         ..NOTHING
     }];
     assert_cases(&rt, &CASES)
@@ -274,10 +228,10 @@ fn missing_layer(rt: HostRuntime) -> Result<(), Fail> {
 fn held_above_a_hole(rt: HostRuntime) -> Result<(), Fail> {
     static CASES: [Case<'static>; 1] = [Case {
         name: "a missing layer below a held image",
-        call: Call::Graph(&[Image2]),
+        roots: &[Image2],
         source: &[Empty, Image2],
         destination: &[Empty, Foo, Image2],
-        told: &[Text("planned 0 pushed 0 skipped 1")],
+        told: &["planned 0 pushed 0 skipped 1"],
         copied: &[Empty, Foo, Image2],
         ..NOTHING
     }];

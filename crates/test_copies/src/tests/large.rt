@@ -1,20 +1,20 @@
 //! Copies of many layers and of long chains, on one thread and by workers.
 
-use crate::tests::calls::{Workers, left};
-use crate::tests::copies::Run;
+use crate::tests::calls::{EACH, Run, Workers, left};
 use oci_manifest::Key;
 use oci_plan::Existing;
-use oci_store::{ClosedStore, Dest, MemoryStore};
+use oci_store::MemoryStore;
 use std::alloc::Global;
 use std::process::Abort;
+use std::slice;
 use std::sync::Wait;
 use std::test::Fail;
 use std::thread::Threads;
 use test_support::Sample::Empty;
-use test_support::{Content, LAYER, closed, gives, index, memory, put_chain, put_content};
+use test_support::{Content, LAYER, gives, index, memory, put_chain, put_content};
 
 /// The store has each entry of another.
-pub(crate) fn has_all(store: &MemoryStore, other: &MemoryStore) -> bool {
+fn has_all(store: &MemoryStore, other: &MemoryStore) -> bool {
     for place in 0..other.len() {
         let Some((key, bytes)) = other.entry(place) else {
             return false;
@@ -26,159 +26,147 @@ pub(crate) fn has_all(store: &MemoryStore, other: &MemoryStore) -> bool {
     true
 }
 
-/// A large copy into an empty store, and its report.
+/// Puts the entry at a place of a store into another.
+fn put_entry(from: &MemoryStore, place: usize, to: &mut MemoryStore) -> Result<(), Fail> {
+    if let Some((key, bytes)) = from.entry(place) {
+        to.push(key, bytes.clone()?)?;
+    }
+    Ok(())
+}
+
+/// Returns the store into which a copy is made: an empty one, or for a copy that descends one with
+/// all entries of the source except every third.
+fn opening(alloc: Global, source: &MemoryStore, existing: Existing) -> Result<MemoryStore, Fail> {
+    let mut store = MemoryStore::new(alloc);
+    for place in 0..source.len() {
+        if existing == Existing::Descend && place % 3 != 0 {
+            put_entry(source, place, &mut store)?;
+        }
+    }
+    Ok(store)
+}
+
+/// A large copy of all that a source has, and its report.
 #[derive(Clone, Copy)]
 struct Large<'a> {
     name: &'a str,
-    source: &'a MemoryStore,
-    root: &'a Key,
+    existing: Existing,
+    workers: &'a [Workers],
     told: &'a str,
 }
 
-/// The run of a copy by this many workers.
-fn by<'a>(copy: &Large<'a>, workers: Workers) -> Run<'a> {
-    Run {
-        name: copy.name,
-        workers,
-    }
-}
-
-/// Returns the store that a copy leaves.
-fn copied<R: AllocGlobal + Threads + Wait + Sync + Abort>(
+/// The copy by this number of workers brings all.
+fn assert_large_by<R: AllocGlobal + Threads + Wait + Sync + Abort>(
     rt: &R,
+    source: &MemoryStore,
+    root: &Key,
     copy: &Large<'_>,
     run: Run<'_>,
-) -> Result<ClosedStore, Fail> {
-    let empty = closed(rt.alloc(), &[])?;
-    let how = (run, Existing::Skip);
-    left(rt, copy.source, empty, copy.root, how, copy.told)
-}
-
-fn assert_alike<R: AllocGlobal + Abort>(
-    rt: &R,
-    copied: &ClosedStore,
-    single: &ClosedStore,
-    run: Run<'_>,
 ) -> Result<(), Fail> {
-    assert_eq!(rt; copied.count(), single.count(), "{run}");
-    assert!(rt; has_all(copied.memory(), single.memory()), "{run}");
+    let (opening, by) = (
+        opening(rt.alloc(), source, copy.existing)?,
+        (run, copy.existing),
+    );
+    let store = left(rt, source, opening, slice::from_ref(root), by, &[copy.told])?;
+    assert!(rt;
+        store.len() == source.len() && has_all(&store, source),
+        "{run}"
+    );
     Ok(())
 }
 
-/// The run of a copy leaves the same contents as the copy on one thread.
-fn assert_same_by<R: AllocGlobal + Threads + Wait + Sync + Abort>(
+/// The copy by each of its numbers of workers brings all.
+fn assert_large<R: AllocGlobal + Threads + Wait + Sync + Abort>(
     rt: &R,
+    source: &MemoryStore,
+    root: &Key,
     copy: &Large<'_>,
-    single: &ClosedStore,
-    run: Run<'_>,
 ) -> Result<(), Fail> {
-    assert_alike(rt, &copied(rt, copy, run)?, single, run)
-}
-
-/// A copy by each of these numbers of workers leaves the same contents as a copy on one thread.
-fn assert_same<R: AllocGlobal + Threads + Wait + Sync + Abort>(
-    rt: &R,
-    copy: &Large<'_>,
-    each: &[u32],
-) -> Result<(), Fail> {
-    let single = copied(rt, copy, by(copy, None))?;
-    for workers in each {
-        assert_same_by(rt, copy, &single, by(copy, Some(*workers)))?;
+    for workers in copy.workers {
+        let (name, workers) = (copy.name, *workers);
+        assert_large_by(rt, source, root, copy, Run { name, workers })?;
     }
     Ok(())
 }
 
-/// The copies of a chain that is put into the store leave the same contents.
+/// The copies of a chain, in which only one key at a time can be pushed.
 fn assert_chain<R: AllocGlobal + Threads + Wait + Sync + Abort>(
     rt: &R,
-    store: &mut MemoryStore,
+    source: &mut MemoryStore,
+    copy: &Large<'_>,
 ) -> Result<(), Fail> {
-    let root = put_chain(rt.alloc(), store, 3_000)?;
-    let copy = Large {
-        name: "a long chain",
-        source: store,
-        root: &root,
-        told: "planned 3001 pushed 3001 skipped 0",
-    };
-    assert_same(rt, &copy, &[3])
+    let root = put_chain(rt.alloc(), source, 3_000)?;
+    assert_large(rt, source, &root, copy)
 }
 
-/// A chain: only one key at a time can be pushed.
 #[test]
 fn long_chain(rt: HostRuntime) -> Result<(), Fail> {
-    assert_chain(&rt, &mut memory(rt.alloc(), &[Empty])?)
+    static COPY: Large<'static> = Large {
+        name: "a long chain",
+        existing: Existing::Skip,
+        workers: &[None, Some(3)],
+        told: "planned 3001 pushed 3001 skipped 0",
+    };
+    assert_chain(&rt, &mut memory(rt.alloc(), &[Empty])?, &COPY)
 }
 
-/// Puts the descriptor of a content at the end of a list.
-pub(crate) fn push_descriptor(
-    alloc: Global,
-    list: &mut String,
-    content: &Content,
-) -> Result<(), Fail> {
-    if !list.is_empty() {
-        list.push_str(",")?;
-    }
-    list.push_str(content.descriptor(alloc)?.as_str())?;
-    Ok(())
+/// The destination lacks every third content of the chain, the last image included.
+#[test]
+fn long_chain_with_holes(rt: HostRuntime) -> Result<(), Fail> {
+    static COPY: Large<'static> = Large {
+        name: "a long chain with holes",
+        existing: Existing::Descend,
+        workers: &EACH,
+        told: "planned 1001 pushed 1001 skipped 0",
+    };
+    assert_chain(&rt, &mut memory(rt.alloc(), &[Empty])?, &COPY)
 }
 
-/// The layer whose bytes are a number in decimal.
-pub(crate) fn numbered(alloc: Global, number: u32) -> Result<Content, Fail> {
-    Ok(Content {
+/// Puts the layer whose bytes are a number in decimal into the store, and returns its descriptor.
+fn put_layer(alloc: Global, store: &mut MemoryStore, number: u32) -> Result<String, Fail> {
+    let layer = Content {
         media_type: LAYER,
         bytes: format!(in alloc; "{number}")?,
-    })
+    };
+    let descriptor = layer.descriptor(alloc)?;
+    put_content(alloc, store, layer)?;
+    Ok(descriptor)
 }
 
-fn put(alloc: Global, store: &mut MemoryStore, content: Content) -> Result<(), Fail> {
-    put_content(alloc, store, content)?;
-    Ok(())
-}
-
-/// Puts the layer of a number into the store, and its descriptor at the end of a list.
-fn put_layer(
-    alloc: Global,
-    store: &mut MemoryStore,
-    list: &mut String,
-    number: u32,
-) -> Result<(), Fail> {
-    let layer = numbered(alloc, number)?;
-    push_descriptor(alloc, list, &layer)?;
-    put(alloc, store, layer)
-}
-
-/// Puts `count` layers into the store, and returns the list of their descriptors.
-fn put_layers(alloc: Global, store: &mut MemoryStore, length: u32) -> Result<String, Fail> {
+/// Puts layers into the store, and returns the list of their descriptors.
+fn put_layers(alloc: Global, store: &mut MemoryStore, count: u32) -> Result<String, Fail> {
     let mut list = String::new(alloc);
-    for number in 0..length {
-        put_layer(alloc, store, &mut list, number)?;
+    for number in 0..count {
+        list.push_str(if number == 0 { "" } else { "," })?;
+        list.push_str(put_layer(alloc, store, number)?.as_str())?;
     }
     Ok(list)
 }
 
-/// Puts `count` layers and their index into the store, and returns the key of the index.
-fn put_index(alloc: Global, store: &mut MemoryStore, length: u32) -> Result<Key, Fail> {
-    let list = put_layers(alloc, store, length)?;
+/// Puts layers and their index into the store, and returns the key of the index.
+fn put_index(alloc: Global, store: &mut MemoryStore, count: u32) -> Result<Key, Fail> {
+    let list = put_layers(alloc, store, count)?;
     put_content(alloc, store, index(alloc, list.as_str())?)
 }
 
-/// The copies of an index that is put into the store.
+/// The copies of an index.
 fn assert_index<R: AllocGlobal + Threads + Wait + Sync + Abort>(
     rt: &R,
-    store: &mut MemoryStore,
+    source: &mut MemoryStore,
+    copy: &Large<'_>,
 ) -> Result<(), Fail> {
-    let root = put_index(rt.alloc(), store, 5_000)?;
-    let copy = Large {
-        name: "a wide index",
-        source: store,
-        root: &root,
-        told: "planned 5001 pushed 5001 skipped 0",
-    };
-    assert_same(rt, &copy, &[1, 64])
+    let root = put_index(rt.alloc(), source, 5_000)?;
+    assert_large(rt, source, &root, copy)
 }
 
 /// An index: all keys except one can be pushed at once.
 #[test]
 fn wide_index(rt: HostRuntime) -> Result<(), Fail> {
-    assert_index(&rt, &mut memory(rt.alloc(), &[])?)
+    static COPY: Large<'static> = Large {
+        name: "a wide index",
+        existing: Existing::Skip,
+        workers: &[None, Some(1), Some(64)],
+        told: "planned 5001 pushed 5001 skipped 0",
+    };
+    assert_index(&rt, &mut MemoryStore::new(rt.alloc()), &COPY)
 }

@@ -1,6 +1,6 @@
-use crate::tests::calls::{assert_told, options, told_by_workers};
-use crate::tests::copies::Run;
+use crate::tests::calls::{Run, assert_told, options};
 use bytes::Bytes;
+use oci_copy::copy_graph;
 use oci_digest::NoMemory;
 use oci_manifest::Key;
 use oci_plan::Existing;
@@ -14,7 +14,7 @@ use std::sync::atomic::{AtomicU64, Ordering};
 use std::test::Fail;
 use std::thread::Threads;
 use test_support::Sample::{Bar, Foo};
-use test_support::{closed, memory};
+use test_support::{closed, keys, memory};
 
 /// A number of looks that takes some seconds.
 const LOOKS: u64 = 1_000_000_000;
@@ -285,8 +285,9 @@ where
         workers: Some(workers),
     };
     let options = options(run.workers, Existing::Skip, 0);
-    let told = told_by_workers(rt, source, empty, &[Foo, Bar], &options, hooks);
-    assert_told(rt, told, "planned 2 pushed 2 skipped 0", run)
+    let roots = keys(rt.alloc(), &[Foo, Bar])?;
+    let (_, answer) = copy_graph(rt, rt.alloc(), source, empty, &roots, &options, hooks);
+    assert_told(rt, &answer, &["planned 2 pushed 2 skipped 0"], run)
 }
 
 /// Copies two layers by this number of workers.
@@ -323,33 +324,18 @@ fn assert_met<R: AllocGlobal + Threads + Wait + Sync + Abort>(
     looks: u64,
     met: u64,
 ) -> Result<(), Fail> {
-    let hooks = MeetingHooks::looking(looks);
     let source = memory(rt.alloc(), &[Foo, Bar])?;
-    assert_hooks_meet(rt, &source, workers, &hooks, met)
+    assert_hooks_meet(rt, &source, workers, &MeetingHooks::looking(looks), met)
 }
 
 /// Two workers run at the same time: each of two keys waits for the other to begin. Then each waits
-/// for the fetch and for the push of the other, so neither worker holds the destination's lock.
+/// for the fetch and for the push of the other, so neither worker holds the destination's lock. One
+/// worker begins with a key and gives up, since the other key has not begun; with the other key it
+/// finds that the first has.
 #[test]
 fn meeting(rt: HostRuntime) -> Result<(), Fail> {
-    assert_met(&rt, 2, LOOKS, 2)
-}
-
-/// One worker begins with a key and gives up, since the other key has not begun. With the other key
-/// it finds that the first has.
-#[test]
-fn meeting_of_one_worker(rt: HostRuntime) -> Result<(), Fail> {
+    assert_met(&rt, 2, LOOKS, 2)?;
     assert_met(&rt, 1, 1_000, 1)
-}
-
-/// The workers that fetch from a store meet.
-fn assert_fetches_meet<R: AllocGlobal + Threads + Wait + Sync + Abort>(
-    rt: &R,
-    source: &MeetingStore<MemoryStore>,
-) -> Result<(), Fail> {
-    assert_two(rt, source, 2, &NoHooks)?;
-    assert!(rt; source.meeting.met() >= 2);
-    Ok(())
 }
 
 /// Two workers fetch at the same time, so neither holds the destination's lock.
@@ -359,57 +345,41 @@ fn fetches_meet(rt: HostRuntime) -> Result<(), Fail> {
         store: memory(rt.alloc(), &[Foo, Bar])?,
         meeting: MeetingPlace::looking(LOOKS),
     };
-    assert_fetches_meet(&rt, &source)
+    assert_two(&rt, &source, 2, &NoHooks)?;
+    assert!(rt; source.meeting.met() >= 2);
+    Ok(())
 }
 
-/// Two workers that read parts of the contents of a store meet at each read and at each call of the
-/// hooks.
-fn assert_parts_meet<R: AllocGlobal + Threads + Wait + Sync + Abort>(
-    rt: &R,
-    source: &PartsMeet,
-) -> Result<(), Fail> {
-    assert_hooks_meet(rt, source, 2, &MeetingHooks::looking(LOOKS), 2)?;
-    assert_eq!(rt; source.meeting.met(), 2);
-    Ok(())
+/// Returns a source that is read part by part, and whose reads look `looks` times for each other.
+fn parts_meet<R: AllocGlobal>(rt: &R, looks: u64) -> Result<PartsMeet, Fail> {
+    Ok(PartsMeet {
+        store: memory(rt.alloc(), &[Foo, Bar])?,
+        meeting: MeetingPlace::looking(looks),
+    })
 }
 
 /// Two workers read parts of two layers at the same time, and each is told of its part while the
 /// other is, so neither holds the destination's lock.
 #[test]
-fn parts_meet(rt: HostRuntime) -> Result<(), Fail> {
-    let source = PartsMeet {
-        store: memory(rt.alloc(), &[Foo, Bar])?,
-        meeting: MeetingPlace::looking(LOOKS),
-    };
-    assert_parts_meet(&rt, &source)
-}
-
-/// Two of three workers meet when they settle the drafts of two layers, and each draft was settled
-/// before its push.
-fn assert_settling_meets<R: AllocGlobal + Threads + Wait + Sync + Abort>(
-    rt: &R,
-    source: &PartsMeet,
-    store: ClosedStore,
-) -> Result<(), Fail> {
-    let meeting = MeetingPlace::looking(LOOKS);
-    let settled = AtomicU64::new(0);
-    let destination = SettlingStore {
-        store,
-        meeting: &meeting,
-        settled: &settled,
-    };
-    assert_two_into(rt, source, destination, 3, &NoHooks)?;
-    assert_eq!(rt; meeting.met(), 2);
-    assert_eq!(rt; settled.load(Ordering::SeqCst), 2);
+fn reads_of_parts_meet(rt: HostRuntime) -> Result<(), Fail> {
+    let source = parts_meet(&rt, LOOKS)?;
+    assert_hooks_meet(&rt, &source, 2, &MeetingHooks::looking(LOOKS), 2)?;
+    assert_eq!(rt; source.meeting.met(), 2);
     Ok(())
 }
 
-/// Two workers settle their drafts at the same time, so neither holds the destination's lock.
+/// Two of three workers settle the drafts of two layers at the same time, so neither holds the
+/// destination's lock. Each draft was settled before its push.
 #[test]
 fn settling_meets(rt: HostRuntime) -> Result<(), Fail> {
-    let source = PartsMeet {
-        store: memory(rt.alloc(), &[Foo, Bar])?,
-        meeting: MeetingPlace::looking(1),
+    let meeting = MeetingPlace::looking(LOOKS);
+    let settled = AtomicU64::new(0);
+    let destination = SettlingStore {
+        store: ClosedStore::new(rt.alloc()),
+        meeting: &meeting,
+        settled: &settled,
     };
-    assert_settling_meets(&rt, &source, closed(rt.alloc(), &[])?)
+    assert_two_into(&rt, &parts_meet(&rt, 1)?, destination, 3, &NoHooks)?;
+    assert_eq!(rt; (meeting.met(), settled.load(Ordering::SeqCst)), (2, 2));
+    Ok(())
 }
