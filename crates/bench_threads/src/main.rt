@@ -11,18 +11,14 @@
 //! - `live`: a live store.
 //! - `looked`: a live store that two looks ask for a content during the pushes.
 //! - `asked`: a live store that one look asks for a content a million times after the pushes.
-//! - `copied`: a live store into which workers copy all contents, twice. The two copies count in
-//!   place of the pushes.
 //!
-//! The output is the number of successful pushes, the numbers of the first and the last error (0
-//! for none), the number of entries in the store or in a copy of it, and the number of successful
-//! looks.
+//! The output is the number of successful pushes, the number of entries in the store or in a copy of
+//! it, and the number of successful looks.
 //!
 //! If the words cannot be read, or a job is not run, or anything but a push runs out of memory,
 //! nothing is printed, and the status is 3.
 #![tactic(auto)]
 
-mod copying;
 mod counting;
 mod jobs;
 mod looking;

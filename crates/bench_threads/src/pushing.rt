@@ -31,12 +31,10 @@ fn numbered(alloc: Global, number: u64) -> Result<Content, AllocError> {
     Ok(Content { key, bytes })
 }
 
-/// The results of some pushes or copies.
+/// The results of some pushes.
 #[derive(Drop, Default)]
 pub(crate) struct Tally {
     came: u64,
-    first_refusal: u8,
-    last_refusal: u8,
     held: usize,
     answers: u64,
 }
@@ -45,14 +43,6 @@ impl Tally {
     /// Counts a success.
     pub fn came(&mut self) {
         self.came = self.came.wrapping_add(1);
-    }
-
-    /// Records the number of an error.
-    pub fn refused(&mut self, number: u8) {
-        self.last_refusal = number;
-        if self.first_refusal == 0 {
-            self.first_refusal = number;
-        }
     }
 
     /// Returns the tally with this number of entries.
@@ -69,11 +59,7 @@ impl Tally {
 impl fmt::Display for Tally {
     fn fmt<W: fmt::Write>(&self, f: &mut fmt::Formatter<W>) -> fmt::Result {
         let (came, held, answers) = (self.came, self.held, self.answers);
-        let (first, last) = (self.first_refusal, self.last_refusal);
-        write!(
-            f,
-            "came {came} refused {first} {last} held {held} answers {answers}"
-        )
+        write!(f, "came {came} held {held} answers {answers}")
     }
 }
 
@@ -81,9 +67,8 @@ impl fmt::Display for Tally {
 pub(crate) fn push_all<D: Dest>(store: &mut D, contents: Vec<Content>) -> Tally {
     let mut tally = Tally::default();
     for Content { key, bytes } in contents {
-        match store.push_closed(&key, bytes) {
-            Ok(_) => tally.came(),
-            Err(fault) => tally.refused(fault.number()),
+        if store.push_closed(&key, bytes).is_ok() {
+            tally.came();
         }
     }
     tally

@@ -1,6 +1,5 @@
 //! Pushes small contents into a store.
 
-use crate::copying::copy_twice;
 use crate::looking::{ask, push_all_looked_at};
 use crate::pushing::{Content, Tally, contents, push_all};
 use oci_live::LiveStore;
@@ -35,7 +34,6 @@ fn pushed<R: Threads + Wait + Send + Sync + Copy + Drop>(
         "live" => live(rt, alloc, contents),
         "looked" => looked(rt, alloc, contents),
         "asked" => asked(rt, alloc, contents),
-        "copied" => copied(rt, alloc, contents),
         _ => None,
     }
 }
@@ -90,13 +88,4 @@ fn asked<R: Wait + Drop>(rt: R, alloc: Global, contents: Vec<Content>) -> Option
     let tally = push_all(&mut live, contents);
     let answers = ask(&mut look, &key, 1_000_000, &AtomicBool::new(false));
     Some(tally.held(live.count()).answered(answers))
-}
-
-fn copied<R: Threads + Wait + Send + Sync + Copy + Drop>(
-    rt: R,
-    alloc: Global,
-    contents: Vec<Content>,
-) -> Option<Tally> {
-    let (live, tally) = copy_twice(&rt, alloc, opened(rt, alloc)?, contents)?;
-    copied_out(&live, tally)
 }
