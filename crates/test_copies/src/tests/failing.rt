@@ -4,7 +4,7 @@
 use crate::tests::calls::{ONE_AND_THREE, Run, Workers, copied, left, options, told};
 use oci_manifest::Key;
 use oci_plan::Existing;
-use oci_store::{Dest, Source};
+use oci_store::{Dest, MemoryStore, Source};
 use std::alloc::Global;
 use std::process::Abort;
 use std::sync::Wait;
@@ -74,8 +74,44 @@ where
     Ok((told, held))
 }
 
-/// Copies into a store that fails, and then again. Asserts the fault of the first copy, and returns
-/// the number of contents that it left.
+/// Whether the text reports a failed push of this sample, which the store lacks.
+fn names<D: Dest>(alloc: Global, store: &D, told: &str, sample: Sample) -> Result<bool, Fail> {
+    let key = sample.key(alloc)?;
+    let line = format!(in alloc; "82 Push {key} 43 Device")?;
+    Ok(told == line.as_str() && !store.has(&key))
+}
+
+/// Whether the text reports a failed push of one of the samples, which the store lacks.
+fn names_missing<D: Dest>(alloc: Global, store: &D, told: &str) -> Result<bool, Fail> {
+    for sample in ALL {
+        if names(alloc, store, told, sample)? {
+            return Ok(true);
+        }
+    }
+    Ok(false)
+}
+
+/// Copies into a store that fails, asserts the fault, and returns what the copy leaves.
+fn left_by_failing<D: Dest + Source + Drop + Send, R: AllocGlobal + Threads + Wait + Sync + Abort>(
+    rt: &R,
+    source: &MemoryStore,
+    empty: D,
+    roots: &[Key],
+    run: Run<'_>,
+) -> Result<D, Fail>
+where
+    D::Draft: Send,
+{
+    let (store, told) = once(rt, source, empty, roots, run)?;
+    assert!(rt;
+        names_missing(rt.alloc(), &store, told.as_str())?,
+        "{run}: {told}"
+    );
+    Ok(store)
+}
+
+/// Copies into a store that fails, and then again. Returns the number of contents that the first
+/// copy left.
 fn held_by_failing<D: Dest + Source + Drop + Send, R: AllocGlobal + Threads + Wait + Sync + Abort>(
     rt: &R,
     empty: D,
@@ -84,10 +120,9 @@ fn held_by_failing<D: Dest + Source + Drop + Send, R: AllocGlobal + Threads + Wa
 where
     D::Draft: Send,
 {
-    let (told, held) = twice(rt, &memory(rt.alloc(), &ALL)?, empty, run)?;
-    let is_wanted = told.starts_with("82 Push ") && told.ends_with(" 43 Device");
-    assert!(rt; is_wanted, "{run}: {told}");
-    Ok(held)
+    let (source, roots) = (memory(rt.alloc(), &ALL)?, keys(rt.alloc(), &[Index1])?);
+    let store = left_by_failing(rt, &source, empty, &roots, run)?;
+    again(rt, &source, store, &roots, run)
 }
 
 /// The third push into a closed store fails.
