@@ -24,6 +24,11 @@ OTHERS = [
     "index.json.%s.new" % DRAFT.upper(),
     "index.json.%s.new" % DRAFT[1:],
     "index.json.%s0.new" % DRAFT,
+    "index.json.%sg.new" % DRAFT[:-1],
+    "index.json.%s" % DRAFT,
+    "index.json.%s.new.new" % DRAFT,
+    "index.json.new",
+    "index_json.%s.new" % DRAFT,
     "index.json%s.new" % DRAFT,
     "other.%s.new" % DRAFT,
     "blobs/sha256/%s.0.new" % BLOB256,
@@ -31,6 +36,7 @@ OTHERS = [
     "blobs/sha256/%s.%s.new" % (BLOB256, DRAFT.upper()),
     "blobs/sha256/%s.%s.new" % (BLOB256[1:], DRAFT),
     "blobs/sha256/x%s.%s.new" % (BLOB256[1:], DRAFT),
+    "blobs/sha256/%s0.%s.new" % (BLOB256, DRAFT),
     "blobs/sha256/%s.new" % BLOB256,
     "blobs/sha512/%s.0.new" % BLOB512,
 ]
@@ -115,11 +121,25 @@ def wrong_linked(room, link):
     ])
 
 
+def wrong_kinds(room):
+    """Return the problem with a copy into a layout that has a folder and a link with the names of drafts, or None. They are to stay."""
+    fresh(room)
+    folder, link = ("%s/copied/%s" % (room, DRAFTS[place]) for place in range(2))
+    os.mkdir(folder)
+    os.symlink("index.json", link)
+    return first([
+        wrong_copy(room, None),
+        None if os.path.isdir(folder) else "the folder is gone",
+        None if os.path.islink(link) else "the link is gone",
+    ])
+
+
 def checks(room):
     for what, (harmed, content, line) in REFUSED.items():
         yield "refused by " + what, wrong_refused(room, harmed, content, line)
     yield "refused by a layer that the destination lacks", wrong_open(room)
     yield "a dry run", wrong_done(room, "--dry-run", removed=[])
     yield "a copy", wrong_done(room)
+    yield "a folder and a link with the names of drafts", wrong_kinds(room)
     for link in "blobs", "blobs/sha256", "blobs/sha512":
         yield "a copy through a link in the place of %s" % link, wrong_linked(room, link)
