@@ -98,27 +98,19 @@ def removed(folder):
     return len(drafts)
 
 
-def wrong_lost(room, process):
-    """Return the problem with a copy that goes on after its draft was removed, or None. It may be refused. No file is to have other bytes
-    than before or than it should."""
+def after_loss(room, process):
+    """Let a copy go on after its draft was removed. Return whether it was done, and the problem with its end, or None. It may be refused. No
+    file is to have other bytes than before or than it should."""
     os.kill(process.pid, signal.SIGCONT)
     _, err = process.communicate(timeout=60)
     is_done = (process.returncode, err) == (0, "")
-    state = wrong_layout(room, "copied", [BAR, *CONTENTS], NEW) if is_done else wrong_layout(room, "copied", [BAR], OLD)
+    old, new = wrong_layout(room, "copied", [BAR], OLD), wrong_layout(room, "copied", [BAR, *CONTENTS], NEW)
     return is_done, first([
         None if is_done else wrong_refusal(process.returncode, err),
-        state and wrong_held(room),
+        new if is_done else old and new and old,
         leftovers(room + "/copied", [BAR, *CONTENTS]),
         wrong_again(room),
     ])
-
-
-def wrong_held(room):
-    """Return the problem with a layout that has its old tags, and some of the contents, or None."""
-    ended = run(["verify", "copied"], room)
-    tags = run(["tags", "copied"], room)
-    is_old = (ended.status, tags.out) == (0, "old %s\n" % key(BAR))
-    return None if is_old else told(ended)
 
 
 def lost(room, library):
@@ -130,7 +122,7 @@ def lost(room, library):
         if not process:
             break
         count = removed(room + "/copied")
-        is_done, wrong = wrong_lost(room, process)
+        is_done, wrong = after_loss(room, process)
         refused += count > 0 and not is_done
         yield "%d removed before change %d" % (count, number), wrong
     yield "%d of these copies were refused" % refused, None if refused >= LOST else "too few"

@@ -2,8 +2,9 @@
 
 use crate::tests::files::FileStep::{Blobs, Put, Text};
 use crate::tests::layouts::LayoutStep::{Bring, ForgetNames, Renamed, Save, Tag, TakeIndexAndPut};
-use crate::tests::steps::Step::{In, OpenAsIs, With};
-use crate::tests::steps::{Ground, Row, assert_run};
+use crate::tests::steps::Step::{Enter, In, With};
+use crate::tests::steps::Way::OpenAsIs;
+use crate::tests::steps::{Ground, Row, Run, assert_runs};
 use std::test::Fail;
 use test_support::Sample::{Empty, Image0, Image2};
 
@@ -18,7 +19,7 @@ const ROWS: &[Row] = &[
     ),
     Row(In("blobs", Blobs(&[Empty, Image0])), "put"),
     Row(In("index.json", Put(INDEX)), "put"),
-    Row(OpenAsIs, "held 2 a"),
+    Row(Enter(OpenAsIs), "held 2 a"),
     Row(
         With(Renamed(0, Some("b"))),
         "{\"annotations\":{\"k\":\"v\",\"org.opencontainers.image.ref.name\":\"b\"},<saved Image0>}",
@@ -45,7 +46,7 @@ const ROWS: &[Row] = &[
         In("index.json", Text),
         "{\"manifests\":[{<saved Image2>,\"urls\":[]},{\"annotations\":{\"k\":\"v\",\"org.opencontainers.image.ref.name\":\"a\"},<saved Image0>},{\"annotations\":{\"n\":\"1\",\"org.opencontainers.image.ref.name\":\"b\"},<saved Image0>}],\"mediaType\":\"application/vnd.oci.image.index.v1+json\",\"schemaVersion\":2}",
     ),
-    Row(OpenAsIs, "held 2 a b"),
+    Row(Enter(OpenAsIs), "held 2 a b"),
     Row(With(ForgetNames), "forgotten"),
     Row(With(Save), "saved"),
     Row(
@@ -54,10 +55,12 @@ const ROWS: &[Row] = &[
     ),
 ];
 
+static RUNS: [Run<'static>; 1] = [Run("brought", Ground::Memory, ROWS)];
+
 /// An entry under another name, or without one, keeps its other members. An entry that is brought
 /// comes with its members, unless it has no name and its key has a tag. Forgotten members are not
 /// written.
 #[test]
 fn entries_that_are_brought(rt: HostRuntime) -> Result<(), Fail> {
-    assert_run(&rt, Ground::Memory, ROWS)
+    assert_runs(&rt, &RUNS)
 }

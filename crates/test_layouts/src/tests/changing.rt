@@ -7,7 +7,6 @@ use crate::tests::texts::{assert_told, blob};
 use bytes::Bytes;
 use oci_layout::Layout;
 use std::alloc::Global;
-use std::fmt::{self, Display, Formatter, Write};
 use std::process::Abort;
 use std::sync::Wait;
 use std::test::Fail;
@@ -53,28 +52,17 @@ fn told_of_run<R: AllocGlobal + Threads + Wait + Sync>(
     }
 }
 
-/// A copy whose first `right` reads return the right bytes.
-#[derive(Clone, Copy)]
-struct Run {
-    right: usize,
-    workers: Option<u32>,
-}
-
-impl Display for Run {
-    fn fmt<W: Write>(&self, f: &mut Formatter<W>) -> fmt::Result {
-        write!(f, "{} right reads by {:?}", self.right, self.workers)
-    }
-}
-
-/// Asserts the result of the run, and that the destination is closed.
+/// Asserts the result of a copy whose first `right` reads return the right bytes, and that the
+/// destination is closed.
 fn assert_changing<R: AllocGlobal + Threads + Wait + Sync + Abort>(
     rt: &R,
-    run: Run,
+    right: usize,
+    workers: Option<u32>,
     want: &str,
 ) -> Result<(), Fail> {
-    let (told, is_closed) = told_of_run(rt, run.right as u64, run.workers)?;
-    assert!(rt; is_closed, "{run}");
-    assert_told(rt, &run, told.as_str(), want)
+    let (told, is_closed) = told_of_run(rt, right as u64, workers)?;
+    assert!(rt; is_closed, "{right} right reads by {workers:?}");
+    assert_told(rt, &right, told.as_str(), want)
 }
 
 /// The result for each number of right reads, up to the first run without a fault. `open` reads
@@ -93,7 +81,7 @@ static TOLD: [&str; 7] = [
 fn changing_source(rt: HostRuntime) -> Result<(), Fail> {
     for workers in [None, Some(3)] {
         for (right, want) in TOLD.iter().enumerate() {
-            assert_changing(&rt, Run { right, workers }, want)?;
+            assert_changing(&rt, right, workers, want)?;
         }
     }
     Ok(())

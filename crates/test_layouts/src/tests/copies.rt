@@ -1,6 +1,5 @@
 //! Copies on the calling thread and by workers, and their results as text.
 
-use crate::tests::layouts::filled;
 use oci_copy::{CopyFault, Options, Report, copy, copy_graph, copy_one, extended_copy_graph};
 use oci_manifest::Key;
 use oci_pool::NoHooks;
@@ -10,20 +9,15 @@ use std::fmt::Display;
 use std::sync::Wait;
 use std::test::Fail;
 use std::thread::Threads;
+use test_support::Sample::{Empty, Foo, Image0, Image2, Index3, Index4, Referrer};
 use test_support::{Sample, keys, memory};
 
-/// A copy into a layout.
-#[derive(Clone, Copy, Debug)]
-pub(crate) enum Copying<'a> {
-    /// Copies the last samples, from a store in memory that has the first ones.
-    Memory(&'a [Sample], &'a [Sample]),
-    /// Copies the sample, from a layout that has no other.
-    Layout(Sample),
-    /// Copies the last sample by reference, from a store in memory that has the first ones and the
-    /// tag `m` for the last. Its tag in the layout is `v1`.
-    Named(&'a [Sample], Sample),
-    /// Copies the last sample and its referrers, from a store in memory that has the first ones.
-    Extended(&'a [Sample], Sample),
+/// A copy from a store in memory into a layout.
+pub(crate) enum Copying {
+    /// Copies an image by reference. Its tag is `m`, and `v1` in the layout.
+    Named,
+    /// Copies an image and its referrers, one edge away.
+    Extended,
 }
 
 fn printed<T: Display>(alloc: Global, value: &T) -> Result<String, Fail> {
@@ -84,30 +78,8 @@ fn told_of<D: Dest + Drop>(
     Ok((destination, told))
 }
 
-/// Copies some keys by this many workers, or on the calling thread. Returns the destination and the
-/// result as text.
-pub(crate) fn copied_keys<
-    A: Source + Sync,
-    D: Dest + Drop + Send,
-    R: AllocGlobal + Threads + Wait + Sync,
->(
-    rt: &R,
-    source: &A,
-    destination: D,
-    roots: &[Key],
-    workers: Option<u32>,
-) -> Result<(D, String), Fail>
-where
-    D::Draft: Send,
-{
-    let alloc = rt.alloc();
-    match workers {
-        Some(workers) => told_of(alloc, answered_by(rt, source, destination, roots, workers)),
-        None => told_of(alloc, answered(alloc, source, destination, roots)),
-    }
-}
-
-/// Like [`copied_keys`], for some samples.
+/// Copies some samples by this many workers, or on the calling thread. Returns the destination and
+/// the result as text.
 pub(crate) fn copied_samples<
     A: Source + Sync,
     D: Dest + Drop + Send,
@@ -122,35 +94,12 @@ pub(crate) fn copied_samples<
 where
     D::Draft: Send,
 {
-    let roots = keys(rt.alloc(), roots)?;
-    copied_keys(rt, source, destination, &roots, workers)
-}
-
-/// Copies some samples from a store in memory of these samples.
-fn copied_from_memory<D: Dest + Drop + Send, R: AllocGlobal + Threads + Wait + Sync>(
-    rt: &R,
-    destination: D,
-    samples: &[Sample],
-    roots: &[Sample],
-) -> Result<(D, String), Fail>
-where
-    D::Draft: Send,
-{
-    let source = memory(rt.alloc(), samples)?;
-    copied_samples(rt, &source, destination, roots, None)
-}
-
-/// Copies one sample from a layout of its own.
-fn copied_from_layout<D: Dest + Drop + Send, R: AllocGlobal + Threads + Wait + Sync>(
-    rt: &R,
-    destination: D,
-    sample: Sample,
-) -> Result<(D, String), Fail>
-where
-    D::Draft: Send,
-{
-    let source = filled(rt.alloc(), &[sample])?;
-    copied_samples(rt, &source, destination, &[sample], None)
+    let alloc = rt.alloc();
+    let roots = keys(alloc, roots)?;
+    match workers {
+        Some(workers) => told_of(alloc, answered_by(rt, source, destination, &roots, workers)),
+        None => told_of(alloc, answered(alloc, source, destination, &roots)),
+    }
 }
 
 /// Copies by reference.
@@ -187,39 +136,25 @@ fn named_line(alloc: Global, answer: Result<(Key, Report), CopyFault>) -> Result
     }
 }
 
-/// Returns a store in memory of these samples, with the tag `m` for one of them.
-fn named(alloc: Global, samples: &[Sample], sample: Sample) -> Result<MemoryStore, Fail> {
-    let mut store = memory(alloc, samples)?;
-    store.tag(&sample.key(alloc)?, "m")?;
+/// Returns a store in memory of an image and its config, with the tag `m` for the image.
+fn named(alloc: Global) -> Result<MemoryStore, Fail> {
+    let mut store = memory(alloc, &[Empty, Image0])?;
+    store.tag(&Image0.key(alloc)?, "m")?;
     Ok(store)
 }
 
 /// Copies by reference. Returns the key and the report as text.
 fn copied_named<D: Dest + Tagger + Drop + Send, R: AllocGlobal + Threads + Wait + Sync>(
     rt: &R,
-    source: &MemoryStore,
     destination: D,
 ) -> Result<(D, String), Fail>
 where
     D::Draft: Send,
 {
-    let (destination, answer) = answered_named(rt, source, destination);
+    let source = named(rt.alloc())?;
+    let (destination, answer) = answered_named(rt, &source, destination);
     let told = named_line(rt.alloc(), answer)?;
     Ok((destination, told))
-}
-
-/// Copies one sample by reference from a store in memory of these samples.
-fn copied_from_named<D: Dest + Tagger + Drop + Send, R: AllocGlobal + Threads + Wait + Sync>(
-    rt: &R,
-    destination: D,
-    samples: &[Sample],
-    sample: Sample,
-) -> Result<(D, String), Fail>
-where
-    D::Draft: Send,
-{
-    let source = named(rt.alloc(), samples, sample)?;
-    copied_named(rt, &source, destination)
 }
 
 /// Copies a key and its referrers.
@@ -245,18 +180,16 @@ where
     )
 }
 
-/// Copies a sample and its referrers from a store in memory of these samples.
+/// Copies an image and its referrers. Returns the report as text.
 fn copied_extended<D: Dest + Drop + Send, R: AllocGlobal + Threads + Wait + Sync>(
     rt: &R,
     destination: D,
-    samples: &[Sample],
-    sample: Sample,
 ) -> Result<(D, String), Fail>
 where
     D::Draft: Send,
 {
-    let key = sample.key(rt.alloc())?;
-    let source = memory(rt.alloc(), samples)?;
+    let key = Image2.key(rt.alloc())?;
+    let source = memory(rt.alloc(), &[Empty, Foo, Image2, Referrer, Index3, Index4])?;
     told_of(
         rt.alloc(),
         answered_extended(rt, &source, destination, &key),
@@ -267,15 +200,13 @@ where
 pub(crate) fn copied<D: Dest + Tagger + Drop + Send, R: AllocGlobal + Threads + Wait + Sync>(
     rt: &R,
     destination: D,
-    copying: Copying<'_>,
+    copying: &Copying,
 ) -> Result<(D, String), Fail>
 where
     D::Draft: Send,
 {
     match copying {
-        Copying::Memory(samples, roots) => copied_from_memory(rt, destination, samples, roots),
-        Copying::Layout(sample) => copied_from_layout(rt, destination, sample),
-        Copying::Named(samples, sample) => copied_from_named(rt, destination, samples, sample),
-        Copying::Extended(samples, sample) => copied_extended(rt, destination, samples, sample),
+        Copying::Named => copied_named(rt, destination),
+        Copying::Extended => copied_extended(rt, destination),
     }
 }

@@ -1,9 +1,8 @@
 //! The search for damaged blobs by several workers.
 
-use crate::tests::layouts::{made, saved};
+use crate::tests::layouts::{listed, made, saved};
 use crate::tests::texts::{assert_told, blob};
 use oci_layout::{Dir, Layout, MemDir};
-use oci_manifest::Key;
 use oci_verify::corrupt_keys;
 use std::alloc::Global;
 use std::process::Abort;
@@ -29,15 +28,6 @@ fn damaged(alloc: Global) -> Result<MemDir, Fail> {
     Ok(dir)
 }
 
-/// Returns the keys as text.
-fn told_of_keys(alloc: Global, keys: &[Key]) -> Result<String, Fail> {
-    let mut told = String::new(alloc);
-    for key in keys {
-        told.push_str(&format!(in alloc; "{key};")?)?;
-    }
-    Ok(told)
-}
-
 /// Searches the damaged layout by this many workers. Returns the keys or the fault as text.
 fn told_of_search<R: AllocGlobal + Threads + Wait + Sync>(
     rt: &R,
@@ -45,7 +35,7 @@ fn told_of_search<R: AllocGlobal + Threads + Wait + Sync>(
 ) -> Result<String, Fail> {
     let layout = made(Layout::open_as_is(rt.alloc(), damaged(rt.alloc())?))?;
     match corrupt_keys(rt, rt.alloc(), &layout, workers, &()) {
-        Ok(keys) => told_of_keys(rt.alloc(), &keys),
+        Ok(keys) => listed(rt.alloc(), &keys),
         Err(fault) => Ok(format!(in rt.alloc(); "{fault}")?),
     }
 }

@@ -1,44 +1,26 @@
 //! Crashes of a directory in memory while a layout grows and is saved.
 
 use crate::tests::layouts::summary;
-use crate::tests::texts::assert_told;
 use oci_layout::{Layout, MemDir};
 use oci_store::{Dest, Source, Tagger};
 use std::alloc::Global;
-use std::fmt::{self, Display, Formatter, Write};
+use std::fmt::Write;
 use std::process::Abort;
 use std::test::Fail;
 use test_support::Sample::{Empty, Foo, Image0, Image2};
 use test_support::{Sample, is_closed};
-
-/// How the second image is saved.
-#[derive(Clone, Copy, Debug)]
-enum Saving {
-    /// By `save_settled`.
-    Settled,
-    /// By `save`.
-    Unsettled,
-}
 
 /// A directory that allows some puts. A layout is created in it, and two images are pushed, tagged
 /// and saved, one after the other, up to the first failure. Then a crash comes.
 #[derive(Clone, Copy)]
 struct Run {
     puts: u64,
-    saving: Saving,
+    /// Whether the second image is saved by `save_settled`, and not by `save`.
+    is_settled: bool,
     /// Whether the crash keeps what was not settled, with half of each new file.
     is_torn: bool,
-}
-
-impl Display for Run {
-    fn fmt<W: Write>(&self, f: &mut Formatter<W>) -> fmt::Result {
-        let Run {
-            puts,
-            saving,
-            is_torn,
-        } = self;
-        write!(f, "{puts} puts, {saving:?}, torn: {is_torn}")
-    }
+    /// What is left.
+    left: &'static str,
 }
 
 /// Pushes samples. Returns whether all pushes succeeded.
@@ -56,35 +38,30 @@ fn are_pushed(
     Ok(true)
 }
 
-/// Saves the layout, whose keys from this place on are new. Returns whether it succeeded.
-fn is_saved(layout: &mut Layout<MemDir>, from: usize, saving: Saving) -> bool {
-    match saving {
-        Saving::Settled => layout.save_settled(from).is_ok(),
-        Saving::Unsettled => layout.save().is_ok(),
-    }
-}
-
-/// Pushes samples, tags an image, and saves the layout. Returns whether all that succeeded.
+/// Pushes samples, tags the last one, and saves the layout. Returns whether all that succeeded.
 fn is_grown(
     alloc: Global,
     layout: &mut Layout<MemDir>,
     samples: &[Sample],
     tag: (Sample, &str),
-    saving: Saving,
+    is_settled: bool,
 ) -> Result<bool, Fail> {
     let from = layout.count();
     if !are_pushed(alloc, layout, samples)? {
         return Ok(false);
     }
     layout.tag(&tag.0.key(alloc)?, tag.1)?;
-    Ok(is_saved(layout, from, saving))
+    if is_settled {
+        Ok(layout.save_settled(from).is_ok())
+    } else {
+        Ok(layout.save().is_ok())
+    }
 }
 
-/// Pushes and saves the two images, up to the first failure.
-fn grow(alloc: Global, layout: &mut Layout<MemDir>, saving: Saving) -> Result<(), Fail> {
-    let first = (Image0, "v1");
-    if is_grown(alloc, layout, &[Empty, Image0], first, Saving::Settled)? {
-        let _ = is_grown(alloc, layout, &[Foo, Image2], (Image2, "v2"), saving)?;
+/// Adds the two images to a layout, up to the first failure.
+fn grow(alloc: Global, layout: &mut Layout<MemDir>, is_settled: bool) -> Result<(), Fail> {
+    if is_grown(alloc, layout, &[Empty, Image0], (Image0, "v1"), true)? {
+        let _ = is_grown(alloc, layout, &[Foo, Image2], (Image2, "v2"), is_settled)?;
     }
     Ok(())
 }
@@ -92,14 +69,14 @@ fn grow(alloc: Global, layout: &mut Layout<MemDir>, saving: Saving) -> Result<()
 /// Creates the layout and adds the images. Returns the directory.
 fn grown(alloc: Global, run: Run) -> Result<MemDir, Fail> {
     match Layout::create(alloc, MemDir::with_fuse(alloc, run.puts)) {
-        Ok(layout) => grown_in(alloc, layout, run.saving),
+        Ok(layout) => grown_in(alloc, layout, run.is_settled),
         Err((dir, _)) => Ok(dir),
     }
 }
 
 /// Adds the images to a layout. Returns its directory.
-fn grown_in(alloc: Global, mut layout: Layout<MemDir>, saving: Saving) -> Result<MemDir, Fail> {
-    grow(alloc, &mut layout, saving)?;
+fn grown_in(alloc: Global, mut layout: Layout<MemDir>, is_settled: bool) -> Result<MemDir, Fail> {
+    grow(alloc, &mut layout, is_settled)?;
     Ok(layout.into_dir())
 }
 
@@ -136,12 +113,17 @@ fn told_of(alloc: Global, dir: MemDir) -> Result<String, Fail> {
 }
 
 /// Asserts what is opened after the crash, and that a second crash leaves the same.
-fn assert_left<R: AllocGlobal + Abort>(rt: &R, run: Run, want: &str) -> Result<(), Fail> {
-    let alloc = rt.alloc();
-    let left = told_of(alloc, grown(alloc, run)?.crash(run.is_torn)?)?;
-    assert_told(rt, &run, left.as_str(), want)?;
-    let again = grown(alloc, run)?.crash(run.is_torn)?.crash(!run.is_torn)?;
-    assert_told(rt, &run, told_of(alloc, again)?.as_str(), want)
+fn assert_left<R: AllocGlobal + Abort>(rt: &R, run: Run) -> Result<(), Fail> {
+    let (alloc, puts, is_torn) = (rt.alloc(), run.puts, run.is_torn);
+    let left = told_of(alloc, grown(alloc, run)?.crash(is_torn)?)?;
+    assert_eq!(rt; left.as_str(), run.left, "{puts} puts, torn: {is_torn}");
+    let again = told_of(alloc, grown(alloc, run)?.crash(is_torn)?.crash(!is_torn)?)?;
+    assert_eq!(rt;
+        again.as_str(),
+        run.left,
+        "{puts} puts, torn: {is_torn}, again"
+    );
+    Ok(())
 }
 
 /// The number of puts of a creation.
@@ -162,14 +144,15 @@ static LEFT: [&str; 7] = [
 /// being saved. After a save that succeeded it leaves what was saved.
 #[test]
 fn crash_leaves_old_or_new(rt: HostRuntime) -> Result<(), Fail> {
-    for (further, want) in LEFT.iter().enumerate() {
+    for (further, left) in LEFT.iter().enumerate() {
         for is_torn in [false, true] {
             let run = Run {
                 puts: CREATED + further as u64,
-                saving: Saving::Settled,
+                is_settled: true,
                 is_torn,
+                left,
             };
-            assert_left(&rt, run, want)?;
+            assert_left(&rt, run)?;
         }
     }
     Ok(())
@@ -178,14 +161,15 @@ fn crash_leaves_old_or_new(rt: HostRuntime) -> Result<(), Fail> {
 /// If a save does not settle, a crash may lose it after it has succeeded, or leave half of its index.
 #[test]
 fn crash_after_an_unsettled_save(rt: HostRuntime) -> Result<(), Fail> {
-    let wants = ["held 2 v1", "73 BadIndex 10 NotJson"];
-    for (want, is_torn) in wants.iter().zip([false, true]) {
+    let lefts = ["held 2 v1", "73 BadIndex 10 NotJson"];
+    for (left, is_torn) in lefts.iter().zip([false, true]) {
         let run = Run {
             puts: 8,
-            saving: Saving::Unsettled,
+            is_settled: false,
             is_torn,
+            left,
         };
-        assert_left(&rt, run, want)?;
+        assert_left(&rt, run)?;
     }
     Ok(())
 }

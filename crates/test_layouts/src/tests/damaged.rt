@@ -2,11 +2,12 @@
 
 use crate::tests::files::FileStep::{Blobs, Put, Text};
 use crate::tests::layouts::LayoutStep::{
-    Ask, Bring, Check, ForgetNames, Held, IsClosed, Lists, Push, Resolve, Save,
+    Ask, Bring, Check, ForgetNames, Held, Links, Push, Resolve, Save,
 };
 use crate::tests::layouts::Question::{Absent, Damaged, DamagedManifests};
-use crate::tests::steps::Step::{In, Open, OpenAsIs, With};
-use crate::tests::steps::{Ground, Row, assert_run};
+use crate::tests::steps::Step::{Enter, In, With};
+use crate::tests::steps::Way::{Open, OpenAsIs};
+use crate::tests::steps::{Ground, Row, Run, assert_runs};
 use std::test::Fail;
 use test_support::Sample::{Bar, Empty, Foo, Image0, Image2, Index1};
 use test_support::{EMPTY, IMAGE, LAYER};
@@ -50,8 +51,8 @@ const OPENED: &[Row] = &[
     IN_AN_ENTRY,
     BELOW_AN_INDEX,
     INDEX,
-    Row(Open, "75 Corrupt <key Image0>"),
-    Row(OpenAsIs, "held 4 all"),
+    Row(Enter(Open), "75 Corrupt <key Image0>"),
+    Row(Enter(OpenAsIs), "held 4 all"),
     Row(With(Ask(Damaged)), ALL_DAMAGED),
     Row(With(Ask(DamagedManifests)), ALL_DAMAGED),
     Row(
@@ -59,7 +60,7 @@ const OPENED: &[Row] = &[
         "<key Image0>;<digest Empty> 2 application/vnd.oci.image.manifest.v1+json;",
     ),
     Row(With(Resolve("bad")), "36 UnknownReference"),
-    Row(With(Lists(Image0)), "not held"),
+    Row(With(Links(Image0)), "not held/"),
     Row(With(Check(Image0, IMAGE)), "75 Corrupt <key Image0>"),
     Row(
         With(Check(Empty, IMAGE)),
@@ -69,49 +70,35 @@ const OPENED: &[Row] = &[
     Row(With(Check(Empty, EMPTY)), "good"),
 ];
 
-/// A layout with damaged manifests is refused by `open`. If it is opened as it is, they are not
-/// held, and each is damaged. Those with entries are absent too.
-#[test]
-fn damaged_manifests(rt: HostRuntime) -> Result<(), Fail> {
-    assert_run(&rt, Ground::Memory, OPENED)
-}
-
 const SAVED: &[Row] = &[
     LAYOUT_FILE,
     BLOBS,
     IN_AN_ENTRY,
     BELOW_AN_INDEX,
     INDEX,
-    Row(OpenAsIs, "held 4 all"),
+    Row(Enter(OpenAsIs), "held 4 all"),
     Row(With(Save), "saved"),
     Row(
         In("index.json", Text),
         "{\"manifests\":[{\"annotations\":{\"org.opencontainers.image.ref.name\":\"bad\"},<saved Image0>,\"urls\":[]},{\"digest\":\"<digest Empty>\",\"mediaType\":\"application/vnd.oci.image.manifest.v1+json\",\"size\":2},{\"annotations\":{\"org.opencontainers.image.ref.name\":\"all\"},<saved Index1>},{<saved Image2>}],\"mediaType\":\"application/vnd.oci.image.index.v1+json\",\"schemaVersion\":2}",
     ),
-    Row(OpenAsIs, "held 4 all"),
+    Row(Enter(OpenAsIs), "held 4 all"),
     Row(With(Ask(Damaged)), ALL_DAMAGED),
     Row(With(Push(Image0)), "place 4"),
     Row(With(Ask(Damaged)), ALL_DAMAGED),
     Row(With(Held), "held 5 all"),
     Row(With(Check(Image0, IMAGE)), "good"),
     Row(With(Save), "saved"),
-    Row(OpenAsIs, "held 5 all bad"),
+    Row(Enter(OpenAsIs), "held 5 all bad"),
     Row(
         With(Ask(Damaged)),
         "<digest Empty> 2 application/vnd.oci.image.manifest.v1+json;<key Image3>;",
     ),
     Row(
-        Open,
+        Enter(Open),
         "77 BadManifest <digest Empty> 2 application/vnd.oci.image.manifest.v1+json 12 NoConfig",
     ),
 ];
-
-/// A save keeps the entries of damaged manifests, which are still damaged then. One that is pushed
-/// again has its tag at the next opening.
-#[test]
-fn saved_beside_damaged_manifests(rt: HostRuntime) -> Result<(), Fail> {
-    assert_run(&rt, Ground::Memory, SAVED)
-}
 
 const REPLACED: &[Row] = &[
     LAYOUT_FILE,
@@ -119,7 +106,7 @@ const REPLACED: &[Row] = &[
     IN_AN_ENTRY,
     BELOW_AN_INDEX,
     INDEX,
-    Row(OpenAsIs, "held 4 all"),
+    Row(Enter(OpenAsIs), "held 4 all"),
     Row(
         With(Bring(
             "{\"manifests\":[{\"annotations\":{\"org.opencontainers.image.ref.name\":\"bad\"},<saved Image2>}]}",
@@ -134,20 +121,13 @@ const REPLACED: &[Row] = &[
         With(Ask(Absent)),
         "<digest Empty> 2 application/vnd.oci.image.manifest.v1+json;",
     ),
-    Row(OpenAsIs, "held 4 all"),
+    Row(Enter(OpenAsIs), "held 4 all"),
     Row(With(ForgetNames), "forgotten"),
     Row(
         With(Ask(Damaged)),
         "<digest Empty> 2 application/vnd.oci.image.manifest.v1+json;<key Image3>;",
     ),
 ];
-
-/// A key is no longer damaged if its entries are replaced or forgotten. One without an entry stays
-/// damaged.
-#[test]
-fn entries_of_damaged_manifests(rt: HostRuntime) -> Result<(), Fail> {
-    assert_run(&rt, Ground::Memory, REPLACED)
-}
 
 /// An image and its layer have entries. In the place of the layer are first too few bytes, then
 /// too many, and then as many others.
@@ -164,26 +144,32 @@ const CUT: &[Row] = &[
         "put",
     ),
     Row(In("<blob Foo>", Put("fo")), "put"),
-    Row(Open, "held 3 v2"),
-    Row(OpenAsIs, "held 2 v2"),
+    Row(Enter(Open), "held 3 v2"),
+    Row(Enter(OpenAsIs), "held 2 v2"),
     Row(With(Ask(Damaged)), "<key Foo>;"),
     Row(With(Ask(DamagedManifests)), ""),
     Row(With(Ask(Absent)), "<key Foo>;"),
-    Row(With(IsClosed), "false"),
     Row(With(Check(Foo, LAYER)), "75 Corrupt <key Foo>"),
     Row(With(Push(Foo)), "place 2"),
     Row(With(Check(Foo, LAYER)), "good"),
     Row(In("<blob Foo>", Put("food")), "put"),
-    Row(OpenAsIs, "held 2 v2"),
+    Row(Enter(OpenAsIs), "held 2 v2"),
     Row(In("<blob Foo>", Put("bar")), "put"),
-    Row(OpenAsIs, "held 3 v2"),
+    Row(Enter(OpenAsIs), "held 3 v2"),
     Row(With(Ask(Damaged)), ""),
     Row(With(Check(Foo, LAYER)), "good"),
 ];
 
-/// A layer whose file has another size is passed over, if the layout is opened as it is. Its bytes
-/// are not read.
+static RUNS: [Run<'static>; 4] = [
+    Run("opened", Ground::Memory, OPENED),
+    Run("saved", Ground::Memory, SAVED),
+    Run("replaced", Ground::Memory, REPLACED),
+    Run("cut layers", Ground::Memory, CUT),
+];
+
+/// A layout with damaged manifests is refused by `open`. If it is opened as it is, they are not
+/// held, and each is damaged; those with entries are absent too. A save keeps their entries.
 #[test]
-fn layers_of_another_size(rt: HostRuntime) -> Result<(), Fail> {
-    assert_run(&rt, Ground::Memory, CUT)
+fn damaged_manifests(rt: HostRuntime) -> Result<(), Fail> {
+    assert_runs(&rt, &RUNS)
 }

@@ -7,10 +7,9 @@ use oci_manifest::Key;
 use oci_store::{Dest, GraphSource, Source, Tagger};
 use std::alloc::Global;
 use std::test::Fail;
-use test_support::{Sample, is_closed};
+use test_support::Sample;
 
 /// A question about the index of a layout and its entries.
-#[derive(Clone, Copy, Debug)]
 pub(crate) enum Question {
     /// Result: the absent keys, each followed by `;`.
     Absent,
@@ -30,30 +29,24 @@ pub(crate) enum Question {
 }
 
 /// A step with a layout.
-#[derive(Clone, Copy, Debug)]
 pub(crate) enum LayoutStep<'a> {
     /// Result: the contents of the layout.
     Held,
-    /// Result: whether each successor of a held key is held, `true` or `false`.
-    IsClosed,
     /// Saves it. Result: `saved`, or the fault.
     Save,
     /// Pushes a sample. Result: its place, or the fault.
     Push(Sample),
     /// Pushes a sample's bytes under another media type.
     PushAs(Sample, &'a str),
-    /// Pushes a sample's bytes under another sample's key.
-    PushUnder(Sample, Sample),
     /// Names a sample's key. Result: `tagged`.
     Tag(Sample, &'a str),
     /// Fetches a sample's key. Result: the bytes, which are text, or the fault.
     Fetch(Sample),
     /// Resolves a reference, which may have marks. Result: the key, or the fault.
     Resolve(&'a str),
-    /// Result: the keys that list a sample's key, each followed by `;`.
-    Holders(Sample),
-    /// Result: the keys that a sample's key lists, each followed by `;`, or `not held`.
-    Lists(Sample),
+    /// Result: the keys that a sample's key lists, each followed by `;`, or `not held`, and after a
+    /// `/` the keys that list it.
+    Links(Sample),
     /// Asks about the index and its entries. Result: the answer.
     Ask(Question),
     /// Checks the file of a sample's bytes under a media type. Result: `good`, or the fault.
@@ -72,7 +65,11 @@ pub(crate) enum LayoutStep<'a> {
 }
 
 /// Answers a question about a layout.
-fn answered<D: Dir>(alloc: Global, layout: &Layout<D>, question: Question) -> Result<String, Fail> {
+fn answered<D: Dir>(
+    alloc: Global,
+    layout: &Layout<D>,
+    question: &Question,
+) -> Result<String, Fail> {
     match question {
         Question::Absent => listed(alloc, layout.absent()),
         Question::Damaged => listed(alloc, layout.damaged()),
@@ -100,23 +97,20 @@ fn subjects<D: Dir>(alloc: Global, layout: &Layout<D>) -> Result<String, Fail> {
 pub(crate) fn with_layout<D: Dir>(
     alloc: Global,
     layout: &mut Layout<D>,
-    step: LayoutStep<'_>,
+    step: &LayoutStep<'_>,
 ) -> Result<String, Fail> {
     match step {
         LayoutStep::Held => summary(alloc, layout),
-        LayoutStep::IsClosed => closedness(alloc, layout),
         LayoutStep::Save => done_or_fault(alloc, layout.save(), "saved"),
-        LayoutStep::Push(sample) => push_sample(alloc, layout, sample),
-        LayoutStep::PushAs(sample, media_type) => push_as(alloc, layout, sample, media_type),
-        LayoutStep::PushUnder(sample, other) => push_under(alloc, layout, sample, other),
-        LayoutStep::Tag(sample, name) => tag(alloc, layout, sample, name),
-        LayoutStep::Fetch(sample) => fetch(alloc, layout, sample),
+        LayoutStep::Push(sample) => push_sample(alloc, layout, *sample),
+        LayoutStep::PushAs(sample, media_type) => push_as(alloc, layout, *sample, media_type),
+        LayoutStep::Tag(sample, name) => tag(alloc, layout, *sample, name),
+        LayoutStep::Fetch(sample) => fetch(alloc, layout, *sample),
         LayoutStep::Resolve(reference) => resolve(alloc, layout, reference),
-        LayoutStep::Holders(sample) => holders(alloc, layout, sample),
-        LayoutStep::Lists(sample) => lists(alloc, layout, sample),
+        LayoutStep::Links(sample) => links(alloc, layout, &sample.key(alloc)?),
         LayoutStep::Ask(question) => answered(alloc, layout, question),
-        LayoutStep::Check(sample, media_type) => check(alloc, layout, sample, media_type),
-        LayoutStep::Renamed(place, name) => renamed(alloc, layout, place, name),
+        LayoutStep::Check(sample, media_type) => check(alloc, layout, *sample, media_type),
+        LayoutStep::Renamed(place, name) => renamed(alloc, layout, *place, *name),
         LayoutStep::Bring(index) => bring(alloc, layout, index),
         LayoutStep::Forget(index) => forget(alloc, layout, index),
         LayoutStep::ForgetNames => forget_names(alloc, layout),
@@ -194,11 +188,6 @@ pub(crate) fn summary<D: Dir>(alloc: Global, layout: &Layout<D>) -> Result<Strin
     Ok(told)
 }
 
-fn closedness<D: Dest>(alloc: Global, layout: &D) -> Result<String, Fail> {
-    let is_closed = is_closed(layout)?;
-    Ok(format!(in alloc; "{is_closed}")?)
-}
-
 /// Returns the word for a success, or the fault.
 pub(crate) fn done_or_fault(
     alloc: Global,
@@ -226,15 +215,6 @@ pub(crate) fn push<D: Dest>(
 
 fn push_sample<D: Dest>(alloc: Global, layout: &mut D, sample: Sample) -> Result<String, Fail> {
     push(alloc, layout, &sample.key(alloc)?, sample.bytes(alloc)?)
-}
-
-fn push_under<D: Dest>(
-    alloc: Global,
-    layout: &mut D,
-    sample: Sample,
-    other: Sample,
-) -> Result<String, Fail> {
-    push(alloc, layout, &other.key(alloc)?, sample.bytes(alloc)?)
 }
 
 fn push_as<D: Dest>(
@@ -280,16 +260,16 @@ pub(crate) fn listed(alloc: Global, keys: &[Key]) -> Result<String, Fail> {
     Ok(told)
 }
 
-fn holders<A: GraphSource>(alloc: Global, layout: &A, sample: Sample) -> Result<String, Fail> {
-    let keys = layout.predecessors(&sample.key(alloc)?)?;
-    listed(alloc, &keys)
+fn links<A: GraphSource>(alloc: Global, layout: &A, key: &Key) -> Result<String, Fail> {
+    let above = listed(alloc, &layout.predecessors(key)?)?;
+    match layout.successors(key)? {
+        Some(keys) => joined(alloc, &listed(alloc, &keys)?, &above),
+        None => joined(alloc, "not held", &above),
+    }
 }
 
-fn lists<A: GraphSource>(alloc: Global, layout: &A, sample: Sample) -> Result<String, Fail> {
-    match layout.successors(&sample.key(alloc)?)? {
-        Some(keys) => listed(alloc, &keys),
-        None => Ok(String::from_str(alloc, "not held")?),
-    }
+fn joined(alloc: Global, first: &str, second: &str) -> Result<String, Fail> {
+    Ok(format!(in alloc; "{first}/{second}")?)
 }
 
 fn check<D: Dir>(

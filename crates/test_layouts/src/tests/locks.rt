@@ -1,154 +1,122 @@
 //! The lock of a folder.
 
-use crate::tests::files::files_in;
 use crate::tests::host::Host;
+use crate::tests::locks::Call::{Lock, MakeAndLock, MakeAndTryLock, TryLock};
 use oci_layout::FolderLock;
 use std::io::ErrorKind;
 use std::process::Abort;
 use std::test::Fail;
 use std::{env, fs, io, rt};
 
-/// Returns whether a try takes the lock of a folder.
-fn is_free<R: Host>(rt: &R, folder: &str) -> Result<bool, Fail> {
-    Ok(FolderLock::try_lock(rt, folder)?.is_some())
+/// A call that locks a folder.
+#[derive(Clone, Copy)]
+enum Call {
+    Lock,
+    TryLock,
+    MakeAndLock,
+    MakeAndTryLock,
 }
 
-/// Returns whether a try that creates a missing folder takes its lock.
-fn is_free_or_made<R: Host>(rt: &R, folder: &str) -> Result<bool, Fail> {
-    Ok(FolderLock::make_and_try_lock(rt, folder)?.is_some())
-}
-
-fn assert_free<R: Host + Abort>(rt: &R, folder: &str) -> Result<(), Fail> {
-    assert!(rt; is_free(rt, folder)?, "{folder}");
-    Ok(())
-}
-
-fn assert_taken_at<R: Host + Abort>(rt: &R, folder: &str) -> Result<(), Fail> {
-    assert!(rt; !is_free(rt, folder)?, "{folder}");
-    assert!(rt; !is_free_or_made(rt, folder)?, "{folder}");
-    Ok(())
-}
-
-/// Asserts that the folder at each of these paths is locked: no try takes its lock.
-fn assert_taken<R: Host + Abort>(rt: &R, folders: &[&str]) -> Result<(), Fail> {
-    for folder in folders {
-        assert_taken_at(rt, folder)?;
-    }
-    Ok(())
-}
-
-fn assert_empty<R: Host + Abort>(rt: &R, folder: &str) -> Result<(), Fail> {
-    assert_eq!(rt; files_in(rt, folder)?, 0, "{folder}");
-    Ok(())
-}
-
-/// Takes the lock of a folder, which must be free.
-fn made_and_tried<R: Host>(rt: &R, folder: &str) -> Result<FolderLock<R>, Fail> {
-    match FolderLock::make_and_try_lock(rt, folder)? {
-        Some(lock) => Ok(lock),
-        None => Err(Fail::from("the folder is locked already")),
+/// Locks a folder with this call.
+fn locked<R: Host>(rt: &R, call: Call, folder: &str) -> io::Result<Option<FolderLock<R>>> {
+    match call {
+        Lock => Ok(Some(FolderLock::lock(rt, folder)?)),
+        TryLock => FolderLock::try_lock(rt, folder),
+        MakeAndLock => Ok(Some(FolderLock::make_and_lock(rt, folder)?)),
+        MakeAndTryLock => FolderLock::make_and_try_lock(rt, folder),
     }
 }
 
-/// While `locked/folder` is locked, no second lock of it can be taken by any path, and the folder
-/// above it is free.
-fn assert_one<R: Host + Abort>(rt: &R) -> Result<(), Fail> {
-    rt::Files::symlink(rt, "folder", "locked/link")?;
-    assert_taken(
-        rt,
-        &["locked/folder", "locked/../locked/folder/", "locked/link"],
-    )?;
-    assert_free(rt, "locked")
+/// Returns what becomes of a call. A lock that it returns is dropped.
+fn told_of<R: Host>(rt: &R, call: Call, folder: &str) -> &'static str {
+    match locked(rt, call, folder) {
+        Ok(Some(_)) => "free",
+        Ok(None) => "taken",
+        Err(error) => match error.kind() {
+            ErrorKind::NotFound => "not found",
+            ErrorKind::NotADirectory => "no folder",
+            ErrorKind::AlreadyExists => "exists",
+            _ => "failed",
+        },
+    }
 }
 
-fn assert_one_of_a_new_folder<R: Host + Abort>(rt: &R) -> Result<(), Fail> {
-    let lock = FolderLock::make_and_lock(rt, "locked/folder")?;
-    let found = assert_one(rt);
+/// A call that is made with each of these folders, and what becomes of it each time.
+struct Row<'a>(Call, &'a [&'a str], &'a str);
+
+fn assert_rows<R: Host + Abort>(rt: &R, rows: &[Row<'_>]) {
+    for Row(call, folders, want) in rows {
+        for folder in *folders {
+            assert_eq!(rt; told_of(rt, *call, folder), *want, "{folder}");
+        }
+    }
+}
+
+/// Locks a folder with this call, and compares the rows while the lock is held.
+fn assert_held<R: Host + Abort>(
+    rt: &R,
+    call: Call,
+    folder: &str,
+    rows: &[Row<'_>],
+) -> Result<(), Fail> {
+    let Some(lock) = locked(rt, call, folder)? else {
+        return Err(Fail::from("the folder is locked already"));
+    };
+    assert_rows(rt, rows);
+    lock.remove_leftovers(rt)?;
     drop(lock);
-    found
+    Ok(())
 }
 
-fn assert_one_by_a_link<R: Host + Abort>(rt: &R) -> Result<(), Fail> {
-    let lock = FolderLock::lock(rt, "locked/link")?;
-    let found = assert_taken(rt, &["locked/folder"]);
-    drop(lock);
-    found
+/// The paths of one folder.
+const PATHS: &[&str] = &["locks/folder", "locks/../locks/folder/", "locks/link"];
+
+/// The folder is locked, and the one above it is free.
+const TAKEN: &[Row] = &[
+    Row(TryLock, PATHS, "taken"),
+    Row(MakeAndTryLock, PATHS, "taken"),
+    Row(TryLock, &["locks"], "free"),
+];
+
+/// No folder is locked. A missing one is created only by the calls that say so, and a file cannot be
+/// locked.
+const FREE: &[Row] = &[
+    Row(Lock, PATHS, "free"),
+    Row(TryLock, PATHS, "free"),
+    Row(Lock, &["locks/missing"], "not found"),
+    Row(TryLock, &["locks/missing"], "not found"),
+    Row(Lock, &["locks/file"], "no folder"),
+    Row(TryLock, &["locks/file"], "no folder"),
+    Row(MakeAndTryLock, &["locks/file"], "exists"),
+    Row(MakeAndLock, &["locks/file/below"], "no folder"),
+    Row(TryLock, &["locks/missing"], "not found"),
+    Row(MakeAndTryLock, &["locks/new"], "free"),
+    Row(TryLock, &["locks/new"], "free"),
+];
+
+fn assert_locks<R: Host + Abort>(rt: &R) -> Result<(), Fail> {
+    fs::create_dir(rt, "locks")?;
+    fs::write(rt, "locks/file", b"foo")?;
+    rt::Files::symlink(rt, "folder", "locks/link")?;
+    assert_held(rt, MakeAndLock, "locks/folder", TAKEN)?;
+    assert_rows(rt, FREE);
+    assert_held(rt, Lock, "locks/link", TAKEN)?;
+    assert_held(rt, TryLock, "locks/folder", TAKEN)?;
+    assert_held(rt, MakeAndTryLock, "locks/folder", TAKEN)
 }
 
-fn assert_taken_and_empty<R: Host + Abort>(rt: &R, folder: &str) -> Result<(), Fail> {
-    assert_taken(rt, &[folder])?;
-    assert_empty(rt, folder)
-}
-
-fn assert_one_by_a_try<R: Host + Abort>(rt: &R) -> Result<(), Fail> {
-    let lock = made_and_tried(rt, "locked/folder")?;
-    let found = assert_taken_and_empty(rt, "locked/folder");
-    drop(lock);
-    found
-}
-
-/// A folder has one lock at a time, by any path, until the lock is dropped. A lock changes no file.
+/// A folder has one lock at a time, by any path, until the lock is dropped.
 #[test]
 fn one_lock_at_a_time(rt: HostRuntime) -> Result<(), Fail> {
-    let _ = fs::remove_dir_all(&rt, "locked");
-    assert_one_of_a_new_folder(&rt)?;
-    assert_free(&rt, "locked/folder")?;
-    assert_one_by_a_link(&rt)?;
-    assert_one_by_a_try(&rt)?;
-    Ok(fs::remove_dir_all(&rt, "locked")?)
+    let _ = fs::remove_dir_all(&rt, "locks");
+    assert_locks(&rt)?;
+    Ok(fs::remove_dir_all(&rt, "locks")?)
 }
 
-/// Returns whether a lock was refused with an error of this kind.
-fn is_refused<T: Drop>(answer: io::Result<T>, kind: ErrorKind) -> bool {
-    match answer {
-        Err(error) => error.kind() == kind,
-        Ok(_) => false,
-    }
-}
-
-/// Asserts that the path cannot be locked, with or without waiting.
-fn assert_refused<R: Host + Abort>(rt: &R, folder: &str, kind: ErrorKind) {
-    assert!(rt;
-        is_refused(FolderLock::try_lock(rt, folder), kind),
-        "{folder}"
-    );
-    assert!(rt; is_refused(FolderLock::lock(rt, folder), kind), "{folder}");
-}
-
-/// Asserts that a missing folder is not created.
-fn assert_missing_refused<R: Host + Abort>(rt: &R) -> Result<(), Fail> {
-    fs::create_dir(rt, "unlocked")?;
-    assert_refused(rt, "unlocked/missing", ErrorKind::NotFound);
-    assert_empty(rt, "unlocked")
-}
-
-fn assert_file_refused<R: Host + Abort>(rt: &R) -> Result<(), Fail> {
-    fs::write(rt, "unlocked/file", b"foo")?;
-    assert_refused(rt, "unlocked/file", ErrorKind::NotADirectory);
-    let made = FolderLock::make_and_try_lock(rt, "unlocked/file");
-    assert!(rt; is_refused(made, ErrorKind::AlreadyExists));
-    let below = FolderLock::make_and_lock(rt, "unlocked/file/below");
-    assert!(rt; is_refused(below, ErrorKind::NotADirectory));
-    Ok(())
-}
-
-/// A lock creates a folder only in the calls that say so, and a file cannot be locked.
-#[test]
-fn locks_that_are_refused(rt: HostRuntime) -> Result<(), Fail> {
-    let _ = fs::remove_dir_all(&rt, "unlocked");
-    assert_missing_refused(&rt)?;
-    assert_file_refused(&rt)?;
-    Ok(fs::remove_dir_all(&rt, "unlocked")?)
-}
-
-/// While the current folder is locked by the empty path, no second lock of it can be taken by any
-/// path.
-fn assert_current<R: Host + Abort>(rt: &R) -> Result<(), Fail> {
-    let lock = made_and_tried(rt, "")?;
-    let found = assert_taken(rt, &["", ".", "../current"]);
-    drop(lock);
-    found
-}
+const CURRENT: &[Row] = &[
+    Row(TryLock, &["", ".", "../current"], "taken"),
+    Row(MakeAndTryLock, &["", ".", "../current"], "taken"),
+];
 
 /// The empty path is the current folder. The test changes into a folder of its own first.
 #[test]
@@ -156,7 +124,7 @@ fn lock_of_the_current_folder(rt: HostRuntime) -> Result<(), Fail> {
     let _ = fs::remove_dir_all(&rt, "current");
     fs::create_dir(&rt, "current")?;
     env::set_current_dir(&rt, "current")?;
-    let found = assert_current(&rt);
+    let found = assert_held(&rt, MakeAndTryLock, "", CURRENT);
     let is_back = env::set_current_dir(&rt, "..").is_ok();
     found?;
     assert!(rt; is_back);

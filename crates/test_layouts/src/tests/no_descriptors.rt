@@ -2,11 +2,12 @@
 
 use crate::tests::files::FileStep::{Blobs, Put, Text};
 use crate::tests::layouts::LayoutStep::{
-    Ask, Bring, Fetch, Forget, ForgetNames, IsClosed, Lists, Renamed, Resolve, Save, Tag,
+    Ask, Bring, Fetch, Forget, ForgetNames, Links, Renamed, Resolve, Save, Tag,
 };
 use crate::tests::layouts::Question::{Absent, CheckEntries, Damaged, Shadowed, Unreadable};
-use crate::tests::steps::Step::{Create, In, Open, OpenAsIs, With};
-use crate::tests::steps::{Ground, Row, assert_run};
+use crate::tests::steps::Step::{Enter, In, With};
+use crate::tests::steps::Way::{Create, Open, OpenAsIs};
+use crate::tests::steps::{Ground, Row, Run, assert_runs};
 use std::test::Fail;
 use test_support::Sample::{Empty, Image0};
 
@@ -35,8 +36,8 @@ const OPENED: &[Row] = &[
     LAYOUT_FILE,
     BLOBS,
     INDEX,
-    Row(Open, "73 BadIndex 14 BadDescriptor manifests 1"),
-    Row(OpenAsIs, "held 2 v1"),
+    Row(Enter(Open), "73 BadIndex 14 BadDescriptor manifests 1"),
+    Row(Enter(OpenAsIs), "held 2 v1"),
     Row(With(Ask(Unreadable)), "1;3;4;"),
     Row(
         With(Ask(CheckEntries)),
@@ -47,20 +48,12 @@ const OPENED: &[Row] = &[
     Row(With(Resolve("v1")), "<key Image0>"),
     Row(With(Resolve("cut")), "36 UnknownReference"),
     Row(With(Fetch(Empty)), "{}"),
-    Row(With(Lists(Image0)), "<key Empty>;"),
-    Row(With(IsClosed), "true"),
+    Row(With(Links(Image0)), "<key Empty>;/"),
     Row(
         With(Renamed(4, Some("w"))),
         "{\"annotations\":{\"org.opencontainers.image.ref.name\":\"w\"},\"digest\":\"<digest Image0>\",\"mediaType\":\"application/vnd.oci.image.manifest.v1+json\"}",
     ),
 ];
-
-/// An index with such entries is refused by `open`. If it is opened as it is, the layout has the
-/// rest, and the places of these entries.
-#[test]
-fn entries_that_are_no_descriptors(rt: HostRuntime) -> Result<(), Fail> {
-    assert_run(&rt, Ground::Memory, OPENED)
-}
 
 /// The entries that are no descriptors come first, and the members of each are in the order of
 /// their names.
@@ -71,21 +64,15 @@ const SAVED: &[Row] = &[
     LAYOUT_FILE,
     BLOBS,
     INDEX,
-    Row(OpenAsIs, "held 2 v1"),
+    Row(Enter(OpenAsIs), "held 2 v1"),
     Row(With(Save), "saved"),
     Row(In("index.json", Text), WRITTEN),
-    Row(Open, "73 BadIndex 14 BadDescriptor manifests 0"),
-    Row(OpenAsIs, "held 2 v1"),
+    Row(Enter(Open), "73 BadIndex 14 BadDescriptor manifests 0"),
+    Row(Enter(OpenAsIs), "held 2 v1"),
     Row(With(Ask(Unreadable)), "0;1;2;"),
     Row(With(Save), "saved"),
     Row(In("index.json", Text), WRITTEN),
 ];
-
-/// A save keeps these entries, and a second one changes nothing.
-#[test]
-fn saved_beside_no_descriptors(rt: HostRuntime) -> Result<(), Fail> {
-    assert_run(&rt, Ground::Memory, SAVED)
-}
 
 /// Values that are no objects, and objects of which a member is absent or of another type.
 const FORMS: &[Row] = &[
@@ -100,8 +87,8 @@ const FORMS: &[Row] = &[
         ),
         "put",
     ),
-    Row(Open, "73 BadIndex 14 BadDescriptor manifests 0"),
-    Row(OpenAsIs, "held 0"),
+    Row(Enter(Open), "73 BadIndex 14 BadDescriptor manifests 0"),
+    Row(Enter(OpenAsIs), "held 0"),
     Row(With(Ask(Unreadable)), "0;1;2;3;4;5;6;7;8;"),
     Row(With(Save), "saved"),
     Row(
@@ -110,31 +97,21 @@ const FORMS: &[Row] = &[
     ),
 ];
 
-#[test]
-fn forms_of_no_descriptors(rt: HostRuntime) -> Result<(), Fail> {
-    assert_run(&rt, Ground::Memory, FORMS)
-}
-
 /// An index that is no object with a list is refused, also as it is.
 const NO_LISTS: &[Row] = &[
-    Row(Create, "made"),
+    Row(Enter(Create), "held 0"),
     Row(With(Ask(Unreadable)), ""),
     Row(With(Ask(CheckEntries)), "good"),
     Row(In("index.json", Put("{")), "put"),
-    Row(OpenAsIs, "73 BadIndex 10 NotJson"),
+    Row(Enter(OpenAsIs), "73 BadIndex 10 NotJson"),
     Row(In("index.json", Put("[7]")), "put"),
-    Row(OpenAsIs, "73 BadIndex 11 NotObject"),
+    Row(Enter(OpenAsIs), "73 BadIndex 11 NotObject"),
     Row(In("index.json", Put("{\"manifests\":7}")), "put"),
-    Row(OpenAsIs, "73 BadIndex 13 BadList manifests"),
+    Row(Enter(OpenAsIs), "73 BadIndex 13 BadList manifests"),
     Row(In("index.json", Put("{\"manifests\":null}")), "put"),
-    Row(OpenAsIs, "held 0"),
+    Row(Enter(OpenAsIs), "held 0"),
     Row(With(Ask(CheckEntries)), "good"),
 ];
-
-#[test]
-fn indexes_without_a_list(rt: HostRuntime) -> Result<(), Fail> {
-    assert_run(&rt, Ground::Memory, NO_LISTS)
-}
 
 /// The last entry of a name is no descriptor, so the name is no tag. Then it is set.
 const NAMED: &[Row] = &[
@@ -149,7 +126,7 @@ const NAMED: &[Row] = &[
         ),
         "put",
     ),
-    Row(OpenAsIs, "held 2"),
+    Row(Enter(OpenAsIs), "held 2"),
     Row(With(Resolve("v1")), "36 UnknownReference"),
     Row(With(Ask(Shadowed)), "<key Image0>;"),
     Row(With(Save), "saved"),
@@ -157,7 +134,7 @@ const NAMED: &[Row] = &[
         In("index.json", Text),
         "{\"manifests\":[{\"annotations\":{\"org.opencontainers.image.ref.name\":\"v1\"},<saved Image0>},{\"annotations\":{\"org.opencontainers.image.ref.name\":\"v1\"},\"digest\":\"<digest Image0>\"},{<saved Image0>}],\"mediaType\":\"application/vnd.oci.image.index.v1+json\",\"schemaVersion\":2}",
     ),
-    Row(OpenAsIs, "held 2"),
+    Row(Enter(OpenAsIs), "held 2"),
     Row(With(Tag(Image0, "v1")), "tagged"),
     Row(With(Ask(Shadowed)), ""),
     Row(With(Save), "saved"),
@@ -165,14 +142,8 @@ const NAMED: &[Row] = &[
         In("index.json", Text),
         "{\"manifests\":[{\"annotations\":{\"org.opencontainers.image.ref.name\":\"v1\"},<saved Image0>},{<saved Image0>}],\"mediaType\":\"application/vnd.oci.image.index.v1+json\",\"schemaVersion\":2}",
     ),
-    Row(Open, "held 2 v1"),
+    Row(Enter(Open), "held 2 v1"),
 ];
-
-/// A name belongs to its last entry, and a tag that is set takes the place of all its entries.
-#[test]
-fn name_of_no_descriptor(rt: HostRuntime) -> Result<(), Fail> {
-    assert_run(&rt, Ground::Memory, NAMED)
-}
 
 /// Entries are brought, of which one has a name and no digest, and one is a number. Then the entries
 /// of one name are forgotten, and then those of all names.
@@ -180,7 +151,7 @@ const REPLACED: &[Row] = &[
     LAYOUT_FILE,
     BLOBS,
     INDEX,
-    Row(OpenAsIs, "held 2 v1"),
+    Row(Enter(OpenAsIs), "held 2 v1"),
     Row(
         With(Bring(
             "{\"manifests\":[{\"annotations\":{\"org.opencontainers.image.ref.name\":\"v1\"}},8]}",
@@ -204,8 +175,18 @@ const REPLACED: &[Row] = &[
     ),
 ];
 
-/// Such an entry is brought only if it has a name, and goes with its name.
+static RUNS: [Run<'static>; 6] = [
+    Run("opened", Ground::Memory, OPENED),
+    Run("saved", Ground::Memory, SAVED),
+    Run("forms", Ground::Memory, FORMS),
+    Run("no lists", Ground::Memory, NO_LISTS),
+    Run("a name", Ground::Memory, NAMED),
+    Run("replaced", Ground::Memory, REPLACED),
+];
+
+/// An index with such entries is refused by `open`. If it is opened as it is, the layout has the
+/// rest, and the places of these entries. A save keeps them, and a second one changes nothing.
 #[test]
-fn names_of_no_descriptors_replaced(rt: HostRuntime) -> Result<(), Fail> {
-    assert_run(&rt, Ground::Memory, REPLACED)
+fn entries_that_are_no_descriptors(rt: HostRuntime) -> Result<(), Fail> {
+    assert_runs(&rt, &RUNS)
 }

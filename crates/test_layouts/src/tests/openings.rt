@@ -2,8 +2,9 @@
 
 use crate::tests::files::FileStep::{Blobs, Put, Text};
 use crate::tests::layouts::LayoutStep::{Resolve, Save};
-use crate::tests::steps::Step::{In, Open, OpenAsIs, OpenOrCreate, With};
-use crate::tests::steps::{Ground, Row, assert_run};
+use crate::tests::steps::Step::{Enter, In, With};
+use crate::tests::steps::Way::{Open, OpenAsIs, OpenOrCreate};
+use crate::tests::steps::{Ground, Row, Run, assert_runs};
 use std::test::Fail;
 use test_support::Sample::{Bar, Empty, Foo, Image0, Image2, Image3, Image4, Index1};
 
@@ -14,58 +15,42 @@ const LAYOUT_FILE: Row<'static> = Row(
 );
 
 const LAYOUT_FILES: &[Row] = &[
-    Row(Open, "70 NoLayoutFile"),
+    Row(Enter(Open), "70 NoLayoutFile"),
     Row(In("oci-layout", Put("{}")), "put"),
-    Row(Open, "71 BadLayoutFile"),
+    Row(Enter(Open), "71 BadLayoutFile"),
     Row(In("oci-layout", Put("[]")), "put"),
-    Row(Open, "71 BadLayoutFile"),
+    Row(Enter(Open), "71 BadLayoutFile"),
     Row(In("oci-layout", Put("{\"imageLayoutVersion\":1}")), "put"),
-    Row(Open, "71 BadLayoutFile"),
+    Row(Enter(Open), "71 BadLayoutFile"),
     Row(
         In("oci-layout", Put("{\"imageLayoutVersion\":\"1.0.1\"}")),
         "put",
     ),
-    Row(Open, "72 BadVersion"),
+    Row(Enter(Open), "72 BadVersion"),
     Row(
         In("oci-layout", Put("{ \"imageLayoutVersion\": \"1.0.0\" }")),
         "put",
     ),
-    Row(Open, "held 0"),
+    Row(Enter(Open), "held 0"),
 ];
-
-#[test]
-fn layout_files(rt: HostRuntime) -> Result<(), Fail> {
-    assert_run(&rt, Ground::Memory, LAYOUT_FILES)
-}
 
 const BOTH_FILES: &[Row] = &[
     Row(In("oci-layout", Put("{}")), "put"),
     Row(In("index.json", Put("[]")), "put"),
-    Row(Open, "71 BadLayoutFile"),
+    Row(Enter(Open), "71 BadLayoutFile"),
 ];
-
-/// The layout file is checked before the index.
-#[test]
-fn layout_file_first(rt: HostRuntime) -> Result<(), Fail> {
-    assert_run(&rt, Ground::Memory, BOTH_FILES)
-}
 
 const INDEX_FILES: &[Row] = &[
     LAYOUT_FILE,
     Row(In("index.json", Put("[]")), "put"),
-    Row(Open, "73 BadIndex 11 NotObject"),
+    Row(Enter(Open), "73 BadIndex 11 NotObject"),
     Row(In("index.json", Put("{\"manifests\":{}}")), "put"),
-    Row(Open, "73 BadIndex 13 BadList manifests"),
+    Row(Enter(Open), "73 BadIndex 13 BadList manifests"),
     Row(In("index.json", Put("{\"manifests\":[7]}")), "put"),
-    Row(Open, "73 BadIndex 14 BadDescriptor manifests 0"),
+    Row(Enter(Open), "73 BadIndex 14 BadDescriptor manifests 0"),
     Row(In("index.json", Put("{}")), "put"),
-    Row(Open, "held 0"),
+    Row(Enter(Open), "held 0"),
 ];
-
-#[test]
-fn index_files(rt: HostRuntime) -> Result<(), Fail> {
-    assert_run(&rt, Ground::Memory, INDEX_FILES)
-}
 
 /// The one entry is an image whose bytes are the empty JSON object, first with a wrong size and
 /// then with the right one.
@@ -82,7 +67,7 @@ const AT_FAULT: &[Row] = &[
         "put",
     ),
     Row(
-        Open,
+        Enter(Open),
         "75 Corrupt <digest Empty> 9223372036854775807 application/vnd.oci.image.manifest.v1+json",
     ),
     Row(
@@ -95,15 +80,10 @@ const AT_FAULT: &[Row] = &[
         "put",
     ),
     Row(
-        Open,
+        Enter(Open),
         "77 BadManifest <digest Empty> 2 application/vnd.oci.image.manifest.v1+json 12 NoConfig",
     ),
 ];
-
-#[test]
-fn manifests_at_fault(rt: HostRuntime) -> Result<(), Fail> {
-    assert_run(&rt, Ground::Memory, AT_FAULT)
-}
 
 /// The index is indented, and has members of its own.
 const STANDARD: &[Row] = &[
@@ -124,18 +104,10 @@ const STANDARD: &[Row] = &[
         ),
         "put",
     ),
-    Row(Open, "held 7 stable-release v1.0"),
+    Row(Enter(Open), "held 7 stable-release v1.0"),
     Row(With(Resolve("v1.0")), "<key Image0>"),
     Row(With(Resolve("stable-release")), "<key Index1>"),
 ];
-
-/// The entries of the standard's example (image-layout.md, "Index Example"): an index, an image for
-/// a platform, and a leaf whose annotations have no name. Every content that is reached from them
-/// is there, and one that is not reached.
-#[test]
-fn index_of_the_standard(rt: HostRuntime) -> Result<(), Fail> {
-    assert_run(&rt, Ground::Memory, STANDARD)
-}
 
 /// An index with two entries of one name, so that the last counts, and two names of one key. Of the
 /// other names one is a number, one is empty, and one is for a key without a file. The entries have
@@ -152,7 +124,7 @@ const NAMES: &[Row] = &[
     LAYOUT_FILE,
     NAMED_BLOBS,
     NAMED_INDEX,
-    Row(Open, "held 4 b latest"),
+    Row(Enter(Open), "held 4 b latest"),
     Row(With(Resolve("latest")), "<key Image0>"),
 ];
 
@@ -161,7 +133,7 @@ const NAMES: &[Row] = &[
 /// is unchanged.
 const OPENED_OR_CREATED: &[Row] = &[
     Row(In("index.json", Put("[]")), "put"),
-    Row(OpenOrCreate, "70 NoLayoutFile"),
+    Row(Enter(OpenOrCreate), "70 NoLayoutFile"),
     Row(In("index.json", Text), "[]"),
     Row(
         In(
@@ -172,43 +144,27 @@ const OPENED_OR_CREATED: &[Row] = &[
         ),
         "put",
     ),
-    Row(OpenOrCreate, "held 0"),
-    Row(Open, "held 0"),
+    Row(Enter(OpenOrCreate), "held 0"),
+    Row(Enter(Open), "held 0"),
     NAMED_BLOBS,
     NAMED_INDEX,
-    Row(OpenOrCreate, "held 4 b latest"),
+    Row(Enter(OpenOrCreate), "held 4 b latest"),
     Row(In("oci-layout", Put("{}")), "put"),
-    Row(OpenOrCreate, "71 BadLayoutFile"),
+    Row(Enter(OpenOrCreate), "71 BadLayoutFile"),
     Row(In("oci-layout", Text), "{}"),
 ];
-
-#[test]
-fn opened_or_created(rt: HostRuntime) -> Result<(), Fail> {
-    assert_run(&rt, Ground::Memory, OPENED_OR_CREATED)
-}
-
-#[test]
-fn names_of_an_index(rt: HostRuntime) -> Result<(), Fail> {
-    assert_run(&rt, Ground::Memory, NAMES)
-}
 
 const SAVED_AGAIN: &[Row] = &[
     LAYOUT_FILE,
     NAMED_BLOBS,
     NAMED_INDEX,
-    Row(Open, "held 4 b latest"),
+    Row(Enter(Open), "held 4 b latest"),
     Row(With(Save), "saved"),
     Row(
         In("index.json", Text),
         "{\"manifests\":[{\"annotations\":{\"org.opencontainers.image.ref.name\":\"b\"},<saved Image0>},{\"annotations\":{\"org.opencontainers.image.ref.name\":\"latest\"},<saved Image0>},{<saved Image2>}],\"mediaType\":\"application/vnd.oci.image.index.v1+json\",\"schemaVersion\":2}",
     ),
 ];
-
-/// The saved index has an entry for each name, and one for each image without a name.
-#[test]
-fn saved_after_another_tool(rt: HostRuntime) -> Result<(), Fail> {
-    assert_run(&rt, Ground::Memory, SAVED_AGAIN)
-}
 
 /// The index after a save of the layout that was opened as it is. First come the earlier entry of
 /// `latest` and the entry without a file, then the tags, then the entries without a tag.
@@ -219,16 +175,29 @@ const SAVED_AS_WRITTEN: &[Row] = &[
     LAYOUT_FILE,
     NAMED_BLOBS,
     NAMED_INDEX,
-    Row(OpenAsIs, "held 4 b latest"),
+    Row(Enter(OpenAsIs), "held 4 b latest"),
     Row(With(Save), "saved"),
     Row(In("index.json", Text), AS_WRITTEN),
-    Row(OpenAsIs, "held 4 b latest"),
+    Row(Enter(OpenAsIs), "held 4 b latest"),
     Row(With(Save), "saved"),
     Row(In("index.json", Text), AS_WRITTEN),
 ];
 
-/// A save of a layout that was opened as it is keeps all members, and a second one changes nothing.
+static RUNS: [Run<'static>; 9] = [
+    Run("layout files", Ground::Memory, LAYOUT_FILES),
+    Run("both files", Ground::Memory, BOTH_FILES),
+    Run("index files", Ground::Memory, INDEX_FILES),
+    Run("manifests", Ground::Memory, AT_FAULT),
+    Run("the standard", Ground::Memory, STANDARD),
+    Run("opened or created", Ground::Memory, OPENED_OR_CREATED),
+    Run("names", Ground::Memory, NAMES),
+    Run("saved again", Ground::Memory, SAVED_AGAIN),
+    Run("saved as written", Ground::Memory, SAVED_AS_WRITTEN),
+];
+
+/// A layout is opened, or refused by the first file that is not as it should be. What another tool
+/// wrote into the index stays, if the layout was opened as it is and is saved.
 #[test]
-fn saved_as_written(rt: HostRuntime) -> Result<(), Fail> {
-    assert_run(&rt, Ground::Memory, SAVED_AS_WRITTEN)
+fn openings(rt: HostRuntime) -> Result<(), Fail> {
+    assert_runs(&rt, &RUNS)
 }

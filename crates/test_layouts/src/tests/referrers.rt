@@ -4,18 +4,16 @@ use crate::tests::copies::Copying::Extended;
 use crate::tests::files::FileStep::Text;
 use crate::tests::layouts::LayoutStep::{Ask, Push, Save, Tag};
 use crate::tests::layouts::Question::Subjects;
-use crate::tests::steps::Step::{Copy, Create, In, Open, OpenAsIs, With};
-use crate::tests::steps::{Ground, Row, assert_run};
+use crate::tests::steps::Step::{Copy, Enter, In, With};
+use crate::tests::steps::Way::{Create, Open, OpenAsIs};
+use crate::tests::steps::{Ground, Row, Run, assert_runs};
 use std::test::Fail;
-use test_support::Sample::{Empty, Foo, Image0, Image2, Index3, Index4, Referrer};
+use test_support::Sample::{Image0, Image2};
 
 /// The index of the image with its name, and of the index and the signature above it.
 const ROWS: &[Row] = &[
-    Row(Create, "made"),
-    Row(
-        Copy(Extended(&[Empty, Foo, Image2, Referrer, Index3, Index4], Image2)),
-        "planned 5 pushed 5 skipped 0",
-    ),
+    Row(Enter(Create), "held 0"),
+    Row(Copy(Extended), "planned 5 pushed 5 skipped 0"),
     Row(With(Tag(Image2, "t")), "tagged"),
     Row(With(Save), "saved"),
     Row(
@@ -24,37 +22,34 @@ const ROWS: &[Row] = &[
     ),
 ];
 
-/// The saved index also has the manifests without a name, in key order, after the names.
-#[test]
-fn referrers_in_an_index(rt: HostRuntime) -> Result<(), Fail> {
-    assert_run(&rt, Ground::Memory, ROWS)
-}
-
 /// The signature and its subject, the image. Python's hashlib computed the digests.
 const STATED: &str =
     "sha256:bab9e997a499d9a01debd4356f23454db050baa4f31321e5a33e2e3aebd4f8eb 402 application/vnd.oci.image.manifest.v1+json of sha256:7e1df211bc4556d2a9db939a81721c52e5e53c59e3dfb45a57205a794dd412b7 385 application/vnd.oci.image.manifest.v1+json;";
 
 /// The signature and its subject, after each opening.
 const SUBJECTS: &[Row] = &[
-    Row(Create, "made"),
+    Row(Enter(Create), "held 0"),
     Row(With(Ask(Subjects)), ""),
-    Row(
-        Copy(Extended(&[Empty, Foo, Image2, Referrer, Index3, Index4], Image2)),
-        "planned 5 pushed 5 skipped 0",
-    ),
+    Row(Copy(Extended), "planned 5 pushed 5 skipped 0"),
     Row(With(Ask(Subjects)), "not remembered"),
     Row(With(Tag(Image2, "t")), "tagged"),
     Row(With(Save), "saved"),
-    Row(Open, "held 5 t"),
+    Row(Enter(Open), "held 5 t"),
     Row(With(Ask(Subjects)), STATED),
-    Row(OpenAsIs, "held 5 t"),
+    Row(Enter(OpenAsIs), "held 5 t"),
     Row(With(Ask(Subjects)), STATED),
     Row(With(Push(Image0)), "place 5"),
     Row(With(Ask(Subjects)), "not remembered"),
 ];
 
-/// The subjects that were read are remembered until a blob comes.
+static RUNS: [Run<'static>; 2] = [
+    Run("the index", Ground::Memory, ROWS),
+    Run("the subjects", Ground::Memory, SUBJECTS),
+];
+
+/// The saved index also has the manifests without a name, in key order, after the names. The
+/// subjects that were read are remembered until a blob comes.
 #[test]
-fn remembered_subjects(rt: HostRuntime) -> Result<(), Fail> {
-    assert_run(&rt, Ground::Memory, SUBJECTS)
+fn referrers_in_an_index(rt: HostRuntime) -> Result<(), Fail> {
+    assert_runs(&rt, &RUNS)
 }

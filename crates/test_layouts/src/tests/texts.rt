@@ -28,7 +28,7 @@ enum Form {
 }
 
 /// The marks, and the texts that they are replaced by.
-static MARKS: [(&str, Form, Sample); 28] = [
+static MARKS: [(&str, Form, Sample); 29] = [
     ("<key Empty>", Form::Whole, Empty),
     ("<key Foo>", Form::Whole, Foo),
     ("<key FooBySha512>", Form::Whole, FooBySha512),
@@ -38,6 +38,7 @@ static MARKS: [(&str, Form, Sample); 28] = [
     ("<key Image3>", Form::Whole, Image3),
     ("<key Index1>", Form::Whole, Index1),
     ("<digest Empty>", Form::Digest, Empty),
+    ("<digest Foo>", Form::Digest, Foo),
     ("<digest Image0>", Form::Digest, Image0),
     ("<blob Empty>", Form::Blob, Empty),
     ("<blob Foo>", Form::Blob, Foo),
