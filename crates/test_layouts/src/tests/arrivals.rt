@@ -256,7 +256,7 @@ static REPAIRED: [(usize, &str); 3] = [
     (PART + 1, "1048576 1 repaired"),
 ];
 
-/// A repair tells its watcher of each part.
+/// A repair calls its watcher for each part.
 #[test]
 fn arrivals_of_a_repair(rt: HostRuntime) -> Result<(), Fail> {
     for (size, want) in &REPAIRED {

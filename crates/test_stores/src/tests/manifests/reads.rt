@@ -156,7 +156,7 @@ pub(crate) const FORMS: [Read; 8] = [
 ];
 
 /// Second descriptors with wrong sizes and digests; one that is right, whose other members are
-/// ignored; bytes after the end of an image; and nested brackets, of which 127 are read.
+/// ignored; bytes after the end of an image; and brackets nested 127 deep, which are read, or more.
 pub(crate) const HOSTILE: [Read; 12] = [
     (
         Kind::Artifact,
