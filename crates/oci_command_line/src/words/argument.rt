@@ -120,7 +120,7 @@ pub(crate) fn workers_that_read(most: u32) -> Argument {
     Argument::new(
         "workers",
         number,
-        "How many workers read at once, at most 64; 0 means 3. Without it there is one for each processor",
+        "How many workers run at once, at most 64; 0 means 3. Without it `mem` has 1, `verify` and `repair` one per processor",
     )
 }
 
@@ -128,7 +128,7 @@ pub(crate) fn workers_that_read(most: u32) -> Argument {
 pub(crate) fn no_wait() -> Argument {
     flag(
         "no-wait",
-        "If another process has the lock of the folder, ends with 99 and does not wait",
+        "Is refused at once (99) if another process has locked the folder",
     )
 }
 
@@ -136,7 +136,7 @@ pub(crate) fn no_wait() -> Argument {
 pub(crate) fn no_sync() -> Argument {
     flag(
         "no-sync",
-        "Does not wait until what is written is on the disk. A power cut may then leave a layout with torn files, also after status 0, so this is only for folders that can be made again",
+        "Does not wait for the disk. A power cut may then leave torn files, even after status 0",
     )
 }
 
@@ -144,7 +144,7 @@ pub(crate) fn no_sync() -> Argument {
 pub(crate) fn hint() -> Argument {
     flag(
         "hint",
-        "Explains an error in a second line on stderr, as on a terminal; not with --json",
+        "Explains an error in a second line on stderr, as on a terminal",
     )
 }
 
@@ -152,6 +152,6 @@ pub(crate) fn hint() -> Argument {
 pub(crate) fn json() -> Argument {
     flag(
         "json",
-        "Prints one JSON document on a line in place of the lines; an error is then a JSON document on stderr",
+        "Prints one JSON document; an error is one on stderr",
     )
 }

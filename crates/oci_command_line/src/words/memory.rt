@@ -12,9 +12,8 @@ pub(crate) const MEM: CommandText = CommandText {
     about: "Copies between two stores in memory, and lists the blobs that arrived",
     details: Some(
         "Copies between two stores in memory, and lists the blobs that arrived.\n\n\
-         Each file is put into the first store under its media type, its digest and its size. Then the \
-         blob of the last item is copied into the second store, with everything that it reaches: the \
-         config and the layers of an image, the images of an index, the subject of a referrer.\n\n\
+         Each file is put into the first store under its media type, digest and size. Then the blob of the \
+         last item is copied into the second store, with everything that it reaches.\n\n\
          Prints the digest, the size and the media type of each blob that arrived, ordered by media type \
          and then by digest. The last line has the numbers of blobs planned, pushed and skipped.",
     ),
@@ -33,7 +32,7 @@ pub(crate) fn mem_arguments(most_workers: u32) -> [Argument; 5] {
         Argument::new(
             "workers",
             workers,
-            "How many workers copy at once, at most 64; 0 means 3. Without it one thread copies",
+            "How many workers run at once, at most 64; 0 means 3. Without it `mem` has 1, `verify` and `repair` one per processor",
         ),
         flag(
             "sha512",
@@ -44,7 +43,7 @@ pub(crate) fn mem_arguments(most_workers: u32) -> [Argument; 5] {
         Argument::new(
             "item",
             Kind::Words("TYPE=PATH"),
-            "A media type and a file; the last one is copied, with everything that it reaches",
+            "A media type and a file; the last one is copied, with all that it reaches",
         ),
     ]
 }

@@ -9,15 +9,12 @@ pub(crate) const TAG: CommandText = CommandText {
     about: "Sets a tag of a layout to the blob that a reference resolves to",
     details: Some(
         "Sets a tag of a layout to the blob that a reference resolves to. If NEWTAG names another blob \
-         already, it moves, and that blob stays; `prune` removes blobs that no tag needs.\n\n\
-         Prints `tagged` with the digest, the size and the media type of the blob. An empty NEWTAG (35), \
-         and a REF that is empty (35) or that no tag and no blob has (36), are refused, and nothing is \
-         changed. FOLDER is not created, and cannot be an archive (95).\n\n\
-         `index.json` is written anew, with an entry of the tag in the place of its earlier ones. It has \
-         what other tools wrote into the entry of REF, such as `platform` and annotations. The other \
-         entries keep all that other tools wrote into them. The command ends once it is on the disk, so \
-         that a power cut leaves the old one or the new one, unless --no-sync is given.\n\n\
-         Locks FOLDER. While another process on the same machine has the lock, it waits.",
+         already, it moves, and that blob stays until a `prune`.\n\n\
+         Prints `tagged` with the digest, the size and the media type of the blob. An empty NEWTAG or REF \
+         (35), and a REF that no tag and no blob has (36), are refused, and nothing is changed. FOLDER is \
+         not created, and cannot be an archive (95).\n\n\
+         The new entry in `index.json` keeps what other tools wrote into that of REF, such as `platform` \
+         and annotations. A power cut leaves the old file or the new one.",
     ),
     usage: "ocicp tag [OPTIONS] <FOLDER> <REF> <NEWTAG>",
     examples: "Examples:\n  ocicp tag mirror v1 stable\n  ocicp tag mirror sha256:2c26b46b68ffc68ff99b453c1d30413413422d706483bfa0f98a5e886266e7ae v1",
