@@ -13,27 +13,27 @@ Write `sha256:` and 64 digits from 0 to 9 and a to f.
 
 2 UnknownAlgorithm
 The digest's algorithm is neither `sha256` nor `sha512`.
-Use a digest of one of these two algorithms; blobs with other digests cannot be copied.
+Use a digest of one of these; blobs with other digests cannot be copied.
 
 3 BadEncoding
 The part of the digest after the colon does not fit its algorithm.
-Write 64 digits for `sha256` and 128 for `sha512`. Each is from 0 to 9 or from a to f; capital letters are not allowed.
+Write 64 digits for `sha256` and 128 for `sha512`, from 0 to 9 and a to f; no capital letters.
 
 4 BadSize
 The size is over 9223372036854775807 bytes, the limit for a descriptor.
 Check the size; no blob is this large.
 
 10 NotJson
-The manifest, or `index.json`, is not JSON. It may be cut off, not UTF-8, followed by other text, or nested more than 127 levels deep.
-Check that the file really is a manifest or an index, and fetch it again from its origin.
+The manifest, or `index.json`, is not JSON. It may be cut off, not UTF-8, or nested more than 127 levels deep.
+Check that it is a manifest or an index, and fetch it again from its origin.
 
 11 NotObject
 The manifest, or `index.json`, is JSON but not an object.
-Check that the file really is a manifest or an index, and fetch it again from its origin.
+Check that it is a manifest or an index, and fetch it again from its origin.
 
 12 NoConfig
 The image manifest has no `config`.
-Build the image again. An artifact that needs no config uses the empty descriptor of the OCI image specification.
+Build the image again. An artifact without a config uses the empty descriptor of the OCI image specification.
 
 13 BadList
 The named member is not a list.
@@ -45,7 +45,7 @@ Build the manifest again with a tool that follows the OCI image specification. A
 
 15 Memory
 Memory ran out while a manifest was read.
-Give the process more memory. `ocicp` itself prints `ocicp: memory` and ends with status 3.
+Give the process more memory. `ocicp` ends with status 3.
 
 20 NotFound
 The store does not have the requested blob.
@@ -61,7 +61,7 @@ Check the file and its permissions, and the disk.
 
 23 Memory
 Memory ran out while a blob was read.
-Give the process more memory. `ocicp` itself prints `ocicp: memory` and ends with status 3.
+Give the process more memory. `ocicp` ends with status 3.
 
 30 AlreadyExists
 The store already has this blob under the same media type.
@@ -81,7 +81,7 @@ Check the media type that you gave for it, and look up the next number.
 
 34 Memory
 Memory ran out while a blob was pushed. The store keeps its blobs.
-Give the process more memory. `ocicp` itself prints `ocicp: memory` and ends with status 3.
+Give the process more memory. `ocicp` ends with status 3.
 
 35 EmptyReference
 The reference is empty.
@@ -89,7 +89,7 @@ Give a tag or a full digest.
 
 36 UnknownReference
 The layout has no tag with this name, and no blob with this digest.
-List the tags with `ocicp tags FOLDER`; a tag whose manifest is missing or damaged is left out. Write a digest in full, with its algorithm.
+List the tags with `ocicp tags FOLDER`, which leaves out those whose manifest is missing or damaged. Write a digest in full, with its algorithm.
 
 37 NotHeld
 The store does not have the blob to tag.
@@ -97,7 +97,7 @@ Push or copy the blob first, and then tag it.
 
 38 Memory
 Memory ran out while a reference was looked up or a tag was set. The tags are unchanged.
-Give the process more memory. `ocicp` itself prints `ocicp: memory` and ends with status 3.
+Give the process more memory. `ocicp` ends with status 3.
 
 40 Open
 The store is not closed: the manifest of the first KEY lists the blob of the second, which is missing.
@@ -113,7 +113,7 @@ Push every blob that a manifest lists before the manifest.
 
 43 Device
 A file of the destination could not be written.
-Check the permissions and the free space of the disk, remove a folder that is in the place of a blob's file, and run the same copy again.
+Check the permissions and the free space of the disk, remove a folder in the file's place, and copy again.
 
 44 Halted
 The live store accepts no more blobs, because an earlier push ran out of memory while it was published.
@@ -149,15 +149,15 @@ Give the process more memory.
 
 53 NotFound
 The copy needs the named blob, and the source does not have it, or has a damaged file there. Nothing was copied.
-Bring the blob into the source first, with `ocicp repair SRC FROM` from a layout that has it.
+Run `ocicp repair SRC FROM`, with a layout that has the blob.
 
 54 TooLarge
 The named manifest is larger than the limit, which follows it in bytes. Nothing was copied.
-Check that this blob really is a manifest. The limit of `ocicp` is 4194304 bytes; a program that uses the library may set another one.
+Check that this blob is a manifest. The limit of `ocicp` is 4194304 bytes, and no flag changes it.
 
 55 Cycle
 These manifests list each other in a cycle, so none can be copied before the others. Nothing was copied.
-A cycle is impossible with correct digests: verify the source, and fetch it again from its origin.
+Correct digests allow no cycle: verify the source, and fetch it again from its origin.
 
 56 Manifest
 The named blob of the source is not a manifest of its media type. The next error says why. Nothing was copied.
@@ -169,7 +169,7 @@ Look up the next number.
 
 58 Memory
 Memory ran out while a copy was planned. Nothing was copied.
-Give the process more memory. `ocicp` itself prints `ocicp: memory` and ends with status 3.
+Give the process more memory. `ocicp` ends with status 3.
 
 59 TooMany
 The copy needs more than 4294967295 blobs. Nothing was copied.
@@ -193,35 +193,35 @@ Give the process more memory, or use fewer workers.
 
 70 NoLayoutFile
 The folder or archive is not an image layout: it does not exist, or has no file `oci-layout`.
-Check the path. Only `ocicp copy` creates a layout, as its destination, and only where no `index.json` would be lost. `docker save` writes one since Docker 25. An archive is read at positions, so it cannot come from a pipe: save it as a file first.
+Check the path. Only `ocicp copy` creates a layout, as DST. `docker save` writes one since Docker 25. If DST has lost its `oci-layout`, write `{\"imageLayoutVersion\":\"1.0.0\"}` into it again. Save an archive as a file first if it comes from a pipe.
 
 71 BadLayoutFile
 The file `oci-layout` is not a JSON object with a text `imageLayoutVersion`.
-Check the path. The `oci-layout` of an intact layout is `{\"imageLayoutVersion\":\"1.0.0\"}`.
+Check the path. An intact `oci-layout` is `{\"imageLayoutVersion\":\"1.0.0\"}`.
 
 72 BadVersion
 The layout has another version than 1.0.0.
 Create the layout again with a tool that writes version 1.0.0.
 
 73 BadIndex
-The file `index.json` is not an image index. The next error says why. If it is 14, only the entry at that position is no descriptor: most commands answer for the other entries, and some are refused.
-If the next number is 14, run `ocicp untag` for the tag of that entry, or correct it in `index.json`, or delete it there if it has no tag. Otherwise look up the next number, and fetch `index.json` again from the layout's origin.
+The file `index.json` is not an image index. The next error says why. If it is 14, only the entry at that position is unreadable, since it is no descriptor.
+After 14 run `ocicp untag` for the tag of that entry, or correct the entry, or delete it if it has no tag. After another number fetch `index.json` again from its origin.
 
 74 Device
 A file or the folder of the layout could not be read or written, or is not of the right kind.
 Check the permissions and the free space of the disk. The files of a layout have to be regular files.
 
 75 Corrupt
-The file of the named manifest does not match its size and digest, or that of the named layer or config has another size. A folder in the file's place counts as damage too. It is not known what a damaged manifest lists. The other images of the layout can be used.
-Run `ocicp repair FOLDER FROM`, with a layout that has the blob. Remove a folder with contents in the file's place before. If the blob is no longer needed, run `ocicp untag` for each of its tags, which are in `index.json`. Delete an entry that has no tag from `index.json`.
+The file of the named manifest does not match its size and digest, or that of the named layer or config has another size. A folder in the file's place counts as damage too. The other images can be used.
+Run `ocicp repair FOLDER FROM`, with a layout that has the blob; first remove a folder with contents in the file's place. If the image is not wanted, run `ocicp untag` for each of its tags in `index.json`, and delete an entry without a tag.
 
 76 Memory
 Memory ran out while a layout was opened, created or saved.
-Give the process more memory. `ocicp` itself prints `ocicp: memory` and ends with status 3.
+Give the process more memory. `ocicp` ends with status 3.
 
 77 BadManifest
-The file of the named manifest has the right digest, but is not a manifest of its media type. The next error says why. The other images of the layout can be used.
-Look up the next number. The image has to be built again, since a copy or a repair brings the same bytes. If it is no longer needed, run `ocicp untag` for each of its tags, and delete an entry that has no tag from `index.json`.
+The file of the named manifest has the right digest, but is not a manifest of its media type. The next error says why. The other images can be used.
+Build the image again, since a copy or a repair brings the same bytes. If it is not wanted, run `ocicp untag` for each of its tags, and delete an entry without a tag from `index.json`.
 
 78 AlreadyLayout
 The folder already is a layout, and cannot be made one again. Nothing was changed.
@@ -229,11 +229,11 @@ Open the layout, or choose another folder.
 
 79 NotRemoved
 The named file could not be removed. `index.json` is saved, the other files are removed, and no tag has lost anything.
-Check the permissions of the folder that has the file, and run the same `ocicp prune` again.
+Check the permissions of the folder with the file, and run the same `ocicp prune` again.
 
 80 DestinationOpen
-The destination is damaged: the manifest of the first KEY lists the blob of the second, which is missing there, or has a damaged file. A folder in the file's place counts as damage too. Nothing was copied.
-Run `ocicp repair DST FROM`, with a layout that has that blob. Remove a folder with contents in the file's place before.
+The destination is damaged: the manifest of the first KEY lists the blob of the second, which is missing there, or has a damaged file. Nothing was copied.
+Run `ocicp repair DST FROM`, with a layout that has that blob. First remove a folder with contents in the file's place.
 
 81 Plan
 The copy could not be planned. The next error says why. Nothing was copied.
@@ -245,7 +245,7 @@ Look up the next number, remove the cause, and run the same copy again.
 
 83 Stuck
 The destination refused the named blob although it was planned: it has the blob, or lacks a blob that this one lists.
-Verify the source, and make sure that nobody else changes source or destination during the copy.
+Verify the source, and see that nobody else changes source or destination during the copy.
 
 84 Incomplete
 All workers have ended, and the destination does not have the named blob. This error was never seen.
@@ -257,7 +257,7 @@ Use 1 to 64 workers, or 0, which means 3.
 
 86 Memory
 Memory ran out during a copy. The destination keeps its blobs.
-Give the process more memory, or use fewer workers. `ocicp` itself prints `ocicp: memory` and ends with status 3.
+Give the process more memory, or use fewer workers. `ocicp` ends with status 3.
 
 87 Reference
 A reference was refused. The next error says why.
@@ -269,7 +269,7 @@ Look up the next number, repair the source, and run the same copy again.
 
 89 Memory
 Memory ran out during a prune. No tag has lost anything.
-Give the process more memory, and run the same prune again. `ocicp` itself prints `ocicp: memory` and ends with status 3.
+Give the process more memory, and run the same prune again. `ocicp` ends with status 3.
 
 90 Failed
 A file of a layout could not be read or written.
@@ -292,20 +292,20 @@ The output could not be written. If the command changes a layout, that is done a
 Check where the output goes: the disk may be full, or the program that reads it may have ended.
 
 95 NotWritable
-The named path is a file, or is new and has the name of an archive, and only `copy --archive` writes files; or `copy --archive` would write there, and something is there already. Nothing was changed.
-Copy into a folder, without `oci:` before its path, or write a new file with `ocicp copy --archive`. To change an archive, unpack it into a folder, and change the layout there.
+Only `copy --archive` writes a file, and only where nothing is yet. The named path is a file, or is new and has the name of an archive, or is taken. Nothing was changed.
+Copy into a folder, without `oci:` before its path, or write a new file with `ocicp copy --archive`. To change an archive, unpack it, and change the layout.
 
 96 Unknown
-The layout does not have the named blob, or its manifest there is damaged, so it is not known what that blob needs. It is an entry of `index.json`, a damaged manifest, the manifest for a platform, or a manifest that another one lists: one that is kept, or in SRC of a mirror with `--referrers` any one. A folder in a file's place counts as damage too. Nothing was removed, and no tag was set. Nothing was copied either, unless it turned out only after the copy of a mirror that its destination cannot be pruned; then the copied blobs are there.
-Run `ocicp repair FOLDER FROM`, with a layout that has the blob. Remove a folder with contents in the file's place before. If it is no longer needed, run `ocicp untag` for each of its tags, and delete an entry that has no tag from `index.json`. A damaged manifest that only an index lists can be deleted from `blobs` once no tag needs that index. If a manifest lists a missing one, `ocicp verify` shows it, and `ocicp prune` removes it once no tag needs it.
+The layout does not have the named blob, or its manifest there is damaged, so it is not known what that blob needs. Nothing was removed, and no tag was set. Blobs that a mirror copied may be there.
+Run `ocicp repair FOLDER FROM`, with a layout that has the blob; first remove a folder with contents in the file's place. If the image is not wanted, run `ocicp untag` for each of its tags, and delete an entry without a tag from `index.json`. A damaged manifest that only an index lists can be deleted from `blobs` once no tag needs that index. `ocicp verify` shows a manifest that lists a missing one, and `ocicp prune` removes it once no tag needs it.
 
 97 NoTags
 The layout has no tag, so no blob would be kept or copied. Nothing was copied or removed.
-Check the path. `ocicp copy FOLDER DIGEST FOLDER TAG` tags a blob that is to be kept. `ocicp prune --leftovers` removes the files that killed copies left. If nothing is to be kept, delete the folder.
+Check the path. `ocicp tag FOLDER DIGEST NAME` keeps a blob, and `ocicp prune --leftovers` removes only the files that killed copies left. If nothing is to be kept, delete the folder.
 
 98 LinkedBlobs
 The named folder of the layout is a symbolic link, so another layout may need the blobs behind it. Nothing was removed.
-Replace the link by a folder with copies of these blobs, and run the same `ocicp prune` again.
+Replace the link by a folder with copies of these blobs, and run the same command again.
 
 99 Locked
 Another process has the lock of the named folder, and `--no-wait` was given. Nothing was changed.
@@ -321,7 +321,7 @@ Decompress it first, for example with `gzip -d`, `zstd -d`, `xz -d` or `bzip2 -d
 
 102 BadHeader
 The header at this offset of the archive cannot be read: its checksum, a number or an extended header is wrong.
-The archive is damaged, or is not one from this offset on. Fetch it again from its origin.
+The archive is damaged, at least from this offset on. Fetch it again from its origin.
 
 103 Truncated
 The member of the archive whose header is at this offset goes past the end of the file.
@@ -337,15 +337,15 @@ Check the file and its permissions, and the disk.
 
 106 Memory
 Memory ran out while an archive was opened.
-Give the process more memory. `ocicp` itself prints `ocicp: memory` and ends with status 3.
+Give the process more memory. `ocicp` ends with status 3.
 
 107 NoPlatform
-The reference names no index that lists a manifest for the named platform. The platforms for which the index lists one follow. If none follows, the reference may name no index.
-Write one of these platforms, as OS/ARCH or OS/ARCH/VARIANT. If none follows, run the command without `--platform`, or look with `ocicp tree` at what the reference names.
+The reference names no index that lists a manifest for the named platform. The platforms that the index lists follow. If none follows, the reference may name no index.
+Write one of these platforms. If none follows, leave out `--platform`, or look with `ocicp tree` at what the reference names.
 
 108 NoMatch
 The layout has tags, but none of them matches a pattern of `--match`. Nothing was copied.
-List the tags with `ocicp tags SRC`; the pattern must match a whole tag. Put the pattern in quotes, as in `--match 'v1.*'`: otherwise the shell may have replaced it by names of files.";
+List the tags with `ocicp tags SRC`. The pattern must match a whole tag. Quote it, as in `--match 'v1.*'`, or the shell may replace it by names of files.";
 
 /// What `explain` prints about an error number.
 #[derive(Clone, Copy, Serialize)]
