@@ -120,7 +120,7 @@ pub(crate) fn workers_that_read(most: u32) -> Argument {
     Argument::new(
         "workers",
         number,
-        "How many workers run at once, at most 64; 0 means 3. Without it `mem` has 1, `verify` and `repair` one per processor",
+        "How many workers run at once, at most 64; 0 means 3",
     )
 }
 
@@ -128,7 +128,7 @@ pub(crate) fn workers_that_read(most: u32) -> Argument {
 pub(crate) fn no_wait() -> Argument {
     flag(
         "no-wait",
-        "Is refused at once (99) if another process has locked the folder",
+        "Refused at once (99) if another process has locked the folder",
     )
 }
 
@@ -144,7 +144,7 @@ pub(crate) fn no_sync() -> Argument {
 pub(crate) fn hint() -> Argument {
     flag(
         "hint",
-        "Explains an error in a second line on stderr, as on a terminal",
+        "Explains an error in a second line, as on a terminal",
     )
 }
 

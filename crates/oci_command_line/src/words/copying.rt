@@ -52,15 +52,15 @@ pub(crate) fn copy_arguments(most_workers: u32) -> [Argument; 20] {
         Argument::new(
             "workers",
             workers(most_workers),
-            "How many workers run at once, at most 64; 0 means 3. Without it `mem` has 1, `verify` and `repair` one per processor",
+            "How many workers run at once, at most 64; 0 means 3",
         ),
         flag(
             "progress",
-            "Prints to stderr each blob that is `pushed` or `skipped`",
+            "Prints each `pushed` or `skipped` blob to stderr",
         ),
         flag(
             "dry-run",
-            "Changes nothing and locks nothing. Prints what would be written or removed, but not the tags that would be set",
+            "Changes nothing and locks nothing. Prints what would be written or removed, but no tags that would be set",
         ),
         hint(),
         json(),
@@ -87,7 +87,7 @@ pub(crate) fn copy_arguments(most_workers: u32) -> [Argument; 20] {
         Argument::new(
             "destination-reference",
             Kind::OptionalWord("DSTREF"),
-            "The tag to set; without it SRCREF, even if that is a digest",
+            "The tag to set; without it SRCREF, even a digest",
         ),
     ]
 }
@@ -112,7 +112,7 @@ fn workers(most_workers: u32) -> Kind {
 fn archive() -> Argument {
     let help =
         "Writes a new uncompressed tar archive DST, whole or not at all. Refused if DST exists (95). `-` is \
-         stdout, where a refusal may cut it off";
+         stdout, where a refusal may cut it off. Not with --descend or --prune";
     Argument {
         conflicts: &["descend", "prune"],
         ..flag("archive", help)
@@ -124,7 +124,7 @@ fn all() -> Argument {
     let help =
         "Copies every tag of SRC, and overwrites those that DST has. Images without a tag stay behind. \
          Refused if SRC has no tag (97), or a tag's entry is unreadable (73), or its blob missing or \
-         damaged (96)";
+         damaged (96). Not with --platform";
     Argument {
         conflicts: &["destination", "destination-reference"],
         ..flag("all", help)
@@ -134,8 +134,8 @@ fn all() -> Argument {
 /// `--match`. It conflicts with the destination's own word, as `--all` does.
 fn matching() -> Argument {
     let help =
-        "With --all: copies only tags that match GLOB. `*` is any text, `?` any character. Quote it; it can \
-         be repeated. Refused if none matches (108)";
+        "With --all: copies only tags that match GLOB. `*` is any text, `?` any character. Quote it. Can be \
+         repeated. Refused if none matches (108)";
     Argument {
         conflicts: &["destination"],
         needs: &["all"],
@@ -158,7 +158,8 @@ fn platform() -> Argument {
 /// `--depth`
 fn depth() -> Argument {
     let help =
-        "With --referrers: looks at most D levels up for indexes and referrers; 0 means no limit";
+        "With --referrers, but not --artifact-type, --platform or --prune: looks at most D levels up for \
+         indexes and referrers; 0 means no limit";
     Argument {
         conflicts: &["prune", "platform"],
         needs: &["referrers"],
@@ -169,8 +170,9 @@ fn depth() -> Argument {
 /// `--artifact-type`
 fn artifact_type() -> Argument {
     let help =
-        "With --referrers: of what is attached, copies only referrers of this type, with what belongs to \
-         them, but no tags. The type is `artifactType`, or else the config's media type. Can be repeated";
+        "With --referrers, but not --prune: of what is attached, copies only referrers of this type, with \
+         what belongs to them, but no tags. The type is `artifactType`, or else the config's media type. \
+         Can be repeated";
     Argument {
         conflicts: &["depth", "prune"],
         needs: &["referrers"],

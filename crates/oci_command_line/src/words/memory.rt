@@ -13,7 +13,8 @@ pub(crate) const MEM: CommandText = CommandText {
     details: Some(
         "Copies between two stores in memory, and lists the blobs that arrived.\n\n\
          Each file is put into the first store under its media type, digest and size. Then the blob of the \
-         last item is copied into the second store, with everything that it reaches.\n\n\
+         last item is copied into the second store, with everything that it reaches. Without --workers one \
+         thread copies.\n\n\
          Prints the digest, the size and the media type of each blob that arrived, ordered by media type \
          and then by digest. The last line has the numbers of blobs planned, pushed and skipped.",
     ),
@@ -32,7 +33,7 @@ pub(crate) fn mem_arguments(most_workers: u32) -> [Argument; 5] {
         Argument::new(
             "workers",
             workers,
-            "How many workers run at once, at most 64; 0 means 3. Without it `mem` has 1, `verify` and `repair` one per processor",
+            "How many workers run at once, at most 64; 0 means 3",
         ),
         flag(
             "sha512",

@@ -53,7 +53,7 @@ pub(crate) fn prune_arguments() -> [Argument; 8] {
     [
         flag(
             "dry-run",
-            "Changes nothing and locks nothing. Prints what would be written or removed, but not the tags that would be set",
+            "Changes nothing and locks nothing. Prints what would be written or removed, but no tags that would be set",
         ),
         flag(
             "no-referrers",

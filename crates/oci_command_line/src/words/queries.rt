@@ -78,7 +78,7 @@ pub(crate) const VERIFY: CommandText = CommandText {
     details: Some(
         "Checks each blob that `index.json` reaches against its digest, and that no listed blob is missing. \
          What only a damaged manifest lists is not known, and not checked. A layout without `index.json` \
-         counts as empty.\n\n\
+         counts as empty. Without --workers one worker runs for each processor.\n\n\
          Prints `absent` for each entry of `index.json` whose blob has no file. `corrupt` is for each blob \
          whose file does not match, and each manifest that cannot be read. `open` has the first manifest \
          that lists a blob without a file, and that blob. `shadowed` has an entry whose tag a later entry \

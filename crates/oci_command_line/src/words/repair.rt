@@ -18,7 +18,7 @@ pub(crate) const REPAIR: CommandText = CommandText {
         "Makes the missing and damaged blobs of a layout whole, from other layouts.\n\n\
          Checks each blob that `index.json` reaches against its digest, as `verify` does. For each one that \
          is missing or damaged, takes the file of the first FROM that has it whole. Then looks at what a \
-         repaired manifest lists, and so on.\n\n\
+         repaired manifest lists, and so on. Without --workers one worker runs for each processor.\n\n\
          A FROM may itself be damaged. Each file under its `blobs` counts, also one that its `index.json` \
          does not reach.\n\n\
          `index.json` and whole files are not changed. A damaged file that no FROM has stays as it is. An \
@@ -40,7 +40,7 @@ pub(crate) fn repair_arguments(most_workers: u32) -> [Argument; 8] {
     [
         flag(
             "dry-run",
-            "Changes nothing and locks nothing. Prints what would be written or removed, but not the tags that would be set",
+            "Changes nothing and locks nothing. Prints what would be written or removed, but no tags that would be set",
         ),
         workers_that_read(most_workers),
         hint(),
