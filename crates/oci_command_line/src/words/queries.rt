@@ -110,7 +110,7 @@ pub(crate) fn tags_all() -> Argument {
 pub(crate) fn tree_referrers() -> Argument {
     flag(
         "referrers",
-        "Then shows, below `referrers:`, the manifests that list the blob, with those that list them in turn. Then what is attached to the blob, and to others that `copy --referrers` would bring. An artifact type is in parentheses. Then reports each unreadable entry of `index.json` (73), and each damaged manifest of the layout (75, 77)",
+        "Then shows, below `referrers:`, the manifests that list the blob, with those that list them in turn. Then what is attached to the blob, and to others that `copy --referrers` would bring. An artifact type is in parentheses. Then reports each unreadable entry of `index.json` (73), and each damaged manifest of the layout (75, 77), with status 1",
     )
 }
 
