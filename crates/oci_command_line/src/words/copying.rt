@@ -4,9 +4,9 @@ use crate::words::text::CommandText;
 const EXAMPLES: &str = "\
 Examples:
   ocicp copy build v1 mirror                   copies an image
-  ocicp copy --all --referrers build mirror    copies every tag, with its signatures
+  ocicp copy --all --referrers build mirror    copies every tag with signatures
   ocicp copy --all --prune --referrers build mirror    makes a mirror
-  ocicp copy --archive --all build all.tar     writes an archive";
+  ocicp copy --archive --all --referrers build all.tar    writes an archive";
 
 /// `copy [FLAGS] SRC SRCREF DST [DSTREF]` and `copy --all [FLAGS] SRC DST`, and both with `--archive`
 /// and a file for DST
