@@ -95,8 +95,8 @@ pub struct UntagWords<'w> {
 pub struct PruneWords<'w> {
     /// The folder of the layout.
     pub folder: &'w str,
-    /// Whether the referrers of kept blobs are kept too.
-    pub keeps_referrers: bool,
+    /// Whether the blobs that no tag needs are removed too, though an entry of the index reaches them.
+    pub removes_untagged: bool,
     /// Whether only the files that killed copies left are removed.
     pub only_leftovers: bool,
     /// Whether the prune is only planned and printed.

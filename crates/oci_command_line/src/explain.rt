@@ -297,11 +297,11 @@ Copy into a folder, without `oci:` before its path, or write a new file with `oc
 
 96 Unknown
 The layout does not have the named blob, or its manifest there is damaged, so it is not known what that blob needs. Nothing was removed, and no tag was set. Blobs that a mirror copied may be there.
-Run `ocicp repair FOLDER FROM`, with a layout that has the blob; first remove a folder with contents in the file's place. If the image is not wanted, run `ocicp untag` for each of its tags, and delete an entry without a tag from `index.json`. A damaged manifest that only an index lists can be deleted from `blobs` once no tag needs that index. `ocicp verify` shows a manifest that lists a missing one, and `ocicp prune` removes it once no tag needs it.
+Run `ocicp repair FOLDER FROM`, with a layout that has the blob; first remove a folder with contents in the file's place. If the image is not wanted, run `ocicp untag` for each of its tags, and delete an entry without a tag from `index.json`. A damaged manifest that only an index lists can be deleted from `blobs` once no tag needs that index. `ocicp verify` shows a manifest that lists a missing one, and `ocicp prune --untagged` removes it once no tag needs it, with every other image without a tag.
 
 97 NoTags
 The layout has no tag, so no blob would be kept or copied. Nothing was copied or removed.
-Check the path. `ocicp tag FOLDER DIGEST NAME` keeps a blob, and `ocicp prune --leftovers` removes only the files that killed copies left. If nothing is to be kept, delete the folder.
+Check the path. `ocicp tag FOLDER DIGEST NAME` keeps a blob. `ocicp prune` without `--untagged` needs no tag. If nothing is to be kept, delete the folder.
 
 98 LinkedBlobs
 The named folder of the layout is a symbolic link, so another layout may need the blobs behind it. Nothing was removed.
@@ -345,7 +345,11 @@ Write one of these platforms. If none follows, leave out `--platform`, or look w
 
 108 NoMatch
 The layout has tags, but none of them matches a pattern of `--match`. Nothing was copied.
-List the tags with `ocicp tags SRC`. The pattern must match a whole tag. Quote it, as in `--match 'v1.*'`, or the shell may replace it by names of files.";
+List the tags with `ocicp tags SRC`. The pattern must match a whole tag. Quote it, as in `--match 'v1.*'`, or the shell may replace it by names of files.
+
+109 NoIndex
+The folder has blobs and no `index.json`, or for `prune` one without entries, so nothing says which blobs are wanted. Nothing was changed.
+Put `index.json` back. If you have no copy of it, `ocicp copy` into the folder writes a new one; the next `ocicp prune` then removes what only the lost one named. If nothing is to be kept, delete the folder.";
 
 /// What `explain` prints about an error number.
 #[derive(Clone, Copy, Serialize)]

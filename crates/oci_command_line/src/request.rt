@@ -353,7 +353,7 @@ fn untag_words<'w>(matches: &ArgMatches<'w>) -> UntagWords<'w> {
 fn prune_words<'w>(matches: &ArgMatches<'w>) -> PruneWords<'w> {
     PruneWords {
         folder: word(matches, "folder"),
-        keeps_referrers: !matches.get_flag("no-referrers"),
+        removes_untagged: matches.get_flag("untagged"),
         only_leftovers: matches.get_flag("leftovers"),
         is_dry: matches.get_flag("dry-run"),
         waits: waits(matches),

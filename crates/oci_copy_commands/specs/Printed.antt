@@ -28,6 +28,7 @@ tags_of tagged = map (λ (t : Tagged). (string_bytes t.tag, t.descriptor)) tagge
 pub record IsCleanUpAnswer (removed : CleanUp) (answer : CleanUpAnswer) : Type 0 where
   pub untagged : tags_of answer.untagged.items ≡ by_bytes removed.untagged.items
   pub pruned : ShowsPruned removed.plan removed.pruned answer.pruned
+  pub left : answer.pruned.untagged_left ≡ None
 
 -- the fault of the prune of what was removed, if something was and the prune has one
 abbrev pub fault_in : Option CleanUp → Option PruneFault
@@ -94,6 +95,7 @@ sum_of_sizes keys = sum_by (λ (k : Bor Descriptor). k.now.size) keys
 pub record IsPlannedCleanUpAnswer (planned : PlannedCleanUp) (answer : CleanUpAnswer) : Type 0 where
   pub untagged : tags_of answer.untagged.items ≡ by_bytes planned.untagged.items
   pub pruned : ShowsPlan planned.plan answer.pruned
+  pub left : answer.pruned.untagged_left ≡ None
 
 abbrev pub IsPlannedRemovedAnswer : Option PlannedCleanUp → Option CleanUpAnswer → Type 0
 IsPlannedRemovedAnswer None None = ⊤

@@ -23,6 +23,7 @@ use Rattle.oci_layout_store.specs.Meaning.{meaning}
 use Rattle.oci_layout_store.specs.Opened.{IsOpenedAsIs}
 use Rattle.oci_layout_store.specs.Refusal.{IsOpenAsIsFault}
 use Rattle.oci_layout_store.specs.declared.fault.LayoutFault.TheVariants as layout
+use Rattle.oci_program.specs.Indexed.{HasIndexOrNoBlobs}
 use Rattle.oci_program.specs.declared.answer.Form.{Form}
 use Rattle.oci_program.specs.declared.answer.Form.TheVariants as form
 use Rattle.oci_layout_copy.specs.Between.{BringsOnlyMet, HasReached, IsCopiedBetween, IsTrusted}
@@ -137,6 +138,7 @@ pub record IsMadeBy {S D : Type 0} (from : S → Device) (to : D → Device) (wo
 pub record IsMadeIn {S D : Type 0} (from : S → Device) (to : D → Device) (words : CopyWords) (source : LayoutState S) (selected : Selected) (dir : D) (done : Copied) : Type 0 where
   pub old : LayoutState D
   pub ready : IsReady to dir old
+  pub indexed : words.prunes ≡ true → (to dir).is_honest → HasIndexOrNoBlobs (to dir).file
   pub made : IsMadeBy from to words source selected old done
 
 -- what the words select of the source in a directory; one that is mirrored is whole
@@ -205,6 +207,7 @@ pub record IsDryRun {S D M : Type 0} (from : S → Device) (to : D → Device) (
   pub source : LayoutState S
   pub selected : Selected
   pub chosen : IsSelectedIn from words source_dir source selected
+  pub indexed : words.prunes ≡ true → (to dir).is_honest → HasIndexOrNoBlobs (to dir).file
   pub planned_is : IsPlannedIn from to words source selected dir planned ⊎ IsPlannedWithout from to memory words source selected dir planned
 
 -- such a run was made, and this is its answer

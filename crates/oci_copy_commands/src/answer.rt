@@ -127,7 +127,7 @@ impl CleanUpAnswer {
         } = removed;
         let answer = CleanUpAnswer {
             untagged: tagged(alloc, untagged)?,
-            pruned: PruneAnswer::of(alloc, plan, &pruned)?,
+            pruned: PruneAnswer::of(alloc, plan, &pruned, None)?,
         };
         Ok((answer, pruned.fault))
     }
@@ -143,7 +143,7 @@ impl CleanUpAnswer {
         let PlannedCleanUp { untagged, plan } = planned;
         Ok(CleanUpAnswer {
             untagged: tagged(alloc, untagged)?,
-            pruned: PruneAnswer::planned(alloc, plan)?,
+            pruned: PruneAnswer::planned(alloc, plan, None)?,
         })
     }
 }

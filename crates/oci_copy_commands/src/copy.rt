@@ -1,9 +1,10 @@
-ghost use Rattle.std.specs.Prelude.{◌≡◌, true, false, None, IfOk, OnOk};
+ghost use Rattle.std.specs.Prelude.{◌≡◌, true, false, None, IfErr, IfOk, OnOk};
 ghost use Rattle.std.specs.Io.KnownBytes.{Appends};
 ghost use Rattle.oci_layout_copy.specs.Mirror.{is_exact, HasGoal, IsWholeSource};
 ghost use Rattle.oci_entries.specs.Pattern.{texts_of};
 ghost use Rattle.oci_copy.specs.Planned.{IsPlanOf};
 ghost use Rattle.oci_layout_copy.specs.Goal.{patterns_of, Fits};
+ghost use Rattle.oci_program.specs.Indexed.{HasIndexOrNoBlobs, IsRefusedWithout};
 ghost use Rattle.oci_copy_commands.specs.Printed.{copy_text, plan_text};
 ghost use Rattle.oci_copy_commands.specs.Run.{
   existing_of,
@@ -29,7 +30,7 @@ use oci_layout_copy::mirror::{mirror, prepare_destination};
 use oci_layout_copy::{Copied, Goal, Host, check_source, copy_between};
 use oci_layout_store::Layout;
 use oci_plan::{Existing, Plan};
-use oci_program::{Form, Outcome, ProgramFault, make_and_lock_folder};
+use oci_program::{Form, Outcome, ProgramFault, check_index, make_and_lock_folder};
 use oci_progress::Progress;
 use oci_prune_answer::print_answer_with_fault;
 use oci_prune_fault::PruneFault;
@@ -83,6 +84,7 @@ use std::io::Write;
 ///   manifest that a kept one lists is missing, or one that has no tag is damaged.
 /// - 98 `LinkedBlobs` with `--prune`, if DST has a link to a folder of blobs. 88 `Fetch` and 77
 ///   `BadManifest` if one of its held manifests cannot be read.
+/// - 109 `NoIndex` with `--prune`, if DST has blobs and no `index.json`.
 /// - 80 `DestinationOpen` and 81 `Plan` if there is no plan.
 /// - 82 `Push` and 88 `Fetch` if a blob cannot be copied, and 74 `Device` if the index cannot be
 ///   written, or if it is not known whether it and the copied blobs are on the disk. Blobs that
@@ -166,6 +168,16 @@ pub(crate) fn check_source_if<S: Dir>(
     }
 }
 
+/// Refuses a destination that has blobs and no index, if the copy prunes.
+pub(crate) fn check_index_if<D: PrunableDir>(prunes: bool, dir: &D) -> Result<(), ProgramFault>
+    ensures indexed { OnOk result (prunes ≡ true → (D.device dir.now).is_honest
+        → HasIndexOrNoBlobs (D.device dir.now).file) }
+    ensures cause { IfErr result (λ e. (prunes ≡ true)
+        × IsRefusedWithout (D.device dir.now) (HasIndexOrNoBlobs (D.device dir.now).file) e) }
+{
+    if prunes { check_index(dir) } else { Ok(()) }
+}
+
 /// Returns whether a mirror keeps of what is attached in the destination only what the source has
 /// too, and what belongs to tags that stay.
 pub(crate) fn is_exact(words: &CopyWords<'_>) -> bool
@@ -198,6 +210,7 @@ where
         words.waits,
         err,
     )?;
+    check_index_if(words.prunes, &destination)?;
     let destination = open_or_create(rt.alloc(), destination)?;
     make_blobs_folder(rt, words.destination, destination.first_failure())?;
     copy_under_lock(rt, source, destination, selected, words, &lock, err)

@@ -33,7 +33,7 @@ ghost use Rattle.oci_copy_commands.specs.Run.{
 ghost use Rattle.oci_copy_commands.specs.declared.dry_run.PlanAnswer.{PlanAnswer as Answer};
 
 use crate::answer::CleanUpAnswer;
-use crate::copy::{check_source_if, goal_of, is_exact, options_of};
+use crate::copy::{check_index_if, check_source_if, goal_of, is_exact, options_of};
 use oci_command_line::CopyWords;
 use oci_copy::plan_copy;
 use oci_digest::NoMemory;
@@ -80,7 +80,7 @@ use std::io::Write;
 /// - 97 `NoTags` with `--all`, if SRC has no tag, and 96 `Unknown` if the blob of an entry of its
 ///   index that has a tag is missing or damaged. With `--match` only tags that match count, and 108
 ///   `NoMatch` is for a SRC whose tags do not.
-/// - 96 `Unknown`, 98 `LinkedBlobs`, 88 `Fetch` and 77 `BadManifest` with `--prune`, as of
+/// - 96 `Unknown`, 98 `LinkedBlobs`, 109 `NoIndex`, 88 `Fetch` and 77 `BadManifest` with `--prune`, as of
 ///   [`run_copy`](crate::run_copy), and if DST could not be pruned after the copy.
 /// - 80 `DestinationOpen` and 81 `Plan` if there is no plan.
 /// - 94 `Output` if `out` cannot be written.
@@ -100,6 +100,7 @@ pub(crate) fn show_plan<S: Dir + Drop, D: PrunableDir + Drop, W: Write>(
     let source = Layout::open_as_is(alloc, source)?;
     let selected = Selected::of(alloc, &source, words)?;
     check_source_if(words.prunes, is_exact(words), &source)?;
+    check_index_if(words.prunes, &destination)?;
     let (plan, clean_up) = plan_into_folder(alloc, &source, destination, &selected, words)?;
     let answer = PlanAnswer::of(alloc, &plan, clean_up)?;
     print_answer(alloc, &answer, form, out)

@@ -55,6 +55,9 @@ pub enum ProgramFault {
     /// The layout that a copy reads has tags, and none of them matches a pattern.
     #[error("108 NoMatch")]
     NoMatch,
+    /// The folder that a command would remove blobs from has blobs, and no `index.json`.
+    #[error("109 NoIndex")]
+    NoIndex,
     /// The file that a command reads is no archive, or could not be read.
     #[error("{0}")]
     Archive(#[from] ArchiveFault),
@@ -164,6 +167,7 @@ impl ProgramFault {
             ProgramFault::Locked(_) => Some(99),
             ProgramFault::NoPlatform(_, _) => Some(107),
             ProgramFault::NoMatch => Some(108),
+            ProgramFault::NoIndex => Some(109),
             ProgramFault::Archive(fault) => Some(fault.number()),
             ProgramFault::Key(fault) => Some(fault.number()),
             ProgramFault::Push(fault) => Some(fault.number()),

@@ -3,7 +3,7 @@
 //!
 //! | Type | What it is |
 //! |---|---|
-//! | [`ProgramFault`] | why a command is refused, by a fault from below or one of 92 to 95, 99, 107 and 108 |
+//! | [`ProgramFault`] | why a command is refused, by a fault from below or one of 92 to 95, 99 and 107 to 109 |
 //! | [`Outcome`] | the result of a command that was not refused |
 //! | [`Form`] | lines or JSON, the form in which a command prints |
 //! | [`Ending`] | why a run ended early: an invalid command line, or a refused command |
@@ -15,12 +15,14 @@
 //! [`finish_run`] ends its run, and [`end_early`] a run that did not come to a command.
 //! [`lock_folder`] and [`make_and_lock_folder`] lock the folder that a command writes into;
 //! [`check_is_layout`] looks before whether it has a layout, and [`open_settled`] opens that after.
+//! [`check_index`] refuses to remove blobs from a folder that has lost its `index.json`.
 #![tactic(auto)]
 
 mod answer;
 mod ending;
 mod fault;
 mod finish;
+mod indexed;
 mod locking;
 mod opened;
 mod outcome;
@@ -34,6 +36,7 @@ pub use answer::{Form, Tagged, print_answer};
 pub use ending::Ending;
 pub use fault::ProgramFault;
 pub use finish::{Ended, end_early, finish_run};
+pub use indexed::check_index;
 pub use locking::{check_is_layout, lock_folder, make_and_lock_folder};
 pub use opened::open_settled;
 pub use outcome::Outcome;

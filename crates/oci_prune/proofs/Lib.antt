@@ -9,6 +9,7 @@ pub mod Flagging
 pub mod Leaving
 pub mod Results
 pub mod Plans
+pub mod Holding
 pub mod Settling
 pub mod Reaching
 pub mod Following
@@ -16,3 +17,4 @@ pub mod Stems
 pub mod Bringing
 pub mod Arriving
 pub mod Typing
+pub mod Unlisting

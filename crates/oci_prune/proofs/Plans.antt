@@ -156,7 +156,7 @@ no_first (k ∷ keys) h = cc h
 
 -- a layout passes whose opened index has no first absent entry and no entry that is no descriptor, and
 -- of whose damaged manifests the first that is not held is none
-pub checks_whole : (graph : List Node) (opened : OpenedIndex) → slice_get opened.absent 0 ≡ None → first_missing graph (manifests_of opened.damaged) ≡ None → unreadable_places (said opened.content).entries ≡ [] → ChecksWhole graph opened (Ok tt)
+pub checks_whole : (graph : List Node) (opened : OpenedIndex) → slice_get opened.absent 0 ≡ None → first_missing graph (manifests_of opened.damaged) ≡ None → unreadable_places (said opened.content).entries ≡ [] → ChecksWhole {T = Unit {0}} graph opened (Ok tt)
 checks_whole graph opened no_absent none_damaged none_unreadable = record {
   whole = no_first opened.absent no_absent;
   sound = none_damaged;

@@ -4,6 +4,7 @@ pub mod Attached
 pub mod Belonging
 pub mod Walk
 pub mod Plan
+pub mod Free
 pub mod After
 pub mod Files
 pub mod Refusal

@@ -1,5 +1,5 @@
 -- What a prune keeps and removes.
-use Rattle.std.specs.Prelude.{◌≡◌, ◌↔◌, ◌⊎◌, ℕ, Bool, true, false, List, [], ◌++◌, map, Contains, IsTrue}
+use Rattle.std.specs.Prelude.{◌≡◌, ◌≢◌, ◌↔◌, ◌⊎◌, ℕ, Bool, true, false, List, [], ◌++◌, map, Contains, IsTrue}
 use Rattle.std.specs.BTreeSet.{BTreeSet, contains}
 use Rattle.std.specs.Cmp.Lexicographic.{slice_cmp}
 use Rattle.std.specs.List.{All}
@@ -8,6 +8,8 @@ use Rattle.std.specs.Map.{values_of}
 use Rattle.std.specs.Ordering.{nat_cmp}
 use Rattle.oci_digest.specs.Digest.{IsDigest}
 use Rattle.oci_manifest.specs.Descriptor.{Descriptor, key_cmp}
+use Rattle.oci_manifest.specs.MediaTypes.{kind_of}
+use Rattle.oci_manifest.specs.declared.kind.Kind.TheVariants.{Leaf}
 use Rattle.oci_store.specs.Graph.{Node, IsEdge, Reaches}
 use Rattle.oci_store.specs.Keyed.{has_key}
 use Rattle.oci_store.specs.State.{State}
@@ -85,10 +87,18 @@ pub record IsPrunePlan (dir : Device) (graph : List Node) (roots : List Descript
   pub files : dir.is_honest → AreUnneeded dir.file graph plan.kept plan.files.items
   pub drafts : dir.is_honest → ListsFiles dir.draft (by_name plan.drafts.items)
 
--- a plan that keeps each key, and removes the drafts alone
-pub record IsLeftoverPlan (dir : Device) (graph : List Node) (plan : PrunePlan) : Type 0 where
+-- a plan keeps each held key, and no other, so that it removes none
+pub record KeepsEach (graph : List Node) (plan : PrunePlan) : Type 0 where
   pub kept : (k : Descriptor) → (contains key_cmp plan.kept k ≡ true) ↔ (has_key graph k ≡ true)
   pub removed : plan.removed.items ≡ []
+
+-- each key of a manifest kind that a held key lists is held
+abbrev pub KnowsListed : List Node → Type 0
+KnowsListed graph = (from k : Descriptor) → IsEdge graph from k → kind_of k.media_type ≢ Leaf → has_key graph k ≡ true
+
+-- a plan that keeps each key, and removes the drafts alone
+pub record IsLeftoverPlan (dir : Device) (graph : List Node) (plan : PrunePlan) : Type 0 where
+  pub keys : KeepsEach graph plan
   pub files : plan.files.items ≡ []
   pub drafts : dir.is_honest → ListsFiles dir.draft (by_name plan.drafts.items)
 

@@ -1,9 +1,11 @@
 -- Why there is no plan of a prune, or why it is not carried out.
-use Rattle.std.specs.Prelude.{◌≡◌, ◌≢◌, ◌⊎◌, ℕ, Bool, true, List, [], Option, Some, None, Result, Ok, IfSome, IfErr, OnOk, IsErr, String, string_bytes, slice_get}
+use Rattle.std.specs.Prelude.{◌≡◌, ◌≢◌, ◌⊎◌, ℕ, Bool, true, false, List, [], Option, Some, None, Result, Ok, IfSome, IfErr, OnOk, IsErr, String, string_bytes, slice_get}
 use Rattle.std.specs.declared.alloc.Global.{Global}
 use Rattle.oci_digest.specs.declared.fault.NoMemory.{NoMemory}
 use Rattle.oci_manifest.specs.Descriptor.{Descriptor}
-use Rattle.oci_store.specs.Graph.{Node}
+use Rattle.oci_manifest.specs.MediaTypes.{kind_of}
+use Rattle.oci_manifest.specs.declared.kind.Kind.TheVariants.{Leaf}
+use Rattle.oci_store.specs.Graph.{Node, IsEdge}
 use Rattle.oci_store.specs.Keyed.{has_key, first_missing}
 use Rattle.oci_store.specs.Push.{IsRaised}
 use Rattle.oci_store.specs.State.{State}
@@ -15,7 +17,7 @@ use Rattle.oci_layout_store.specs.Refusal.{IsFirstUnreadable}
 use Rattle.oci_layout_store.specs.declared.fault.LayoutFault.{LayoutFault}
 use Rattle.oci_layout_store.specs.declared.fault.LayoutFault.TheVariants as layout
 use Rattle.oci_prune.specs.Belongs.{IsUnknown}
-use Rattle.oci_prune.specs.Plan.{RefersIf, roots_of}
+use Rattle.oci_prune.specs.Plan.{RefersIf}
 use Rattle.oci_prune.specs.Subjects.{IsSubjectFault}
 use Rattle.oci_prune_fault.specs.declared.fault.PruneFault.{PruneFault}
 use Rattle.oci_prune_fault.specs.declared.fault.PruneFault.TheVariants as fault
@@ -52,7 +54,7 @@ IsEntryFault entries other = ⊥
 -- a layout passes if it has no absent entry, holds its damaged manifests, and each entry of its index
 -- is a descriptor; its first absent entry is refused, and if there is none, the first damaged manifest
 -- that it does not hold, and if there is none either, the first entry that is no descriptor
-pub record ChecksWhole (graph : List Node) (opened : OpenedIndex) (answer : Result Unit PruneFault) : Type 0 where
+pub record ChecksWhole {T : Type 0} (graph : List Node) (opened : OpenedIndex) (answer : Result T PruneFault) : Type 0 where
   pub whole : OnOk answer (opened.absent ≡ [])
   pub sound : OnOk answer (first_missing graph (manifests_of opened.damaged) ≡ None)
   pub readable : OnOk answer (unreadable_places (said opened.content).entries ≡ [])
@@ -90,9 +92,14 @@ abbrev pub IsPlanFaultFrom : {D : Type 0} → Device → LayoutState D → List 
 IsPlanFaultFrom dir l roots keeps fault.NoTags = l.tags ≡ []
 IsPlanFaultFrom dir l roots keeps e = IsFaultAfter dir l.opened (meaning dir l.graph l.tags) roots keeps e
 
--- why there is no plan for a layout in a directory
-abbrev pub IsPlanFault : {D : Type 0} → Device → LayoutState D → Bool → PruneFault → Type 0
-IsPlanFault dir l keeps e = IsPlanFaultFrom dir l (roots_of l) keeps e
+-- a held key lists this key, which is not held and is of a manifest kind
+abbrev pub IsUnknownListed : List Node → Descriptor → Type 0
+IsUnknownListed graph k = (from : Descriptor) × IsEdge graph from k × (has_key graph k ≡ false) × (kind_of k.media_type ≢ Leaf)
+
+-- why there is no plan of a prune that keeps each held key of a layout in a directory
+abbrev pub IsHeldPlanFault : {D : Type 0} → Device → LayoutState D → PruneFault → Type 0
+IsHeldPlanFault dir l (fault.Unknown k) = IsFirstUnheld l.graph l.opened k ⊎ (dir.is_honest → IsUnknownListed l.graph k)
+IsHeldPlanFault dir l e = IsCheckFault dir l.graph l.opened e
 
 -- a save may fail: reads may fail, or a put failed
 abbrev pub MayNotSave : Device → Device → Type 0

@@ -58,6 +58,14 @@ pub(crate) fn root_keys<D: Dir>(
     Ok(roots)
 }
 
+/// Returns the keys of the tags of a layout, and of the entries that a tag hides.
+pub(crate) fn tag_roots<D: Dir>(alloc: Global, layout: &Layout<D>) -> Result<Vec<Key>, NoMemory>
+    ensures { IfOk result (λ roots. roots.items ≡ roots_of layout.now) }
+{
+    let tags = layout.tags()?;
+    joined(named_keys(alloc, &tags)?, layout.shadowed_keys()?)
+}
+
 /// Returns copies of keys.
 fn copies(alloc: Global, keys: &[Key]) -> Result<Vec<Key>, NoMemory>
     ensures { IfOk result (λ all. all.items ≡ keys.now) }

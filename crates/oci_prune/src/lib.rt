@@ -1,4 +1,4 @@
-//! Says what belongs to keys of an image layout, and removes what no tag needs.
+//! Says what belongs to keys of an image layout, and removes what its index, or its tags, do not need.
 //!
 //! With a key *belong* the held keys that it lists, and the held keys that are *attached* to it, on
 //! and on. The manifests whose `subject` has its digest are attached, such as signatures. For a copy,
@@ -9,14 +9,19 @@
 //! some types are wanted, and [`referrers_of_types`] such referrers of one key. [`independent_tags`]
 //! returns the tags that are attached to no other key.
 //!
-//! [`plan_prune`] plans a prune and changes nothing. The *kept* keys of the [`PrunePlan`] belong to
-//! the tagged keys and those of the entries that a tag hides. All other held keys are removed, and
-//! all files under `blobs` that are named by a digest of neither a kept key nor one that a kept key
-//! lists. So are drafts that killed processes left. A layout without a tag is refused, and so is one
-//! in which a needed manifest is absent or any manifest is damaged, since nobody knows what it lists,
-//! or in which an entry of the index is no descriptor, since nobody knows what it needs.
-//! [`plan_prune_keeping`] keeps given keys too, with what belongs to them. [`plan_prune_after`] plans
-//! the prune of what a copy would leave, before there is one.
+//! [`free_keys`] returns the keys that no tag names, and that are wanted for themselves.
+//!
+//! [`plan_prune`] plans a prune that keeps each held key, so all that an entry of the index reaches,
+//! and changes nothing. Of the files under `blobs` that are named by a digest it removes those of
+//! neither a held key nor one that a held key lists, and the drafts that killed processes left. A
+//! layout is refused in which an entry or a listed manifest is absent or any manifest is damaged,
+//! since nobody knows what it lists, or in which an entry of the index is no descriptor, since nobody
+//! knows what it needs.
+//!
+//! [`plan_prune_keeping`] plans a prune that keeps what belongs to the tagged keys, to those of the
+//! entries that a tag hides, and to given keys. All other held keys are removed, with their files. A
+//! layout without a tag is refused too. [`plan_prune_after`] plans the prune of what a copy would
+//! leave, before there is one.
 //!
 //! [`prune`] does what is planned. It removes the files that no held key has, saves the index and
 //! then removes the other files, so whenever it is stopped, every tag and all that it reaches is
@@ -41,6 +46,7 @@ mod attachments;
 mod belonging;
 mod files;
 mod followers;
+mod free;
 mod held;
 mod kept;
 mod laws;
@@ -57,6 +63,7 @@ mod whole;
 pub use attachments::Attachments;
 pub use belonging::{Belonging, belonging_of};
 pub use followers::independent_tags;
+pub use free::free_keys;
 pub use laws::{belonging_is_reached, kept_is_reached};
 pub use leftovers::{plan_leftovers, prune_leftovers};
 pub use oci_prune_fault::PruneFault;

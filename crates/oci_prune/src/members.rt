@@ -97,7 +97,7 @@ fn visit<S: GraphSource>(
 }
 
 /// Adds a key to the members.
-fn add_member(members: &mut BTreeSet<Key>, key: &Key) -> Result<(), NoMemory>
+pub(crate) fn add_member(members: &mut BTreeSet<Key>, key: &Key) -> Result<(), NoMemory>
     ensures { OnOk result (HasOneMore key.now members.old members.new) }
 {
     members.insert(key.try_clone()?)?;

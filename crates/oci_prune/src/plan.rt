@@ -6,8 +6,8 @@ ghost use Rattle.oci_layout_store.specs.Entries.{said, unreadable_places};
 ghost use Rattle.oci_layout_store.specs.Layout.{manifests_of};
 ghost use Rattle.oci_prune.specs.After.{after_copy};
 ghost use Rattle.oci_prune.specs.Belongs.{AllKnown};
-ghost use Rattle.oci_prune.specs.Plan.{AreKept, IsPlanAfter, IsPrunePlan, IsSafe, RefersIf, roots_of, roots_with};
-ghost use Rattle.oci_prune.specs.Refusal.{IsEntryFault, IsFaultAfter, IsLinkFault, IsPlanFault, IsPlanFaultFrom, IsUnknownFault};
+ghost use Rattle.oci_prune.specs.Plan.{AreKept, IsPlanAfter, IsPrunePlan, IsSafe, KeepsEach, KnowsListed, RefersIf, roots_of, roots_with};
+ghost use Rattle.oci_prune.specs.Refusal.{ChecksWhole, IsEntryFault, IsFaultAfter, IsHeldPlanFault, IsLinkFault, IsPlanFaultFrom, IsUnknownFault};
 
 use crate::after::{AfterCopy, held_after};
 use crate::files::plan_files;
@@ -62,13 +62,69 @@ impl PrunedFile {
     }
 }
 
-/// Plans a prune of a layout: what no tag needs is to be removed. Changes nothing.
+/// Plans a prune of a layout that keeps each held key: what no entry of the index reaches is to be
+/// removed. Changes nothing.
 ///
-/// The kept keys are the tagged ones and those of the entries that a tag hides, with each kept key
-/// the held keys that it lists, and, if `keeps_referrers`, the held manifests whose `subject` has its
-/// digest. All other held keys are removed, and the files under `blobs` that are named by a digest
-/// of neither a kept key nor one that a kept key lists. So the file of a layer that was cut stays if
-/// its image does.
+/// All held keys are kept, so no key is removed. The files under `blobs` are removed that are named
+/// by a digest of neither a held key nor one that a held key lists. So the file of a layer that was
+/// cut stays if its image does.
+///
+/// No manifest is read. The time grows with the held keys, the keys that they list and the files,
+/// times a logarithm.
+///
+/// # Errors
+///
+/// - 96 `Unknown` if an entry of the opened index was not held: the first one. Checked first.
+/// - 96 `Unknown` if a manifest was damaged when the layout was opened, and is not held now: the
+///   first one. It may list what is needed. Checked second.
+/// - 73 `BadIndex` if an entry of the opened index is no descriptor: the first one. Checked third.
+/// - 98 `LinkedBlobs` if `blobs`, `blobs/sha256` or `blobs/sha512` is a link. Checked fourth.
+/// - 96 `Unknown` if a held key lists a key of a manifest kind that is not held.
+/// - 74 `Device` if a folder cannot be read.
+/// - 89 `Memory` if memory runs out.
+pub fn plan_prune<D: PrunableDir>(
+    alloc: Global,
+    layout: &Layout<D>,
+) -> Result<PrunePlan, PruneFault>
+    ensures kept { IfOk result (λ plan. KeepsEach layout.now.graph plan) }
+    ensures planned { IfOk result (λ plan. IsPrunePlan (D.device layout.now.dir) layout.now.graph
+        (roots_of layout.now) plan) }
+    ensures known { OnOk result (KnowsListed layout.now.graph) }
+    ensures checked { ChecksWhole layout.now.graph layout.now.opened result }
+    ensures linked { layout.now.opened.absent ≡ []
+        → first_missing layout.now.graph (manifests_of layout.now.opened.damaged) ≡ None
+        → unreadable_places (said layout.now.opened.content).entries ≡ []
+        → (D.device layout.now.dir).is_honest → (D.device layout.now.dir).link ≢ None
+        → IfErr result (IsLinkFault (D.device layout.now.dir)) }
+    ensures unlinked { OnOk result ((D.device layout.now.dir).is_honest
+        → (D.device layout.now.dir).link ≡ None) }
+    ensures cause { IfErr result (IsHeldPlanFault (D.device layout.now.dir) layout.now) }
+{
+    check_whole(layout, layout)?;
+    let held = held_keys(alloc, layout)?;
+    let kept = plan_keys(alloc, layout, &held, &held, false)?;
+    let files = plan_files(alloc, layout, layout, &held, &kept)?;
+    let drafts = layout.leftovers()?;
+    // The contract of `tags` states that the key of each tag is held, from which the clause `planned`
+    // follows.
+    let _ = layout.tags()?;
+    Ok(PrunePlan {
+        kept,
+        removed: Vec::new(alloc),
+        files,
+        drafts,
+    })
+}
+
+/// Plans a prune of a layout that keeps what its tags need, and these keys with what belongs to them.
+/// Changes nothing. A given key that is not held is passed over if its kind is not that of a manifest.
+///
+/// The kept keys are the tagged ones, those of the entries that a tag hides, and the given ones, with
+/// each kept key the held keys that it lists, and, if `keeps_referrers`, the held manifests whose
+/// `subject` has its digest. All other held keys are removed, and the files that
+/// [`plan_prune`] would remove if these were not held. Without referrers the kept keys are exactly what
+/// is held and reached from the tags, the entries that a tag hides, and the given keys, whatever the
+/// bytes of the layout are.
 ///
 /// If `keeps_referrers`, each held manifest of a kind that may have a subject is read once; Docker
 /// manifests are not. The time grows with the held keys, the keys that they list and the files,
@@ -76,70 +132,10 @@ impl PrunedFile {
 ///
 /// # Errors
 ///
-/// - 97 `NoTags` if the layout has no tag. Checked first.
-/// - 96 `Unknown` if an entry of the opened index was not held: the first one. Checked second.
-/// - 96 `Unknown` if a manifest was damaged when the layout was opened, and is not held now: the
-///   first one. It may list what is needed, or refer to a kept key. Checked third.
-/// - 73 `BadIndex` if an entry of the opened index is no descriptor: the first one. Checked fourth.
-/// - 98 `LinkedBlobs` if `blobs`, `blobs/sha256` or `blobs/sha512` is a link. Checked fifth.
+/// - 97 `NoTags` if the layout has no tag. Checked first. Then those of [`plan_prune`], in its order.
 /// - 77 `BadManifest` if such a manifest cannot be read, and 88 `Fetch` if its bytes cannot be
 ///   fetched; only if `keeps_referrers`.
-/// - 96 `Unknown` if a kept key lists a key of a manifest kind that is not held.
-/// - 74 `Device` if a folder cannot be read.
-/// - 89 `Memory` if memory runs out.
-pub fn plan_prune<D: PrunableDir>(
-    alloc: Global,
-    layout: &Layout<D>,
-    keeps_referrers: bool,
-) -> Result<PrunePlan, PruneFault>
-    ensures kept { IfOk result (λ plan. (D.device layout.now.dir).is_honest
-        → AreKept layout.now.graph (roots_of layout.now) (RefersIf keeps_referrers
-        (meaning (D.device layout.now.dir) layout.now.graph layout.now.tags)) plan.kept) }
-    ensures planned { IfOk result (λ plan. IsPrunePlan (D.device layout.now.dir) layout.now.graph
-        (roots_of layout.now) plan) }
-    ensures known { OnOk result ((D.device layout.now.dir).is_honest
-        → AllKnown layout.now.graph (roots_of layout.now) (RefersIf keeps_referrers
-        (meaning (D.device layout.now.dir) layout.now.graph layout.now.tags))) }
-    ensures tagged { OnOk result (layout.now.tags ≢ []) }
-    ensures whole { OnOk result (layout.now.opened.absent ≡ []) }
-    ensures sound { OnOk result (HasAll layout.now.graph
-        (manifests_of layout.now.opened.damaged)) }
-    ensures readable { OnOk result
-        (unreadable_places (said layout.now.opened.content).entries ≡ []) }
-    ensures unlinked { OnOk result ((D.device layout.now.dir).is_honest
-        → (D.device layout.now.dir).link ≡ None) }
-    ensures first { layout.now.tags ≡ [] → IfErr result (λ e. (e ≡ PruneFault.NoTags)
-        ⊎ (e ≡ PruneFault.Memory)) }
-    ensures second { layout.now.tags ≢ [] → layout.now.opened.absent ≢ []
-        → IfErr result (IsUnknownFault (λ k. slice_get layout.now.opened.absent 0 ≡ Some k)) }
-    ensures third { layout.now.tags ≢ [] → layout.now.opened.absent ≡ []
-        → first_missing layout.now.graph (manifests_of layout.now.opened.damaged) ≢ None
-        → IfErr result (IsUnknownFault (λ k.
-        first_missing layout.now.graph (manifests_of layout.now.opened.damaged) ≡ Some k)) }
-    ensures fourth { layout.now.tags ≢ [] → layout.now.opened.absent ≡ []
-        → first_missing layout.now.graph (manifests_of layout.now.opened.damaged) ≡ None
-        → unreadable_places (said layout.now.opened.content).entries ≢ []
-        → IfErr result (IsEntryFault (said layout.now.opened.content).entries) }
-    ensures fifth { layout.now.tags ≢ [] → layout.now.opened.absent ≡ []
-        → first_missing layout.now.graph (manifests_of layout.now.opened.damaged) ≡ None
-        → unreadable_places (said layout.now.opened.content).entries ≡ []
-        → (D.device layout.now.dir).is_honest → (D.device layout.now.dir).link ≢ None
-        → IfErr result (IsLinkFault (D.device layout.now.dir)) }
-    ensures cause { IfErr result (IsPlanFault (D.device layout.now.dir) layout.now keeps_referrers) }
-{
-    plan_prune_keeping(alloc, layout, &[], keeps_referrers)
-}
-
-/// Plans a prune of a layout as [`plan_prune`] does, but keeps these keys too, with what belongs to
-/// them. Changes nothing. A key that is not held is passed over if its kind is not that of a
-/// manifest.
-///
-/// Without referrers the kept keys are exactly what is held and reached from the tags, the entries
-/// that a tag hides, and these keys, whatever the bytes of the layout are.
-///
-/// # Errors
-///
-/// As [`plan_prune`], and 96 `Unknown` also if one of these keys is of a manifest kind and not held.
+/// - 96 `Unknown` if a given key, or a key that a kept key lists, is of a manifest kind and not held.
 pub fn plan_prune_keeping<D: PrunableDir>(
     alloc: Global,
     layout: &Layout<D>,

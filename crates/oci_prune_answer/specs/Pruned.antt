@@ -1,5 +1,5 @@
 -- What a prune prints.
-use Rattle.std.specs.Prelude.{◌≡◌, ◌+◌, ◌-◌, ◌^◌, ◌++◌, ℕ, Bool, false, if◌then◌else◌, List, [], codes, flat_map, length, map, min, string_bytes, sum_by, IfErr, OnOk, IsPermutation, IsSortedByKey}
+use Rattle.std.specs.Prelude.{◌≡◌, ◌==◌, ◌+◌, ◌-◌, ◌^◌, ◌++◌, ℕ, Bool, false, Option, None, Some, if◌then◌else◌, List, [], codes, flat_map, length, map, min, string_bytes, sum_by, IfErr, OnOk, IsPermutation, IsSortedByKey}
 use Rattle.std.specs.Cmp.Lexicographic.{slice_cmp}
 use Rattle.std.specs.Ordering.{nat_cmp}
 use Rattle.std.specs.Fmt.{decimal}
@@ -26,14 +26,19 @@ file_line file = if file.is_held then [] else codes "removed-file " ++ string_by
 abbrev pub file_lines : List RemovedFile → List ℕ
 file_lines files = flat_map file_line files
 
--- the last line, of the counts of keys and files
-abbrev pub counts_line : PruneAnswer → List ℕ
-counts_line a = codes "kept " ++ decimal a.kept ++ codes " removed " ++ decimal (length a.removed.items) ++ codes " files " ++ decimal (length a.files.items)
-    ++ codes " bytes " ++ decimal a.bytes.0 ++ codes "\n"
+-- the end of the last line: how many free keys stay, if they were counted and there is one
+abbrev pub left_text : Option ℕ → List ℕ
+left_text None = codes "\n"
+left_text (Some n) = if n == 0 then codes "\n" else codes " untagged " ++ decimal n ++ codes " (see --untagged)\n"
+
+-- the last line up to there, of the counts of keys and files
+abbrev pub counts_text : PruneAnswer → List ℕ
+counts_text a = codes "kept " ++ decimal a.kept ++ codes " removed " ++ decimal (length a.removed.items) ++ codes " files " ++ decimal (length a.files.items)
+    ++ codes " bytes " ++ decimal a.bytes.0
 
 -- the lines of an answer
 abbrev pub prune_text : PruneAnswer → List ℕ
-prune_text a = flat_map removed_line a.removed.items ++ (file_lines a.files.items ++ counts_line a)
+prune_text a = flat_map removed_line a.removed.items ++ (file_lines a.files.items ++ (counts_text a ++ left_text a.untagged_left))
 
 -- ---- the files
 

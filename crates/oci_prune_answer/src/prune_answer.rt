@@ -3,7 +3,7 @@ ghost use Rattle.std.specs.Fmt.{DisplaysOnOk};
 ghost use Rattle.std.specs.Io.KnownBytes.{Appends};
 ghost use Rattle.oci_dir.specs.Prunable.{by_name};
 ghost use Rattle.oci_prune.specs.Pruned.{flagged};
-ghost use Rattle.oci_prune_answer.specs.Pruned.{as_shown, counts_line, file_line, file_lines, of_draft, of_file, shown, ShowsPlan, ShowsPruned};
+ghost use Rattle.oci_prune_answer.specs.Pruned.{as_shown, counts_text, file_line, file_lines, of_draft, of_file, shown, ShowsPlan, ShowsPruned};
 
 use oci_digest::NoMemory;
 use oci_manifest::Key;
@@ -20,7 +20,8 @@ use std::io::Write;
 ///
 /// It prints a line for each held key, in key order, and then a line for each file that no held key
 /// had, in byte order of the paths, with its length. The last line counts the kept and the removed
-/// keys, and all files that were removed, with the sum of their lengths.
+/// keys, and all files that were removed, with the sum of their lengths. If free keys stay, it counts
+/// them too.
 #[derive(Drop, Serialize)]
 pub struct PruneAnswer {
     /// The removed keys, in key order.
@@ -31,6 +32,9 @@ pub struct PruneAnswer {
     kept: usize,
     /// The sum of the lengths of the files.
     bytes: Sum,
+    /// The number of free keys that stay, if they were counted.
+    #[serde(rename = "untaggedLeft", skip_serializing_if = "Option::is_none")]
+    untagged_left: Option<usize>,
 }
 
 /// A file that a prune removed.
@@ -46,13 +50,20 @@ struct RemovedFile {
 
 impl PruneAnswer {
     /// Returns what the prune of a plan removed: the keys of the plan, if the index is saved, and those
-    /// of its files and drafts that went. If it is not saved, all keys are kept.
+    /// of its files and drafts that went. If it is not saved, all keys are kept. `untagged_left` is the
+    /// number of free keys that stay, if they were counted.
     ///
     /// # Errors
     ///
     /// Returns [`NoMemory`] if an allocation fails.
-    pub fn of(alloc: Global, plan: PrunePlan, pruned: &Pruned) -> Result<PruneAnswer, NoMemory>
-        ensures { IfOk result (ShowsPruned plan pruned.now) }
+    pub fn of(
+        alloc: Global,
+        plan: PrunePlan,
+        pruned: &Pruned,
+        untagged_left: Option<usize>,
+    ) -> Result<PruneAnswer, NoMemory>
+        ensures shown { IfOk result (ShowsPruned plan pruned.now) }
+        ensures left { IfOk result (λ answer. answer.untagged_left ≡ untagged_left) }
     {
         let PrunePlan {
             kept,
@@ -73,16 +84,23 @@ impl PruneAnswer {
             bytes: sum_of_lengths(&gone),
             files: gone,
             kept,
+            untagged_left,
         })
     }
 
-    /// Returns what the prune of a plan would remove: all that is planned.
+    /// Returns what the prune of a plan would remove: all that is planned. `untagged_left` is the number
+    /// of free keys that would stay, if they were counted.
     ///
     /// # Errors
     ///
     /// Returns [`NoMemory`] if an allocation fails.
-    pub fn planned(alloc: Global, plan: PrunePlan) -> Result<PruneAnswer, NoMemory>
-        ensures { IfOk result (ShowsPlan plan) }
+    pub fn planned(
+        alloc: Global,
+        plan: PrunePlan,
+        untagged_left: Option<usize>,
+    ) -> Result<PruneAnswer, NoMemory>
+        ensures shown { IfOk result (ShowsPlan plan) }
+        ensures left { IfOk result (λ answer. answer.untagged_left ≡ untagged_left) }
     {
         let pruned = Pruned {
             saved: Ok(()),
@@ -90,19 +108,41 @@ impl PruneAnswer {
             drafts: vec![in alloc; true; plan.drafts.len()]?,
             fault: None,
         };
-        PruneAnswer::of(alloc, plan, &pruned)
+        PruneAnswer::of(alloc, plan, &pruned, untagged_left)
     }
 
-    /// Prints the line of the counts.
+    /// Prints the counts.
     fn fmt_counts<W: fmt::Write>(&self, f: &mut fmt::Formatter<W>) -> fmt::Result
-        ensures { DisplaysOnOk W.write_str_gives f.old result (Some (counts_line self.now)) f.new }
+        ensures { DisplaysOnOk W.write_str_gives f.old result (Some (counts_text self.now)) f.new }
     {
         let (kept, removed) = (self.kept, self.removed.len());
         let (files, bytes) = (self.files.len(), self.bytes);
-        writeln!(
+        write!(
             f,
             "kept {kept} removed {removed} files {files} bytes {bytes}"
         )
+    }
+}
+
+/// The number of free keys that stay, if they were counted. `Display` prints it if there is one, and
+/// then ends the line.
+#[derive(Clone, Copy)]
+struct UntaggedLeft(Option<usize>);
+
+impl Display for UntaggedLeft {
+    ghost use Rattle.std.specs.Prelude.{Some};
+    ghost use Rattle.oci_prune_answer.specs.Pruned.{left_text};
+
+    ghost output = { λ left. Some (left_text left.0) };
+
+    fn fmt<W: fmt::Write>(&self, f: &mut fmt::Formatter<W>) -> fmt::Result {
+        let Some(count) = self.0 else {
+            return f.write_str("\n");
+        };
+        if count == 0 {
+            return f.write_str("\n");
+        }
+        writeln!(f, " untagged {count} (see --untagged)")
     }
 }
 
@@ -116,7 +156,8 @@ impl Display for PruneAnswer {
             writeln!(f, "removed {key}")?;
         }
         fmt_files(&self.files, f)?;
-        self.fmt_counts(f)
+        self.fmt_counts(f)?;
+        write!(f, "{}", UntaggedLeft(self.untagged_left))
     }
 }
 

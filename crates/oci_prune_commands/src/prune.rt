@@ -1,14 +1,21 @@
-ghost use Rattle.std.specs.Prelude.{◌≡◌, true, false, None, IfOk, OnOk};
+ghost use Rattle.std.specs.Prelude.{◌≡◌, [], true, false, None, IfErr, IfOk, OnOk};
 ghost use Rattle.std.specs.Io.KnownBytes.{Appends};
+ghost use Rattle.oci_layout_store.specs.BlobFiles.{AreBlobs};
+ghost use Rattle.oci_program.specs.Indexed.{HasIndexOrNoBlobs, IsRefusedWithout};
 ghost use Rattle.oci_prune_answer.specs.Pruned.{prune_text};
 ghost use Rattle.oci_prune_answer.specs.declared.prune_answer.PruneAnswer.{PruneAnswer};
 ghost use Rattle.oci_prune_commands.specs.PrunedLayout.{
+  CountsFree,
+  HasEntriesOrNoBlobs,
   IsDryPrune,
   IsPlannedBy,
   IsPrunedBy,
   IsPruneRun,
-  KeepsNeeded,
+  KeepsHeldKeys,
+  KeepsPlanned,
   LosesLeftovers,
+  PlansHeld,
+  PlansTagged,
 };
 
 use oci_command_line::PruneWords;
@@ -16,22 +23,27 @@ use oci_dir::PrunableDir;
 use oci_folder::{FolderLock, Lockable};
 use oci_layout_store::Layout;
 use oci_program::{
-    Form, Outcome, ProgramFault, check_is_layout, lock_folder, open_settled, print_answer,
+    Form, Outcome, ProgramFault, check_index, check_is_layout, lock_folder, open_settled,
+    print_answer,
 };
-use oci_prune::{PrunePlan, Pruned, plan_leftovers, plan_prune, prune, prune_leftovers};
+use oci_prune::{
+    PrunePlan, Pruned, free_keys, plan_leftovers, plan_prune, plan_prune_keeping, prune,
+    prune_leftovers,
+};
 use oci_prune_answer::{PruneAnswer, print_answer_with_fault};
 use oci_prune_fault::PruneFault;
 use std::alloc::Global;
 use std::io::Write;
 use std::rt::Files;
 
-/// `prune FOLDER`: removes from the layout in a directory what no tag needs, and prints in this
-/// form what was removed. With `--leftovers` it removes only the files that killed copies left, and
-/// needs no tag. The directory is the words' folder, which is locked from before the
-/// layout is opened until after the last file is removed. With `--dry-run` nothing is locked or
-/// changed, and the same is printed. `F` is [`ProgramFault`] or another type that is made from one.
-/// A power cut at any moment leaves the layout with all that it had, or with what its tags need; this
-/// is a clause of [`prune`](oci_prune::prune), its core.
+/// `prune FOLDER`: removes from the layout in a directory the files that no entry of its index needs,
+/// and prints in this form what was removed. With `--untagged` it removes what no tag needs, with the
+/// entries of that. With `--leftovers` it removes only the files that killed copies left. The directory
+/// is the words' folder, which is locked from before the layout is opened until after the last file is
+/// removed. With `--dry-run` nothing is locked or changed, and the same is printed. `F` is
+/// [`ProgramFault`] or another type that is made from one. A power cut at any moment leaves the layout
+/// with all that it had, or with what its tags need; this is a clause of
+/// [`prune`](oci_prune::prune), its core.
 ///
 /// # Errors
 ///
@@ -41,10 +53,12 @@ use std::rt::Files;
 ///   locked, if `index.json` cannot be written, or if it is not known whether it is on the disk. If
 ///   the new `index.json` is not saved, what went before is printed: files that no held blob has.
 /// - 99 `Locked` if another process has the lock, and the words say not to wait.
-/// - 97 `NoTags` if the layout has no tag. This and the next three not with `--leftovers`.
+/// - 97 `NoTags` if the layout has no tag; only with `--untagged`. The next four not with
+///   `--leftovers`.
+/// - 109 `NoIndex` if there are blobs and no `index.json`, or, without `--untagged`, one without entries.
 /// - 96 `Unknown` if it is not known what a manifest needs, since it is missing or damaged.
 /// - 98 `LinkedBlobs` if a folder of blobs is a link.
-/// - 88 `Fetch` and 77 `BadManifest` if a held manifest cannot be read.
+/// - 88 `Fetch` and 77 `BadManifest` with `--untagged`, if a held manifest cannot be read.
 /// - 79 `NotRemoved` if a file cannot be removed. The others are removed and printed.
 /// - 94 `Output` if `out` cannot be written. The prune is done.
 /// - Out of memory, at any point.
@@ -89,9 +103,13 @@ fn plan_folder<D: PrunableDir + Drop>(
 ) -> Result<PruneAnswer, ProgramFault>
     ensures { IfOk result (IsDryPrune D.device dir words.now) }
 {
+    check_is_layout(&dir)?;
+    check_index_for(&dir, words)?;
     let layout = Layout::open_as_is(alloc, dir)?;
+    check_entries_for(&layout, words)?;
     let plan = plan_by(alloc, &layout, words)?;
-    Ok(PruneAnswer::planned(alloc, plan)?)
+    let left = untagged_left(alloc, &layout, words)?;
+    Ok(PruneAnswer::planned(alloc, plan, left)?)
 }
 
 /// Locks the folder of a layout, and prunes the layout. Returns what was removed, and the fault of
@@ -120,10 +138,84 @@ fn prune_under_lock<R: Files + AllocGlobal, D: PrunableDir + Drop>(
     ensures { IfOk result (λ done. done.1 ≡ None → IsPruneRun D.device dir words.now
         done.0) }
 {
+    check_index_for(&dir, words)?;
     let mut layout = open_settled(alloc, dir)?;
+    check_entries_for(&layout, words)?;
+    let left = untagged_left(alloc, &layout, words)?;
     let (plan, pruned) = prune_layout(alloc, &mut layout, words)?;
-    let answer = PruneAnswer::of(alloc, plan, &pruned)?;
+    let answer = PruneAnswer::of(alloc, plan, &pruned, left)?;
     Ok((answer, pruned.into_fault()))
+}
+
+/// Refuses a directory that has blobs and no index, unless only leftovers are removed.
+fn check_index_for<D: PrunableDir>(dir: &D, words: &PruneWords<'_>) -> Result<(), ProgramFault>
+    ensures indexed { OnOk result (words.now.only_leftovers ≡ false
+        → (D.device dir.now).is_honest → HasIndexOrNoBlobs (D.device dir.now).file) }
+    ensures cause { IfErr result (λ e. (words.now.only_leftovers ≡ false)
+        × IsRefusedWithout (D.device dir.now) (HasIndexOrNoBlobs (D.device dir.now).file) e) }
+{
+    if words.only_leftovers {
+        return Ok(());
+    }
+    check_index(dir)
+}
+
+/// Refuses a layout that has blobs and no entry, if the words ask for a prune that keeps each held key.
+fn check_entries_for<D: PrunableDir>(
+    layout: &Layout<D>,
+    words: &PruneWords<'_>,
+) -> Result<(), ProgramFault>
+    ensures { OnOk result (KeepsHeldKeys words.now
+        → HasEntriesOrNoBlobs (D.device layout.now.dir) layout.now) }
+{
+    if words.only_leftovers || words.removes_untagged {
+        return Ok(());
+    }
+    check_entries(layout)
+}
+
+/// Refuses a layout that has blobs and no entry: a prune that keeps what the entries reach would remove
+/// every blob.
+fn check_entries<D: PrunableDir>(layout: &Layout<D>) -> Result<(), ProgramFault>
+    ensures { OnOk result (HasEntriesOrNoBlobs (D.device layout.now.dir) layout.now) }
+{
+    if layout.entries().is_empty() {
+        check_no_blobs(layout)
+    } else {
+        Ok(())
+    }
+}
+
+/// Refuses a layout that has blobs.
+fn check_no_blobs<D: PrunableDir>(layout: &Layout<D>) -> Result<(), ProgramFault>
+    ensures { OnOk result ((D.device layout.now.dir).is_honest
+        → AreBlobs (D.device layout.now.dir).file []) }
+{
+    match layout.blobs() {
+        Ok(blobs) => {
+            if blobs.is_empty() {
+                Ok(())
+            } else {
+                Err(ProgramFault::NoIndex)
+            }
+        }
+        Err(fault) => Err(ProgramFault::Layout(fault)),
+    }
+}
+
+/// Returns how many free keys a prune leaves, if the words ask for one that keeps each held key.
+fn untagged_left<D: PrunableDir>(
+    alloc: Global,
+    layout: &Layout<D>,
+    words: &PruneWords<'_>,
+) -> Result<Option<usize>, PruneFault>
+    ensures { IfOk result (CountsFree D.device words.now layout.now) }
+{
+    if words.only_leftovers || words.removes_untagged {
+        return Ok(None);
+    }
+    let free = free_keys(alloc, layout)?;
+    Ok(Some(free.len()))
 }
 
 /// Prunes a layout as the words ask for. Returns the plan, and what was removed.
@@ -137,8 +229,10 @@ fn prune_layout<D: PrunableDir>(
 {
     if words.only_leftovers {
         remove_leftovers(alloc, layout)
+    } else if words.removes_untagged {
+        remove_untagged(alloc, layout)
     } else {
-        remove_unneeded(alloc, layout, words.keeps_referrers)
+        remove_unreached(alloc, layout)
     }
 }
 
@@ -152,8 +246,10 @@ fn plan_by<D: PrunableDir>(
 {
     if words.only_leftovers {
         plan_leftovers(alloc, layout)
+    } else if words.removes_untagged {
+        plan_prune_keeping(alloc, layout, &[], true)
     } else {
-        plan_prune(alloc, layout, words.keeps_referrers)
+        plan_prune(alloc, layout)
     }
 }
 
@@ -170,15 +266,29 @@ fn remove_leftovers<D: PrunableDir>(
 }
 
 /// Removes from a layout what no tag needs. Returns the plan, and what was removed.
-fn remove_unneeded<D: PrunableDir>(
+fn remove_untagged<D: PrunableDir>(
     alloc: Global,
     layout: &mut Layout<D>,
-    keeps_referrers: bool,
 ) -> Result<(PrunePlan, Pruned), PruneFault>
-    ensures { IfOk result (λ done. KeepsNeeded D.device keeps_referrers layout.old layout.new
+    ensures planned { IfOk result (λ done. PlansTagged D.device layout.old done.0) }
+    ensures pruned { IfOk result (λ done. KeepsPlanned D.device layout.old layout.new
         done.0 done.1) }
 {
-    let plan = plan_prune(alloc, layout, keeps_referrers)?;
+    let plan = plan_prune_keeping(alloc, layout, &[], true)?;
+    let pruned = prune(alloc, layout, &plan)?;
+    Ok((plan, pruned))
+}
+
+/// Removes from a layout the files that no held key needs. Returns the plan, and what was removed.
+fn remove_unreached<D: PrunableDir>(
+    alloc: Global,
+    layout: &mut Layout<D>,
+) -> Result<(PrunePlan, Pruned), PruneFault>
+    ensures planned { IfOk result (λ done. PlansHeld D.device layout.old done.0) }
+    ensures pruned { IfOk result (λ done. KeepsPlanned D.device layout.old layout.new
+        done.0 done.1) }
+{
+    let plan = plan_prune(alloc, layout)?;
     let pruned = prune(alloc, layout, &plan)?;
     Ok((plan, pruned))
 }

@@ -184,11 +184,11 @@ fn artifact_type() -> Argument {
 /// required argument that conflicts with a given one.
 fn prune() -> Argument {
     let help =
-        "With --all: makes DST a mirror, and deletes its tags that SRC does not have and what no tag needs, \
-         as `prune` does. With --referrers also what is attached only in DST. With --match, tags of DST \
+        "With --all: makes DST a mirror: deletes its tags that SRC does not have, and what no tag needs. \
+         With --referrers also what is attached only in DST. With --match, tags of DST \
          that match no pattern stay. With both, one made of a digest stays only if SRC has it or another of \
          these needs its image. Refused if SRC has an unreadable entry (73) or a damaged manifest (96; with \
-         --referrers 75, 77), or lacks an entry's blob (96)";
+         --referrers 75, 77), or lacks an entry's blob (96), or DST has blobs but no `index.json` (109)";
     Argument {
         conflicts: &["destination"],
         needs: &["all"],

@@ -3,46 +3,50 @@ use crate::words::text::CommandText;
 
 const EXAMPLES_OF_PRUNE: &str = "\
 Examples:
-  ocicp prune --dry-run mirror       prints what a prune would remove
-  ocicp prune mirror                 removes what no tag needs
-  ocicp prune --no-referrers mirror  also removes signatures and SBOMs that no tag reaches
-  ocicp prune --leftovers mirror     removes only the files that killed copies left";
+  ocicp prune --dry-run mirror   prints what a prune would remove
+  ocicp prune mirror             removes the files that no entry of index.json needs
+  ocicp prune --untagged mirror  also removes the images without a tag
+  ocicp prune --leftovers mirror removes only the files that killed copies left";
 
-/// `prune [--dry-run] [--no-referrers | --leftovers] [--no-wait] [--no-sync] FOLDER`
+/// `prune [--dry-run] [--untagged | --leftovers] [--no-wait] [--no-sync] FOLDER`
 pub(crate) const PRUNE: CommandText = CommandText {
     name: "prune",
-    about: "Removes the blobs of a layout that no tag needs, to free their space",
+    about: "Removes the files of a layout that `index.json` does not need, to free their space",
     details: Some(
-        "Removes the blobs of a layout that no tag needs, to free their space.\n\n\
-         Every tagged blob is kept, and that of each earlier entry of a tag in `index.json`, with \
-         everything that it reaches: the config and the layers of an image, the images of an index, the \
-         subject of a referrer. With each kept blob its referrers are kept too, such as signatures and \
-         SBOMs, with everything that these reach: they are the manifests of the layout whose `subject` has \
-         the digest of that blob. An index is not kept because it lists a kept blob. \
-         Layers that are not to be distributed are not kept, as `copy` does not copy them. A manifest of \
-         a type that `copy` does not read, such as Docker's schema 1, counts as a blob that lists nothing.\n\n\
-         All other blobs are removed, with their entries in `index.json`. A file in `blobs/sha256` or \
-         `blobs/sha512` whose name is a digest stays only if a kept blob has that digest, or a blob that \
-         one lists. Files that a killed copy left are removed, and all other files stay. With --leftovers \
-         only files that killed copies left are removed, also if the layout has no tags.\n\n\
+        "Removes the files of a layout that `index.json` does not need, to free their space.\n\n\
+         Everything that an entry of `index.json` reaches is kept, with a tag or without: the config and \
+         the layers of an image, the images of an index, a signature with its subject. A file in \
+         `blobs/sha256` or `blobs/sha512` whose name is a digest is removed if no kept blob has that \
+         digest, and none lists a blob that has it. Files that a killed copy left are removed too, and all \
+         other files stay. Layers that are not to be distributed are not kept, as `copy` does not copy \
+         them. A manifest of a type that `copy` does not read, such as Docker's schema 1, counts as a blob \
+         that lists nothing.\n\n\
+         With --untagged, what no tag needs is removed too, with its entries in `index.json`. Every tagged \
+         blob is kept, and that of each earlier entry of a tag, with everything that it reaches. With each \
+         kept blob its referrers are kept, such as signatures and SBOMs, with everything that these reach: \
+         they are the manifests of the layout whose `subject` has the digest of that blob. An index is not \
+         kept because it lists a kept blob. With --leftovers only files that killed copies left are \
+         removed.\n\n\
          Prints `removed` with the digest, the size and the media type of each blob that is removed, and \
          `removed-file` with the path and the length of each other file. The last line counts the blobs \
-         `kept` and `removed`, and all `files` that are removed, with their `bytes`.\n\n\
-         Refused, before anything is changed, but not with --leftovers: a layout without tags (97); a damaged manifest, or a \
-         missing blob that is an entry of `index.json` or a manifest that a kept manifest lists (96), \
-         since it is not known what it needs; an entry of `index.json` that is no descriptor (73); a \
-         folder `blobs`, `blobs/sha256` or `blobs/sha512` that is \
-         a symbolic link (98), since another layout may need the blobs there; a manifest whose file cannot be \
-         read. FOLDER is not created, and cannot be an archive (95).\n\n\
+         `kept` and `removed`, and all `files` that are removed, with their `bytes`. If images without a \
+         tag stay, it counts them after `untagged`: no manifest lists them but as its `subject`, and their \
+         own subject is not there.\n\n\
+         Refused, before anything is changed, but not with --leftovers: a damaged manifest, or a missing \
+         blob that is an entry of `index.json` or a manifest that a kept manifest lists (96), since it is \
+         not known what it needs; an entry of `index.json` that is no descriptor (73); a folder `blobs`, \
+         `blobs/sha256` or `blobs/sha512` that is a symbolic link (98), since another layout may need the \
+         blobs there; a folder with blobs and no `index.json`, or one without entries (109); with \
+         --untagged a layout without tags (97). FOLDER is not created, and cannot be an archive (95).\n\n\
          Files that no blob of the layout has go first, since `index.json` does not need them; on a full disk \
          they make room. Then `index.json` is saved, if a blob is removed, and is on the disk before a file \
          of such a blob goes, unless --no-sync is given. If the prune is killed, or a file cannot be \
-         removed (79), as when a folder is in its place, no tag has lost anything, and the next prune removes the rest. If `index.json` cannot \
-         be saved (74), all blobs stay, and what went is printed. \
-         `index.json` is written anew, without the entries of removed blobs. The other entries keep all that \
-         other tools wrote into them, such as `platform` and annotations.\n\n\
+         removed (79), as when a folder is in its place, no tag has lost anything, and the next prune removes \
+         the rest. If `index.json` cannot be saved (74), all blobs stay, and what went is printed. The other \
+         entries of `index.json` keep all that other tools wrote into them, such as `platform` and \
+         annotations.\n\n\
          Locks FOLDER, but not for --dry-run. While another process on the same machine has the lock, it \
-         waits.",
+         waits. Other tools do not heed the lock: no prune may run while one of them writes into FOLDER.",
     ),
     usage: "ocicp prune [OPTIONS] <FOLDER>",
     examples: EXAMPLES_OF_PRUNE,
@@ -56,8 +60,8 @@ pub(crate) fn prune_arguments() -> [Argument; 8] {
             "Changes nothing and locks nothing. Prints what would be written or removed, but no tags that would be set",
         ),
         flag(
-            "no-referrers",
-            "Removes also the referrers of kept blobs that no tag reaches, such as signatures and SBOMs",
+            "untagged",
+            "Removes also what no tag needs, such as images without a tag",
         ),
         leftovers(),
         hint(),
@@ -71,10 +75,10 @@ pub(crate) fn prune_arguments() -> [Argument; 8] {
 /// `--leftovers`
 fn leftovers() -> Argument {
     Argument {
-        conflicts: &["no-referrers"],
+        conflicts: &["untagged"],
         ..flag(
             "leftovers",
-            "Removes only the files that killed copies left, also if the layout has no tags",
+            "Removes only the files that killed copies left",
         )
     }
 }

@@ -9,7 +9,7 @@ pub(crate) const TAG: CommandText = CommandText {
     about: "Sets a tag of a layout to the blob that a reference resolves to",
     details: Some(
         "Sets a tag of a layout to the blob that a reference resolves to. If NEWTAG names another blob \
-         already, it moves, and that blob stays until a `prune`.\n\n\
+         already, it moves, and that blob stays until a `prune --untagged`.\n\n\
          Prints `tagged` with the digest, the size and the media type of the blob. An empty NEWTAG or REF \
          (35), and a REF that no tag and no blob has (36), are refused, and nothing is changed. FOLDER is \
          not created, and cannot be an archive (95).\n\n\
@@ -40,7 +40,7 @@ pub(crate) const UNTAG: CommandText = CommandText {
     about: "Removes a tag from a layout, and keeps the blob that it names",
     details: Some(
         "Removes a tag from a layout. The blob that it names stays, with everything that it reaches; \
-         `prune` removes blobs that no tag needs.\n\n\
+         `prune --untagged` removes blobs that no tag needs.\n\n\
          Prints `untagged` with the digest, the size and the media type of the blob of each entry of \
          `index.json` that had the tag. The last one is what the tag named. An entry that is no descriptor \
          has `-` in their place.\n\n\

@@ -3,7 +3,10 @@
 use bytes::Bytes;
 use oci_layout::{Dir, Layout, LayoutFault, MemDir, PrunableDir};
 use oci_manifest::Key;
-use oci_prune::{PruneFault, Pruned, plan_leftovers, plan_prune, prune, prune_leftovers};
+use oci_prune::{
+    PruneFault, Pruned, free_keys, plan_leftovers, plan_prune, plan_prune_keeping, prune,
+    prune_leftovers,
+};
 use oci_store::{Dest, Tagger, Untagger};
 use std::alloc::Global;
 use std::test::Fail;
@@ -68,9 +71,9 @@ fn count(flags: &[bool]) -> usize {
     flags.iter().filter(|flag| **flag).count()
 }
 
-/// Prunes a layout.
+/// Prunes a layout of what its tags do not need.
 fn pruned(alloc: Global, layout: &mut Layout<MemDir>) -> Result<Pruned, Fail> {
-    let plan = plan_prune(alloc, layout, true)?;
+    let plan = plan_prune_keeping(alloc, layout, &[], true)?;
     Ok(prune(alloc, layout, &plan)?)
 }
 
@@ -88,6 +91,26 @@ fn pruned_whole(rt: HostRuntime) -> Result<(), Fail> {
     assert_eq!(rt;
         told(rt.alloc(), &layout)?.as_str(),
         "1 blobs 4 bytes 0 drafts"
+    );
+    Ok(())
+}
+
+/// A prune that keeps each held key removes the file that no key has, and the draft. The layer without
+/// a tag is free.
+#[test]
+fn pruned_of_unreached(rt: HostRuntime) -> Result<(), Fail> {
+    let mut layout = made(rt.alloc(), MemDir::new(rt.alloc()))?;
+    assert_eq!(rt; free_keys(rt.alloc(), &layout)?.len(), 1);
+    let plan = plan_prune(rt.alloc(), &layout)?;
+    assert_eq!(rt;
+        (plan.kept.len(), plan.removed.len(), plan.files.len()),
+        (2, 0, 1)
+    );
+    let done = prune(rt.alloc(), &mut layout, &plan)?;
+    assert!(rt; done.into_fault().is_none());
+    assert_eq!(rt;
+        told(rt.alloc(), &layout)?.as_str(),
+        "2 blobs 9 bytes 0 drafts"
     );
     Ok(())
 }

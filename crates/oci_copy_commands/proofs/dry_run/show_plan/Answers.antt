@@ -17,6 +17,7 @@ returns g c =
             selects = c.in_ok-selected.ensures.selects;
             whole = rw c.is_exact.ensures at c.in_ok-check_source_if.ensures;
           };
+          indexed = c.in_ok-check_index_if.ensures.indexed;
           planned_is = c.in_ok-plan.ensures;
         };
         answers = c.in_ok-answer.ensures;

@@ -5,7 +5,10 @@ returns g c = record {
   layout = c.in_ok-layout.layout;
   same = c.in_ok-layout.ensures.same;
   opened = c.in_ok-layout.ensures.opened;
+  indexed = c.in_ok-check_index_for.ensures.indexed;
+  wanted = λ keeps. rw c.in_ok-layout.ensures.same at (c.in_ok-check_entries_for.ensures keeps);
   plan = c.in_ok-plan.plan;
   planned = c.in_ok-plan.ensures;
-  shown = c.in_ok-planned.ensures;
+  shown = c.in_ok-planned.ensures.shown;
+  counted = rw c.in_ok-planned.ensures.left c.in_ok-left.ensures;
 }

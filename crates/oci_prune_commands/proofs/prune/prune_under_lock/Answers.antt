@@ -9,11 +9,14 @@ returns g c none =
     record {
       opened = c.in_ok-layout.layout;
       is_opened = c.in_ok-layout.ensures;
+      indexed = c.in_ok-check_index_for.ensures.indexed;
+      wanted = c.in_ok-check_entries_for.ensures;
       left = c.prune_layout.new.layout;
       plan = c.in_ok-plan.plan;
       done = done;
       pruned = c.in_ok-plan.ensures;
       saved = saved;
       whole = sym (c.into_fault.ensures.saved saved) ∙ none;
-      shown = c.in_ok-answer.ensures;
+      shown = c.in_ok-answer.ensures.shown;
+      counted = rw c.in_ok-answer.ensures.left c.in_ok-left.ensures;
     }

@@ -7,8 +7,8 @@ use Rattle.oci_prune_answer.specs.declared.prune_answer.RemovedFile.{RemovedFile
 use Rattle.oci_prune_answer.proofs.Naming.{both_added, IsSortedByKey-from_sort_by}
 use Rattle.oci_prune_answer.proofs.prune_answer.PruneAnswer.of.Goals as goal
 
-pub returns : goal.returns
-returns c =
+pub returns-clause-shown : goal.returns-clause-shown
+returns-clause-shown c =
     let all : List NamedFile = gone_files c.args.plan c.args.pruned.now in
     let sorted : List RemovedFile = c.sort_by.new.self.items in
     let added : shown c.add_drafts.new.gone.items ≡ all = both_added _ _ _ _ _ _ _ _ _ _ c.new-gone.ensures.items c.deref.ensures.value c.deref-2.ensures.value c.deref-3.ensures.value c.in_ok-add_files.ensures c.in_ok-add_drafts.ensures in
