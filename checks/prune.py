@@ -1,30 +1,48 @@
-"""The contents that `prune` keeps, removes and prints, for layouts made by hand and at random, by the rules in support/pruning.py."""
+"""The contents that `prune` keeps, removes, counts and prints, with `--untagged` and without, for layouts made by hand and at random, by the
+rules in support/pruning.py."""
 import functools
+import json
 import multiprocessing
 import os
 import random
 import shutil
 
-from support.files import files, stamps
-from support.layouts import BAR, E, FOO, M2, M3, Content, blob, key
+from support.files import files, read, stamps
+from support.layouts import BAR, DOCKER_IMAGE, DOCKER_LIST, E, FOO, IMAGE, INDEX, M2, M3, NAME, Content, blob, key
 from support.program import first, run, told
 from support.prune_cases import CASES, DRAFT, Case, write_case, write_random
-from support.pruning import Held, Prune, text
+from support.pruning import MEMBERS, Held, Prune, last_line, text
 
-LAYOUTS = 300
+# The number of layouts at random, and how many of them are to have each of the traits.
+LAYOUTS, LEAST = 300, 6
+FORMS = [[], ["--untagged"]]
+
+
 def paths(goes):
     """Return the files of contents and of paths."""
     return {it if isinstance(it, str) else blob(it) for it in goes}
 
 
-def wrong_rules(folder, case, prune, flags):
-    """Return the problem with the answer of the rules to a case, or None. The case states itself which contents and files go."""
-    goes = case.goes + (case.referrers if flags else [])
-    removed = {key(it) for it in goes if isinstance(it, Content)}
-    if set(map(text, prune.removed)) != removed:
+def refusals_of(case, flags):
+    """Return the refusals of a case, as it states them itself."""
+    if flags:
+        return [] if case.tags else ["97 NoTags"]
+    return ["96 Unknown " + key(case.lacks)] if case.lacks else []
+
+
+def wrong_rules(case, prune, flags):
+    """Return the problem with the answer of the rules to a case, or None. The case states itself which contents and files go, and which
+    contents are counted."""
+    refusals = refusals_of(case, flags)
+    if prune.refusals or refusals:
+        return None if prune.refusals == refusals else "by the rules it is refused: %s" % ", ".join(prune.refusals)
+    goes = case.goes if flags else [it for it in case.goes if isinstance(it, str)]
+    if set(map(text, prune.removed)) != {key(it) for it in goes if isinstance(it, Content)}:
         return "by the rules these are removed: %s" % ", ".join(map(text, prune.removed))
     if set(prune.gone) != paths(goes) - paths(case.shared):
         return "by the rules these files go: %s" % ", ".join(prune.gone)
+    if set(map(text, prune.free)) != {key(it) for it in case.free if not flags}:
+        return "by the rules these are counted: %s" % ", ".join(map(text, prune.free))
 
 
 def wrong_answer(folder, words, prune):
@@ -60,19 +78,18 @@ def wrong_left(folder, prune, before):
 def wrong_prune(folder, flags, is_whole=True):
     """Return the problem with a prune of a layout, or None: first with --dry-run, which changes nothing, then without, then once more."""
     layout = folder + "/layout"
-    prune = Prune(layout, keeps_referrers=not flags)
+    prune = Prune(layout, bool(flags))
     before, when = files(layout), stamps(layout)
     complaint = wrong_answer(folder, ["--dry-run", *flags], prune)
     complaint = complaint or (None if stamps(layout) == when else "--dry-run changed something")
     complaint = complaint or wrong_answer(folder, flags, prune)
     if complaint or prune.refusals:
         return complaint or (None if stamps(layout) == when else "a refused prune changed something")
-    again = Prune(layout, keeps_referrers=not flags)
     return first([
         wrong_left(folder, prune, before),
         None if prune.removed or stamps(layout)["index.json"] == when["index.json"] else "index.json was written",
         wrong_answers(folder, prune) if is_whole else None,
-        wrong_again(folder, flags, len(prune.kept), again),
+        wrong_again(folder, flags, prune),
     ])
 
 
@@ -87,10 +104,11 @@ def wrong_answers(folder, prune):
     ])
 
 
-def wrong_again(folder, flags, count, prune):
-    """Return the problem with a prune that has nothing left to remove, or None."""
-    if prune.out != "kept %d removed 0 files 0 bytes 0\n" % count:
-        return "there is more to remove: " + prune.out
+def wrong_again(folder, flags, before):
+    """Return the problem with the same prune again, or None. It has nothing left to remove, and counts the same."""
+    prune = Prune(folder + "/layout", bool(flags))
+    if prune.out != last_line(len(before.kept), 0, [], len(before.free)) + "\n":
+        return "there is more to remove, or to count: " + prune.out
     when = stamps(folder + "/layout")
     complaint = wrong_answer(folder, flags, prune)
     return complaint or (None if stamps(folder + "/layout") == when else "a prune that removes nothing changed something")
@@ -98,10 +116,9 @@ def wrong_again(folder, flags, count, prune):
 
 def by_hand(room):
     for name, case in CASES.items():
-        for flags in [], ["--no-referrers"]:
+        for flags in FORMS:
             write_case(room + "/layout", case)
-            prune = Prune(room + "/layout", keeps_referrers=not flags)
-            complaint = wrong_rules(room, case, prune, flags) or wrong_prune(room, flags, case.is_whole)
+            complaint = wrong_rules(case, Prune(room + "/layout", bool(flags)), flags) or wrong_prune(room, flags, case.is_whole)
             yield " ".join([name, *flags]), complaint
 
 
@@ -119,9 +136,11 @@ def links(room):
     shutil.copy("%s/layout/%s" % (room, blob(E)), room + "/config")
     os.remove("%s/layout/%s" % (room, blob(E)))
     os.symlink(room + "/config", "%s/layout/%s" % (room, blob(E)))
-    prune = Prune(room + "/layout")
-    yield "links in the places of blobs, by the rules", None if len(prune.gone) == 6 and len(prune.removed) == 2 else "%s" % prune.gone
-    yield "links in the places of blobs", wrong_prune(room, [])
+    for flags, counts in zip(FORMS, [(4, 0), (2, 2)]):
+        prune = Prune(room + "/layout", bool(flags))
+        right = (len(prune.gone), len(prune.removed)) == counts
+        yield " ".join(["links in the places of blobs, by the rules", *flags]), None if right else "%s" % prune.gone
+        yield " ".join(["links in the places of blobs", *flags]), wrong_prune(room, flags)
     for target in "secret", "room", "config":
         yield "what a link leads to, %s" % target, None if os.path.exists("%s/%s" % (room, target)) else "it is gone"
 
@@ -134,27 +153,68 @@ def others(room):
     yield "a FIFO and a link with the names of drafts", wrong_prune(room, [])
 
 
+def hide(folder, chance):
+    """Put entries before that of a tag, some with its name, so that the tag hides them."""
+    index = json.loads(read(folder + "/index.json"))
+    names = [it["annotations"][NAME] for it in index["manifests"] if "annotations" in it]
+    entries = [it for it in index["manifests"] if "annotations" not in it and names and chance.random() < 0.3]
+    hidden = [dict(it, annotations={NAME: chance.choice(names)}) for it in entries]
+    with open(folder + "/index.json", "w") as file:
+        json.dump({**index, "manifests": hidden + [it for it in index["manifests"] if it not in entries]}, file)
+
+
+def traits(prunes):
+    """Return whether a layout has each trait, or nothing if a prune of it is refused, but for the lack of a tag. The first prune is without
+    `--untagged`, and counts, and the second one is with it, and removes."""
+    counts, removes = prunes
+    held, free = counts.held, counts.free
+    if counts.refusals or removes.refusals and held.tags:
+        return {}
+    tagged, digests = set(held.tags.values()), {it.digest for it in held.keys}
+    listed = {it for key in held.keys for it in held.listed(key)}
+    loose = held.keys - tagged
+    subjects = {it for key in loose for it in held.subject(key)}
+    return {
+        "files that go": bool(counts.gone),
+        "no tag": not tagged,
+        "what --untagged removes": bool(held.tags and removes.removed),
+        "referrers that it keeps": removes.kept != held.members(held.named_keys, lambda keys: set()),
+        "nothing that is counted": not free,
+        "an image that is counted": any(it.media_type in (IMAGE, DOCKER_IMAGE) for it in free),
+        "an index that is counted": any(it.media_type in (INDEX, DOCKER_LIST) for it in free),
+        "a listed manifest that is not counted": any(it.media_type in MEMBERS and not held.subject(it) for it in loose & listed - free),
+        "a referrer of what is held": any(it.digest in digests for it in subjects),
+        "a referrer whose subject has no entry": any(it in held.keys.difference(held.entries) for it in subjects),
+        "a referrer whose subject is not there": any(it.digest not in digests for it in subjects),
+        "a subject that is counted": bool(subjects & free),
+        "a subject that is listed too": bool(subjects & loose - free),
+        "a key that has a tag and is listed": bool(tagged & listed),
+        "two keys with one digest": len(digests) < len(held.keys),
+        "an entry that a tag hides": bool(held.named_keys - tagged),
+        "a key that is counted and that a tag needs": bool(held.tags and free & removes.kept),
+    }
+
+
 def wrong_random(room, seed):
-    """Return the problem with a prune of a layout that a seed makes, or None, and whether it was not refused, removed something, and kept
-    referrers."""
+    """Return the problem with a prune of a layout that a seed makes, or None, and what there is in the layout."""
     folder = "%s/%d" % (room, os.getpid())
     os.makedirs(folder, exist_ok=True)
     chance = random.Random(seed)
     write_random(folder + "/layout", chance)
-    flags = chance.choice([[], ["--no-referrers"]])
-    prunes = [Prune(folder + "/layout", keeps_referrers) for keeps_referrers in (True, False)]
-    complaint = wrong_prune(folder, flags, is_whole=False)
-    seen = not prunes[0].refusals, bool(prunes[0].removed), prunes[0].kept != prunes[1].kept
-    return complaint and "seed %d: %s" % (seed, complaint), seen
+    hide(folder + "/layout", chance)
+    found = traits([Prune(folder + "/layout", bool(flags)) for flags in FORMS])
+    complaint = wrong_prune(folder, chance.choice(FORMS), is_whole=False)
+    return complaint and "seed %d: %s" % (seed, complaint), found
 
 
 def at_random(room):
     with multiprocessing.Pool() as pool:
         results = pool.map(functools.partial(wrong_random, room), range(LAYOUTS), 10)
     yield "%d layouts at random" % LAYOUTS, first(it for it, _ in results)
-    for number, what in enumerate(["are pruned", "have what is removed", "have referrers that are kept"]):
-        count = sum(all(seen[: number + 1]) for _, seen in results)
-        yield "%d of them %s" % (count, what), None if count >= LAYOUTS // 8 else "too few"
+    all_found = [found for _, found in results if found]
+    for what in all_found[0]:
+        count = sum(found[what] for found in all_found)
+        yield "%d of them have %s" % (count, what), None if count >= LEAST else "too few"
 
 
 def checks(room):

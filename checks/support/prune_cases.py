@@ -22,50 +22,62 @@ BILL = index([SIGNED], subject=S)
 OCTETS = M2._replace(media_type="application/octet-stream")
 OF_OCTETS = image([B], subject=OCTETS)
 OF_OLD, OF_BOTH = image([B], subject=OLD_IMAGE), image([], subject=I1)
+HIGHER = index([I1])
 ALL = [E, FOO, B, M2]
 # (each refers to the one before)
 CHAIN = [M2]
 for _ in range(60):
     CHAIN.append(image([], subject=CHAIN[-1]))
 
-# A layout: its contents, its tags, and the other entries of its index; other files, each with its text; the contents and files that go, and
-# those that go only with --no-referrers; contents that go but share their file with another one; and whether everything that is kept is
-# there.
-Case = namedtuple("Case", "contents tags untagged files goes referrers shared is_whole", defaults=[[], {}, [], [], [], True])
+# An image with a subject that is no manifest and not there, and an index that lists its own subject.
+OF_NOTHING, OF_LISTED = image([B], subject=Content(LAYER, b"gone")), index([M3], subject=M3)
+
+# A layout: its contents, its tags, and the other entries of its index; other files, each with its text; the files that go, and the contents
+# that go only with --untagged; the contents that are counted without it; contents that go but share their file with another one; a manifest
+# that one without a tag lists and that is not there; and whether everything that is kept is there.
+Case = namedtuple("Case", "contents tags untagged files goes free shared lacks is_whole", defaults=[[], {}, [], [], [], None, True])
 CASES = {
     "all is tagged": Case([E, FOO, BAR, M2, M3, I1], {"both": I1}),
-    "a layer is tagged": Case([FOO, BAR], {"layer": FOO}, [BAR], goes=[BAR]),
-    "an image without a tag": Case([E, FOO, M2, A, OLD, OLD_IMAGE], {"new": M2}, [OLD_IMAGE], goes=[A, OLD, OLD_IMAGE]),
-    "images that share a layer": Case([E, FOO, BAR, M2, M3], {"new": M2}, [M3], goes=[BAR, M3]),
-    "an index without a tag, of an image with one": Case([E, FOO, BAR, M2, M3, I1], {"new": M2}, [I1], goes=[BAR, M3, I1]),
-    "a layer without a tag that an image lists": Case([E, FOO, BAR, M2], {"new": M2}, [FOO, BAR], goes=[BAR]),
-    "two tags of one image": Case([E, FOO, BAR, M2, M3], {"a": M2, "b": M2}, [M3], goes=[BAR, M3]),
+    "a layer is tagged": Case([FOO, BAR], {"layer": FOO}, [BAR], goes=[BAR], free=[BAR]),
+    "an image without a tag": Case([E, FOO, M2, A, OLD, OLD_IMAGE], {"new": M2}, [OLD_IMAGE], goes=[A, OLD, OLD_IMAGE], free=[OLD_IMAGE]),
+    "images that share a layer": Case([E, FOO, BAR, M2, M3], {"new": M2}, [M3], goes=[BAR, M3], free=[M3]),
+    "an index without a tag, of an image with one": Case([E, FOO, BAR, M2, M3, I1], {"new": M2}, [I1], goes=[BAR, M3, I1], free=[I1]),
+    "an index without a tag, of one with an entry": Case([E, FOO, BAR, M2, M3, I1, HIGHER], {"new": M2}, [M3, I1, HIGHER],
+                                                         goes=[BAR, M3, I1, HIGHER], free=[HIGHER]),
+    "a layer without a tag that an image lists": Case([E, FOO, BAR, M2], {"new": M2}, [FOO, BAR], goes=[BAR], free=[BAR]),
+    "two tags of one image": Case([E, FOO, BAR, M2, M3], {"a": M2, "b": M2}, [M3], goes=[BAR, M3], free=[M3]),
+    "no tag": Case([E, FOO, M2], {}, [M2], {STRAY: b"stray"}, goes=[STRAY], free=[M2]),
+    "no entry": Case([], {}, [], {STRAY: b"stray", blob(FOO): FOO.bytes}, goes=[STRAY, blob(FOO)]),
     "one digest by two media types": Case([E, A, image([A]), image([A_ZIPPED])], {"new": image([A])}, [image([A_ZIPPED])],
-                                          goes=[A_ZIPPED, image([A_ZIPPED])], shared=[A]),
-    "an image also as a layer": Case([E, FOO, M2], {"layer": M2._replace(media_type=LAYER)}, [M2], goes=[E, FOO, M2],
+                                          goes=[A_ZIPPED, image([A_ZIPPED])], free=[image([A_ZIPPED])], shared=[A]),
+    "an image also as a layer": Case([E, FOO, M2], {"layer": M2._replace(media_type=LAYER)}, [M2], goes=[E, FOO, M2], free=[M2],
                                     shared=[M2]),
-    "one digest by two media types, without a tag": Case([E, FOO, M2, A], {"new": M2}, [A, A_ZIPPED], goes=[A, A_ZIPPED]),
-    "referrers of referrers": Case([*ALL, S, SIGNED, BILL], {"new": M2}, [S, BILL], referrers=[S, B, SIGNED, BILL]),
-    "a subject with another media type": Case([*ALL, OF_OCTETS], {"new": M2}, [OF_OCTETS], referrers=[B, OF_OCTETS, OCTETS], shared=[M2]),
-    "a chain of referrers": Case([E, FOO, *CHAIN], {"new": M2}, [CHAIN[-1]], referrers=CHAIN[1:]),
-    "the other end of a chain of referrers": Case([E, FOO, *CHAIN], {"last": CHAIN[-1]}),
-    "a chain of referrers without a tag": Case([E, FOO, *CHAIN, A], {"layer": A}, [CHAIN[-1]], goes=[E, FOO, *CHAIN]),
-    "a referrer that is tagged": Case([*ALL, S, SIGNED], {"signature": S}, [M2, SIGNED], referrers=[B, SIGNED]),
+    "one digest by two media types, without a tag": Case([E, FOO, M2, A], {"new": M2}, [A, A_ZIPPED], goes=[A, A_ZIPPED], free=[A, A_ZIPPED]),
+    "referrers of referrers": Case([*ALL, S, SIGNED, BILL], {"new": M2}, [S, BILL]),
+    "a subject with another media type": Case([*ALL, OF_OCTETS], {"new": M2}, [OF_OCTETS], free=[OCTETS]),
+    "a chain of referrers": Case([E, FOO, *CHAIN], {"new": M2}, [CHAIN[-1]]),
+    "the other end of a chain of referrers": Case([E, FOO, *CHAIN], {"last": CHAIN[-1]}, free=[M2]),
+    "a chain of referrers without a tag": Case([E, FOO, *CHAIN, A], {"layer": A}, [CHAIN[-1]], goes=[E, FOO, *CHAIN], free=[M2]),
+    "a referrer that is tagged": Case([*ALL, S, SIGNED], {"signature": S}, [M2, SIGNED], free=[M2]),
     "what refers to an image without a tag": Case([*ALL, A, OLD, OLD_IMAGE, OF_OLD], {"new": M2}, [OLD_IMAGE, OF_OLD],
-                                                  goes=[A, B, OLD, OLD_IMAGE, OF_OLD]),
-    "what refers to an image of a tagged index": Case([E, FOO, BAR, M2, M3, I1, S], {"both": I1}, [S], referrers=[S]),
-    "what refers to an index without a tag": Case([E, FOO, BAR, M2, M3, I1, OF_BOTH], {"new": M2}, [OF_BOTH], goes=[BAR, M3, I1, OF_BOTH]),
+                                                  goes=[A, B, OLD, OLD_IMAGE, OF_OLD], free=[OLD_IMAGE]),
+    "what refers to an image of a tagged index": Case([E, FOO, BAR, M2, M3, I1, S], {"both": I1}, [S]),
+    "what refers to an index without a tag": Case([E, FOO, BAR, M2, M3, I1, OF_BOTH], {"new": M2}, [OF_BOTH], goes=[BAR, M3, I1, OF_BOTH],
+                                                  free=[I1]),
     "an index lists what refers to its image": Case([*ALL, S, SIGNED, index([SIGNED])], {"new": M2}, [index([SIGNED])],
-                                                    goes=[index([SIGNED])], referrers=[S, B, SIGNED]),
-    "a subject that is not there": Case([E, B, OLD_LONG, FOO, M2], {"new": M2}, [OLD_LONG], goes=[B, OLD_LONG]),
+                                                    goes=[index([SIGNED])], free=[index([SIGNED])]),
+    "an index lists its own subject": Case([E, FOO, BAR, M2, M3, OF_LISTED], {"new": M2}, [OF_LISTED], goes=[BAR, M3, OF_LISTED], free=[M3]),
+    "a subject that is not there": Case([E, B, OLD_LONG, FOO, M2], {"new": M2}, [OLD_LONG], goes=[B, OLD_LONG], lacks=M3),
+    "a subject that is no manifest and not there": Case([*ALL, OF_NOTHING], {"new": M2}, [OF_NOTHING], goes=[B, OF_NOTHING],
+                                                        free=[OF_NOTHING], is_whole=False),
     "digests of sha512": Case([E, A, LONG, LONG_IMAGE, FOO, BAR, M3, B, OLD_LONG], {"new": LONG_IMAGE}, [OLD_LONG],
                               {blob(OLD._replace(algorithm="sha512")): b"old", blob(A): A.bytes},
-                              goes=[FOO, BAR, M3, B, OLD_LONG, blob(OLD._replace(algorithm="sha512")), blob(A)]),
+                              goes=[FOO, BAR, M3, B, OLD_LONG, blob(OLD._replace(algorithm="sha512")), blob(A)], free=[M3]),
     "blobs that nothing lists": Case([E, FOO, M2], {"new": M2}, [], {STRAY: b"stray", blob(BAR): BAR.bytes}, goes=[STRAY, blob(BAR)]),
     "a layer that is not there": Case([E, FOO, M3], {"new": M3}, [], {STRAY: b""}, goes=[STRAY], is_whole=False),
-    "a config that is not there": Case([FOO, M2, BAR], {"new": M2}, [BAR], goes=[BAR], is_whole=False),
+    "a config that is not there": Case([FOO, M2, BAR], {"new": M2}, [BAR], goes=[BAR], free=[BAR], is_whole=False),
     "a layer with other bytes": Case([E, M2], {"new": M2}, [], {blob(FOO): b"other"}, is_whole=False),
-    "an index without a tag lists what is not there": Case([E, FOO, M2, I1], {"new": M2}, [I1], goes=[I1]),
+    "an index without a tag lists what is not there": Case([E, FOO, M2, I1], {"new": M2}, [I1], goes=[I1], lacks=M3),
     "drafts": Case([E, FOO, M2], {"new": M2}, [], {
         it + DRAFT: b"draft" for it in ("index.json", "oci-layout", blob(FOO), blob(BAR), STRAY, "blobs/sha512/" + "f" * 128)
     }, goes=[it + DRAFT for it in ("index.json", "oci-layout", blob(FOO), blob(BAR), STRAY, "blobs/sha512/" + "f" * 128)]),
@@ -81,7 +93,7 @@ CASES = {
     }),
     "a layer that is not distributed": Case([E, FOO, image([FOO]), image([FOO._replace(media_type=FOREIGN), BAR])],
                                             {"new": image([FOO._replace(media_type=FOREIGN), BAR])}, [image([FOO])],
-                                            goes=[FOO, image([FOO])], is_whole=False),
+                                            goes=[FOO, image([FOO])], free=[image([FOO])], is_whole=False),
 }
 
 

@@ -74,6 +74,8 @@ class Held:
         # (of two entries with one name the last counts, held or not)
         last = {name_of(it): is_readable(it) and key_of(it) for it in entries}
         self.tags = {name: key for name, key in last.items() if name and key in self.keys}
+        # The keys of the entries with a name, also of those that a tag hides.
+        self.named_keys = {key_of(it) for it in entries if name_of(it) and is_readable(it)} & self.keys
 
     def has(self, key):
         """Return whether there is a file of a key, which for a layer or a config has the right size."""
@@ -107,18 +109,29 @@ class Held:
         digests = {it.digest for it in keys}
         return {it for it in self.keys if any(subject.digest in digests for subject in self.subject(it))}
 
-    def kept(self, keeps_referrers):
-        """Return the keys that a prune keeps."""
-        return self.members(self.tags.values(), self.referrers if keeps_referrers else lambda keys: set())
+    def needed(self):
+        """Return the keys that the tags need."""
+        return self.members(self.named_keys, self.referrers)
+
+    def free(self):
+        """Return the keys without a tag that no key lists but as its subject, and that have no subject which is held."""
+        digests, bound = {it.digest for it in self.keys}, set(self.tags.values())
+        for key in self.keys:
+            subjects = {it.digest for it in self.subject(key)}
+            bound |= {it for it in self.listed(key) if it.digest not in subjects}
+            bound |= {key} if subjects & digests else set()
+        return self.keys - bound
 
 
 class Prune:
-    """A prune of a layout. Drafts at these paths are still written."""
+    """A prune of a layout, with `--untagged` or without. Drafts at these paths are still written."""
 
-    def __init__(self, folder, keeps_referrers=True, written=()):
+    def __init__(self, folder, untagged=False, written=()):
         held = Held(folder)
-        self.held, self.kept = held, held.kept(keeps_referrers)
+        self.held, self.kept = held, held.needed() if untagged else held.keys
         self.removed = sorted(held.keys - self.kept)
+        # The keys without a tag that are counted.
+        self.free = set() if untagged else held.free()
         # (a kept image needs what is left of a layer of another size)
         needed = {path(it) for key in self.kept for it in [key, *held.listed(key)]}
         had = set(map(path, held.keys))
@@ -132,7 +145,7 @@ class Prune:
         self.lines = [
             *("removed " + text(it) for it in self.removed),
             *("removed-file %s %d" % (it, lengths[it]) for it in self.first),
-            last_line(len(self.kept), len(self.removed), [lengths[it] for it in self.gone]),
+            last_line(len(self.kept), len(self.removed), [lengths[it] for it in self.gone], len(self.free)),
         ]
         # What is printed if the index cannot be saved, and by `prune --leftovers`: no key goes.
         self.unsaved, self.leftovers = (
@@ -141,7 +154,7 @@ class Prune:
         )
         self.drafts = sorted(drafts)
         self.refusals = [
-            *(["97 NoTags"] if not held.tags else []),
+            *(["97 NoTags"] if untagged and not held.tags else []),
             *("96 Unknown " + text(it) for it in held.absent),
             *("73 BadIndex 14 BadDescriptor manifests %d" % it for it in held.unreadable[:1]),
             *("96 Unknown " + text(it) for it in self.lacking()),
@@ -155,8 +168,10 @@ class Prune:
         return {it for it in listed - self.held.keys if it.media_type in MEMBERS}
 
 
-def last_line(kept, removed, lengths):
-    return "kept %d removed %d files %d bytes %d" % (kept, removed, len(lengths), sum(lengths))
+def last_line(kept, removed, lengths, free=0):
+    """Return the line of the counts. The keys without a tag that stay are only counted if there is one."""
+    line = "kept %d removed %d files %d bytes %d" % (kept, removed, len(lengths), sum(lengths))
+    return line + (" untagged %d (see --untagged)" % free if free else "")
 
 
 def files_of(folder):
