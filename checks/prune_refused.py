@@ -1,5 +1,5 @@
-"""Refusals of `prune`, `untag` and `tag`, which change nothing; folders that another process has locked; files that cannot be removed.
-Wants `cc`."""
+"""Refusals of `prune`, `untag` and `tag`, which change nothing; folders that another process has locked; layouts that have lost their index;
+files that cannot be removed. Wants `cc`."""
 import fcntl
 import os
 import shutil
@@ -8,25 +8,40 @@ import tarfile
 
 from support import shim
 from support.files import files, stamps, wrong_refusal
-from support.layouts import BAR, E, FOO, I1, LAYER, M2, M3, S, Content, blob, digits, index, key, write_layout
+from support.layouts import BAR, E, FOO, I1, LAYER, M2, M3, S, Content, blob, digits, image, index, key, write_layout
 from support.program import NOBODY, PROGRAM, first, run, told
-from support.pruning import Prune
+from support.pruning import Prune, last_line
 
 SECONDS = 60
 A = Content(LAYER, b"a layer")
+LONG = A._replace(algorithm="sha512")
 STRAYS = ["blobs/sha256/%064x" % 1, "blobs/sha256/%064x" % 2, "blobs/sha512/%0128x" % 3, "index.json.0123456789abcdef.new"]
 WAITS = "ocicp: waiting for another process that writes into layout\n"
 LINKED = ["blobs", "blobs/sha256", "blobs/sha512"]
 # An index that refers to the image that is tagged, and one that lacks an image.
 REFERRER, LACKING = index([M3], subject=M2), index([I1, S])
-PRUNES = [["prune", *flags, "layout"] for flags in ([], ["--dry-run"], ["--no-referrers"], ["--dry-run", "--no-referrers"], ["--no-wait"])]
+# A referrer of an image that is not there.
+LOST = image([A], number=1)
+OF_LOST = image([], subject=LOST)
+# Prunes without --untagged, and with it.
+PLAIN, UNTAGGED = (
+    [["prune", *form, *flags, "layout"] for flags in ([], ["--dry-run"], ["--no-wait"])] for form in ([], ["--untagged"]))
+PRUNES = PLAIN + UNTAGGED
 ALL = [E, FOO, BAR, M2, M3, A]
+NO_TAGS, NO_INDEX = "97 NoTags", "109 NoIndex"
+MIRRORS = [["copy", "--all", "--prune", *flags, "source", "layout"]
+           for flags in ([], ["--dry-run"], ["--referrers"], ["--match", "n*"], ["--no-wait"])]
+# A file beside the blobs whose name is no digest.
+NOTES = "blobs/sha256/notes"
 
+# Layouts without a tag, which only a prune with --untagged refuses: the contents, the tags, and the other entries of the index.
+UNTAGGED_LAYOUTS = {
+    "no tag": (ALL, {}, [M2, M3]),
+    "an empty layout": ([], {}, []),
+    "a tag that is the empty text": (ALL, {"": M2}, []),
+}
 # The causes of a refused prune, each with the contents, the tags, the other entries of the index, and the line of the refusal.
 REFUSED = {
-    "no tag": (ALL, {}, [M2, M3], "97 NoTags"),
-    "an empty layout": ([], {}, [], "97 NoTags"),
-    "a tag that is the empty text": (ALL, {"": M2}, [], "97 NoTags"),
     "a tagged image that is not there": ([E, FOO, M2], {"new": M2, "other": M3}, [], "96 Unknown " + key(M3)),
     "an image without a tag that is not there": ([E, FOO, M2], {"new": M2}, [M3], "96 Unknown " + key(M3)),
     "a tagged layer that is not there": ([E, FOO, M2], {"new": M2, "layer": BAR}, [], "96 Unknown " + key(BAR)),
@@ -34,6 +49,12 @@ REFUSED = {
     "an index that lacks an image": ([E, FOO, M2, I1], {"new": I1}, [], "96 Unknown " + key(M3)),
     "an index in an index that lacks an image": ([E, FOO, M2, I1, index([I1])], {"new": index([I1])}, [], "96 Unknown " + key(M3)),
     "an image that lacks its subject": ([E, S], {"new": S}, [], "96 Unknown " + key(M2)),
+    "a referrer that lacks an image": ([E, FOO, M2, REFERRER], {"new": M2}, [REFERRER], "96 Unknown " + key(M3)),
+}
+# Contents without a tag that lack a manifest, so that nobody knows what they need. With --untagged they are removed.
+LACKING_UNTAGGED = {
+    "an index without a tag that lacks an image": ([*ALL, I1, LACKING], [LACKING], S),
+    "an image without a tag that lacks its subject": ([*ALL, OF_LOST], [OF_LOST], LOST),
 }
 # A manifest, and the bytes of its file, which are damaged or cannot be read.
 DAMAGED = {
@@ -42,6 +63,7 @@ DAMAGED = {
     "no JSON": (M2._replace(bytes=b"["), b"["),
     "no config": (M2._replace(bytes=b"{}"), b"{}"),
 }
+
 
 def fresh(room, contents, tags, untagged=(), strays=STRAYS):
     """Write a layout with files that a prune removes."""
@@ -57,11 +79,14 @@ def prunes(room):
     for what, (contents, tags, untagged, line) in REFUSED.items():
         fresh(room, contents, tags, untagged)
         yield "refused by " + what, first(wrong_refusal(room, words, line) for words in PRUNES)
-    fresh(room, [*ALL, I1, LACKING], {"new": M2}, [LACKING])
-    yield "an index without a tag that lacks an image", wrong_done(room, [])
-    fresh(room, [E, FOO, M2, REFERRER], {"new": M2}, [REFERRER])
-    yield "a referrer that lacks an image", first(wrong_refusal(room, words, "96 Unknown " + key(M3)) for words in PRUNES[:2])
-    yield "the same with --no-referrers", wrong_done(room, ["--no-referrers"])
+    for what, layout in UNTAGGED_LAYOUTS.items():
+        fresh(room, *layout)
+        yield "%s, with --untagged" % what, first(wrong_refusal(room, words, NO_TAGS) for words in UNTAGGED)
+        yield what, wrong_done(room, [])
+    for what, (contents, untagged, lost) in LACKING_UNTAGGED.items():
+        fresh(room, contents, {"new": M2}, untagged)
+        yield what, first(wrong_refusal(room, words, "96 Unknown " + key(lost)) for words in PLAIN)
+        yield "%s, with --untagged" % what, wrong_done(room, ["--untagged"])
     for what, (content, written) in DAMAGED.items():
         fresh(room, [E, FOO, content, M3], {"new": content, "other": M3})
         with open("%s/layout/%s" % (room, blob(content)), "wb") as file:
@@ -73,7 +98,7 @@ def prunes(room):
 
 def wrong_done(room, flags):
     """Return the problem with a prune that is not to be refused, or None."""
-    prune = Prune(room + "/layout", keeps_referrers=not flags)
+    prune = Prune(room + "/layout", bool(flags))
     ended = run(["prune", *flags, "layout"], room)
     return None if not prune.refusals and ended[:3] == (0, prune.out, "") else told(ended)
 
@@ -110,6 +135,71 @@ def no_layouts(room):
             wrong_refusal(room, [*words, path, *(["new"] if words[0] == "untag" else [])], line) for words in commands)
 
 
+def lose(room, contents, strays=()):
+    """Write a layout that has these blobs, and has lost its index."""
+    fresh(room, contents, {}, strays=strays)
+    os.remove(room + "/layout/index.json")
+
+
+def no_index(room):
+    """Check a layout that has blobs and has lost its index: nothing is removed from it. A mirror looks for that after SRC and the lock."""
+    write_layout(room + "/source", [E, FOO, M2], {"new": M2})
+    write_layout(room + "/without", [E, FOO, M2], {}, [M2])
+    for what, contents, strays in ("a layer", [FOO], []), ("a blob of SHA-512", [LONG], []), ("an image", [E, FOO, M2], STRAYS), (NOTES, [], [NOTES]):
+        lose(room, contents, strays)
+        yield "%s and no index" % what, first(wrong_refusal(room, words, NO_INDEX) for words in [*PRUNES, *MIRRORS])
+    lose(room, [E, FOO, M2])
+    for words in MIRRORS[:2]:
+        for source, line in ("without", NO_TAGS), ("nothing", "70 NoLayoutFile"):
+            yield "%s: a source that is refused comes first" % " ".join(words), wrong_refusal(room, [*words[:-2], source, "layout"], line)
+    folder = os.open(room + "/layout", os.O_RDONLY | os.O_DIRECTORY)
+    fcntl.flock(folder, fcntl.LOCK_EX)
+    yield "a mirror: the lock comes first", wrong_refusal(room, MIRRORS[-1], "99 Locked layout")
+    os.close(folder)
+    with open(room + "/layout/oci-layout", "w") as file:
+        file.write("{}")
+    yield "mirrors into a layout that cannot be opened", first(wrong_refusal(room, words, NO_INDEX) for words in MIRRORS)
+    os.remove(room + "/layout/oci-layout")
+    for words in PRUNES:
+        yield "%s: blobs alone" % " ".join(words), wrong_refusal(room, words, "70 NoLayoutFile")
+    yield "mirrors into blobs alone", first(wrong_refusal(room, words, NO_INDEX) for words in MIRRORS)
+    yield from no_blobs(room)
+    yield from not_lost(room)
+
+
+def no_blobs(room):
+    """Check layouts without an index and without blobs, which are empty ones."""
+    for folders in ["sha256", "sha512"], ["sha256"], []:
+        what = "no index, and %s" % (" and ".join(folders) or "no folder of blobs")
+        lose(room, [], STRAYS[-1:])
+        shutil.rmtree(room + "/layout/blobs")
+        for it in folders:
+            os.makedirs(room + "/layout/blobs/" + it)
+        draft = "removed-file %s 0\n%s\n" % (STRAYS[-1], last_line(0, 0, [0]))
+        yield "%s, with --untagged" % what, first(wrong_refusal(room, words, NO_TAGS) for words in UNTAGGED)
+        for words in PLAIN[1], PLAIN[0]:
+            ended = run(words, room)
+            yield "%s: %s" % (what, " ".join(words)), None if ended[:3] == (0, draft, "") else told(ended)
+        ended = run(MIRRORS[0], room)
+        yield "%s: a mirror" % what, None if ended.status == 0 else told(ended)
+
+
+def not_lost(room):
+    """Check commands that a layout without its index does not refuse."""
+    lose(room, [E, FOO, M3], STRAYS)
+    out = "removed-file %s %d\n%s\n" % (STRAYS[-1], len(STRAYS) - 1, last_line(0, 0, [len(STRAYS) - 1]))
+    for flags in ["--dry-run"], []:
+        ended = run(["prune", "--leftovers", *flags, "layout"], room)
+        yield " ".join(["no index: prune --leftovers", *flags]), None if ended[:3] == (0, out, "") else told(ended)
+    before = files(room + "/layout")
+    ended, left = run(["copy", "source", "new", "layout"], room), files(room + "/layout")
+    yield "no index: a copy", first([
+        None if ended.status == 0 else told(ended),
+        first("%s has changed" % it for it in before if left.get(it) != before[it]),
+        wrong_done(room, []),
+    ])
+
+
 def locked(room):
     """Check commands on a folder that another process has locked."""
     fresh(room, ALL, {"new": M2, "old": M3}, [A])
@@ -118,6 +208,7 @@ def locked(room):
     fcntl.flock(folder, fcntl.LOCK_EX)
     commands = {
         "prune": ["prune", "--no-wait", "layout"],
+        "prune --untagged": ["prune", "--untagged", "--no-wait", "layout"],
         "untag": ["untag", "--no-wait", "layout", "old"],
         "tag": ["tag", "--no-wait", "layout", "new", "newer"],
         "copy": ["copy", "--no-wait", "source", "old", "layout"],
@@ -173,15 +264,15 @@ def written(room):
         file.close()
 
 
-def wrong_kept(room, prune, kept, how):
+def wrong_kept(room, flags, kept, how):
     """Return the problem with a prune that cannot remove these files, or None. It is to remove the others, and to name these."""
-    before = files(room + "/layout")
-    ended = how(["prune", "layout"])
+    prune, before = Prune(room + "/layout", bool(flags)), files(room + "/layout")
+    ended = how(["prune", *flags, "layout"])
     left = files(room + "/layout")
     lengths = {it: len(before[it]) for it in prune.gone if it not in kept}
     lines = ["removed-file %s " % it for it in kept]
     out = [it for it in prune.lines[:-1] if not it.startswith(tuple(lines))]
-    out += ["kept %d removed %d files %d bytes %d" % (len(prune.kept), len(prune.removed), len(lengths), sum(lengths.values()))]
+    out.append(last_line(len(prune.kept), len(prune.removed), lengths.values(), len(prune.free)))
     return first([
         None if (ended.status, ended.err) == (1, "ocicp: 79 NotRemoved %s\n" % kept[0]) else told(ended),
         None if ended.out.splitlines() == out else "it prints %s, and not %s" % (ended.out.splitlines(), out),
@@ -190,10 +281,10 @@ def wrong_kept(room, prune, kept, how):
     ])
 
 
-def wrong_later(room):
+def wrong_later(room, flags):
     """Return the problem with a prune after one that could not remove all files, or None."""
-    prune = Prune(room + "/layout")
-    ended, verified = run(["prune", "layout"], room), run(["verify", "layout"], room)
+    prune = Prune(room + "/layout", bool(flags))
+    ended, verified = run(["prune", *flags, "layout"], room), run(["verify", "layout"], room)
     return first([
         None if prune.gone and not prune.removed else "the index was not saved",
         None if ended[:3] == (0, prune.out, "") else told(ended),
@@ -204,12 +295,12 @@ def wrong_later(room):
 def not_removed(room):
     """Check files that cannot be removed, one by one and all files of a folder."""
     library = shim.built(room, "keep", shim.KEEPS)
-    for path in [*STRAYS, blob(BAR), blob(M3)]:
-        fresh(room, ALL, {"new": M2}, [M3])
-        prune = Prune(room + "/layout")
-        environment = dict(os.environ, LD_PRELOAD=library, KEPT="layout/" + path)
-        refused = wrong_kept(room, prune, [path], lambda words: run(words, room, env=environment))
-        yield "%s cannot be removed" % path, first([refused, wrong_later(room)])
+    for flags, paths in ([], STRAYS), (["--untagged"], [*STRAYS, blob(BAR), blob(M3)]):
+        for path in paths:
+            fresh(room, ALL, {"new": M2}, [M3])
+            environment = dict(os.environ, LD_PRELOAD=library, KEPT="layout/" + path)
+            refused = wrong_kept(room, flags, [path], lambda words: run(words, room, env=environment))
+            yield " ".join([path, "cannot be removed", *flags]), first([refused, wrong_later(room, flags)])
     fresh(room, ALL, {"new": M2}, [M3])
     yield unwritable(room)
 
@@ -238,21 +329,21 @@ def unwritable(room):
     folder = room + "/layout/blobs/sha256"
     os.chmod(folder, 0o555)
     user = NOBODY if os.access(folder, os.W_OK) else {}
-    prune = Prune(room + "/layout")
-    kept = [it for it in prune.gone if it.startswith("blobs/sha256/")]
+    flags = ["--untagged"]
+    kept = [it for it in Prune(room + "/layout", True).gone if it.startswith("blobs/sha256/")]
     try:
         for path in stamps(room + "/layout") if user else []:
             os.chown("%s/layout/%s" % (room, path), user["user"], user["group"])
         os.chmod(room, 0o711)
-        refused = wrong_kept(room, prune, kept, lambda words: run(words, room, **user))
+        refused = wrong_kept(room, flags, kept, lambda words: run(words, room, **user))
     except OSError:
         return "a folder that may only be read is not looked at, since no other user can run the program here", None
     os.chmod(folder, 0o755)
-    return "a folder that may only be read", first([refused, wrong_later(room)])
+    return "a folder that may only be read", first([refused, wrong_later(room, flags)])
 
 
 def checks(room):
-    for number, group in enumerate([prunes, linked, no_layouts, locked, written, not_removed, no_files]):
+    for number, group in enumerate([prunes, linked, no_layouts, no_index, locked, written, not_removed, no_files]):
         folder = "%s/%d" % (room, number)
         os.mkdir(folder)
         os.chmod(room, 0o711)
