@@ -11,7 +11,7 @@ from support import shim
 from support.files import files
 from support.layouts import E, FOO, LAYER, M2, S, Content, image, key, write_layout
 from support.program import first, leftovers, run, told, wrong_layout
-from support.prune_layout import CONTENTS, TAGS, UNTAGGED, Layout
+from support.prune_layout import CONTENTS, FORMS, TAGS, UNTAGGED, Layout
 
 # Each change is noted: the path of each file that is opened, renamed to, removed or synced.
 NOTES = shim.CHANGES + r"""
@@ -34,7 +34,7 @@ def killed(layout, library, what):
     counts = set()
     for number in range(1, shim.MOST + 1):
         layout.fresh()
-        made, ended = shim.run_marked(library, ["prune", "layout"], layout.room, {"LAST_CHANGE": str(number)})
+        made, ended = shim.run_marked(library, layout.words, layout.room, {"LAST_CHANGE": str(number)})
         if made < number:
             break
         counts.add(len(layout.gone()))
@@ -66,7 +66,7 @@ def wrong_order(layout, library):
     """Return the problem with the order of the changes, or None. The index is to be on the disk before the first file is removed. The files
     that no held key has go first. Then the new index, if there is one, is saved, before the other files are removed."""
     layout.fresh()
-    text, ended = shim.run_noted(library, ["prune", "layout"], layout.room)
+    text, ended = shim.run_noted(library, layout.words, layout.room)
     notes = [noted(layout, it) for it in text.splitlines()]
     removed = [it for it in notes if it in layout.prune.gone]
     start, most = notes.index(removed[0]) if removed else 0, len(layout.prune.first)
@@ -78,7 +78,7 @@ def wrong_order(layout, library):
         None if {"(sync) index.json", "(sync) ."} <= set(notes[:start]) else "these came first: %s" % notes[:start],
         None if all(it.startswith("(sync)") for it in notes[:start]) else "these came first: %s" % notes[:start],
         None if sorted(notes[start:start + most]) == layout.prune.first else "these went first: %s" % notes[start:start + most],
-        None if (is_save(save) if layout.untagged else not save) else "the save: %s" % save,
+        None if (is_save(save) if layout.saves else not save) else "the save: %s" % save,
         None if rest[len(save):] == removed[most:] else "after the save: %s" % rest[len(save):],
     ])
 
@@ -89,7 +89,7 @@ def wrong_refused(layout, ended):
     gone = layout.gone()
     if not gone:
         return None if ended[:3] == (1, "", "ocicp: 74 Device\n") else told(ended)
-    if gone == layout.prune.first and layout.untagged:
+    if gone == layout.prune.first and layout.saves:
         return None if ended[:3] == (1, layout.prune.unsaved, "ocicp: 74 Device\n") else told(ended)
     left = sorted(set(layout.prune.gone) - set(gone))
     if len(left) != 1:
@@ -102,16 +102,16 @@ def without_room(layout, library, what):
     nothing = unsaved = 0
     for number in range(1, shim.MOST + 1):
         layout.fresh()
-        made, ended = shim.run_marked(library, ["prune", "layout"], layout.room, {"REFUSED_CHANGE": str(number)})
+        made, ended = shim.run_marked(library, layout.words, layout.room, {"REFUSED_CHANGE": str(number)})
         if made < number:
             break
         nothing += not layout.gone()
-        unsaved += layout.untagged != [] and layout.gone() == layout.prune.first
+        unsaved += layout.saves and layout.gone() == layout.prune.first
         yield "%s, change %d refused" % (what, number), first([wrong_refused(layout, ended), layout.wrong_state(), layout.wrong_again()])
     saving = made - len(layout.prune.gone)
     yield "%s: %d refusals removed nothing, %d only what no held key has" % (what, nothing, unsaved), first([
         None if nothing + unsaved == saving else "but %d changes are no removals" % saving,
-        None if (unsaved > 0) == bool(layout.untagged) else "and the save was refused %d times" % unsaved,
+        None if (unsaved > 0) == layout.saves else "and the save was refused %d times" % unsaved,
     ])
 
 
@@ -119,7 +119,7 @@ def wrong_limit(layout):
     """Return the problem with a prune that can write no file, or None."""
     layout.fresh()
     limit = lambda: resource.setrlimit(resource.RLIMIT_FSIZE, (0, 0))
-    ended = run(["prune", "layout"], layout.room, preexec_fn=limit, restore_signals=False)
+    ended = run(layout.words, layout.room, preexec_fn=limit, restore_signals=False)
     wanted = {path: it for path, it in layout.before.items() if path not in layout.prune.first}
     return first([
         None if ended[:3] == (1, layout.prune.unsaved, "ocicp: 74 Device\n") else told(ended),
@@ -130,7 +130,8 @@ def wrong_limit(layout):
 
 def copy_or_prune(room, name):
     """Copy an image, or prune, and return the problem with the output, or None."""
-    words, wanted = ["prune", "copied"], r"(removed.*\n)*kept \d+ removed \d+ files \d+ bytes \d+\n"
+    words = ["prune", *(["--untagged"] if name == "--untagged" else []), "copied"]
+    wanted = r"(removed.*\n)*kept \d+ removed \d+ files \d+ bytes \d+( untagged \d+ \(see --untagged\))?\n"
     if name in IMAGES:
         words, wanted = ["copy", "source", name, "copied"], r"copied %s\n(.*\n)*" % re.escape(key(IMAGES[name]))
     ended = run(words, room, seconds=30)
@@ -145,13 +146,13 @@ def wrong_beside(room):
     write_layout(room + "/source", [E, *LAYERS, *IMAGES.values()], IMAGES)
     # (a layer that one of the images has is there before, and nothing needs it yet)
     write_layout(room + "/copied", [*CONTENTS, LAYERS[0], image([LAYERS[1]])], TAGS, UNTAGGED)
-    names = [it for name in IMAGES for it in (name, "prune")]
+    names = [it for number, name in enumerate(IMAGES) for it in (name, ["prune", "--untagged"][number % 2])]
     with ThreadPoolExecutor(2 * RUNS) as pool:
         complaints = list(pool.map(lambda name: copy_or_prune(room, name), names))
     contents = [E, FOO, M2, S, *LAYERS, *IMAGES.values()]
     return first([
         *complaints,
-        copy_or_prune(room, "prune"),
+        copy_or_prune(room, "--untagged"),
         wrong_layout(room, "copied", contents, {**TAGS, **IMAGES}),
         leftovers(room + "/copied", contents),
     ])
@@ -159,12 +160,12 @@ def wrong_beside(room):
 
 def checks(room):
     kill, full, notes = (shim.built(room, name, source) for name, source in (("kill", shim.KILLS), ("full", shim.FULL), ("notes", NOTES)))
-    for what, untagged in ("a prune", UNTAGGED), ("a prune of files alone", []):
-        layout = Layout(room, untagged)
+    for what, words in zip(["a prune with --untagged", "a prune"], FORMS):
+        layout = Layout(room, words)
         yield "%s that is not ended" % what, layout.wrong_whole()
         yield "%s, the order of its changes" % what, wrong_order(layout, notes)
         yield from killed(layout, kill, what)
         yield from without_room(layout, full, what)
-    yield "no room for index.json", wrong_limit(Layout(room, UNTAGGED))
+    yield "no room for index.json", wrong_limit(Layout(room, FORMS[0]))
     for number in range(3):
         yield "%d copies beside as many prunes, try %d" % (RUNS, number + 1), wrong_beside(room + "/beside")

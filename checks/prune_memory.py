@@ -8,21 +8,21 @@ import os
 
 from support import refused_malloc
 from support.program import first, run, told, wrong_layout
-from support.prune_layout import TAGS, UNTAGGED, Layout
+from support.prune_layout import FORMS, TAGS, Layout
 from support.refused_malloc import refused_in_turn
 
 
 @functools.lru_cache(maxsize=None)
-def layout_of(folder, untagged):
+def layout_of(folder, words):
     os.makedirs(folder)
-    return Layout(folder, untagged)
+    return Layout(folder, words)
 
 
-def wrong_prune(untagged, library, room, nth):
+def wrong_prune(words, library, room, nth):
     """Refuse the nth request of a prune, and return whether it made that many, and the problem with it or with the layout, or None."""
-    layout = layout_of("%s/%d" % (room, os.getpid()), untagged)
+    layout = layout_of("%s/%d" % (room, os.getpid()), words)
     layout.fresh()
-    refused, ended = refused_malloc.run_refused(library, nth, ["prune", "layout"], layout.room)
+    refused, ended = refused_malloc.run_refused(library, nth, layout.words, layout.room)
     is_memory = refused and (ended.status, ended.err) == (3, "ocicp: memory\n")
     complaint = first([
         None if ended[:3] == layout.whole[:3] or is_memory else told(ended),
@@ -40,7 +40,7 @@ def wrong_without(layout, name):
 
 def wrong_untag(name, library, room, nth):
     """Do the same with the removal of a tag."""
-    layout = layout_of("%s/%d" % (room, os.getpid()), tuple(UNTAGGED))
+    layout = layout_of("%s/%d" % (room, os.getpid()), FORMS[0])
     layout.fresh()
     refused, ended = refused_malloc.run_refused(library, nth, ["untag", "layout", name], layout.room)
     is_done = ended.status == 0 and ended.out and not ended.err
@@ -59,8 +59,8 @@ def wrong_untag(name, library, room, nth):
 def checks(room):
     library = refused_malloc.build(room)
     cases = {
-        "a prune": (tuple(UNTAGGED), wrong_prune),
-        "a prune of files alone": ((), wrong_prune),
+        "a prune with --untagged": (FORMS[0], wrong_prune),
+        "a prune": (FORMS[1], wrong_prune),
         "untag": (next(iter(TAGS)), wrong_untag),
     }
     for number, (name, (case, wrong)) in enumerate(cases.items()):

@@ -9,24 +9,26 @@ from support.pruning import Prune
 OLD = Content(LAYER, b"old layer")
 OLD_IMAGE = image([BAR, OLD])
 CONTENTS, TAGS, UNTAGGED = [E, FOO, BAR, OLD, M2, M3, I1, OLD_IMAGE, S], {"new": M2, "also": S}, [I1, OLD_IMAGE]
+# The words of the prunes: the first one removes the keys that no tag needs, the second one only files.
+FORMS = [("prune", "--untagged", "layout"), ("prune", "layout")]
 STRAYS = ["blobs/sha256/%064x" % 1, "blobs/sha256/%s.0123456789abcdef.new" % ("f" * 64), "index.json.0123456789abcdef.new"]
 
 
 class Layout:
-    """A layout that is pruned again and again. Without `untagged` no held key goes, so that `index.json` is not written."""
+    """A layout that is pruned again and again. Without `--untagged` no held key goes, so that `index.json` is not written."""
 
-    def __init__(self, room, untagged):
-        self.room, self.untagged = room, untagged
+    def __init__(self, room, words):
+        self.room, self.words, self.saves = room, [*words], "--untagged" in words
         self.fresh()
-        self.prune = Prune(room + "/layout")
+        self.prune = Prune(room + "/layout", self.saves)
         self.before = files(room + "/layout")
-        self.whole = run(["prune", "layout"], room)
+        self.whole = run(self.words, room)
         self.after = files(room + "/layout")
 
     def fresh(self):
         """Restore the layout to its state before the prune."""
         shutil.rmtree(self.room + "/layout", ignore_errors=True)
-        write_layout(self.room + "/layout", CONTENTS if self.untagged else [E, FOO, M2, S], TAGS, self.untagged)
+        write_layout(self.room + "/layout", CONTENTS, TAGS, UNTAGGED)
         for path in STRAYS:
             with open("%s/layout/%s" % (self.room, path), "w") as file:
                 file.write("stray")
@@ -58,8 +60,8 @@ class Layout:
 
     def wrong_again(self):
         """Repeat the prune, and return the problem with it, or None. It is to leave the same files as a prune that was not ended."""
-        prune = Prune(self.room + "/layout")
-        ended = run(["prune", "layout"], self.room)
+        prune = Prune(self.room + "/layout", self.saves)
+        ended = run(self.words, self.room)
         return first([
             None if ended[:3] == (0, prune.out, "") else "the same prune again: " + told(ended),
             None if files(self.room + "/layout") == self.after else "the same prune again leaves something else",
