@@ -1,4 +1,4 @@
-"""`copy --all --prune`, against `copy --all`, `untag` and `prune` one after the other, refused, and killed half-way. Wants `cc`."""
+"""`copy --all --prune`, against `copy --all`, `untag` and `prune --untagged` one after the other, refused, and killed half-way. Wants `cc`."""
 import os
 import shutil
 import signal
@@ -7,7 +7,7 @@ from support import shim
 from support.dry_runs import wrong_dry_run
 from support.files import files, stamps
 from support.layouts import BAR, E, FOO, I1, LAYER, M2, M3, S, Content, blob, image, key, write_layout
-from support.program import first, run, told
+from support.program import first, run, told, wrong_layout
 from support.pruning import Held, Prune
 
 OLD = Content(LAYER, b"old layer")
@@ -50,8 +50,8 @@ def in_turn(room, folder):
     others = sorted(set(tags) - set(wanted), key=str.encode)
     for name in others:
         assert run(["untag", folder, name], room).status == 0
-    prune = Prune("%s/%s" % (room, folder))
-    assert run(["prune", folder], room).status == 0
+    prune = Prune("%s/%s" % (room, folder), True)
+    assert run(["prune", "--untagged", folder], room).status == 0
     lines = ["untagged %s %s %d %s\n" % (name, tags[name].digest, tags[name].size, tags[name].media_type) for name in others]
     return copied.out + "".join(lines) + prune.out
 
@@ -116,6 +116,26 @@ def refused(room):
         ])
 
 
+def killed_new(room, library):
+    """Kill a mirror into a new folder before each change that it makes, and check that the same mirror again is not refused: at no time are
+    there blobs and no index."""
+    source = SOURCES["two images and their index"]
+    for number in range(1, shim.MOST + 1):
+        fresh(room, source, MIRRORS["nothing"])
+        shutil.rmtree(room + "/mirror")
+        made, ended = shim.run_marked(library, ["copy", "--all", "--prune", "source", "mirror"], room, {"LAST_CHANGE": str(number)})
+        if made < number:
+            break
+        plan, again = (run(["copy", "--all", "--prune", *words, "source", "mirror"], room) for words in (["--dry-run"], []))
+        yield "a mirror into a new folder, killed before change %d" % number, first([
+            None if ended.status == -signal.SIGKILL else "it was not killed: " + told(ended),
+            None if plan.status == 0 else told(plan),
+            None if again.status == 0 else told(again),
+            wrong_layout(room, "mirror", source[0], source[1]),
+        ])
+    yield "it makes between 10 and %d changes" % shim.MOST, None if 10 < number < shim.MOST else "it makes %d" % (number - 1)
+
+
 def killed(room, library):
     """Kill a mirror before each change that it makes, and check that each tag, and everything that it reaches, is there."""
     source, mirror = SOURCES["two images and their index"], MIRRORS["old images with other tags"]
@@ -141,7 +161,7 @@ def killed(room, library):
 
 def checks(room):
     renames, kill = shim.built(room, "renames", RENAMES), shim.built(room, "kill", shim.KILLS)
-    for number, group in enumerate([lambda at: mirrored(at, renames), refused, lambda at: killed(at, kill)]):
+    for number, group in enumerate([lambda at: mirrored(at, renames), refused, lambda at: killed(at, kill), lambda at: killed_new(at, kill)]):
         folder = "%s/%d" % (room, number)
         os.mkdir(folder)
         yield from group(folder)
