@@ -32,6 +32,7 @@ COMMANDS = [
     ["tag", "mirror", "old", "other"],
     ["untag", "mirror", "old"],
     ["prune", "mirror"],
+    ["prune", "--untagged", "mirror"],
 ]
 REASON = "Input/output error"
 

@@ -19,7 +19,7 @@ COPY = ["copy", "--workers", "1", "source", "new", "copied"]
 COPIED = [BAR, OTHER, E, FOO, M2], {"old": BAR, "new": M2}
 COMMANDS = {
     "a copy": (COPY, COPIED),
-    "a prune": (["prune", "copied"], ([BAR], {"old": BAR})),
+    "a prune": (["prune", "--untagged", "copied"], ([BAR], {"old": BAR})),
     "tag": (["tag", "copied", "old", "other"], ([BAR, OTHER], {"old": BAR, "other": BAR})),
     "untag": (["untag", "copied", "old"], ([BAR, OTHER], {})),
     "a repair": (["repair", "--workers", "1", "copied", "source"], ([BAR, OTHER], {"old": BAR})),

@@ -22,12 +22,14 @@ WRITING = [
     ["tag", "mirror", "old", "other"],
     ["untag", "mirror", "old"],
     ["prune", "mirror"],
+    ["prune", "--untagged", "mirror"],
 ]
 PLANNING = [
     ["copy", "--dry-run", "source", "both", "new/deep/mirror"],
     ["copy", "--archive", "--dry-run", "source", "both", "made.tar"],
     ["copy", "--all", "--prune", "--dry-run", "source", "mirror"],
     ["prune", "--dry-run", "mirror"],
+    ["prune", "--untagged", "--dry-run", "mirror"],
 ]
 
 
@@ -36,7 +38,7 @@ def calls_of(library, words, room):
     folder = room + "/folder"
     shutil.rmtree(folder, ignore_errors=True)
     write_layout(folder + "/source", [E, FOO, BAR, M2, M3, I1, S], {"both": I1, "one": M2, "signature": S})
-    write_layout(folder + "/mirror", [E, FOO, OLD, UNUSED], {"old": OLD})
+    write_layout(folder + "/mirror", [E, FOO, BAR, OLD, M3, UNUSED], {"old": OLD}, [M3])
     calls, ended = recorded(library, words, folder)
     return calls, ended[:3], files(folder), told(ended)
 

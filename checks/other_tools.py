@@ -114,10 +114,14 @@ def wrong_change(room, index, unlisted):
 
 
 def wrong_prune(room, index):
-    """Return the problem with a prune of a layout with tags, or None. The entries of tags stay as they are."""
+    """Return the problem with prunes of a layout, or None. The index stays as it is, and with `--untagged` the entries of tags do."""
     fresh(room, index)
+    before = index_bytes(room)
     last = {it["annotations"][NAME]: it for it in index["manifests"] if NAME in it.get("annotations", {})}
-    complaint = wrong_run(room, "prune", "layout")
+    complaint = wrong_run(room, "prune", "layout") or (None if index_bytes(room) == before else "the index has changed")
+    if not last:
+        return complaint
+    complaint = complaint or wrong_run(room, "prune", "--untagged", "layout")
     kept = json.loads(index_bytes(room))["manifests"]
     lost = [name for name, it in last.items() if it not in kept]
     return complaint or ("the entry of %s changed" % lost[0] if lost else None)
@@ -227,7 +231,8 @@ class Index:
         unreadable = [refusal(it) for it in self.held.unreadable]
         of_all = [it for place, entry in enumerate(self.entries) if name_of(entry) for it in self.lack_of(place, entry)]
         return first([
-            self.wrong_answer(["prune", "--dry-run", "layout"], (no_tags + absent + unreadable)[:1]),
+            self.wrong_answer(["prune", "--dry-run", "layout"], (absent + unreadable)[:1]),
+            self.wrong_answer(["prune", "--dry-run", "--untagged", "layout"], (no_tags + absent + unreadable)[:1]),
             self.wrong_answer(["copy", "--all", "layout", "all"], (of_all + no_tags)[:1]),
             self.wrong_answer(["copy", "--all", "--referrers", "--dry-run", "layout", "all"], (unreadable + of_all + no_tags)[:1]),
         ])
@@ -258,6 +263,6 @@ def checks(room):
         yield "random index %d" % number, wrong_at_random(room, chance)
     for tool, index in TOOLS.items():
         yield "%s: a tag is set and removed" % tool, wrong_change(room, index, UNLISTED.get(tool, []))
+        yield "%s: prune" % tool, wrong_prune(room, index)
         if tool != "cosign save":
-            yield "%s: prune" % tool, wrong_prune(room, index)
             yield "%s: copy --all" % tool, wrong_copy(room, index)

@@ -254,10 +254,10 @@ CASES = {
        for name, case in cases.items() for workers in ("1 worker", "3 workers")},
     "tag": Case(["tag", "copied", "old", "new"], None, OLD_AND_ONE, {"new": OLD}),
     "untag": Case(["untag", "copied", "new"], None, OLD_AND_ONE, {"new": None}),
-    "prune": Case(["prune", "copied"], None, NO_TAG, {key(ONE).digest: None}),
-    "prune after one that was killed after its save": Case(
-        ["prune", "copied"], None, NO_TAG, {key(ONE).digest: None}, killed=(*SAVE, 1)),
-    "prune of files alone": Case(["prune", "copied"], None, ([*ONLY_OLD[0], *OF_ONE], {"old": OLD})),
+    "prune": Case(["prune", "copied"], None, ([*NO_TAG[0], *OF_TWO], *NO_TAG[1:])),
+    "prune --untagged": Case(["prune", "--untagged", "copied"], None, NO_TAG, {key(ONE).digest: None}),
+    "prune --untagged after one that was killed after its save": Case(
+        ["prune", "--untagged", "copied"], None, NO_TAG, {key(ONE).digest: None}, killed=(*SAVE, 1)),
 }
 
 

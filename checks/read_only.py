@@ -36,7 +36,7 @@ READING = [
     ["copy", "--archive", "--referrers", "source", "one", "-"],
     ["prune", "--dry-run", "source"],
     ["repair", "--dry-run", "source", "other"],
-    ["prune", "--dry-run", "--no-referrers", "source"],
+    ["prune", "--dry-run", "--untagged", "source"],
 ]
 
 
