@@ -26,9 +26,10 @@ LOOKS = [
 ]
 # (by one worker, since a copy by more that is refused may leave one or another blob)
 CHANGES = [
-    "prune --dry-run L", "prune --dry-run --no-referrers L", "copy --workers 1 --progress L TAG M new",
+    "prune --dry-run L", "prune --dry-run --untagged L", "prune --dry-run --leftovers L", "copy --workers 1 --progress L TAG M new",
     "copy --archive L TAG made.tar", "copy --archive --all --progress L all.tar", "copy --workers 1 --referrers --depth 1 L DIGEST N", "copy --workers 1 --all --descend L M", "copy --workers 1 --all --prune L M",
-    "tag L DIGEST newer", "tag L TAG newest", "untag L TAG", "untag M new", "prune --no-referrers L", "prune L", "prune M", "verify M", "tags M",
+    "tag L DIGEST newer", "tag L TAG newest", "untag L TAG", "untag M new", "prune L", "prune --untagged L", "prune L",
+    "prune M", "prune --untagged M", "verify M", "tags M",
 ]
 # (a JSON text has some of these only as escapes)
 TEXTS = [
@@ -99,7 +100,8 @@ def at_random(room):
 
 def example(room):
     rooms = Rooms(room, lambda folder: shutil.copytree(EXAMPLE, folder + "/layout"))
-    for command in ["tags L", "tree --referrers L base", "verify L", "copy --all L M", "copy --all --prune L M", "untag M both", "prune M"]:
+    for command in ["tags L", "tree --referrers L base", "verify L", "copy --all L M", "copy --all --prune L M", "untag M both", "prune M",
+                    "prune --untagged M"]:
         yield "the example, " + command, rooms.wrong(words_of(command, L="layout", M="mirror"))
     for number in range(256):
         complaint = rooms.wrong(["explain", str(number)]) if run(["explain", str(number)], room).status == 0 else None
@@ -140,7 +142,7 @@ def texts(room):
                                          ["prune", name], ["untag", name, text], ["resolve", name, text]]),
         ])
     yield "copies of odd tags", first(rooms.wrong(it.split()) for it in [
-        "copy --all --workers 1 --progress layout all", "copy --all --prune layout all", "verify all", "prune all"])
+        "copy --all --workers 1 --progress layout all", "copy --all --prune layout all", "verify all", "prune all", "prune --untagged all"])
 
 
 def image_of(sizes):
@@ -193,7 +195,7 @@ def chain(room):
     """Check that documents about a deep graph are not nested more deeply."""
     rooms = Rooms(room, write_chain)
     for command in ["tags L", "tree L %d" % DEPTH, "tree --referrers L 0", "copy --dry-run L %d M" % DEPTH, "copy --all L M",
-                    "prune --no-referrers M"]:
+                    "prune M", "prune --untagged M"]:
         complaint = rooms.wrong(words_of(command, L="layout", M="mirror"))
         deepest = max(accumulate({"{": 1, "[": 1, "}": -1, "]": -1}.get(it, 0) for it in rooms.ended.out), default=0)
         yield "a chain of %d images, %s" % (DEPTH, command), complaint or (None if deepest <= NESTED else "it is nested %d deep" % deepest)

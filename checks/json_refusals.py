@@ -34,8 +34,9 @@ OF_BAD = [
     "tags bad", "verify bad", "resolve bad one", "predecessors bad one", "tree --referrers bad one", "copy --dry-run bad one other",
     "resolve bad sig", "predecessors bad new", "tree --referrers bad new", "tree bad sig", "copy --dry-run bad sig other",
     "copy --workers 1 --progress bad one other", "copy --dry-run good one bad", "copy --workers 1 --all good bad", "prune --dry-run bad",
+    "prune --untagged --dry-run bad",
     "copy --all --prune --workers 1 good bad", "copy --all --prune --workers 1 bad other", "tag bad one other", "untag bad one", "prune bad",
-    "cat bad one", "copy --archive bad one made.tar", "copy --archive --all --referrers bad missing/made.tar",
+    "prune --untagged bad", "cat bad one", "copy --archive bad one made.tar", "copy --archive --all --referrers bad missing/made.tar",
 ]
 REFERENCES = ["resolve good REF", "predecessors good REF", "tree good REF", "copy good REF other", "copy --dry-run good REF other",
               "tag good REF other", "untag good REF", "cat good REF"]
@@ -43,11 +44,15 @@ ONTO_FILES = ["copy good one file", "copy --all good file", "copy --archive good
 # Commands for a platform that the index does not have, and for one whose manifest is missing.
 OF_PLATFORMS = ["resolve --platform linux/s390x good all", "tree --platform linux/arm64/v7 good all", "tree --platform linux/arm64 good one",
                 "resolve --platform linux/amd64 good all", "tree --referrers --platform linux/amd64 good all"]
+# Prunes that a layout without a tag refuses, all prunes, and what layouts without an index refuse.
+OF_UNTAGGED = ["prune --untagged --dry-run good", "prune --untagged good"]
+OF_PRUNES = ["prune good", "prune --dry-run good", *OF_UNTAGGED]
+OF_LOST = [*OF_PRUNES, "copy --all --prune source other", "copy --all --prune --dry-run source other"]
 # Copies of the tags that match a pattern, where none does.
 OF_PATTERNS = ["copy --all --match nope good other", "copy --all --dry-run --match n --match on good other"]
 ITEMS = ["type", "type=nothing", "a=good/oci-layout a=good/oci-layout", "%s=good/%s" % (IMAGE, blob(M2))]
 # The numbers that the refusals here have.
-NUMBERS = {*range(10, 15), 21, 30, 33, 35, 36, 43, 53, 54, *range(70, 76), 77, *range(79, 83), 88, *range(92, 105), 107, 108}
+NUMBERS = {*range(10, 15), 21, 30, 33, 35, 36, 43, 53, 54, *range(70, 76), 77, *range(79, 83), 88, *range(92, 105), 107, 108, 109}
 
 
 def write_good(folder):
@@ -147,8 +152,9 @@ def others(refused):
     yield "files", refused.wrong(write_good, [it.split() for it in ONTO_FILES])
     commands = [["mem", "%s=bad/%s" % (IMAGE, blob(LARGE))], *(it.split() for it in OF_BAD)]
     yield "a large manifest", refused.wrong(lambda folder: write_manifest(LARGE, folder), commands)
-    yield "no tags", refused.wrong(lambda folder: write_layout(folder + "/good", ALL, {}), [["prune", "good"]])
-    yield "a link in the place of a folder", refused.wrong(write_link, [["prune", "good"], ["prune", "--dry-run", "good"]])
+    yield "no tags", refused.wrong(lambda folder: write_layout(folder + "/good", ALL, {}), [it.split() for it in OF_UNTAGGED])
+    yield "a link in the place of a folder", refused.wrong(write_link, [it.split() for it in OF_PRUNES])
+    yield "blobs and no index", refused.wrong(write_lost, [it.split() for it in OF_LOST])
     yield "a folder in the place of a new layer", refused.wrong(write_occupied, ["copy --workers 1 --progress good one other".split()])
 
 
@@ -166,6 +172,13 @@ def write_link(folder):
     os.symlink("../blobs", folder + "/good/blobs")
 
 
+def write_lost(folder):
+    write_good(folder)
+    for layout in "good", "other":
+        os.remove("%s/%s/index.json" % (folder, layout))
+    write_layout(folder + "/source", [E, FOO, M2], {"one": M2})
+
+
 def write_occupied(folder):
     write_good(folder)
     os.mkdir("%s/other/%s" % (folder, blob(FOO)))
@@ -176,13 +189,14 @@ def outside(refused, library):
     for path in STRAY, DRAFT, blob(BAR):
         environment = dict(os.environ, LD_PRELOAD=library, KEPT="good/" + path)
         keeping = lambda words, folder: run(words, folder, env=environment)
-        yield "%s cannot be removed" % path, refused.wrong(write_good, [["untag", "good", "new"], ["prune", "good"]], keeping)
+        yield "%s cannot be removed" % path, refused.wrong(write_good, [
+            ["untag", "good", "new"], ["prune", "good"], ["prune", "--untagged", "good"]], keeping)
     environment = dict(os.environ, LD_PRELOAD=library, KEPT="index.json")
     saving = lambda words, folder: run(words, folder, env=environment)
     yield "no index can be written", refused.wrong(write_good, [
         "copy --workers 1 --progress good new other".split(), ["untag", "good", "one"], "copy --all --prune good other".split()], saving)
     full = lambda words, folder: run(["-c", '"$0" "$@" >/dev/full', PROGRAM, *words], folder, program="/bin/bash")
-    commands = ["tags good", "tree good new", "copy --all good new", "prune good", "explain 36", "copy --dry-run good one other"]
+    commands = ["tags good", "tree good new", "copy --all good new", "prune good", "prune --untagged good", "explain 36", "copy --dry-run good one other"]
     yield "an output that is full", refused.wrong(write_good, [it.split() for it in commands], full)
     locked = ["copy --no-wait --all good other", "untag --no-wait other old", "prune --no-wait other"]
     yield "a folder that is locked", refused.wrong(write_good, [it.split() for it in locked], run_locked)
@@ -250,7 +264,7 @@ def plain(room):
 # Commands for which each request for memory is refused in turn.
 REFUSED = [
     "tags good", "tree --referrers good one", "verify bad", "explain 36", "mem a=file b=file", "copy --all --prune --workers 1 good other",
-    "untag good one", "prune good", "resolve good nope", "copy bad one other", "tags file",
+    "untag good one", "prune good", "prune --untagged good", "resolve good nope", "copy bad one other", "tags file",
 ]
 
 

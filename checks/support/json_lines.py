@@ -2,13 +2,15 @@
 import json
 import os
 
-from support.pruning import Held, Key
+from support.pruning import Held, Key, last_line
 
 DESCRIPTOR = {"mediaType": str, "digest": str, "size": int}
 # A sum over this is a text.
 GREATEST = (1 << 64) - 1
 SUM = (int, str)
 PRUNED = {"removed": list, "files": list, "kept": int, "bytes": SUM}
+# Prunes with these words do not count what has no tag.
+UNCOUNTED = {"--untagged", "--leftovers"}
 CLEANED = {"untagged": list, **PRUNED}
 COPIED = {"copied": list, "planned": int, "pushed": int, "skipped": int}
 LEAST_DIGITS = 12
@@ -159,17 +161,22 @@ def of_mem(value, words):
 
 
 def of_prune(value, words):
-    removed, files, kept, total = taken(value, PRUNED)
+    *pruned, left = taken(value, {**PRUNED, "untaggedLeft": int}) if UNCOUNTED.isdisjoint(words) else [*taken(value, PRUNED), 0]
+    return pruned_lines(*pruned, left)
+
+
+def pruned_lines(removed, files, kept, total, left):
     files = [taken(it, {"path": str, "length": int}) for it in files]
     had = {"blobs/" + taken(it, DESCRIPTOR)[1].replace(":", "/") for it in removed}
     if [path for path, _ in files] != sorted({path for path, _ in files}, key=str.encode):
         raise ValueError("the files are not in the order of their paths")
-    if sum(length for _, length in files) != sum_of(total):
+    lengths = [length for _, length in files]
+    if sum(lengths) != sum_of(total):
         raise ValueError("the files do not have %s bytes" % total)
     return [
         *("removed " + key(it) for it in removed),
         *("removed-file %s %d" % (path, length) for path, length in files if path not in had),
-        "kept %d removed %d files %d bytes %d" % (kept, len(removed), len(files), sum_of(total)),
+        last_line(kept, len(removed), lengths, left),
     ]
 
 
@@ -188,8 +195,8 @@ def tag_of(words):
     return places[3 if len(places) > 3 else 1]
 
 
-def of_clean_up(value, words):
-    return ["untagged %s %s" % tagged(it) for it in value["untagged"]] + of_prune({name: value[name] for name in PRUNED}, words)
+def of_clean_up(value):
+    return ["untagged %s %s" % tagged(it) for it in value["untagged"]] + pruned_lines(*(value[name] for name in PRUNED), 0)
 
 
 def of_plan(value, words):
@@ -198,7 +205,7 @@ def of_plan(value, words):
     lines = [*map(key, blobs), "planned %d bytes %d skipped %d" % (planned, sum_of(total), skipped)]
     for it in prune:
         taken(it, CLEANED)
-        lines += of_clean_up(it, words)
+        lines += of_clean_up(it)
     return lines
 
 
@@ -210,7 +217,7 @@ def of_copy(value, words):
     if "--all" not in words and [it["tag"] for it in copied] != [tag_of(words)]:
         raise ValueError("the tag is not %r" % tag_of(words))
     lines = ["copied " + tagged(it)[1] for it in copied] + ["planned %d pushed %d skipped %d" % tuple(counts)]
-    return lines + (of_clean_up(value, words) if prunes else [])
+    return lines + (of_clean_up(value) if prunes else [])
 
 
 def size(number):
