@@ -65,6 +65,7 @@ class Held:
     def __init__(self, folder):
         self.folder = folder
         entries = json.loads(read(folder + "/index.json"))["manifests"]
+        self.has_entries = bool(entries)
         self.unreadable = [place for place, it in enumerate(entries) if not is_readable(it)]
         self.entries = [key_of(it) for it in entries if is_readable(it)]
         self.absent = [it for it in self.entries if not self.has(it)]
@@ -114,8 +115,9 @@ class Held:
         return self.members(self.named_keys, self.referrers)
 
     def free(self):
-        """Return the keys without a tag that no key lists but as its subject, and that have no subject which is held."""
-        digests, bound = {it.digest for it in self.keys}, set(self.tags.values())
+        """Return the keys whose digest no named key has, that no key lists but as its subject, and that have no subject which is held."""
+        digests, named = {it.digest for it in self.keys}, {it.digest for it in self.named_keys}
+        bound = {it for it in self.keys if it.digest in named}
         for key in self.keys:
             subjects = {it.digest for it in self.subject(key)}
             bound |= {it for it in self.listed(key) if it.digest not in subjects}
@@ -154,6 +156,7 @@ class Prune:
         )
         self.drafts = sorted(drafts)
         self.refusals = [
+            *(["109 NoIndex"] if not (untagged or held.has_entries) and any(map(BLOB.fullmatch, lengths)) else []),
             *(["97 NoTags"] if untagged and not held.tags else []),
             *("96 Unknown " + text(it) for it in held.absent),
             *("73 BadIndex 14 BadDescriptor manifests %d" % it for it in held.unreadable[:1]),
