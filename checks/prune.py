@@ -27,6 +27,8 @@ def refusals_of(case, flags):
     """Return the refusals of a case, as it states them itself."""
     if flags:
         return [] if case.tags else ["97 NoTags"]
+    if not case.tags and not case.untagged:
+        return ["109 NoIndex"]
     return ["96 Unknown " + key(case.lacks)] if case.lacks else []
 
 

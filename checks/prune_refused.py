@@ -34,7 +34,8 @@ MIRRORS = [["copy", "--all", "--prune", *flags, "source", "layout"]
 # A file beside the blobs whose name is no digest.
 NOTES = "blobs/sha256/notes"
 
-# Layouts without a tag, which only a prune with --untagged refuses: the contents, the tags, and the other entries of the index.
+# Layouts without a tag, which only a prune with --untagged refuses, unless there is no entry: the contents, the tags, and the other
+# entries of the index.
 UNTAGGED_LAYOUTS = {
     "no tag": (ALL, {}, [M2, M3]),
     "an empty layout": ([], {}, []),
@@ -82,7 +83,7 @@ def prunes(room):
     for what, layout in UNTAGGED_LAYOUTS.items():
         fresh(room, *layout)
         yield "%s, with --untagged" % what, first(wrong_refusal(room, words, NO_TAGS) for words in UNTAGGED)
-        yield what, wrong_done(room, [])
+        yield what, wrong_done(room, []) if layout[0] else first(wrong_refusal(room, words, NO_INDEX) for words in PLAIN)
     for what, (contents, untagged, lost) in LACKING_UNTAGGED.items():
         fresh(room, contents, {"new": M2}, untagged)
         yield what, first(wrong_refusal(room, words, "96 Unknown " + key(lost)) for words in PLAIN)

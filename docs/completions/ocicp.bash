@@ -18,7 +18,7 @@ _ocicp() {
       flags='--hint --json --no-wait --no-sync --help' kinds=(folder tag)
       ;;
     prune)
-      flags='--dry-run --no-referrers --leftovers --hint --json --no-wait --no-sync --help' kinds=(folder)
+      flags='--dry-run --untagged --leftovers --hint --json --no-wait --no-sync --help' kinds=(folder)
       ;;
     repair)
       flags='--dry-run --workers --hint --json --no-wait --no-sync --help' valued='--workers' last=folder
