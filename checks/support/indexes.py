@@ -63,7 +63,7 @@ def last_places(entries):
 
 def saved_entries(entries, keys, listed):
     """Return the entries that a save writes: first those that are not held, and those whose name a later entry has; then those of the tags;
-    then those without a name. These keys are held, and the manifests among them list others.
+    then those without a name, and new ones in key order. These keys are held, and the manifests among them list others.
     """
     last = last_places(entries)
     is_held = [is_readable(it) and key_of(it) in keys for it in entries]
@@ -71,9 +71,8 @@ def saved_entries(entries, keys, listed):
     tagged = [entries[last[name]] for name in sorted(last, key=str.encode) if is_held[last[name]]]
     loose = [it for place, it in enumerate(entries) if is_held[place] and not name_of(it)]
     has = set(map(key_of, [*tagged, *loose]))
-    new = [it for it in keys - has if it.media_type in MEMBERS or it not in listed]
-    loose += [{"mediaType": it.media_type, "digest": it.digest, "size": it.size} for it in new]
-    return [*before, *tagged, *sorted(loose, key=key_of)]
+    new = sorted(it for it in keys - has if it.media_type in MEMBERS or it not in listed)
+    return [*before, *tagged, *loose, *({"mediaType": it.media_type, "digest": it.digest, "size": it.size} for it in new)]
 
 
 def saved_text(entries):

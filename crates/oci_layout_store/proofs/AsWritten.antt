@@ -20,9 +20,9 @@ use Rattle.oci_layout_store.specs.Entries.{absent_in, IndexContent, IndexEntry, 
 use Rattle.oci_layout_store.specs.Law.{IsWhole, OpensAsWritten}
 use Rattle.oci_layout_store.specs.Opened.{IsWalk, held_in, holds, is_there, is_whole, listed_in, lists}
 use Rattle.oci_layout_store.specs.Saved.{AreLoose, IsTop, saved_entries, is_left}
-use Rattle.oci_layout_store.proofs.Law.{Contains_among, Lists, all_loose_held, both_true, covered, each_lists, has_held, listed_held, loose_there, same_values, some_listed, visited_all}
+use Rattle.oci_layout_store.proofs.Law.{Contains_among, Lists, all_from, both_true, covered, each_lists, has_held, listed_held, same_values, some_listed, visited_all}
 use Rattle.oci_layout_store.proofs.Read.{one_index}
-use Rattle.oci_layout_store.proofs.SavedAll.{all_saved, loose_keys}
+use Rattle.oci_layout_store.proofs.SavedAll.{all_saved}
 use Rattle.oci_layout_store.proofs.Stored.{value_at-stored}
 use Rattle.oci_layout_store.proofs.Walk.{all_held, leaf_or, leaf_whole, manifest_whole, unheld_lists}
 use Rattle.oci_layout_store.proofs.Written.{reads_as_written, whole-new}
@@ -78,7 +78,7 @@ same_edge file graph again are lists_again same p k edge =
 pub opens_as_written : OpensAsWritten
 opens_as_written file graph again tags tags_again opened memory are names_ok sorted closed sound whole unheld gone files is_opened =
     let idx = files.index in
-    let loose : List (Descriptor × ℕ) = idx.loose in
+    let loose : List Descriptor = idx.loose in
     let entries : List IndexEntry = (said opened.content).entries in
     let written : List IndexEntry = saved_entries opened.absent entries graph tags loose in
     let visited = is_opened.read.walked.visited in
@@ -86,9 +86,9 @@ opens_as_written file graph again tags tags_again opened memory are names_ok sor
     let Q : Descriptor → Type 0 = λ (k : Descriptor). has_key graph k ≡ false → is_whole file k ≡ false in
     let key_ok : (k : Descriptor) → G k → IsKey k = λ k h. All-contains IsKey (keys_of graph) k are (Contains-from_has_key graph k h) in
     let held_ok : (k : Descriptor) → G k → Q k = λ k h g. cc (h, g) in
-    let loose_held : All G (loose_keys loose) = all_loose_held graph loose loose (λ l c. loose_there graph tags entries l.0 l.1 ((idx.are_loose.each l.0 l.1).0 c)) (λ l c. c) in
+    let loose_held : All G loose = all_from G loose (λ k c. ((idx.are_loose.each k).0 c).0.is_there) in
     let all_whole : All IsWhole written =
-    all_saved IsWhole IsKey whole-new opened.absent entries graph tags loose whole (All-weaker G IsKey key_ok (values_of tags) names_ok.held) (All-weaker G IsKey key_ok (loose_keys loose) loose_held) in
+    all_saved IsWhole IsKey whole-new opened.absent entries graph tags loose whole (All-weaker G IsKey key_ok (values_of tags) names_ok.held) (All-weaker G IsKey key_ok loose loose_held) in
     let back = reads_as_written idx.bytes (record { entries = written; members = (said opened.content).members }) all_whole idx.is_index in
     let read : IsIndex true idx.bytes (said memory.content) = subst (λ (o : Option (List ℕ)). IsIndexFile true o (said memory.content)) idx.is_there is_opened.read.index in
     let entries_are : (said memory.content).entries ≡ written = ap (λ (i : IndexContent). i.entries) (one_index true idx.bytes (said memory.content) back.0 read back.1) ∙ back.2 in
@@ -100,7 +100,7 @@ opens_as_written file graph again tags tags_again opened memory are names_ok sor
       | inr never ↦ cc (rw (never, lost) at h)
     ] in
     let starts_ok : All Q starts =
-    All-weaker (λ (k : Descriptor). is_left (is_among opened.absent) graph (Some k) ≡ true) Q left_ok starts (starts_left opened.absent entries graph tags loose idx.are_loose names_ok.held loose_held) in
+    All-weaker (λ (k : Descriptor). is_left (is_among opened.absent) graph (Some k) ≡ true) Q left_ok starts (starts_left opened.absent entries graph tags loose idx.are_loose names_ok.held) in
     let listed_ok : (k : Descriptor) → Q k → All Q (lists true file k) = λ k q. elim (cases_Bool (has_key graph k)) [
       | inl held ↦ some_listed Q true file k (All-weaker G Q held_ok (listed_in file k) (listed_held file graph closed are_listed k held))
       | inr lost ↦ subst (λ (ks : List Descriptor). All Q ks) (sym (unheld_lists true file k (q lost))) (All-nil Q)

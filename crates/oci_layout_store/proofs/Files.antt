@@ -1,5 +1,5 @@
 -- The files of a layout, while one of them is put.
-use Rattle.std.proofs.Common.{◌≡◌, ℕ, zero, suc, true, false, List, [], ◌∷◌, Option, Some, None, Result, rules, refl, sym, ap, subst, ◌∙◌}
+use Rattle.std.proofs.Common.{◌≡◌, ℕ, true, false, List, [], ◌∷◌, Option, Some, None, Result, rules, refl, sym, ap, subst, ◌∙◌}
 use Rattle.std.specs.Prelude.{IsSome, Contains, ◌↔◌}
 use Rattle.std.specs.List.Sorted.{IsStrictlySortedBy}
 use Rattle.std.specs.List.{All}
@@ -19,7 +19,7 @@ use Rattle.serde_json.specs.declared.value.Value.{Null, the_lemmas}
 use Rattle.oci_layout_store.specs.Entries.{no_content, nothing_read, object_members, said}
 use Rattle.oci_layout_store.specs.Files.{HasFiles, IsLayout}
 use Rattle.oci_layout_store.specs.Layout.{LayoutState, OnlyFiles, OpenedIndex, SameMemory, no_index}
-use Rattle.oci_layout_store.specs.Saved.{AreLoose, HasLooseEntry, saved_content}
+use Rattle.oci_layout_store.specs.Saved.{AreLoose, IsLoose, unnamed_keys, saved_content}
 use Rattle.oci_dir.specs.declared.fault.DirFault.{DirFault}
 use Rattle.std.specs.Fmt.{digits}
 use Rattle.serde_json.specs.Written.{compact_text, has_float}
@@ -84,7 +84,7 @@ OnlyFiles-index device old new drafted answer memory put =
     }
 
 -- the index that was put
-pub HasIndex-put : (old new : File) (graph : List Node) (tags : Tags) (opened : OpenedIndex) (keys : List (Descriptor × ℕ)) → AreLoose graph tags (said opened.content).entries keys
+pub HasIndex-put : (old new : File) (graph : List Node) (tags : Tags) (opened : OpenedIndex) (keys : List Descriptor) → AreLoose graph tags (said opened.content).entries keys
     → ((bytes : List ℕ) × IsCompact bytes (index_value (saved_content opened graph tags keys)) × Puts old new index_file bytes) → HasIndex new graph tags opened
 HasIndex-put old new graph tags opened keys loose put =
     let same : bytes_eq index_file index_file ≡ true = (bytes_eq-Decides index_file index_file).1 refl in
@@ -105,7 +105,7 @@ blobs_there old new (n ∷ graph) touches h =
     (blobs_there old new graph touches (All-tail (IsThere old) n graph h))
 
 -- all files of a sound layout whose index was put
-pub HasFiles-put : (H : Type 0) (old new : File) (graph : List Node) (tags : Tags) (opened : OpenedIndex) (keys : List (Descriptor × ℕ)) → HasLayoutFile old → AreLoose graph tags (said opened.content).entries keys
+pub HasFiles-put : (H : Type 0) (old new : File) (graph : List Node) (tags : Tags) (opened : OpenedIndex) (keys : List Descriptor) → HasLayoutFile old → AreLoose graph tags (said opened.content).entries keys
     → ((bytes : List ℕ) × IsCompact bytes (index_value (saved_content opened graph tags keys)) × Puts old new index_file bytes) → Touches old new index_file → IsSound H old graph → HasFiles new (stored old graph) graph tags opened
 HasFiles-put H old new graph tags opened keys layout loose put touches sound = record {
   layout = HasLayoutFile-stays old new index_file touches index_layout layout;
@@ -130,9 +130,8 @@ loose_none : AreLoose [] [] [] []
 unfolding IsStrictlySortedBy
 loose_none = record { each = each; order = tt }
   where
-    each : (k : Descriptor) (place : ℕ) → Contains {X = Descriptor × ℕ} [] (k, place) ↔ HasLooseEntry [] [] [] k place
-    each k zero = (λ c. absurd (no_element {X = Descriptor × ℕ} (k, zero) c), λ l. cc l.0.is_there)
-    each k (suc i) = (λ c. absurd (no_element {X = Descriptor × ℕ} (k, suc i) c), λ l. cc l.0)
+    each : (k : Descriptor) → Contains [] k ↔ (IsLoose [] [] k × (Contains (unnamed_keys []) k → ⊥))
+    each k = (λ c. absurd (no_element k c), λ l. cc l.0.is_there)
 
 view-Null : view Null ≡ null
 view-Null = search (rules, the_lemmas)

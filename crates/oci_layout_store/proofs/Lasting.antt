@@ -124,13 +124,13 @@ own_bytes file (n ∷ graph) h =
     (own_bytes file graph (All-tail (IsThere file) n graph h))
 
 -- a sound closed layout, and the text of its index
-pub record IsToSave (old : Device) (graph : List Node) (tags : Tags) (opened : OpenedIndex) (loose : List (Descriptor × ℕ)) (bytes : List ℕ) : Type 0 where
+pub record IsToSave (old : Device) (graph : List Node) (tags : Tags) (opened : OpenedIndex) (loose : List Descriptor) (bytes : List ℕ) : Type 0 where
   pub are_keys : All IsKey (keys_of graph)
   pub is : IsLayout old graph tags
   pub are_loose : AreLoose graph tags (said opened.content).entries loose
   pub is_index : IsCompact bytes (index_value (saved_content opened graph tags loose))
 
-closed_left : (old : Device) (left : File) (graph : List Node) (tags : Tags) (opened : OpenedIndex) (loose : List (Descriptor × ℕ)) (nodes : List Node) (bytes : List ℕ) → IsToSave old graph tags opened loose bytes
+closed_left : (old : Device) (left : File) (graph : List Node) (tags : Tags) (opened : OpenedIndex) (loose : List Descriptor) (nodes : List Node) (bytes : List ℕ) → IsToSave old graph tags opened loose bytes
     → IsClosed graph → IsSound old.is_honest old.file graph → LeftSaved old nodes bytes left → All (AgreeAt old.file left) graph → IsClosedLayout left graph (stored old.file graph) tags
 closed_left old left graph tags opened loose nodes bytes text closed sound saved agree =
     let there = there_still old.file left graph agree sound.are_there in
@@ -151,7 +151,7 @@ closed_left old left graph tags opened loose nodes bytes text closed sound saved
 -- ---- a save
 
 -- while a closed layout is saved, a crash leaves what lasted, or the new one
-pub left_layout : (old new : Device) (graph : List Node) (tags : Tags) (opened : OpenedIndex) (loose : List (Descriptor × ℕ)) (from : ℕ) (bytes : List ℕ) (answer : Result Unit DirFault)
+pub left_layout : (old new : Device) (graph : List Node) (tags : Tags) (opened : OpenedIndex) (loose : List Descriptor) (from : ℕ) (bytes : List ℕ) (answer : Result Unit DirFault)
     → IsToSave old graph tags opened loose bytes → IsSaved old new (drop from graph) bytes answer → IsSound old.is_honest old.file graph → IsClosed graph → (entries : List Entry) (were : Tags) → Lasts old entries were
     → AreKnown old from graph entries → (left : File) → IsLeft new left → HasLayout left entries were ⊎ HasLayout left (stored old.file graph) tags
 left_layout old new graph tags opened loose from bytes answer text saved sound closed entries were lasts known left may =
@@ -174,7 +174,7 @@ at_path dir path P honest each x may =
     subst P (ap (λ (b : Bool). cond b x (dir.file path)) here) (each left is)
 
 -- a closed layout that was saved lasts
-pub saved_lasts : (old new : Device) (graph : List Node) (tags : Tags) (opened : OpenedIndex) (loose : List (Descriptor × ℕ)) (from : ℕ) (bytes : List ℕ)
+pub saved_lasts : (old new : Device) (graph : List Node) (tags : Tags) (opened : OpenedIndex) (loose : List Descriptor) (from : ℕ) (bytes : List ℕ)
     → IsToSave old graph tags opened loose bytes → IsSaved old new (drop from graph) bytes (Ok tt) → IsSound old.is_honest old.file graph → IsClosed graph → (entries : List Entry) (were : Tags) → Lasts old entries were
     → AreKnown old from graph entries → Lasts new (stored old.file graph) tags
 saved_lasts old new graph tags opened loose from bytes text saved sound closed entries were lasts known =

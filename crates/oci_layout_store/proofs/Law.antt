@@ -8,7 +8,7 @@ use Rattle.std.proofs.lemmas.List.Elements.{All-head, All-tail, All-nil, All-wea
 use Rattle.oci_manifest.specs.Descriptor.{Descriptor, IsKey, same_key, is_among}
 use Rattle.oci_store.specs.Tags.{Tags}
 use Rattle.oci_layout_store.specs.Index.{index_value, IsCompact}
-use Rattle.oci_layout_store.specs.Saved.{AreLoose, HasLooseEntry, IsLoose, IsTop, loose_entry, saved_entries, tag_entry}
+use Rattle.oci_layout_store.specs.Saved.{AreLoose, IsLoose, IsTop, loose_entries, saved_entries, tag_entry}
 use Rattle.oci_layout_store.specs.Law.{IsWhole, KeysShareBytes, OpensAsSaved}
 use Rattle.std.specs.Prelude.{IsSome}
 use Rattle.std.specs.Cmp.Lexicographic.{slice_cmp}
@@ -21,7 +21,7 @@ use Rattle.oci_layout_store.specs.Blobs.{blob_path}
 use Rattle.oci_layout_store.specs.Entries.{IndexContent, IndexEntry, IsIndex, IsIndexFile, ReadIndex, absent_in, entry_keys, named, said}
 use Rattle.oci_layout_store.proofs.Opened.{tag_named-set, absent_in-held}
 use Rattle.oci_layout_store.proofs.Read.{index_as_is, one_index}
-use Rattle.oci_layout_store.proofs.SavedAll.{all_saved, loose_keys}
+use Rattle.oci_layout_store.proofs.SavedAll.{all_saved}
 use Rattle.oci_layout_store.proofs.Written.{reads_as_written, whole-new}
 use Rattle.oci_manifest.proofs.Keys.{Decides-same_key}
 use Rattle.oci_store.specs.Closed.{IsClosed}
@@ -39,14 +39,13 @@ use Rattle.oci_layout_store.proofs.Stored.{has_key-first, has_key-more, has_key-
 use Rattle.oci_layout_store.proofs.Walk.{all_held, held_lists, leaf_lists, leaf_or, unheld_lists}
 
 -- the entries of a save where nothing is remembered
-abbrev new_entries : Tags → List (Descriptor × ℕ) → List IndexEntry
-new_entries tags loose = map (tag_entry []) tags ++ map (loose_entry []) loose
+abbrev new_entries : Tags → List Descriptor → List IndexEntry
+new_entries tags loose = map (tag_entry []) tags ++ loose_entries loose
 
 -- the keys of the entries of a save
-saved_keys : (tags : Tags) (loose : List (Descriptor × ℕ)) → entry_keys (new_entries tags loose) ≡ values_of tags ++ loose_keys loose
+saved_keys : (tags : Tags) (loose : List Descriptor) → entry_keys (new_entries tags loose) ≡ values_of tags ++ loose
 saved_keys [] [] = refl
-saved_keys [] ((k, zero) ∷ loose) = ap (λ (ks : List Descriptor). k ∷ ks) (saved_keys [] loose)
-saved_keys [] ((k, suc i) ∷ loose) = ap (λ (ks : List Descriptor). k ∷ ks) (saved_keys [] loose)
+saved_keys [] (k ∷ loose) = ap (λ (ks : List Descriptor). k ∷ ks) (saved_keys [] loose)
 saved_keys (t ∷ tags) loose = ap (λ (ks : List Descriptor). t.1 ∷ ks) (saved_keys tags loose)
 
 -- ---- what is reached is held
@@ -163,22 +162,13 @@ holder_of file (m ∷ graph) are k =
           ]
     ]
 
-pub key_in : (loose : List (Descriptor × ℕ)) (p : Descriptor × ℕ) → Contains loose p → Contains (loose_keys loose) p.0
-key_in [] p c = absurd (omega (arith, c.1))
-key_in (l ∷ loose) p c =
-    elim (Contains-append_cases (l ∷ []) loose p c) [
-      | inl here ↦ Contains-append_left (l.0 ∷ []) (loose_keys loose) p.0 (subst (λ (q : Descriptor × ℕ). Contains (l.0 ∷ []) q.0) (one_is l p here) (Contains-push [] l.0))
-      | inr later ↦ Contains-append_right (l.0 ∷ []) (loose_keys loose) p.0 (key_in loose p later)
-    ]
-
-is_start : (graph : List Node) (tags : Tags) (loose : List (Descriptor × ℕ)) → AreLoose graph tags [] loose → (h : Descriptor) → has_key graph h ≡ true → IsTop graph h → Contains (values_of tags ++ loose_keys loose) h
+is_start : (graph : List Node) (tags : Tags) (loose : List Descriptor) → AreLoose graph tags [] loose → (h : Descriptor) → has_key graph h ≡ true → IsTop graph h → Contains (values_of tags ++ loose) h
 is_start graph tags loose are h held top =
     elim (cases_Bool (is_among (values_of tags) h)) [
-      | inl tagged ↦ Contains-append_left (values_of tags) (loose_keys loose) h (Contains_among (values_of tags) h tagged)
+      | inl tagged ↦ Contains-append_left (values_of tags) loose h (Contains_among (values_of tags) h tagged)
       | inr untagged ↦
           let is : IsLoose graph tags h = record { is_there = held; untagged = λ c. cc (untagged, among_from (values_of tags) h c); is_top = top } in
-          let at : Descriptor × ℕ = (h, zero) in
-          Contains-append_right (values_of tags) (loose_keys loose) h (key_in loose at ((are.each h zero).1 (is, λ c. absurd (omega (arith, c.1)))))
+          Contains-append_right (values_of tags) loose h ((are.each h).1 (is, λ c. absurd (omega (arith, c.1))))
     ]
 
 -- each key of a sound graph is visited, if each at the top is a start
@@ -232,10 +222,9 @@ same_values file a b k e =
     ]
 
 -- ---- the tags
-nones : (graph : List Node) (loose : List (Descriptor × ℕ)) (acc : Tags) → named graph (map (loose_entry []) loose) acc ≡ acc
+nones : (graph : List Node) (loose : List Descriptor) (acc : Tags) → named graph (loose_entries loose) acc ≡ acc
 nones graph [] acc = refl
-nones graph ((k, zero) ∷ loose) acc = nones graph loose acc
-nones graph ((k, suc i) ∷ loose) acc = nones graph loose acc
+nones graph (k ∷ loose) acc = nones graph loose acc
 
 abbrev Below : List ℕ → List ℕ × Descriptor → Type 0
 Below name e = slice_cmp nat_cmp e.0 name ≡ Less
@@ -249,7 +238,7 @@ at_end (e ∷ acc) name k h =
     let greater : slice_cmp nat_cmp name e.0 ≡ Greater = nat_list_cmp_total.antisymm name e.0 ∙ ap ordering_reverse (All-head (Below name) e acc h) in
     rw greater (ap (λ (t : Tags). e ∷ t) (at_end acc name k (All-tail (Below name) e acc h)))
 
-tagged_all : (graph : List Node) (ts : Tags) (ks : List (Descriptor × ℕ)) (acc : Tags) → HasAll graph (values_of ts) → All (λ (n : List ℕ). n ≢ []) (keys_of ts) → IsStrictlySortedBy (slice_cmp nat_cmp) (keys_of ts)
+tagged_all : (graph : List Node) (ts : Tags) (ks : List Descriptor) (acc : Tags) → HasAll graph (values_of ts) → All (λ (n : List ℕ). n ≢ []) (keys_of ts) → IsStrictlySortedBy (slice_cmp nat_cmp) (keys_of ts)
     → All (BelowAll (keys_of ts)) acc → named graph (new_entries ts ks) acc ≡ acc ++ ts
 unfolding IsStrictlySortedBy
 tagged_all graph [] ks acc held full sorted before = nones graph ks acc ∙ sym (append-nil acc)
@@ -261,21 +250,9 @@ tagged_all graph (t ∷ ts) ks acc held full sorted before =
     ∙ tagged_all graph ts ks (acc ++ t ∷ []) (All-tail (λ (k : Descriptor). has_key graph k ≡ true) t.1 (values_of ts) held) (All-tail (λ (n : List ℕ). n ≢ []) t.0 (keys_of ts) full) sorted.1 grown
     ∙ append_assoc acc (t ∷ []) ts
 
-all_from : (P : Descriptor → Type 0) (ks : List Descriptor) → ((k : Descriptor) → Contains ks k → P k) → All P ks
+pub all_from : (P : Descriptor → Type 0) (ks : List Descriptor) → ((k : Descriptor) → Contains ks k → P k) → All P ks
 all_from P [] h = All-nil P
 all_from P (k ∷ ks) h = All-cons P k ks (h k (Contains-append_left (k ∷ []) ks k (Contains-push [] k))) (all_from P ks (λ j c. h j (Contains-append_right (k ∷ []) ks j c)))
-
--- a key that gets an entry without a tag is held
-pub loose_there : (graph : List Node) (tags : Tags) (entries : List IndexEntry) (k : Descriptor) (i : ℕ) → HasLooseEntry graph tags entries k i → has_key graph k ≡ true
-loose_there graph tags entries k zero h = h.0.is_there
-loose_there graph tags entries k (suc i) h = h.0
-
-pub all_loose_held : (graph : List Node) (rest loose : List (Descriptor × ℕ)) → ((l : Descriptor × ℕ) → Contains loose l → has_key graph l.0 ≡ true) → ((l : Descriptor × ℕ) → Contains rest l → Contains loose l)
-    → All (λ (k : Descriptor). has_key graph k ≡ true) (loose_keys rest)
-all_loose_held graph [] loose held within = All-nil (λ (k : Descriptor). has_key graph k ≡ true)
-all_loose_held graph (l ∷ rest) loose held within =
-    All-cons (λ (k : Descriptor). has_key graph k ≡ true) l.0 (loose_keys rest) (held l (within l (Contains-append_left (l ∷ []) rest l (Contains-push [] l))))
-    (all_loose_held graph rest loose held (λ other c. within other (Contains-append_right (l ∷ []) rest other c)))
 
 pub opens_as_saved : OpensAsSaved
 opens_as_saved file graph again tags tags_again remembered memory are names_ok sorted closed sound files nothing opened =
@@ -286,13 +263,13 @@ opens_as_saved file graph again tags tags_again remembered memory are names_ok s
     let members = (said remembered.content).members in
     let compact : IsCompact idx.bytes (index_value (record { entries = entries; members = members })) =
     subst (λ (r : ReadIndex). IsCompact idx.bytes (index_value (record { entries = saved_entries remembered.absent (said r).entries graph tags loose; members = members }))) nothing idx.is_index in
-    let starts : List Descriptor = values_of tags ++ loose_keys loose in
+    let starts : List Descriptor = values_of tags ++ loose in
     let visited = opened.read.walked.visited in
     let G : Descriptor → Type 0 = λ (k : Descriptor). has_key graph k ≡ true in
     let key_ok : (k : Descriptor) → G k → IsKey k = λ k h. All-contains IsKey (keys_of graph) k are (Contains-from_has_key graph k h) in
-    let loose_held : All G (loose_keys loose) = all_loose_held graph loose loose (λ l c. loose_there graph tags [] l.0 l.1 ((are_loose.each l.0 l.1).0 c)) (λ l c. c) in
+    let loose_held : All G loose = all_from (λ (k : Descriptor). has_key graph k ≡ true) loose (λ k c. ((are_loose.each k).0 c).0.is_there) in
     let whole : All IsWhole entries =
-    all_saved IsWhole IsKey whole-new remembered.absent [] graph tags loose (All-nil IsWhole) (All-weaker G IsKey key_ok (values_of tags) names_ok.held) (All-weaker G IsKey key_ok (loose_keys loose) loose_held) in
+    all_saved IsWhole IsKey whole-new remembered.absent [] graph tags loose (All-nil IsWhole) (All-weaker G IsKey key_ok (values_of tags) names_ok.held) (All-weaker G IsKey key_ok loose loose_held) in
     let saved = reads_as_written idx.bytes (record { entries = entries; members = members }) whole compact in
     let strict : IsIndex false idx.bytes opened.content = subst (λ (o : Option (List ℕ)). IsIndexFile false o opened.content) idx.is_there opened.read.index in
     let read : IsIndex true idx.bytes opened.content = index_as_is false idx.bytes opened.content strict in
@@ -300,7 +277,7 @@ opens_as_saved file graph again tags tags_again remembered memory are names_ok s
     let keys_is : entry_keys opened.content.entries ≡ starts = ap entry_keys entries_are ∙ saved_keys tags loose in
     let are_listed = each_lists file graph graph refl sound.listed in
     let walk : IsWalk false file starts visited = subst (λ (ks : List Descriptor). IsWalk false file ks visited) keys_is opened.read.walked.walk in
-    let seen : All G visited = visited_all G false file starts visited (All-append G (values_of tags) (loose_keys loose) names_ok.held loose_held) (λ k h. some_listed G false file k (listed_held file graph closed are_listed k h)) walk.is_visiting in
+    let seen : All G visited = visited_all G false file starts visited (All-append G (values_of tags) loose names_ok.held loose_held) (λ k h. some_listed G false file k (listed_held file graph closed are_listed k h)) walk.is_visiting in
     let all : All (λ (n : Node). G n.0) again = subst (λ (g : List Node). All (λ (n : Node). G n.0) g) (sym opened.read.walked.held) (all_held G false file visited (All-weaker G (λ (k : Descriptor). holds false file k ≡ true → G k) (λ k h held. h) visited seen)) in
     let there : (k : Descriptor) → G k → is_there file k ≡ true = λ k h. (let it = found graph k h in All-value_at (λ (n : Node). IsSome (file (blob_path n.0.digest))) graph k it.0 sound.are_there it.1) in
     let same_keys : (k : Descriptor) → has_key again k ≡ has_key graph k =
@@ -310,7 +287,7 @@ opens_as_saved file graph again tags tags_again remembered memory are names_ok s
       λ k. same_values file again graph k (same_keys k),
       opened.tagged ∙ ap (λ (es : List IndexEntry). named again es []) entries_are
           ∙ tagged_all again tags loose [] (All-weaker G (λ (k : Descriptor). has_key again k ≡ true) (λ k h. same_keys k ∙ h) (values_of tags) names_ok.held) names_ok.named sorted (All-nil (BelowAll (keys_of tags))),
-      opened.read.absent_is ∙ ap (absent_in again) keys_is ∙ absent_in-held again starts (All-weaker G (λ (k : Descriptor). has_key again k ≡ true) (λ k h. same_keys k ∙ h) starts (All-append G (values_of tags) (loose_keys loose) names_ok.held loose_held)),
+      opened.read.absent_is ∙ ap (absent_in again) keys_is ∙ absent_in-held again starts (All-weaker G (λ (k : Descriptor). has_key again k ≡ true) (λ k h. same_keys k ∙ h) starts (All-append G (values_of tags) loose names_ok.held loose_held)),
     )
 
 -- ---- keys of one digest

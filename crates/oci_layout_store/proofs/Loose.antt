@@ -1,41 +1,33 @@
 -- Which keys get an entry without a tag.
-use Rattle.std.proofs.Common.{◌≡◌, ℕ, zero, suc, ◌+◌, ◌<◌, Bool, true, false, cond, ◌⊎◌, inl, inr, List, [], ◌∷◌, ◌++◌, length, take, map, filter, get_or, slice_get, option_map, Option, Some, None, String, Global, string_bytes, refl, sym, ap, subst, ◌∙◌, arith}
+use Rattle.std.proofs.Common.{◌≡◌, ℕ, ◌+◌, ◌<◌, Bool, true, false, cond, ◌⊎◌, inl, inr, List, [], ◌∷◌, ◌++◌, length, take, map, filter, get_or, slice_get, option_map, Option, Some, None, String, Global, string_bytes, refl, sym, ap, subst, ◌∙◌, arith}
 use Rattle.std.specs.Prelude.{◌↔◌, Contains, Result, Ok, Err, Vec, IfOk}
 use Rattle.std.specs.BTreeSet.{BTreeSet, contains}
 use Rattle.std.specs.Cmp.{IsTotalOrder}
 use Rattle.std.specs.Map.{keys_of, values_of}
-use Rattle.std.specs.Ordering.{is_eq, nat_cmp}
+use Rattle.std.specs.Ordering.{is_eq}
 use Rattle.std.specs.declared.cmp.Ordering.{Ordering}
 use Rattle.std.specs.List.Sorted.{IsStrictlySortedBy}
-use Rattle.std.proofs.lemmas.Cmp.{then_total, on_total, nat_cmp_total, eq_by_cmp_equiv}
+use Rattle.std.proofs.lemmas.Cmp.{eq_by_cmp_equiv}
 use Rattle.std.proofs.lemmas.List.{take_more, map-append}
 use Rattle.std.proofs.lemmas.Option.{same_Some, slice_get-get_or}
 use Rattle.std.specs.List.{cons_option}
 use Rattle.std.proofs.lemmas.List.Elements.{Contains-push, Contains-push_cases, Contains-append_cases, Contains-append_left, Contains-append_right, filter-append}
-use Rattle.std.proofs.lemmas.Map.Lookups.{CmpEqualImpliesEq, exact_pairs, exact_unsigned}
+use Rattle.std.proofs.lemmas.Map.Lookups.{CmpEqualImpliesEq}
 use Rattle.std.proofs.lemmas.Map.Views.{btree_set_contains_iff, tells_apart}
 use Rattle.std.proofs.lemmas.Bool.{cases_Bool}
 use Rattle.oci_manifest.specs.Descriptor.{Descriptor, key_cmp}
 use Rattle.oci_store.specs.Graph.{Node, IsEdge}
 use Rattle.oci_store.specs.Before.{IsBefore}
-use Rattle.oci_store.specs.Keyed.{has_key}
 use Rattle.oci_store.specs.Tags.{Tags, by_bytes}
 use Rattle.oci_store.proofs.KeyOrder.{key_cmp_total, key_cmp_exact}
 use Rattle.oci_store.proofs.Lookups.{has_key-from_Contains, Contains-from_has_key}
 use Rattle.oci_layout_store.specs.declared.index.IndexEntry.{IndexEntry as CodeEntry}
 use Rattle.oci_layout_store.specs.Entries.{IndexEntry, entry_keys, entry_of}
 use Rattle.oci_layout_store.proofs.EntryKeys.{entry_keys-append}
-use Rattle.oci_layout_store.specs.Saved.{no_name, place_cmp, unnamed_keys, HasLooseEntry, IsTop, AreLoose}
+use Rattle.oci_layout_store.specs.Saved.{no_name, unnamed_keys, IsTop, AreLoose}
 
 pub no_element : {X : Type 0} (x : X) → Contains [] x → ⊥
 no_element x h = omega (arith, h.1)
-
--- the order of keys with places is total, and ties equal pairs alone
-pub place_cmp_total : IsTotalOrder place_cmp
-place_cmp_total = then_total (on_total (λ (p : Descriptor × ℕ). p.0) key_cmp_total) (on_total (λ (p : Descriptor × ℕ). p.1) nat_cmp_total)
-
-pub place_cmp_exact : CmpEqualImpliesEq place_cmp
-place_cmp_exact = exact_pairs key_cmp nat_cmp key_cmp_exact exact_unsigned
 
 -- a set with one element more
 set_more_by : {K : Type 0} {R : K → K → Ordering} → IsTotalOrder R → CmpEqualImpliesEq R → (old new : BTreeSet K) (k : K)
@@ -62,44 +54,14 @@ key_added old new k copy A e grown a other =
       λ h. iff.1 (elim h [ inl was ↦ inl was | inr is ↦ inr (is.0 ∙ sym e) ]),
     )
 
--- a set of keys with places to which one came
-place_more : (old new : BTreeSet (Descriptor × ℕ)) (k copy : Descriptor) (place : ℕ) → copy ≡ k
-    → ((other : Descriptor × ℕ) → contains place_cmp new other ≡ cond (is_eq (place_cmp (copy, place) other)) true (contains place_cmp old other))
-    → (p : Descriptor × ℕ) → (contains place_cmp new p ≡ true) ↔ ((contains place_cmp old p ≡ true) ⊎ (p ≡ (k, place)))
-place_more old new k copy place e grown p =
-    let iff = set_more_by place_cmp_total place_cmp_exact old new (copy, place) grown p in
-    let same : ◌≡◌ {A = Descriptor × ℕ} (copy, place) (k, place) = ap (λ (x : Descriptor). (x, place)) e in (
-      λ h. elim (iff.0 h) [ inl was ↦ inl was | inr is ↦ inr (is ∙ same) ],
-      λ h. iff.1 (elim h [ inl was ↦ inl was | inr is ↦ inr (is ∙ sym same) ]),
-    )
-
--- the same, for three reasons, and for two where the key is that of an entry
-pub new_added : (old new : BTreeSet (Descriptor × ℕ)) (k copy : Descriptor) (place : ℕ) (A B C : Type 0) → copy ≡ k
-    → ((other : Descriptor × ℕ) → contains place_cmp new other ≡ cond (is_eq (place_cmp (copy, place) other)) true (contains place_cmp old other)) → A → B → C
-    → (p : Descriptor × ℕ) → (contains place_cmp new p ≡ true) ↔ ((contains place_cmp old p ≡ true) ⊎ ((p ≡ (k, place)) × A × B × C))
-new_added old new k copy place A B C e grown a b c p =
-    let iff = place_more old new k copy place e grown p in (
-      λ h. elim (iff.0 h) [ inl was ↦ inl was | inr is ↦ inr (is, a, b, c) ],
-      λ h. iff.1 (elim h [ inl was ↦ inl was | inr is ↦ inr is.0 ]),
-    )
-
-pub opened_added : (old new : BTreeSet (Descriptor × ℕ)) (key : Option Descriptor) (k copy : Descriptor) (place : ℕ) (A : Type 0) (B : Descriptor → Type 0) → key ≡ Some k → copy ≡ k
-    → ((other : Descriptor × ℕ) → contains place_cmp new other ≡ cond (is_eq (place_cmp (copy, place) other)) true (contains place_cmp old other)) → A → B k
-    → (p : Descriptor × ℕ) → (contains place_cmp new p ≡ true) ↔ ((contains place_cmp old p ≡ true) ⊎ ((key ≡ Some p.0) × (p.1 ≡ place) × A × B p.0))
-opened_added old new key k copy place A B is e grown a b p =
-    let iff = place_more old new k copy place e grown p in (
-      λ h. elim (iff.0 h) [
-        | inl was ↦ inl was
-        | inr here ↦
-            let same : p.0 ≡ k = ap (λ (q : Descriptor × ℕ). q.0) here in
-            inr (is ∙ ap Some (sym same), ap (λ (q : Descriptor × ℕ). q.1) here, a, subst B (sym same) b)
-      ],
-      λ h. iff.1 (elim h [
-        | inl was ↦ inl was
-        | inr here ↦
-            let same : p.0 ≡ k = same_Some p.0 k (sym here.0 ∙ is) in
-            inr (λ i. (same i, here.1 i))
-      ]),
+-- the same, for three reasons
+pub new_added : (old new : BTreeSet Descriptor) (k copy : Descriptor) (A B C : Type 0) → copy ≡ k
+    → ((other : Descriptor) → contains key_cmp new other ≡ cond (is_eq (key_cmp copy other)) true (contains key_cmp old other)) → A → B → C
+    → (other : Descriptor) → (contains key_cmp new other ≡ true) ↔ ((contains key_cmp old other ≡ true) ⊎ ((other ≡ k) × A × B × C))
+new_added old new k copy A B C e grown a b c other =
+    let iff = key_added old new k copy A e grown a other in (
+      λ h. elim (iff.0 h) [ inl was ↦ inl was | inr is ↦ inr (is.0, a, b, c) ],
+      λ h. iff.1 (elim h [ inl was ↦ inl was | inr is ↦ inr (is.0, a) ]),
     )
 
 -- a set to which the key of an entry without a name came
@@ -207,153 +169,60 @@ HasKeys-unnamed old new es more e h is grown =
     ) in
     subst (λ (xs : List IndexEntry). HasKeys new (unnamed_keys xs)) (sym is) pushed
 
--- a set has those keys of a list, at place 0, that are no tag's and no entry's without a name, and
--- stand at the top
-abbrev pub HasNew : List Node → BTreeSet Descriptor → BTreeSet Descriptor → BTreeSet (Descriptor × ℕ) → List Descriptor → Type 0
-HasNew graph tagged unnamed set ks = (p : Descriptor × ℕ) → (contains place_cmp set p ≡ true) ↔ ((p.1 ≡ 0) × Contains ks p.0 × (contains key_cmp tagged p.0 ≡ false) × (contains key_cmp unnamed p.0 ≡ false) × IsTop graph p.0)
+-- a set has those keys of a list that are no tag's and no entry's without a name, and stand at the top
+abbrev pub HasNew : List Node → BTreeSet Descriptor → BTreeSet Descriptor → BTreeSet Descriptor → List Descriptor → Type 0
+HasNew graph tagged unnamed set ks = (k : Descriptor) → (contains key_cmp set k ≡ true) ↔ (Contains ks k × (contains key_cmp tagged k ≡ false) × (contains key_cmp unnamed k ≡ false) × IsTop graph k)
 
-pub HasNew-nil : (graph : List Node) (tagged unnamed : BTreeSet Descriptor) (set : BTreeSet (Descriptor × ℕ)) → set.keys ≡ [] → HasNew graph tagged unnamed set []
-HasNew-nil graph tagged unnamed set none p =
-    let iff = btree_set_contains_iff place_cmp_total place_cmp_exact set p in
-    (λ h. absurd (no_element p (subst (λ (ps : List (Descriptor × ℕ)). Contains ps p) none (iff.0 h))), λ h. absurd (no_element p.0 h.1))
+pub HasNew-nil : (graph : List Node) (tagged unnamed : BTreeSet Descriptor) (set : BTreeSet Descriptor) → set.keys ≡ [] → HasNew graph tagged unnamed set []
+HasNew-nil graph tagged unnamed set none k = (λ h. absurd (no_element k ((HasKeys-nil set none k).0 h)), λ h. absurd (no_element k h.0))
 
-pub HasNew-more : (graph : List Node) (tagged unnamed : BTreeSet Descriptor) (old new : BTreeSet (Descriptor × ℕ)) (ks more : List Descriptor) (key : Descriptor)
+pub HasNew-more : (graph : List Node) (tagged unnamed : BTreeSet Descriptor) (old new : BTreeSet Descriptor) (ks more : List Descriptor) (key : Descriptor)
     → HasNew graph tagged unnamed old ks → more ≡ ks ++ key ∷ []
-    → ((p : Descriptor × ℕ) → (contains place_cmp new p ≡ true) ↔ ((contains place_cmp old p ≡ true) ⊎ ((p ≡ (key, 0)) × (contains key_cmp tagged key ≡ false) × (contains key_cmp unnamed key ≡ false) × IsTop graph key)))
+    → ((k : Descriptor) → (contains key_cmp new k ≡ true) ↔ ((contains key_cmp old k ≡ true) ⊎ ((k ≡ key) × (contains key_cmp tagged key ≡ false) × (contains key_cmp unnamed key ≡ false) × IsTop graph key)))
     → HasNew graph tagged unnamed new more
 HasNew-more graph tagged unnamed old new ks more key h e grown =
-    let pushed : HasNew graph tagged unnamed new (ks ++ key ∷ []) = λ p. (
-      λ c. elim ((grown p).0 c) [
-        | inl was ↦ let w = (h p).0 was in (w.0, Contains-append_left ks (key ∷ []) p.0 w.1, w.2, w.3, w.4)
-        | inr is ↦
-            let same : key ≡ p.0 = sym (ap (λ (q : Descriptor × ℕ). q.0) is.0) in (
-              ap (λ (q : Descriptor × ℕ). q.1) is.0,
-              subst (λ (k : Descriptor). Contains (ks ++ key ∷ []) k) same (Contains-push ks key),
-              subst (λ (k : Descriptor). contains key_cmp tagged k ≡ false) same is.1,
-              subst (λ (k : Descriptor). contains key_cmp unnamed k ≡ false) same is.2,
-              subst (λ (k : Descriptor). IsTop graph k) same is.3,
-            )
+    let pushed : HasNew graph tagged unnamed new (ks ++ key ∷ []) = λ k. (
+      λ c. elim ((grown k).0 c) [
+        | inl was ↦ let w = (h k).0 was in (Contains-append_left ks (key ∷ []) k w.0, w.1, w.2, w.3)
+        | inr is ↦ subst (λ (j : Descriptor). Contains (ks ++ key ∷ []) j × (contains key_cmp tagged j ≡ false) × (contains key_cmp unnamed j ≡ false) × IsTop graph j) (sym is.0) (Contains-push ks key, is.1, is.2, is.3)
       ],
-      λ c. (grown p).1 (elim (Contains-push_cases ks key p.0 c.1) [
-        | inl was ↦ inl ((h p).1 (c.0, was, c.2, c.3, c.4))
+      λ c. (grown k).1 (elim (Contains-push_cases ks key k c.0) [
+        | inl was ↦ inl ((h k).1 (was, c.1, c.2, c.3))
         | inr is ↦ inr (
-          λ i. (sym is i, c.0 i),
-          subst (λ (k : Descriptor). contains key_cmp tagged k ≡ false) (sym is) c.2,
-          subst (λ (k : Descriptor). contains key_cmp unnamed k ≡ false) (sym is) c.3,
-          subst (λ (k : Descriptor). IsTop graph k) (sym is) c.4,
+          sym is,
+          subst (λ (j : Descriptor). contains key_cmp tagged j ≡ false) (sym is) c.1,
+          subst (λ (j : Descriptor). contains key_cmp unnamed j ≡ false) (sym is) c.2,
+          subst (λ (j : Descriptor). IsTop graph j) (sym is) c.3,
         )
       ]),
     ) in
     subst (λ (xs : List Descriptor). HasNew graph tagged unnamed new xs) (sym e) pushed
 
--- a key gets an entry without a tag, where only some of the opened entries have been seen
-abbrev pub HasEntryAmong : List Node → Tags → List IndexEntry → List IndexEntry → Descriptor → ℕ → Type 0
-HasEntryAmong graph tags entries seen k zero = HasLooseEntry graph tags entries k zero
-HasEntryAmong graph tags entries seen k (suc i) = HasLooseEntry graph tags seen k (suc i)
-
--- a set has the keys that get an entry without a tag, with their places
-abbrev pub HasPlaces : List Node → Tags → List IndexEntry → BTreeSet (Descriptor × ℕ) → List IndexEntry → Type 0
-HasPlaces graph tags entries set seen = (k : Descriptor) (place : ℕ) → (contains place_cmp set (k, place) ≡ true) ↔ HasEntryAmong graph tags entries seen k place
-
-pub HasPlaces-nil : (graph : List Node) (tags : Tags) (entries : List IndexEntry) (tagged unnamed : BTreeSet Descriptor) (set : BTreeSet (Descriptor × ℕ))
-    → HasKeys tagged (values_of tags) → HasKeys unnamed (unnamed_keys entries) → HasNew graph tagged unnamed set (keys_of graph) → HasPlaces graph tags entries set []
-HasPlaces-nil graph tags entries tagged unnamed set named nameless h = seen
+-- the whole set, in order
+pub AreLoose-from_set : (graph : List Node) (tags : Tags) (entries : List IndexEntry) (tagged unnamed set : BTreeSet Descriptor) (keys : List Descriptor)
+    → HasKeys tagged (values_of tags) → HasKeys unnamed (unnamed_keys entries) → HasNew graph tagged unnamed set (keys_of graph) → keys ≡ set.keys → IsStrictlySortedBy key_cmp keys → AreLoose graph tags entries keys
+AreLoose-from_set graph tags entries tagged unnamed set keys named nameless h e order = record {
+  each = λ k.
+      let iff = btree_set_contains_iff key_cmp_total key_cmp_exact set k in (
+        λ c.
+            let n = (h k).0 (iff.1 (subst (λ (ks : List Descriptor). Contains ks k) e c)) in
+            (record { is_there = has_key-from_Contains graph k n.0; untagged = λ t. cc (n.1, (named k).1 t); is_top = n.3 }, λ u. cc (n.2, (nameless k).1 u)),
+        λ l. subst (λ (ks : List Descriptor). Contains ks k) (sym e) (iff.0 ((h k).1 (
+          Contains-from_has_key graph k l.0.is_there,
+          absent (contains key_cmp tagged k) (λ t. l.0.untagged ((named k).0 t)),
+          absent (contains key_cmp unnamed k) (λ u. l.1 ((nameless k).0 u)),
+          l.0.is_top,
+        ))),
+      );
+  order = order;
+}
   where
     absent : (b : Bool) → (b ≡ true → ⊥) → b ≡ false
     absent true h = absurd (h refl)
     absent false h = refl
 
-    seen : HasPlaces graph tags entries set []
-    seen k zero = (
-      λ c.
-          let n = (h (k, 0)).0 c in
-          (record { is_there = has_key-from_Contains graph k n.1; untagged = λ t. cc (n.2, (named k).1 t); is_top = n.4 }, λ u. cc (n.3, (nameless k).1 u)),
-      λ l. (h (k, 0)).1 (
-        refl,
-        Contains-from_has_key graph k l.0.is_there,
-        absent (contains key_cmp tagged k) (λ t. l.0.untagged ((named k).0 t)),
-        absent (contains key_cmp unnamed k) (λ u. l.1 ((nameless k).0 u)),
-        l.0.is_top,
-      ),
-    )
-    seen k (suc i) = (λ c. let n = (h (k, suc i)).0 c in absurd (let z = n.0 in omega (arith, z)), λ l. cc l.2)
-
--- an element of a list that grows at its end
-slice_get-append_left : {X : Type 0} (xs ys : List X) (i : ℕ) (x : X) → slice_get xs i ≡ Some x → slice_get (xs ++ ys) i ≡ Some x
-slice_get-append_left [] ys i x h = cc h
-slice_get-append_left (y ∷ xs) ys zero x h = h
-slice_get-append_left (y ∷ xs) ys (suc i) x h = slice_get-append_left xs ys i x h
-
-slice_get-last : {X : Type 0} (xs : List X) (x : X) (i : ℕ) → i ≡ length xs → slice_get (xs ++ x ∷ []) i ≡ Some x
-slice_get-last [] x zero e = refl
-slice_get-last [] x (suc i) e = absurd (omega (arith, e))
-slice_get-last (y ∷ xs) x zero e = absurd (omega (arith, e))
-slice_get-last (y ∷ xs) x (suc i) e = slice_get-last xs x i (omega (arith, e))
-
-slice_get-push_cases : {X : Type 0} (xs : List X) (x : X) (i : ℕ) (y : X) → slice_get (xs ++ x ∷ []) i ≡ Some y → (slice_get xs i ≡ Some y) ⊎ ((i ≡ length xs) × (x ≡ y))
-slice_get-push_cases [] x zero y h = inr (refl, cc h)
-slice_get-push_cases [] x (suc i) y h = cc h
-slice_get-push_cases (z ∷ xs) x zero y h = inl h
-slice_get-push_cases (z ∷ xs) x (suc i) y h = elim (slice_get-push_cases xs x i y h) [ inl was ↦ inl was | inr last ↦ inr (let at = last.0 in omega (arith, at), last.1) ]
-
--- the same set after one entry more, which stands at a place
-pub HasPlaces-more : (graph : List Node) (tags : Tags) (entries : List IndexEntry) (old new : BTreeSet (Descriptor × ℕ)) (seen more : List IndexEntry) (e : IndexEntry) (n : ℕ)
-    → HasPlaces graph tags entries old seen → more ≡ seen ++ e ∷ [] → length seen ≡ n
-    → ((p : Descriptor × ℕ) → (contains place_cmp new p ≡ true) ↔ ((contains place_cmp old p ≡ true) ⊎ ((e.key ≡ Some p.0) × (p.1 ≡ n + 1) × (no_name e.name ≡ true) × (has_key graph p.0 ≡ true))))
-    → HasPlaces graph tags entries new more
-HasPlaces-more graph tags entries old new seen more e n h is len grown = subst (λ (xs : List IndexEntry). HasPlaces graph tags entries new xs) (sym is) pushed
-  where
-    pushed : HasPlaces graph tags entries new (seen ++ e ∷ [])
-    pushed k zero = (
-      λ c. elim ((grown (k, 0)).0 c) [
-        | inl was ↦ (h k 0).0 was
-        | inr p ↦ absurd (let z : 0 ≡ n + 1 = p.1 in omega (arith, z))
-      ],
-      λ l. (grown (k, 0)).1 (inl ((h k 0).1 l)),
-    )
-    pushed k (suc j) = (
-      λ c. elim ((grown (k, suc j)).0 c) [
-        | inl was ↦ let w = (h k (suc j)).0 was in (w.0, w.1, slice_get-append_left seen (e ∷ []) j w.1 w.2, w.3, w.4)
-        | inr p ↦ let at : suc j ≡ n + 1 = p.1 in (p.3, e, slice_get-last seen e j (omega (arith, at, len)), p.2, p.0)
-      ],
-      λ l. (grown (k, suc j)).1 (elim (slice_get-push_cases seen e j l.1 l.2) [
-        | inl was ↦ inl ((h k (suc j)).1 (l.0, l.1, was, l.3, l.4))
-        | inr last ↦
-            let at : suc j ≡ n + 1 = let z = last.0 in omega (arith, z, len) in
-            inr (ap (λ (x : IndexEntry). x.key) last.1 ∙ l.4, at, subst (λ (x : IndexEntry). no_name x.name ≡ true) (sym last.1) l.3, l.0)
-      ]),
-    )
-
--- the whole set, in order
-pub AreLoose-from_set : (graph : List Node) (tags : Tags) (entries : List IndexEntry) (set : BTreeSet (Descriptor × ℕ)) (places : List (Descriptor × ℕ))
-    → HasPlaces graph tags entries set entries → places ≡ set.keys → IsStrictlySortedBy place_cmp places → AreLoose graph tags entries places
-AreLoose-from_set graph tags entries set places h e order = record {
-  each = λ k place.
-      let iff = btree_set_contains_iff place_cmp_total place_cmp_exact set (k, place) in (
-        λ c. all k place ((h k place).0 (iff.1 (subst (λ (ps : List (Descriptor × ℕ)). Contains ps (k, place)) e c))),
-        λ l. subst (λ (ps : List (Descriptor × ℕ)). Contains ps (k, place)) (sym e) (iff.0 ((h k place).1 (seen k place l))),
-      );
-  order = order;
-}
-  where
-    all : (k : Descriptor) (place : ℕ) → HasEntryAmong graph tags entries entries k place → HasLooseEntry graph tags entries k place
-    all k zero l = l
-    all k (suc i) l = l
-
-    seen : (k : Descriptor) (place : ℕ) → HasLooseEntry graph tags entries k place → HasEntryAmong graph tags entries entries k place
-    seen k zero l = l
-    seen k (suc i) l = l
-
-pub AreLoose-from_list : {E : Type 0} (graph : List Node) (tags : Tags) (entries : List IndexEntry) (set : BTreeSet (Descriptor × ℕ)) (result : Result (Vec (Descriptor × ℕ) Global) E)
-    → HasPlaces graph tags entries set entries → IfOk result (λ list. list.items ≡ set.keys) → IfOk result (λ list. IsStrictlySortedBy place_cmp list.items)
+pub AreLoose-from_list : {E : Type 0} (graph : List Node) (tags : Tags) (entries : List IndexEntry) (tagged unnamed set : BTreeSet Descriptor) (result : Result (Vec Descriptor Global) E)
+    → HasKeys tagged (values_of tags) → HasKeys unnamed (unnamed_keys entries) → HasNew graph tagged unnamed set (keys_of graph) → IfOk result (λ list. list.items ≡ set.keys) → IfOk result (λ list. IsStrictlySortedBy key_cmp list.items)
     → IfOk result (λ list. AreLoose graph tags entries list.items)
-AreLoose-from_list graph tags entries set (Ok list) h e order = AreLoose-from_set graph tags entries set list.items h e order
-AreLoose-from_list graph tags entries set (Err x) h e order = tt
-
-pub AreLoose-nil : AreLoose [] [] [] []
-unfolding IsStrictlySortedBy
-AreLoose-nil = record { each = λ k place. (λ c. absurd (no_element {X = Descriptor × ℕ} (k, place) c), λ l. absurd (none k place l)); order = tt }
-  where
-    none : (k : Descriptor) (place : ℕ) → HasLooseEntry [] [] [] k place → ⊥
-    none k zero l = cc l.0.is_there
-    none k (suc i) l = cc l.0
+AreLoose-from_list graph tags entries tagged unnamed set (Ok list) named nameless h e order = AreLoose-from_set graph tags entries tagged unnamed set list.items named nameless h e order
+AreLoose-from_list graph tags entries tagged unnamed set (Err x) named nameless h e order = tt

@@ -1,19 +1,14 @@
 -- What holds of each opened entry, and of each new one, holds of each entry that a save writes.
-use Rattle.std.proofs.Common.{ℕ, Bool, zero, suc, true, false, cond, List, [], ◌∷◌, ◌++◌, map, Option, Some, None, slice_get}
+use Rattle.std.proofs.Common.{ℕ, Bool, zero, suc, true, false, cond, List, [], ◌∷◌, ◌++◌, map, ◌&&◌, Option, Some, None, slice_get}
 use Rattle.std.specs.Prelude.{IfSome, option_and_then}
 use Rattle.std.specs.List.{All}
-use Rattle.std.specs.Option.{unwrap_or}
 use Rattle.std.specs.Map.{values_of}
-use Rattle.std.proofs.lemmas.List.Elements.{All-head, All-tail, All-nil, All-cons, All-append}
+use Rattle.std.proofs.lemmas.List.Elements.{All-head, All-tail, All-nil, All-cons, All-append, All-filter}
 use Rattle.oci_manifest.specs.Descriptor.{Descriptor, is_among}
 use Rattle.oci_store.specs.Graph.{Node}
 use Rattle.oci_store.specs.Tags.{Tags}
-use Rattle.oci_layout_store.specs.Entries.{IndexEntry, is_this_key, new_entry}
-use Rattle.oci_layout_store.specs.Saved.{entry_or_new, first_from, is_first, last_place, loose_entry, saved_entries, tag_entry}
-
--- the keys of entries without a tag
-abbrev pub loose_keys : List (Descriptor × ℕ) → List Descriptor
-loose_keys loose = map (λ (l : Descriptor × ℕ). l.0) loose
+use Rattle.oci_layout_store.specs.Entries.{IndexEntry, is_held, is_this_key, new_entry}
+use Rattle.oci_layout_store.specs.Saved.{entry_or_new, first_from, is_first, last_place, loose_entries, no_name, saved_entries, tag_entry, unnamed_held}
 
 module _ (P : IndexEntry → Type 0) (Q : Descriptor → Type 0) (new : (k : Descriptor) (name : Option (List ℕ)) → Q k → P (new_entry k name)) where
   all_first : (absent : Descriptor → Bool) (graph : List Node) (tags : Tags) (all : List IndexEntry) (place : ℕ) (es : List IndexEntry) → All P es → All P (first_from absent graph tags all place es)
@@ -49,24 +44,16 @@ module _ (P : IndexEntry → Type 0) (Q : Descriptor → Type 0) (new : (k : Des
       (one_tag (option_and_then (slice_get entries) (last_place t.0 entries)) t.1 t.0 (All-head Q t.1 (values_of ts) q) (at_some entries (last_place t.0 entries) h))
       (all_tags entries ts h (All-tail Q t.1 (values_of ts) q))
 
-  or_new : (o : Option IndexEntry) (k : Descriptor) → Q k → IfSome o P → P (unwrap_or o (new_entry k None))
-  or_new None k q h = new k None q
-  or_new (Some e) k q h = h
+  all_loose : (loose : List Descriptor) → All Q loose → All P (loose_entries loose)
+  all_loose [] q = All-nil P
+  all_loose (k ∷ loose) q = All-cons P (new_entry k None) (loose_entries loose) (new k None (All-head Q k loose q)) (all_loose loose (All-tail Q k loose q))
 
-  one_loose : (entries : List IndexEntry) (k : Descriptor) (i : ℕ) → All P entries → Q k → P (loose_entry entries (k, i))
-  one_loose entries k zero h q = new k None q
-  one_loose entries k (suc i) h q = or_new (slice_get entries i) k q (at_place entries i h)
-
-  all_loose : (entries : List IndexEntry) (loose : List (Descriptor × ℕ)) → All P entries → All Q (loose_keys loose) → All P (map (loose_entry entries) loose)
-  all_loose entries [] h q = All-nil P
-  all_loose entries (l ∷ loose) h q =
-      All-cons P (loose_entry entries l) (map (loose_entry entries) loose) (one_loose entries l.0 l.1 h (All-head Q l.0 (loose_keys loose) q)) (all_loose entries loose h (All-tail Q l.0 (loose_keys loose) q))
-
-  pub all_saved : (absent : List Descriptor) (entries : List IndexEntry) (graph : List Node) (tags : Tags) (loose : List (Descriptor × ℕ)) → All P entries → All Q (values_of tags) → All Q (loose_keys loose)
+  pub all_saved : (absent : List Descriptor) (entries : List IndexEntry) (graph : List Node) (tags : Tags) (loose : List Descriptor) → All P entries → All Q (values_of tags) → All Q loose
       → All P (saved_entries absent entries graph tags loose)
   all_saved absent entries graph tags loose h tagged untagged =
-      All-append P (first_from (is_among absent) graph tags entries 0 entries) (map (tag_entry entries) tags ++ map (loose_entry entries) loose) (all_first (is_among absent) graph tags entries 0 entries h)
-      (All-append P (map (tag_entry entries) tags) (map (loose_entry entries) loose) (all_tags entries tags h tagged) (all_loose entries loose h untagged))
+      All-append P (first_from (is_among absent) graph tags entries 0 entries) (map (tag_entry entries) tags ++ (unnamed_held graph entries ++ loose_entries loose)) (all_first (is_among absent) graph tags entries 0 entries h)
+      (All-append P (map (tag_entry entries) tags) (unnamed_held graph entries ++ loose_entries loose) (all_tags entries tags h tagged)
+      (All-append P (unnamed_held graph entries) (loose_entries loose) (All-filter (λ (e : IndexEntry). no_name e.name && is_held graph e.key) P entries h) (all_loose loose untagged)))
 
 -- ---- of any keys
 pub anything : (ks : List Descriptor) → All (λ (k : Descriptor). Unit {0}) ks

@@ -1,16 +1,15 @@
 -- The entries that a save writes, one more at a time.
-use Rattle.std.proofs.Common.{◌≡◌, ℕ, zero, suc, ◌+◌, ◌<◌, ◌≤◌, Bool, true, false, cond, not, ◌&&◌, ◌||◌, List, [], ◌∷◌, ◌++◌, map, filter, length, take, get_or, slice_get, option_map, unwrap_or, Option, Some, None, String, Global, string_bytes, refl, sym, ap, ◌∙◌, arith, append_assoc}
+use Rattle.std.proofs.Common.{◌≡◌, ℕ, suc, ◌+◌, ◌<◌, Bool, true, false, cond, not, ◌&&◌, ◌||◌, List, [], ◌∷◌, ◌++◌, map, filter, length, take, get_or, Option, Some, None, String, Global, string_bytes, refl, sym, ap, ◌∙◌, arith, append_assoc}
 use Rattle.std.specs.BTreeSet.{BTreeSet, contains}
 use Rattle.std.specs.Ordering.{is_eq}
-use Rattle.std.proofs.lemmas.List.{length-map, map-append, take_more}
-use Rattle.std.proofs.lemmas.Option.{slice_get-get_or, slice_get-map, slice_get_past}
+use Rattle.std.proofs.lemmas.List.{map-append, take_more}
 use Rattle.oci_manifest.specs.Descriptor.{Descriptor, is_among, key_cmp, same_key}
 use Rattle.oci_store.specs.Graph.{Node}
 use Rattle.oci_store.specs.Keyed.{has_key, HasAll}
 use Rattle.oci_store.specs.Tags.{Tags, by_bytes, tag_at}
 use Rattle.oci_store.proofs.KeyOrder.{cond-or, is_eq-key_cmp}
-use Rattle.oci_layout_store.specs.Entries.{IndexEntry, entry_keys, entry_of, is_held, new_entry}
-use Rattle.oci_layout_store.specs.Saved.{comes_before, first_entries, first_from, is_first, is_place, last_entry, last_place, loose_entry, named_held, no_name, saved_entries, tag_entry, was_absent}
+use Rattle.oci_layout_store.specs.Entries.{IndexEntry, entry_keys, entry_of, is_held}
+use Rattle.oci_layout_store.specs.Saved.{comes_before, first_entries, first_from, is_first, is_place, last_entry, last_place, loose_entries, named_held, no_name, saved_entries, tag_entry, unnamed_held, was_absent}
 use Rattle.oci_layout_store.specs.declared.index.IndexEntry.{IndexEntry as CodeEntry}
 use Rattle.std.proofs.lemmas.Bool.{and_parts}
 use Rattle.std.proofs.lemmas.List.Elements.{All-weaker, filter-append, filter_passes}
@@ -116,26 +115,14 @@ entries-pushed f first xs x old new e before is entry = pushed old new e is ∙ 
 pub by_bytes-more : (tags : List (String Global × Descriptor)) (t : String Global × Descriptor) → by_bytes (tags ++ t ∷ []) ≡ by_bytes tags ++ (string_bytes t.0, t.1) ∷ []
 by_bytes-more tags t = map-append (λ (e : String Global × Descriptor). (string_bytes e.0, e.1)) tags (t ∷ [])
 
--- the entry of a key at a place that is not 0
-loose_entry-at : (entries : List IndexEntry) (k : Descriptor) (place i : ℕ) → place ≡ i + 1 → loose_entry entries (k, place) ≡ unwrap_or (slice_get entries i) (new_entry k None)
-loose_entry-at entries k zero i h = absurd (omega (arith, h))
-loose_entry-at entries k (suc j) i h =
-    let same : j ≡ i = omega (arith, h) in
-    ap (λ (n : ℕ). unwrap_or (slice_get entries n) (new_entry k None)) same
-
-pub loose_entry-opened : (es : List CodeEntry) (k : Descriptor) (place i : ℕ) (e : CodeEntry) → place ≡ i + 1 → i < length es → e ≡ get_or es i e → entry_of e ≡ loose_entry (map entry_of es) (k, place)
-loose_entry-opened es k place i e h lt is =
-    sym (
-    loose_entry-at (map entry_of es) k place i h
-    ∙ ap (λ (o : Option IndexEntry). unwrap_or o (new_entry k None)) (slice_get-map entry_of es i ∙ ap (option_map entry_of) (slice_get-get_or es i e lt ∙ ap Some (sym is)))
-    )
-
-pub loose_entry-new : (es : List CodeEntry) (k : Descriptor) (place i : ℕ) → place ≡ i + 1 → length es ≤ i → new_entry k None ≡ loose_entry (map entry_of es) (k, place)
-loose_entry-new es k place i h past =
-    sym (
-    loose_entry-at (map entry_of es) k place i h
-    ∙ ap (λ (o : Option IndexEntry). unwrap_or o (new_entry k None)) (slice_get_past (map entry_of es) i (omega (arith, length-map es entry_of)))
-    )
+-- the entries without a name whose keys are held, one entry more
+pub unnamed_held-more : (graph : List Node) (es : List CodeEntry) (i : ℕ) (e : CodeEntry) (first old new : List IndexEntry) → i < length es → e ≡ get_or es i e → old ≡ first ++ unnamed_held graph (map entry_of (take i es))
+    → new ≡ old ++ cond (no_name (entry_of e).name && is_held graph (entry_of e).key) (entry_of e ∷ []) [] → new ≡ first ++ unnamed_held graph (map entry_of (take (i + 1) es))
+unnamed_held-more graph es i e first old new lt is before more =
+    let one : IndexEntry → Bool = λ (x : IndexEntry). no_name x.name && is_held graph x.key in
+    more ∙ ap (λ (xs : List IndexEntry). xs ++ filter one (entry_of e ∷ [])) before
+    ∙ append_assoc first (unnamed_held graph (map entry_of (take i es))) (filter one (entry_of e ∷ []))
+    ∙ ap (λ (xs : List IndexEntry). first ++ xs) (sym (ap (filter one) (entries-more es i e lt is) ∙ filter-append one (map entry_of (take i es)) (entry_of e ∷ [])))
 
 -- ---- the shadowed entries
 
@@ -168,15 +155,20 @@ shadowed-same absent keys graph tags all first held same at_first at_held = at_h
 
 -- ---- all entries
 
-pub saved-all : (absent : Descriptor → Bool) (keys : List Descriptor) (graph : List Node) (tags named : Tags) (all names : List IndexEntry) (loose : List (Descriptor × ℕ)) (first second third : List IndexEntry)
-    → ((k : Descriptor) → absent k ≡ is_among keys k) → named ≡ tags → names ≡ all → first ≡ first_entries absent graph tags all → second ≡ first ++ map (tag_entry names) named → third ≡ second ++ map (loose_entry all) loose
-    → third ≡ saved_entries keys all graph tags loose
-saved-all absent keys graph tags named all names loose first second third same is_tags is_all at_first at_second at_third =
+pub saved-all : (absent : Descriptor → Bool) (keys : List Descriptor) (graph : List Node) (tags named : Tags) (all names : List IndexEntry) (loose : List Descriptor) (first second third fourth : List IndexEntry)
+    → ((k : Descriptor) → absent k ≡ is_among keys k) → named ≡ tags → names ≡ all → first ≡ first_entries absent graph tags all → second ≡ first ++ map (tag_entry names) named → third ≡ second ++ unnamed_held graph all
+    → fourth ≡ third ++ loose_entries loose → fourth ≡ saved_entries keys all graph tags loose
+saved-all absent keys graph tags named all names loose first second third fourth same is_tags is_all at_first at_second at_third at_fourth =
+    let firsts : List IndexEntry = first_entries (is_among keys) graph tags all in
+    let of_tags : List IndexEntry = map (tag_entry all) tags in
+    at_fourth
+    ∙ ap (λ (es : List IndexEntry). es ++ loose_entries loose) (
     at_third
-    ∙ ap (λ (es : List IndexEntry). es ++ map (loose_entry all) loose) (
+    ∙ ap (λ (es : List IndexEntry). es ++ unnamed_held graph all) (
     at_second
     ∙ ap (λ (es : List IndexEntry). es ++ map (tag_entry names) named) (at_first ∙ first_from-same absent (is_among keys) same graph tags all 0 all)
-    ∙ ap (λ (ts : Tags). first_entries (is_among keys) graph tags all ++ map (tag_entry names) ts) is_tags
-    ∙ ap (λ (es : List IndexEntry). first_entries (is_among keys) graph tags all ++ map (tag_entry es) tags) is_all
-    )
-    ∙ append_assoc (first_entries (is_among keys) graph tags all) (map (tag_entry all) tags) (map (loose_entry all) loose)
+    ∙ ap (λ (ts : Tags). firsts ++ map (tag_entry names) ts) is_tags
+    ∙ ap (λ (es : List IndexEntry). firsts ++ map (tag_entry es) tags) is_all
+    ))
+    ∙ append_assoc (firsts ++ of_tags) (unnamed_held graph all) (loose_entries loose)
+    ∙ append_assoc firsts of_tags (unnamed_held graph all ++ loose_entries loose)

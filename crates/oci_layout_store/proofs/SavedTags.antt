@@ -1,13 +1,12 @@
 -- The tags of the entries that a save writes, and the last entry of each name.
-use Rattle.std.proofs.Common.{◌≡◌, ℕ, ◌<◌, ◌⊎◌, zero, suc, Bool, true, false, cond, not, ◌&&◌, ◌||◌, ◌≢◌, inl, inr, List, [], ◌∷◌, ◌++◌, map, filter, length, slice_get, option_map, Option, Some, None, refl, sym, ap, subst, ◌∙◌}
+use Rattle.std.proofs.Common.{◌≡◌, ℕ, ◌<◌, ◌⊎◌, suc, Bool, true, false, cond, not, ◌&&◌, ◌||◌, ◌≢◌, inl, inr, List, [], ◌∷◌, ◌++◌, map, filter, length, slice_get, option_map, Option, Some, None, refl, sym, ap, subst, ◌∙◌}
 use Rattle.std.specs.Prelude.{Contains, IfSome, option_and_then}
 use Rattle.std.specs.List.{All, cons_option}
-use Rattle.std.specs.Option.{unwrap_or}
 use Rattle.std.specs.Map.{keys_of, values_of}
 use Rattle.std.specs.List.Sorted.{IsStrictlySortedBy}
 use Rattle.std.specs.Str.{bytes_eq}
-use Rattle.std.proofs.lemmas.Bool.{cases_Bool, and_parts, or_left, or_right}
-use Rattle.std.proofs.lemmas.List.Elements.{All-head, All-tail, All-nil, All-cons, All-contains, Contains-append_left, Contains-append_right, Contains-push, All-append, All-weaker}
+use Rattle.std.proofs.lemmas.Bool.{cases_Bool, and_from, and_parts, or_left, or_right}
+use Rattle.std.proofs.lemmas.List.Elements.{All-head, All-tail, All-nil, All-cons, All-contains, Contains-append_left, Contains-append_right, Contains-push, All-append, All-weaker, filter_passes}
 use Rattle.std.proofs.lemmas.Map.Views.{IfSome-lookup_from_All}
 use Rattle.std.proofs.lemmas.Option.{none-some, same_Some, slice_get-get_or}
 use Rattle.std.proofs.lemmas.Slice.Eq.{bytes_eq-Decides}
@@ -18,11 +17,10 @@ use Rattle.oci_store.specs.Keyed.{has_key}
 use Rattle.oci_store.specs.Tags.{Tags, AreNames, set_tag, tag_at, without_tag}
 use Rattle.oci_store.proofs.TagNames.{tag_at-set, tag_at-kept, tag_at-removed, tag_at-left}
 use Rattle.oci_layout_store.specs.Entries.{IndexEntry, entry_keys, is_held, is_this_key, new_entry, owned, tag_owned}
-use Rattle.oci_layout_store.specs.Saved.{AreLoose, HasLooseEntry, IsLoose, IsTop, comes_before, entry_or_new, first_from, is_first, is_left, is_name, is_place, last_entry, last_place, later_place, loose_entry, no_name, saved_entries, tag_entry, unnamed_keys, was_absent}
+use Rattle.oci_layout_store.specs.Saved.{AreLoose, IsLoose, IsTop, comes_before, entry_or_new, first_from, is_first, is_left, is_name, is_place, last_entry, last_place, later_place, loose_entries, no_name, saved_entries, tag_entry, unnamed_held, unnamed_keys, was_absent}
 use Rattle.oci_layout_store.proofs.EntryKeys.{all_keys, entry_keys-append, first_key, key_or_none, no_first_key, same_held, this_key_is}
 use Rattle.oci_layout_store.proofs.LastNames.{last_place-within}
-use Rattle.oci_layout_store.proofs.Law.{Contains_among, among_from, key_in}
-use Rattle.oci_layout_store.proofs.SavedAll.{loose_keys}
+use Rattle.oci_layout_store.proofs.Law.{Contains_among, among_from}
 use Rattle.oci_layout_store.proofs.OrderedTags.{IsOrdered, below_none, ordered_owned, same_tags}
 
 -- ---- the last entry of a name
@@ -321,50 +319,55 @@ tags_last entries (t ∷ tags) name s =
 pub here_is : {X : Type 0} (x : X) (xs : List X) → Contains (x ∷ xs) x
 here_is x xs = Contains-append_left (x ∷ []) xs x (Contains-push [] x)
 
-module _ (graph : List Node) (tags : Tags) (entries : List IndexEntry) where
-  pub loose_is : (k : Descriptor) (i : ℕ) → HasLooseEntry graph tags entries k i → (no_name (loose_entry entries (k, i)).name ≡ true) × ((loose_entry entries (k, i)).key ≡ Some k)
-  loose_is k zero h = (refl, refl)
-  loose_is k (suc i) h =
-      let is : loose_entry entries (k, suc i) ≡ h.1 = ap (λ (o : Option IndexEntry). unwrap_or o (new_entry k None)) h.2 in
-      (ap (λ (e : IndexEntry). no_name e.name) is ∙ h.3, ap (λ (e : IndexEntry). e.key) is ∙ h.4)
+-- the entries that follow those of the tags have no names, and their keys are held
+abbrev pub IsNameless : List Node → IndexEntry → Type 0
+IsNameless graph e = (no_name e.name ≡ true) × (is_held graph e.key ≡ true)
 
-  pub loose_nameless : (loose : List (Descriptor × ℕ)) → ((l : Descriptor × ℕ) → Contains loose l → HasLooseEntry graph tags entries l.0 l.1) → All (λ (e : IndexEntry). no_name e.name ≡ true) (map (loose_entry entries) loose)
-  loose_nameless [] each = All-nil (λ (e : IndexEntry). no_name e.name ≡ true)
-  loose_nameless (l ∷ loose) each =
-      All-cons (λ (e : IndexEntry). no_name e.name ≡ true) (loose_entry entries l) (map (loose_entry entries) loose) (loose_is l.0 l.1 (each l (here_is l loose))).0
-      (loose_nameless loose (λ x c. each x (Contains-append_right (l ∷ []) loose x c)))
+unnamed_nameless : (graph : List Node) (entries : List IndexEntry) → All (IsNameless graph) (unnamed_held graph entries)
+unnamed_nameless graph entries =
+    All-weaker (λ (e : IndexEntry). (no_name e.name && is_held graph e.key) ≡ true) (IsNameless graph) (λ e h. and_parts (no_name e.name) (is_held graph e.key) h) (unnamed_held graph entries)
+    (filter_passes (λ (e : IndexEntry). no_name e.name && is_held graph e.key) entries)
 
-  pub loose_keyed : (loose : List (Descriptor × ℕ)) → ((l : Descriptor × ℕ) → Contains loose l → HasLooseEntry graph tags entries l.0 l.1) → entry_keys (map (loose_entry entries) loose) ≡ loose_keys loose
-  loose_keyed [] each = refl
-  loose_keyed (l ∷ loose) each =
-      ap (λ (key : Option Descriptor). cons_option key (entry_keys (map (loose_entry entries) loose))) (loose_is l.0 l.1 (each l (here_is l loose))).1
-      ∙ ap (λ (ks : List Descriptor). l.0 ∷ ks) (loose_keyed loose (λ x c. each x (Contains-append_right (l ∷ []) loose x c)))
+loose_nameless : (graph : List Node) (loose : List Descriptor) → ((k : Descriptor) → Contains loose k → has_key graph k ≡ true) → All (IsNameless graph) (loose_entries loose)
+loose_nameless graph [] h = All-nil (IsNameless graph)
+loose_nameless graph (k ∷ ks) h = All-cons (IsNameless graph) (new_entry k None) (loose_entries ks) (refl, h k (here_is k ks)) (loose_nameless graph ks (λ j c. h j (Contains-append_right (k ∷ []) ks j c)))
 
--- a key of an entry without a name
-unnamed_at : (es : List IndexEntry) (k : Descriptor) → is_among (unnamed_keys es) k ≡ true → (i : ℕ) × (e : IndexEntry) × (slice_get es i ≡ Some e) × (no_name e.name ≡ true) × (e.key ≡ Some k)
-unnamed_at [] k h = cc h
-unnamed_at (e ∷ es) k h =
+loose_keyed : (loose : List Descriptor) → entry_keys (loose_entries loose) ≡ loose
+loose_keyed [] = refl
+loose_keyed (k ∷ ks) = ap (λ (xs : List Descriptor). k ∷ xs) (loose_keyed ks)
+
+-- an entry without a name stays, if its key is held
+unnamed_left : (graph : List Node) (es : List IndexEntry) (k : Descriptor) → has_key graph k ≡ true → is_among (unnamed_keys es) k ≡ true → is_among (entry_keys (unnamed_held graph es)) k ≡ true
+unnamed_left graph [] k held h = cc h
+unnamed_left graph (e ∷ es) k held h =
     let rest : List IndexEntry = filter (λ (x : IndexEntry). no_name x.name) es in
-    let more : is_among (unnamed_keys es) k ≡ true → (i : ℕ) × (x : IndexEntry) × (slice_get (e ∷ es) i ≡ Some x) × (no_name x.name ≡ true) × (x.key ≡ Some k) =
-    λ c. (let it = unnamed_at es k c in (suc it.0, it.1, it.2, it.3, it.4)) in
+    let kept : List IndexEntry = unnamed_held graph es in
+    let more : is_among (unnamed_keys es) k ≡ true → is_among (entry_keys (unnamed_held graph (e ∷ es))) k ≡ true = λ c. past (no_name e.name && is_held graph e.key) (unnamed_left graph es k held c) in
     elim (cases_Bool (no_name e.name)) [
-      | inl none ↦
-          let here : is_among (entry_keys (e ∷ rest)) k ≡ true = rw none at h in
-          elim (key_or_none e.key) [
-            | inl it ↦
-                let split : is_among (it.0 ∷ entry_keys rest) k ≡ true = subst (λ (ks : List Descriptor). is_among ks k ≡ true) (first_key e rest it.0 it.1) here in
-                elim (cases_Bool (same_key it.0 k)) [
-                  | inl same ↦ (0, e, refl, none, it.1 ∙ ap Some ((Decides-same_key it.0 k).0 same))
-                  | inr apart ↦ more (rw apart at split)
-                ]
-            | inr keyless ↦ more (subst (λ (ks : List Descriptor). is_among ks k ≡ true) (no_first_key e rest keyless) here)
-          ]
       | inr some ↦ more (rw some at h)
+      | inl none ↦
+          elim (key_or_none e.key) [
+            | inr keyless ↦ more (subst (λ (ks : List Descriptor). is_among ks k ≡ true) (no_first_key e rest keyless) (rw none at h))
+            | inl it ↦
+                let split : is_among (it.0 ∷ entry_keys rest) k ≡ true = subst (λ (ks : List Descriptor). is_among ks k ≡ true) (first_key e rest it.0 it.1) (rw none at h) in
+                elim (cases_Bool (same_key it.0 k)) [
+                  | inr apart ↦ more (rw apart at split)
+                  | inl same ↦
+                      let is : e.key ≡ Some k = it.1 ∙ ap Some ((Decides-same_key it.0 k).0 same) in
+                      let stay : (no_name e.name && is_held graph e.key) ≡ true = and_from (no_name e.name) (is_held graph e.key) none (ap (is_held graph) is ∙ held) in
+                      let here : is_among (entry_keys (e ∷ kept)) k ≡ true = subst (λ (ks : List Descriptor). is_among ks k ≡ true) (sym (first_key e kept k is)) (or_left (same_key k k) (is_among (entry_keys kept) k) ((Decides-same_key k k).1 refl)) in
+                      subst (λ (b : Bool). is_among (entry_keys (cond b (e ∷ kept) kept)) k ≡ true) (sym stay) here
+                ]
+          ]
     ]
+  where
+    past : (b : Bool) → is_among (entry_keys (unnamed_held graph es)) k ≡ true → is_among (entry_keys (cond b (e ∷ unnamed_held graph es) (unnamed_held graph es))) k ≡ true
+    past true c = among_from (entry_keys (e ∷ unnamed_held graph es)) k (subst (λ (ks : List Descriptor). Contains ks k) (sym (entry_keys-append (e ∷ []) (unnamed_held graph es))) (Contains-append_right (entry_keys (e ∷ [])) (entry_keys (unnamed_held graph es)) k (Contains_among (entry_keys (unnamed_held graph es)) k c)))
+    past false c = c
 
 -- ---- all entries
 
-module _ (absent : List Descriptor) (entries : List IndexEntry) (graph : List Node) (tags : Tags) (loose : List (Descriptor × ℕ)) (are : AreLoose graph tags entries loose) where
+module _ (absent : List Descriptor) (entries : List IndexEntry) (graph : List Node) (tags : Tags) (loose : List Descriptor) (are : AreLoose graph tags entries loose) where
   abbrev first : List IndexEntry
   first = first_from (is_among absent) graph tags entries 0 entries
 
@@ -372,64 +375,66 @@ module _ (absent : List Descriptor) (entries : List IndexEntry) (graph : List No
   of_tags = map (tag_entry entries) tags
 
   abbrev of_loose : List IndexEntry
-  of_loose = map (loose_entry entries) loose
+  of_loose = unnamed_held graph entries ++ loose_entries loose
 
   abbrev saved : List IndexEntry
   saved = saved_entries absent entries graph tags loose
 
-  pub each_loose : (l : Descriptor × ℕ) → Contains loose l → HasLooseEntry graph tags entries l.0 l.1
-  each_loose l c = (are.each l.0 l.1).0 c
+  loose_held : (k : Descriptor) → Contains loose k → has_key graph k ≡ true
+  loose_held k c = ((are.each k).0 c).0.is_there
 
-  pub saved_keys : entry_keys saved ≡ entry_keys first ++ (values_of tags ++ loose_keys loose)
+  pub all_nameless : All (IsNameless graph) of_loose
+  all_nameless = All-append (IsNameless graph) (unnamed_held graph entries) (loose_entries loose) (unnamed_nameless graph entries) (loose_nameless graph loose loose_held)
+
+  pub saved_keys : entry_keys saved ≡ entry_keys first ++ (values_of tags ++ entry_keys of_loose)
   saved_keys =
       entry_keys-append first (of_tags ++ of_loose)
-      ∙ ap (λ (ks : List Descriptor). entry_keys first ++ ks) (
-      entry_keys-append of_tags of_loose
-      ∙ ap (λ (ks : List Descriptor). ks ++ entry_keys of_loose) (tags_keyed entries tags)
-      ∙ ap (λ (ks : List Descriptor). values_of tags ++ ks) (loose_keyed graph tags entries loose each_loose)
-      )
+      ∙ ap (λ (ks : List Descriptor). entry_keys first ++ ks) (entry_keys-append of_tags of_loose ∙ ap (λ (ks : List Descriptor). ks ++ entry_keys of_loose) (tags_keyed entries tags))
 
   -- the keys of all entries were absent or are held
-  pub starts_left : All (λ (k : Descriptor). has_key graph k ≡ true) (values_of tags) → All (λ (k : Descriptor). has_key graph k ≡ true) (loose_keys loose)
+  pub starts_left : All (λ (k : Descriptor). has_key graph k ≡ true) (values_of tags)
       → All (λ (k : Descriptor). is_left (is_among absent) graph (Some k) ≡ true) (entry_keys saved)
-  starts_left tagged untagged =
+  starts_left tagged =
       let G : Descriptor → Type 0 = λ (k : Descriptor). has_key graph k ≡ true in
       let P : Descriptor → Type 0 = λ (k : Descriptor). is_left (is_among absent) graph (Some k) ≡ true in
       let came : All P (entry_keys first) = all_keys P first (All-weaker (λ (e : IndexEntry). is_left (is_among absent) graph e.key ≡ true) (λ (e : IndexEntry). (k : Descriptor) → e.key ≡ Some k → P k)
       (λ e left k is. sym (ap (is_left (is_among absent) graph) is) ∙ left) first (all_first_left (is_among absent) graph tags entries 0 entries)) in
       let held : (k : Descriptor) → G k → P k = λ k h. or_right (is_among absent k) (has_key graph k) h in
       subst (λ (ks : List Descriptor). All P ks) (sym saved_keys)
-      (All-append P (entry_keys first) (values_of tags ++ loose_keys loose) came
-      (All-append P (values_of tags) (loose_keys loose) (All-weaker G P held (values_of tags) tagged) (All-weaker G P held (loose_keys loose) untagged)))
+      (All-append P (entry_keys first) (values_of tags ++ entry_keys of_loose) came
+      (All-append P (values_of tags) (entry_keys of_loose) (All-weaker G P held (values_of tags) tagged)
+      (all_keys P of_loose (All-weaker (IsNameless graph) (λ (e : IndexEntry). (k : Descriptor) → e.key ≡ Some k → P k) (λ e h k is. held k (sym (ap (is_held graph) is) ∙ h.1)) of_loose all_nameless))))
 
   pub tail_last : (rest : Tags) (name : List ℕ) → name ≢ [] → IsOrdered rest → last_of name (map (tag_entry entries) rest ++ of_loose) ≡ option_map (λ (k : Descriptor). tag_entry entries (name, k)) (tag_at rest name)
   tail_last rest name full sorted =
       last_of-append name (map (tag_entry entries) rest) of_loose
-      ∙ ap (λ (o : Option IndexEntry). later o (last_of name (map (tag_entry entries) rest))) (last_nameless name of_loose full (loose_nameless graph tags entries loose each_loose))
+      ∙ ap (λ (o : Option IndexEntry). later o (last_of name (map (tag_entry entries) rest))) (last_nameless name of_loose full (All-weaker (IsNameless graph) (λ (e : IndexEntry). no_name e.name ≡ true) (λ e h. h.0) of_loose all_nameless))
       ∙ tags_last entries rest name sorted
 
   pub saved_last : (name : List ℕ) → name ≢ [] → IsOrdered tags → last_of name saved ≡ later (option_map (λ (k : Descriptor). tag_entry entries (name, k)) (tag_at tags name)) (last_of name first)
   saved_last name full sorted = last_of-append name first (of_tags ++ of_loose) ∙ ap (λ (o : Option IndexEntry). later o (last_of name first)) (tail_last tags name full sorted)
 
   -- each held key at the top that no tag has gets an entry without a tag
-  pub loose_top : (h : Descriptor) → IsLoose graph tags h → Contains (loose_keys loose) h
+  pub loose_top : (h : Descriptor) → IsLoose graph tags h → Contains (entry_keys of_loose) h
   loose_top h is =
-      let in_loose : (i : ℕ) → HasLooseEntry graph tags entries h i → Contains (loose_keys loose) h = λ i e. (let at : Descriptor × ℕ = (h, i) in key_in loose at ((are.each h i).1 e)) in
+      let olds : List Descriptor = entry_keys (unnamed_held graph entries) in
+      let split : Contains (olds ++ loose) h → Contains (entry_keys of_loose) h =
+      λ c. subst (λ (ks : List Descriptor). Contains ks h) (sym (entry_keys-append (unnamed_held graph entries) (loose_entries loose) ∙ ap (λ (ks : List Descriptor). olds ++ ks) (loose_keyed loose))) c in
       elim (cases_Bool (is_among (unnamed_keys entries) h)) [
-        | inl entry ↦ let it = unnamed_at entries h entry in in_loose (suc it.0) (is.is_there, it.1, it.2, it.3, it.4)
-        | inr none ↦ in_loose zero (is, λ c. cc (none, among_from (unnamed_keys entries) h c))
+        | inl entry ↦ split (Contains-append_left olds loose h (Contains_among olds h (unnamed_left graph entries h is.is_there entry)))
+        | inr none ↦ split (Contains-append_right olds loose h ((are.each h).1 (is, λ c. cc (none, among_from (unnamed_keys entries) h c))))
       ]
 
   -- each held key at the top has an entry
   pub saved_top : (h : Descriptor) → has_key graph h ≡ true → IsTop graph h → Contains (entry_keys saved) h
   saved_top h held top =
-      let rest : List Descriptor = values_of tags ++ loose_keys loose in
+      let rest : List Descriptor = values_of tags ++ entry_keys of_loose in
       let in_rest : Contains rest h → Contains (entry_keys saved) h = λ c. subst (λ (ks : List Descriptor). Contains ks h) (sym saved_keys) (Contains-append_right (entry_keys first) rest h c) in
       elim (cases_Bool (is_among (values_of tags) h)) [
-        | inl tagged ↦ in_rest (Contains-append_left (values_of tags) (loose_keys loose) h (Contains_among (values_of tags) h tagged))
+        | inl tagged ↦ in_rest (Contains-append_left (values_of tags) (entry_keys of_loose) h (Contains_among (values_of tags) h tagged))
         | inr untagged ↦
             let is : IsLoose graph tags h = record { is_there = held; untagged = λ c. cc (untagged, among_from (values_of tags) h c); is_top = top } in
-            in_rest (Contains-append_right (values_of tags) (loose_keys loose) h (loose_top h is))
+            in_rest (Contains-append_right (values_of tags) (entry_keys of_loose) h (loose_top h is))
       ]
 
   module _ (again : List Node) (same : (k : Descriptor) → has_key again k ≡ has_key graph k) (unheld : All (λ (k : Descriptor). has_key graph k ≡ false) absent) (names : AreNames graph tags) (sorted : IsOrdered tags) where

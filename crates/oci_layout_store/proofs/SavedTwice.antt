@@ -1,35 +1,31 @@
 -- A save of what was opened as it is writes the same entries.
-use Rattle.std.proofs.Common.{◌≡◌, ℕ, ◌+◌, ◌<◌, ◌≤◌, ◌==◌, zero, suc, Bool, true, false, cond, not, ◌&&◌, ◌≢◌, inl, inr, List, [], ◌∷◌, ◌++◌, map, length, slice_get, option_map, Option, Some, None, Less, append_assoc, append-nil, length-append, eqb-true, refl, sym, ap, subst, ◌∙◌, arith}
+use Rattle.std.proofs.Common.{◌≡◌, ℕ, ◌+◌, ◌<◌, ◌≤◌, ◌==◌, suc, Bool, true, false, cond, not, ◌&&◌, ◌≢◌, inl, inr, List, [], ◌∷◌, ◌++◌, map, length, option_map, Option, Some, None, Less, filter, append_assoc, append-nil, length-append, eqb-true, refl, sym, ap, subst, ◌∙◌, arith}
 use Rattle.std.specs.Prelude.{Contains}
-use Rattle.std.specs.BTreeSet.{BTreeSet, contains}
 use Rattle.std.specs.List.{All, AllByRecursion}
 use Rattle.std.specs.List.Sorted.{IsStrictlySortedBy}
 use Rattle.std.specs.Map.{keys_of}
 use Rattle.std.specs.Cmp.Lexicographic.{slice_cmp}
-use Rattle.std.specs.Option.{unwrap_or}
 use Rattle.std.specs.Ordering.{is_eq, nat_cmp}
 use Rattle.std.specs.Str.{bytes_eq}
 use Rattle.std.proofs.lemmas.Bool.{cases_Bool, and_parts, and_from, not_from_false, not-true, or_left, or_right}
 use Rattle.std.proofs.lemmas.Bool.Decides.{Decides-eqb}
-use Rattle.std.proofs.lemmas.List.Elements.{All-head, All-tail, All-nil, All-weaker, All-cons, All-map, All-contains, All-contains_itself, Contains-append_left, Contains-append_right, Contains-append_cases}
+use Rattle.std.proofs.lemmas.List.Elements.{All-head, All-tail, All-nil, All-weaker, All-cons, All-contains, All-contains_itself, Contains-append_left, Contains-append_right, Contains-append_cases, filter-append}
 use Rattle.std.proofs.lemmas.Map.Text.{is_eq-slice_cmp}
-use Rattle.std.proofs.lemmas.Map.Lookups.{btree_set_from_contains}
-use Rattle.std.proofs.lemmas.Map.Views.{btree_set_contains_iff}
 use Rattle.std.proofs.lemmas.Slice.Eq.{bytes_eq-Decides}
-use Rattle.std.proofs.lemmas.Option.{none-some, same_Some, slice_get-map}
+use Rattle.std.proofs.lemmas.Option.{none-some}
 use Rattle.oci_manifest.specs.Descriptor.{Descriptor, is_among, same_key}
 use Rattle.oci_manifest.proofs.Keys.{Decides-same_key}
 use Rattle.oci_store.specs.Graph.{IsEdge, Node}
 use Rattle.oci_store.specs.Keyed.{has_key}
 use Rattle.oci_store.specs.Tags.{AreNames, Tags, tag_at}
 use Rattle.oci_layout_store.specs.Entries.{IndexEntry, absent_in, entry_keys, is_held, is_this_key, new_entry}
-use Rattle.oci_layout_store.specs.Saved.{AreLoose, HasLooseEntry, IsLoose, IsTop, comes_before, entry_or_new, first_from, is_first, is_left, is_missing, is_name, is_place, last_entry, last_place, later_place, loose_entry, no_name, place_cmp, saved_entries, tag_entry, was_absent}
-use Rattle.oci_layout_store.proofs.EntryKeys.{first_key, key_or_none, no_first_key, same_held, this_key_from}
-use Rattle.oci_layout_store.proofs.Law.{both_true, loose_there, one_is}
-use Rattle.oci_layout_store.proofs.Loose.{no_element, place_cmp_exact, place_cmp_total}
+use Rattle.oci_layout_store.specs.Saved.{AreLoose, IsLoose, IsTop, comes_before, entry_or_new, first_from, is_first, is_left, is_missing, is_name, is_place, last_entry, last_place, later_place, loose_entries, no_name, saved_entries, tag_entry, unnamed_held, unnamed_keys, was_absent}
+use Rattle.oci_layout_store.proofs.EntryKeys.{entry_keys-append, first_key, key_or_none, no_first_key, same_held, this_key_from}
+use Rattle.oci_layout_store.proofs.Law.{one_is}
+use Rattle.oci_layout_store.proofs.Loose.{no_element}
 use Rattle.oci_layout_store.proofs.OrderedTags.{IsOrdered, below_none, first_at, same_bytes}
-use Rattle.oci_layout_store.proofs.SavedTags.{and_false, each_loose, first_absent, here_is, last_cases, last_entry-last_of, last_of, later, loose_is, loose_top, owns, owns_before, saved_last, tag_key, tag_name, tail_last, unheld_key}
-use Rattle.oci_layout_store.proofs.Following.{contains_at, get_at, get_past, mapped_at, mapped_there, key_back, unnamed_there, numbered, numbered_sorted, numbered_at, in_numbered, tags_named}
+use Rattle.oci_layout_store.proofs.SavedTags.{IsNameless, all_nameless, and_false, first_absent, here_is, last_cases, last_entry-last_of, last_of, later, loose_top, owns, owns_before, saved_last, tag_key, tag_name, tail_last, unheld_key}
+use Rattle.oci_layout_store.proofs.Following.{tags_named}
 
 each_of : {X : Type 0} (P : X → Type 0) (xs : List X) → ((x : X) → Contains xs x → P x) → All P xs
 each_of P xs h = All-weaker (Contains xs) P h xs (All-contains_itself xs)
@@ -123,6 +119,21 @@ among_absent graph (x ∷ ks) k gone h =
           ]
     ]
 
+filter_none : (p : IndexEntry → Bool) (es : List IndexEntry) → All (λ (e : IndexEntry). p e ≡ false) es → filter p es ≡ []
+filter_none p [] h = refl
+filter_none p (e ∷ es) h = ap (λ (b : Bool). cond b (e ∷ filter p es) (filter p es)) (All-head (λ (x : IndexEntry). p x ≡ false) e es h) ∙ filter_none p es (All-tail (λ (x : IndexEntry). p x ≡ false) e es h)
+
+filter_all : (p : IndexEntry → Bool) (es : List IndexEntry) → All (λ (e : IndexEntry). p e ≡ true) es → filter p es ≡ es
+filter_all p [] h = refl
+filter_all p (e ∷ es) h = ap (λ (b : Bool). cond b (e ∷ filter p es) (filter p es)) (All-head (λ (x : IndexEntry). p x ≡ true) e es h) ∙ ap (λ (xs : List IndexEntry). e ∷ xs) (filter_all p es (All-tail (λ (x : IndexEntry). p x ≡ true) e es h))
+
+unnamed_append : (xs ys : List IndexEntry) → unnamed_keys (xs ++ ys) ≡ unnamed_keys xs ++ unnamed_keys ys
+unnamed_append xs ys = ap entry_keys (filter-append (λ (e : IndexEntry). no_name e.name) xs ys) ∙ entry_keys-append (filter (λ (e : IndexEntry). no_name e.name) xs) (filter (λ (e : IndexEntry). no_name e.name) ys)
+
+empty_of : (ks : List Descriptor) → ((k : Descriptor) → Contains ks k → ⊥) → ks ≡ []
+empty_of [] h = refl
+empty_of (k ∷ ks) h = absurd (h k (here_is k ks))
+
 -- ---- the entries that come first
 
 module _ (absent : Descriptor → Bool) (graph : List Node) (tags : Tags) (all : List IndexEntry) where
@@ -208,7 +219,7 @@ tag_not_first absent graph tags all n key (c ∷ cs) tagged full at last =
 
 -- ---- all entries
 
-module _ (absent : List Descriptor) (entries : List IndexEntry) (graph : List Node) (tags : Tags) (loose : List (Descriptor × ℕ)) (are : AreLoose graph tags entries loose) (again : List Node)
+module _ (absent : List Descriptor) (entries : List IndexEntry) (graph : List Node) (tags : Tags) (loose : List Descriptor) (are : AreLoose graph tags entries loose) (again : List Node)
     (same : (k : Descriptor) → has_key again k ≡ has_key graph k) (unheld : All (λ (k : Descriptor). has_key graph k ≡ false) absent) (names : AreNames graph tags) (sorted : IsOrdered tags) where
   abbrev first : List IndexEntry
   first = first_from (is_among absent) graph tags entries 0 entries
@@ -217,7 +228,7 @@ module _ (absent : List Descriptor) (entries : List IndexEntry) (graph : List No
   of_tags = map (tag_entry entries) tags
 
   abbrev of_loose : List IndexEntry
-  of_loose = map (loose_entry entries) loose
+  of_loose = unnamed_held graph entries ++ loose_entries loose
 
   abbrev saved : List IndexEntry
   saved = saved_entries absent entries graph tags loose
@@ -315,18 +326,14 @@ module _ (absent : List Descriptor) (entries : List IndexEntry) (graph : List No
       ∙ tags_not_first (pre ++ e ∷ []) (suc n) rest longer (is ∙ sym (append_assoc pre (e ∷ []) es)) s.1 (All-tail (λ (m : List ℕ). m ≢ []) t.0 (keys_of rest) full)
       (All-tail (λ (u : List ℕ × Descriptor). tag_at tags u.0 ≡ Some u.1) t rest found)
 
-  loose_held_again : (l : Descriptor × ℕ) → Contains loose l → is_held again (loose_entry entries l).key ≡ true
-  loose_held_again l c =
-      let is = each_loose absent entries graph tags loose are l c in
-      ap (is_held again) (loose_is graph tags entries l.0 l.1 is).1 ∙ same l.0 ∙ loose_there graph tags entries l.0 l.1 is
+  abbrev nameless : All (IsNameless graph) of_loose
+  nameless = all_nameless absent entries graph tags loose are
 
   loose_not_first : (n : ℕ) → first_from lost again tags saved n of_loose ≡ []
   loose_not_first n =
-      let P : IndexEntry → Type 0 = λ (e : IndexEntry). (m : ℕ) → is_first lost again tags saved m e.key e.name ≡ false in
-      first_none lost again tags saved n of_loose (All-map P (loose_entry entries) loose (each_of (λ (l : Descriptor × ℕ). P (loose_entry entries l)) loose (λ l c m.
-      let e : IndexEntry = loose_entry entries l in
-      unnamed_first lost again tags saved m e.key e.name (loose_is graph tags entries l.0 l.1 (each_loose absent entries graph tags loose are l c)).0
-      ∙ ap (λ (b : Bool). was_absent lost e.key && not b) (loose_held_again l c) ∙ and_false (was_absent lost e.key))))
+      first_none lost again tags saved n of_loose (All-weaker (IsNameless graph) (λ (e : IndexEntry). (m : ℕ) → is_first lost again tags saved m e.key e.name ≡ false) (λ e h m.
+      unnamed_first lost again tags saved m e.key e.name h.0
+      ∙ ap (λ (b : Bool). was_absent lost e.key && not b) (held_too e.key ∙ h.1) ∙ and_false (was_absent lost e.key)) of_loose nameless)
 
   first_twice : first_from lost again tags saved 0 saved ≡ first
   first_twice =
@@ -356,93 +363,44 @@ module _ (absent : List Descriptor) (entries : List IndexEntry) (graph : List No
       ∙ ap (λ (es : List IndexEntry). e ∷ es) (tags_twice us (All-tail (λ (m : List ℕ). m ≢ []) t.0 (keys_of us) full) (All-tail (λ (u : List ℕ × Descriptor). tag_at tags u.0 ≡ Some u.1) t us found))
 
   -- the entries without a tag are the same
-  abbrev ahead : List IndexEntry
-  ahead = first ++ of_tags
+  abbrev is_one : IndexEntry → Bool
+  is_one e = no_name e.name && is_held again e.key
 
-  whole : saved ≡ ahead ++ of_loose
-  whole = sym (append_assoc first of_tags of_loose)
-
-  is_loose : (l : Descriptor × ℕ) → Contains loose l → HasLooseEntry graph tags entries l.0 l.1
-  is_loose l c = each_loose absent entries graph tags loose are l c
-
-  none_ahead : (e : IndexEntry) → Contains ahead e → no_name e.name ≡ true → is_held again e.key ≡ true → ⊥
-  none_ahead e c none held =
-      elim (Contains-append_cases first of_tags e c) [
-        | inl in_first ↦
-            let gone : is_held again e.key ≡ false = not-true (is_held again e.key) (and_parts (was_absent lost e.key) (not (is_held again e.key)) (first_unnamed e in_first none)).1 in
-            cc (held, gone)
-        | inr in_tags ↦
-            let named : no_name e.name ≡ false = All-contains (λ (x : IndexEntry). no_name x.name ≡ false) of_tags e (tags_named entries tags names.named) in_tags in
-            cc (none, named)
+  none_of : (e : IndexEntry) → Contains first e → is_one e ≡ false
+  none_of e c =
+      elim (cases_Bool (no_name e.name)) [
+        | inr named ↦ rw named refl
+        | inl none ↦
+            let gone : is_held again e.key ≡ false = not-true (is_held again e.key) (and_parts (was_absent lost e.key) (not (is_held again e.key)) (first_unnamed e c none)).1 in
+            ap (λ (b : Bool). no_name e.name && b) gone ∙ and_false (no_name e.name)
       ]
 
-  module _ (edges : (p k : Descriptor) → IsEdge graph p k → IsEdge again p k) where
-    top_back : (k : Descriptor) → IsTop again k → IsTop graph k
-    top_back k top = elim top [ inl manifest ↦ inl manifest | inr nobody ↦ inr (λ p e. nobody p (edges p k e)) ]
+  unnamed_twice : unnamed_held again saved ≡ of_loose
+  unnamed_twice =
+      filter-append is_one first (of_tags ++ of_loose)
+      ∙ ap (λ (es : List IndexEntry). es ++ filter is_one (of_tags ++ of_loose)) (filter_none is_one first (each_of (λ (e : IndexEntry). is_one e ≡ false) first none_of))
+      ∙ filter-append is_one of_tags of_loose
+      ∙ ap (λ (es : List IndexEntry). es ++ filter is_one of_loose)
+      (filter_none is_one of_tags (All-weaker (λ (e : IndexEntry). no_name e.name ≡ false) (λ (e : IndexEntry). is_one e ≡ false) (λ e h. ap (λ (b : Bool). b && is_held again e.key) h) of_tags (tags_named entries tags names.named)))
+      ∙ filter_all is_one of_loose (All-weaker (IsNameless graph) (λ (e : IndexEntry). is_one e ≡ true) (λ e h. and_from (no_name e.name) (is_held again e.key) h.0 (held_too e.key ∙ h.1)) of_loose nameless)
 
-    to_numbered : (k : Descriptor) (i : ℕ) → HasLooseEntry again tags saved k i → Contains (numbered (length ahead) loose) (k, i)
-    to_numbered k zero h =
-        let is : IsLoose graph tags k = record { is_there = sym (same k) ∙ h.0.is_there; untagged = h.0.untagged; is_top = top_back k h.0.is_top } in
-        let it = key_back loose k (loose_top absent entries graph tags loose are k is) in
-        let e : IndexEntry = loose_entry entries it.0 in
-        let facts = loose_is graph tags entries it.0.0 it.0.1 (is_loose it.0 it.1) in
-        let there : Contains saved e = Contains-append_right first (of_tags ++ of_loose) e (Contains-append_right of_tags of_loose e (mapped_there (loose_entry entries) loose it.0 it.1)) in
-        absurd (h.1 (unnamed_there saved e k there facts.0 (facts.1 ∙ ap Some it.2)))
-    to_numbered k (suc i) h =
-        let n : ℕ = length ahead in
-        let e : IndexEntry = h.1 in
-        let at : slice_get (ahead ++ of_loose) i ≡ Some e = ap (λ (es : List IndexEntry). slice_get es i) (sym whole) ∙ h.2 in
-        elim (get_past ahead of_loose i e at) [
-          | inl before_it ↦ absurd (none_ahead e before_it h.3 (ap (is_held again) h.4 ∙ h.0))
-          | inr it ↦
-              let j : ℕ = it.0 in
-              let m = mapped_at (loose_entry entries) loose j e it.2 in
-              let l : Descriptor × ℕ = m.0 in
-              let key : l.0 ≡ k = same_Some l.0 k (sym (loose_is graph tags entries l.0 l.1 (is_loose l (contains_at loose j l m.1))).1 ∙ ap (λ (x : IndexEntry). x.key) m.2 ∙ h.4) in
-              let is : ◌≡◌ {A = Descriptor × ℕ} (l.0, suc (n + j)) (k, suc i) = ap (λ (x : Descriptor). (x, suc (n + j))) key ∙ ap (λ (x : ℕ). (k, suc x)) (sym it.1) in
-              subst (λ (p : Descriptor × ℕ). Contains (numbered n loose) p) is (in_numbered n loose j l m.1)
-        ]
+  -- no key gets a new one
+  keys_twice : unnamed_keys saved ≡ unnamed_keys first ++ (unnamed_keys of_tags ++ entry_keys of_loose)
+  keys_twice =
+      unnamed_append first (of_tags ++ of_loose)
+      ∙ ap (λ (ks : List Descriptor). unnamed_keys first ++ ks) (unnamed_append of_tags of_loose
+      ∙ ap (λ (es : List IndexEntry). unnamed_keys of_tags ++ entry_keys es) (filter_all (λ (e : IndexEntry). no_name e.name) of_loose (All-weaker (IsNameless graph) (λ (e : IndexEntry). no_name e.name ≡ true) (λ e h. h.0) of_loose nameless)))
 
-    from_numbered : (p : Descriptor × ℕ) → Contains (numbered (length ahead) loose) p → HasLooseEntry again tags saved p.0 p.1
-    from_numbered p c =
-        let n : ℕ = length ahead in
-        let it = numbered_at n loose p c in
-        let j : ℕ = it.0 in
-        let l : Descriptor × ℕ = it.1 in
-        let e : IndexEntry = loose_entry entries l in
-        let there : HasLooseEntry graph tags entries l.0 l.1 = is_loose l (contains_at loose j l it.2) in
-        let facts = loose_is graph tags entries l.0 l.1 there in
-        let held : has_key again l.0 ≡ true = same l.0 ∙ loose_there graph tags entries l.0 l.1 there in
-        let at : slice_get saved (n + j) ≡ Some e =
-        ap (λ (es : List IndexEntry). slice_get es (n + j)) whole ∙ get_at ahead of_loose (n + j) j refl ∙ slice_get-map (loose_entry entries) loose j ∙ ap (option_map (loose_entry entries)) it.2 in
-        let entry : HasLooseEntry again tags saved l.0 (suc (n + j)) = (held, e, at, facts.0, facts.1) in
-        subst (λ (q : Descriptor × ℕ). HasLooseEntry again tags saved q.0 q.1) (sym it.3) entry
-
-    loose_numbered : (found : List (Descriptor × ℕ)) → AreLoose again tags saved found → found ≡ numbered (length ahead) loose
-    loose_numbered found are_found =
-        let n : ℕ = length ahead in
-        let a : BTreeSet (Descriptor × ℕ) = record { keys = found } in
-        let b : BTreeSet (Descriptor × ℕ) = record { keys = numbered n loose } in
-        btree_set_from_contains place_cmp_total a b are_found.order (numbered_sorted n loose are.order)
-        (λ q. both_true (contains place_cmp a q) (contains place_cmp b q)
-        (λ h. (btree_set_contains_iff place_cmp_total place_cmp_exact b q).1 (to_numbered q.0 q.1 ((are_found.each q.0 q.1).0 ((btree_set_contains_iff place_cmp_total place_cmp_exact a q).0 h))))
-        (λ h. (btree_set_contains_iff place_cmp_total place_cmp_exact a q).1 ((are_found.each q.0 q.1).1 (from_numbered q ((btree_set_contains_iff place_cmp_total place_cmp_exact b q).0 h)))))
-        place_cmp_exact
-
-    renumbered : (pre : List IndexEntry) (m : ℕ) (rest : List (Descriptor × ℕ)) → m ≡ length pre → saved ≡ pre ++ map (loose_entry entries) rest → map (loose_entry saved) (numbered m rest) ≡ map (loose_entry entries) rest
-    renumbered pre m [] long is = refl
-    renumbered pre m (l ∷ rest) long is =
-        let e : IndexEntry = loose_entry entries l in
-        let es : List IndexEntry = map (loose_entry entries) rest in
-        let place : m ≡ length pre + 0 = omega (arith, long) in
-        let longer : suc m ≡ length (pre ++ e ∷ []) = omega (arith, long, length-append pre (e ∷ [])) in
-        let this : loose_entry saved (l.0, suc m) ≡ e = ap (λ (o : Option IndexEntry). unwrap_or o (new_entry l.0 None)) (ap (λ (xs : List IndexEntry). slice_get xs m) is ∙ get_at pre (e ∷ es) m 0 place) in
-        ap (λ (x : IndexEntry). x ∷ map (loose_entry saved) (numbered (suc m) rest)) this
-        ∙ ap (λ (xs : List IndexEntry). e ∷ xs) (renumbered (pre ++ e ∷ []) (suc m) rest longer (is ∙ sym (append_assoc pre (e ∷ []) es)))
-
-    pub saved_twice : (found : List (Descriptor × ℕ)) → AreLoose again tags saved found → saved_entries (absent_in again (entry_keys saved)) saved again tags found ≡ saved
-    saved_twice found are_found =
-        ap (λ (es : List IndexEntry). es ++ (map (tag_entry saved) tags ++ map (loose_entry saved) found)) first_twice
-        ∙ ap (λ (es : List IndexEntry). first ++ (es ++ map (loose_entry saved) found)) (tags_twice tags names.named (all_found tags sorted))
-        ∙ ap (λ (ls : List (Descriptor × ℕ)). first ++ (of_tags ++ map (loose_entry saved) ls)) (loose_numbered found are_found)
-        ∙ ap (λ (es : List IndexEntry). first ++ (of_tags ++ es)) (renumbered ahead (length ahead) loose refl whole)
+  pub saved_twice : ((p k : Descriptor) → IsEdge graph p k → IsEdge again p k) → (found : List Descriptor) → AreLoose again tags saved found → saved_entries (absent_in again (entry_keys saved)) saved again tags found ≡ saved
+  saved_twice edges found are_found =
+      let none : (k : Descriptor) → Contains found k → ⊥ =
+      λ k c. (let it = (are_found.each k).0 c in
+      let top : IsTop graph k = elim it.0.is_top [ inl manifest ↦ inl manifest | inr nobody ↦ inr (λ p e. nobody p (edges p k e)) ] in
+      let is : IsLoose graph tags k = record { is_there = sym (same k) ∙ it.0.is_there; untagged = it.0.untagged; is_top = top } in
+      it.1 (subst (λ (ks : List Descriptor). Contains ks k) (sym keys_twice) (Contains-append_right (unnamed_keys first) (unnamed_keys of_tags ++ entry_keys of_loose) k
+      (Contains-append_right (unnamed_keys of_tags) (entry_keys of_loose) k (loose_top absent entries graph tags loose are k is))))) in
+      ap (λ (es : List IndexEntry). es ++ (map (tag_entry saved) tags ++ (unnamed_held again saved ++ loose_entries found))) first_twice
+      ∙ ap (λ (es : List IndexEntry). first ++ (es ++ (unnamed_held again saved ++ loose_entries found))) (tags_twice tags names.named (all_found tags sorted))
+      ∙ ap (λ (es : List IndexEntry). first ++ (of_tags ++ (es ++ loose_entries found))) unnamed_twice
+      ∙ ap (λ (ks : List Descriptor). first ++ (of_tags ++ (of_loose ++ loose_entries ks))) (empty_of found none)
+      ∙ ap (λ (es : List IndexEntry). first ++ (of_tags ++ es)) (append-nil of_loose)

@@ -48,7 +48,7 @@ pub record IsCompact (bytes : List ℕ) (value : Data) : Type 0 where
 
 -- `index.json` has the entries and the members that a save writes
 pub record HasIndex (file : File) (graph : List Node) (tags : Tags) (opened : OpenedIndex) : Type 0 where
-  pub loose : List (Descriptor × ℕ)
+  pub loose : List Descriptor
   pub are_loose : AreLoose graph tags (said opened.content).entries loose
   pub bytes : List ℕ
   pub is_there : file index_file ≡ Some bytes

@@ -47,7 +47,7 @@ OpensAsWritten = (file : File) (graph again : List Node) (tags tags_again : Tags
     → All (λ (k : Descriptor). has_key graph k ≡ false) opened.absent → All (λ (k : Descriptor). is_whole file k ≡ false) opened.absent
     → (files : HasFiles file (stored file graph) graph tags opened) → IsOpenedAsIs file again tags_again memory → ((k : Descriptor) → value_at (stored file again) k ≡ value_at (stored file graph) k)
     × (tags_again ≡ tags) × ((said memory.content).entries ≡ saved_entries opened.absent (said opened.content).entries graph tags files.index.loose)
-    × ((loose : List (Descriptor × ℕ)) → AreLoose again tags_again (said memory.content).entries loose → saved_entries memory.absent (said memory.content).entries again tags_again loose ≡ (said memory.content).entries)
+    × ((loose : List Descriptor) → AreLoose again tags_again (said memory.content).entries loose → saved_entries memory.absent (said memory.content).entries again tags_again loose ≡ (said memory.content).entries)
 
 -- what a layout remembers that was opened as it is: whole entries, and absent keys that are not
 -- held and have no whole file

@@ -1,13 +1,10 @@
 -- The entries that a save writes: those of the index that was opened stay as they are, unless what
 -- they say has changed.
-use Rattle.std.specs.Prelude.{◌≡◌, ◌↔◌, ℕ, zero, suc, ◌==◌, Bool, true, false, ◌&&◌, ◌||◌, not, List, [], ◌∷◌, ◌++◌, map, filter, slice_get, is_none, Option, Some, None, option_and_then, Contains, String, string_bytes, string_cmp, if◌then◌else◌, ◌≢◌, ◌⊎◌}
+use Rattle.std.specs.Prelude.{◌≡◌, ◌↔◌, ℕ, suc, ◌==◌, Bool, true, false, ◌&&◌, ◌||◌, not, List, [], ◌∷◌, ◌++◌, map, filter, slice_get, is_none, Option, Some, None, option_and_then, Contains, String, string_bytes, string_cmp, if◌then◌else◌, ◌≢◌, ◌⊎◌}
 use Rattle.std.specs.declared.alloc.Global.{Global}
 use Rattle.std.specs.BTreeMap.{BTreeMap, get}
-use Rattle.std.specs.Option.{unwrap_or}
 use Rattle.std.specs.List.Sorted.{IsStrictlySortedBy}
 use Rattle.std.specs.Map.{values_of}
-use Rattle.std.specs.Ordering.{nat_cmp, ordering_then}
-use Rattle.std.specs.declared.cmp.Ordering.{Ordering}
 use Rattle.std.specs.Str.{bytes_eq}
 use Rattle.oci_manifest.specs.Descriptor.{Descriptor, key_cmp, is_among}
 use Rattle.oci_manifest.specs.MediaTypes.{kind_of}
@@ -132,33 +129,27 @@ pub record IsLoose (graph : List Node) (tags : Tags) (k : Descriptor) : Type 0 w
 abbrev pub unnamed_keys : List IndexEntry → List Descriptor
 unnamed_keys entries = entry_keys (filter (λ (e : IndexEntry). no_name e.name) entries)
 
--- A key gets an entry without a tag: the opened entry at place `i` for `suc i`, if that has the key
--- and no name, and the key is held; a new one for 0, if the key is loose and has no such entry.
-abbrev pub HasLooseEntry : List Node → Tags → List IndexEntry → Descriptor → ℕ → Type 0
-HasLooseEntry graph tags entries k zero = IsLoose graph tags k × (Contains (unnamed_keys entries) k → ⊥)
-HasLooseEntry graph tags entries k (suc i) = (has_key graph k ≡ true) × (e : IndexEntry) × (slice_get entries i ≡ Some e) × (no_name e.name ≡ true) × (e.key ≡ Some k)
+-- the loose keys without an entry that has no name, in key order
+pub record AreLoose (graph : List Node) (tags : Tags) (entries : List IndexEntry) (loose : List Descriptor) : Type 0 where
+  pub each : (k : Descriptor) → Contains loose k ↔ (IsLoose graph tags k × (Contains (unnamed_keys entries) k → ⊥))
+  pub order : IsStrictlySortedBy key_cmp loose
 
--- the order of keys with places
-abbrev pub place_cmp : Descriptor × ℕ → Descriptor × ℕ → Ordering
-place_cmp a b = ordering_then (key_cmp a.0 b.0) (nat_cmp a.1 b.1)
+-- the entries without a name whose keys are held
+abbrev pub unnamed_held : List Node → List IndexEntry → List IndexEntry
+unnamed_held graph entries = filter (λ (e : IndexEntry). no_name e.name && is_held graph e.key) entries
 
--- the keys that get an entry without a tag, in key order, each with the place of its entry
-pub record AreLoose (graph : List Node) (tags : Tags) (entries : List IndexEntry) (loose : List (Descriptor × ℕ)) : Type 0 where
-  pub each : (k : Descriptor) (place : ℕ) → Contains loose (k, place) ↔ HasLooseEntry graph tags entries k place
-  pub order : IsStrictlySortedBy place_cmp loose
-
-abbrev pub loose_entry : List IndexEntry → Descriptor × ℕ → IndexEntry
-loose_entry entries (k, zero) = new_entry k None
-loose_entry entries (k, suc i) = unwrap_or (slice_get entries i) (new_entry k None)
+-- new entries of keys, without a name
+abbrev pub loose_entries : List Descriptor → List IndexEntry
+loose_entries loose = map (λ k. new_entry k None) loose
 
 -- ---- all entries
 
 -- the entries that a save writes
-abbrev pub saved_entries : List Descriptor → List IndexEntry → List Node → Tags → List (Descriptor × ℕ) → List IndexEntry
-saved_entries absent entries graph tags loose = first_entries (is_among absent) graph tags entries ++ (map (tag_entry entries) tags ++ map (loose_entry entries) loose)
+abbrev pub saved_entries : List Descriptor → List IndexEntry → List Node → Tags → List Descriptor → List IndexEntry
+saved_entries absent entries graph tags loose = first_entries (is_among absent) graph tags entries ++ (map (tag_entry entries) tags ++ (unnamed_held graph entries ++ loose_entries loose))
 
 -- the index that a save writes has these, and the members of the one that was opened
-abbrev pub saved_content : OpenedIndex → List Node → Tags → List (Descriptor × ℕ) → IndexContent
+abbrev pub saved_content : OpenedIndex → List Node → Tags → List Descriptor → IndexContent
 saved_content opened graph tags loose = record { entries = saved_entries opened.absent (said opened.content).entries graph tags loose; members = (said opened.content).members }
 
 -- ---- the code

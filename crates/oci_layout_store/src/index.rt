@@ -1,5 +1,5 @@
 //! The file `index.json`: what it says is read here, and its text is made here.
-ghost use Rattle.std.specs.Prelude.{◌≡◌, not, ℕ, List, [], map, IfOk};
+ghost use Rattle.std.specs.Prelude.{◌≡◌, not, List, [], map, IfOk};
 ghost use Rattle.std.specs.List.{All};
 ghost use Rattle.oci_manifest.specs.Descriptor.{Descriptor};
 ghost use Rattle.oci_layout_store.specs.Brought.{IsShallowEntry};
@@ -204,7 +204,7 @@ impl IndexContent {
         graph: &Graph,
         tags: &Tags,
     ) -> Result<Vec<u8>, NoMemory>
-        ensures { IfOk result (λ bytes. (loose : List (Descriptor × ℕ))
+        ensures { IfOk result (λ bytes. (loose : List Descriptor)
             × AreLoose graph.now tags.now (said self.now).entries loose
             × IsCompact bytes.items (index_value (saved_content (record {
               absent = absent.now;

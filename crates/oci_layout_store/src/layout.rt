@@ -45,7 +45,7 @@ use crate::layout::held::Held;
 use crate::opened_index::OpenedIndex;
 pub use blob::blob_path;
 pub use loose::unnamed_keys;
-pub(crate) use loose::{loose_places, tagged_keys};
+pub(crate) use loose::{loose_keys, tagged_keys};
 use oci_digest::NoMemory;
 use oci_dir::{Dir, FirstFailure};
 use oci_manifest::{Key, Kind};

@@ -1,10 +1,10 @@
 //! The entries that a save writes.
-ghost use Rattle.std.specs.Prelude.{◌≡◌, ◌++◌, ◌∷◌, [], if◌then◌else◌, ℕ, List, map, option_map, IfOk, OnOk};
+ghost use Rattle.std.specs.Prelude.{◌≡◌, ◌++◌, ◌∷◌, [], if◌then◌else◌, ◌&&◌, List, map, option_map, IfOk, OnOk};
 ghost use Rattle.std.specs.BTreeSet.{contains};
 ghost use Rattle.std.specs.Option.{option_copied};
 ghost use Rattle.oci_manifest.specs.Descriptor.{Descriptor, is_among, key_cmp};
 ghost use Rattle.oci_store.specs.Tags.{by_bytes};
-ghost use Rattle.oci_layout_store.specs.Entries.{entry_of};
+ghost use Rattle.oci_layout_store.specs.Entries.{entry_of, is_held};
 ghost use Rattle.oci_layout_store.specs.Saved.{
   comes_before,
   first_entries,
@@ -12,17 +12,19 @@ ghost use Rattle.oci_layout_store.specs.Saved.{
   is_left,
   is_missing,
   is_place,
-  loose_entry,
+  loose_entries,
   named_held,
+  no_name,
   saved_entries,
   tag_entry,
+  unnamed_held,
   was_absent,
   AreLoose,
 };
 
 use crate::index::names::Names;
 use crate::index::{IndexEntry, add_key, is_held, new_entry};
-use crate::layout::loose_places;
+use crate::layout::loose_keys;
 use oci_digest::NoMemory;
 use oci_manifest::Key;
 use oci_store::{Graph, Tags};
@@ -38,18 +40,19 @@ pub(crate) fn saved_entries(
     graph: &Graph,
     tags: &Tags,
 ) -> Result<Vec<IndexEntry>, NoMemory>
-    ensures { IfOk result (λ saved. (loose : List (Descriptor × ℕ))
+    ensures { IfOk result (λ saved. (loose : List Descriptor)
         × AreLoose graph.now tags.now (map entry_of entries.now) loose
         × (map entry_of saved.items
         ≡ saved_entries absent.now (map entry_of entries.now) graph.now tags.now loose)) }
 {
     let tagged = tags.to_vec()?;
-    let loose = loose_places(alloc, graph, &tagged, entries)?;
+    let loose = loose_keys(alloc, graph, &tagged, entries)?;
     let names = Names::of(alloc, entries)?;
     let absent = set_of(alloc, absent)?;
     let mut saved = first_entries(alloc, &names, entries, &absent, graph, tags)?;
     add_tags(alloc, &names, tagged, &mut saved)?;
-    add_loose(alloc, entries, loose, &mut saved)?;
+    add_unnamed(graph, entries, &mut saved)?;
+    add_loose(alloc, loose, &mut saved)?;
     Ok(saved)
 }
 
@@ -226,37 +229,40 @@ fn add_tags(
     Ok(())
 }
 
-/// Appends the entries without a tag.
-fn add_loose(
-    alloc: Global,
+/// Appends copies of the entries without a name whose keys are held.
+fn add_unnamed(
+    graph: &Graph,
     entries: &[IndexEntry],
-    loose: Vec<(Key, usize)>,
     saved: &mut Vec<IndexEntry>,
 ) -> Result<(), NoMemory>
     ensures { OnOk result (map entry_of saved.new.items
-        ≡ map entry_of saved.old.items
-        ++ map (loose_entry (map entry_of entries.now)) loose.items) }
+        ≡ map entry_of saved.old.items ++ unnamed_held graph.now (map entry_of entries.now)) }
 {
-    for (key, place) in loose {
-        saved.push(entry_at(alloc, entries, key, place)?)?;
+    for entry in entries {
+        push_if(is_unnamed_held(graph, entry), entry, saved)?;
     }
     Ok(())
 }
 
-/// Returns a copy of the entry at `place - 1`, or a new one of the key if the place is 0.
-fn entry_at(
-    alloc: Global,
-    entries: &[IndexEntry],
-    key: Key,
-    place: usize,
-) -> Result<IndexEntry, NoMemory>
-    ensures { IfOk result (λ e. entry_of e ≡ loose_entry (map entry_of entries.now) (key, place)) }
+/// Returns whether the key of an entry is held, and the entry has no name.
+fn is_unnamed_held(graph: &Graph, entry: &IndexEntry) -> bool
+    ensures { result ≡ (no_name (entry_of entry.now).name
+        && is_held graph.now (entry_of entry.now).key) }
 {
-    if place == 0 {
-        return new_entry(alloc, key, None);
+    match &entry.name {
+        None => is_held(graph, &entry.key),
+        Some(name) if name.as_str().is_empty() => is_held(graph, &entry.key),
+        Some(_) => false,
     }
-    match entries.get(place - 1) {
-        Some(entry) => entry.try_clone(),
-        None => new_entry(alloc, key, None),
+}
+
+/// Appends new entries of keys, without a name.
+fn add_loose(alloc: Global, loose: Vec<Key>, saved: &mut Vec<IndexEntry>) -> Result<(), NoMemory>
+    ensures { OnOk result (map entry_of saved.new.items
+        ≡ map entry_of saved.old.items ++ loose_entries loose.items) }
+{
+    for key in loose {
+        saved.push(new_entry(alloc, key, None)?)?;
     }
+    Ok(())
 }

@@ -26,7 +26,8 @@ impl<D: Dir> Layout<D> {
     /// A layout that remembers entries, since it was [opened as it is](Layout::open_as_is) or they
     /// were [brought](Layout::bring), also writes what these say. The last entry of a name keeps
     /// its members if its key is still that of the tag. So does each entry without a name whose key
-    /// is held. Before these come, in the order of the index, the entries without a name whose key
+    /// is held: these come after the tags, in the order of the index, and a key that has one gets no
+    /// other. Before the tags come, in the order of the index, the entries without a name whose key
     /// was not held when the layout was opened and is not held now, and the earlier entries of a
     /// name, unless the name has moved to another key or was removed. All entries of a name come
     /// there if it has no tag, and the key of the last one was not held when the layout was opened,

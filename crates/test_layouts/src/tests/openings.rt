@@ -167,9 +167,10 @@ const SAVED_AGAIN: &[Row] = &[
 ];
 
 /// The index after a save of the layout that was opened as it is. First come the earlier entry of
-/// `latest` and the entry without a file, then the tags, then the entries without a tag.
+/// `latest` and the entry without a file, then the tags, then the entries without a tag, and last a
+/// new one.
 const AS_WRITTEN: &str =
-    "{\"annotations\":{\"com.example.index.revision\":\"r124356\"},\"manifests\":[{\"annotations\":{\"org.opencontainers.image.ref.name\":\"latest\"},<saved Image2>},{\"annotations\":{\"org.opencontainers.image.ref.name\":\"gone\"},<saved Image3>},{\"annotations\":{\"org.opencontainers.image.ref.name\":\"b\"},\"artifactType\":\"application/example\",\"data\":\"e30=\",<saved Image0>,\"urls\":[\"https://example.org\"]},{\"annotations\":{\"io.containerd.image.name\":\"docker.io/library/a:b\",\"org.opencontainers.image.created\":\"2024-01-01T00:00:00Z\",\"org.opencontainers.image.ref.name\":\"latest\"},<saved Image0>},{<saved Image2>},{\"annotations\":{\"org.opencontainers.image.ref.name\":7},<saved Image0>},{\"annotations\":{\"org.opencontainers.image.ref.name\":\"\"},<saved Image0>},{\"annotations\":[],<saved Image0>}],\"mediaType\":\"application/vnd.oci.image.index.v1+json\",\"schemaVersion\":2}";
+    "{\"annotations\":{\"com.example.index.revision\":\"r124356\"},\"manifests\":[{\"annotations\":{\"org.opencontainers.image.ref.name\":\"latest\"},<saved Image2>},{\"annotations\":{\"org.opencontainers.image.ref.name\":\"gone\"},<saved Image3>},{\"annotations\":{\"org.opencontainers.image.ref.name\":\"b\"},\"artifactType\":\"application/example\",\"data\":\"e30=\",<saved Image0>,\"urls\":[\"https://example.org\"]},{\"annotations\":{\"io.containerd.image.name\":\"docker.io/library/a:b\",\"org.opencontainers.image.created\":\"2024-01-01T00:00:00Z\",\"org.opencontainers.image.ref.name\":\"latest\"},<saved Image0>},{\"annotations\":{\"org.opencontainers.image.ref.name\":7},<saved Image0>},{\"annotations\":{\"org.opencontainers.image.ref.name\":\"\"},<saved Image0>},{\"annotations\":[],<saved Image0>},{<saved Image2>}],\"mediaType\":\"application/vnd.oci.image.index.v1+json\",\"schemaVersion\":2}";
 
 const SAVED_AS_WRITTEN: &[Row] = &[
     LAYOUT_FILE,

@@ -16,6 +16,6 @@ returns c =
       loose,
       subst (λ (tags : Tags). AreLoose graph tags entries loose) (ap by_bytes c.deref.ensures.value ∙ c.in_ok-tagged.ensures.exact) c.in_ok-loose.ensures,
       saved-all (contains key_cmp c.in_ok-absent.absent) c.args.absent.now graph c.args.tags.now (by_bytes tagged) entries (map entry_of c.in_ok-names.names) loose (map entry_of c.in_ok-saved.saved.items)
-          (map entry_of c.add_tags.new.saved.items) (map entry_of c.add_loose.new.saved.items) c.in_ok-absent.ensures c.in_ok-tagged.ensures.exact (ap (map entry_of) c.in_ok-names.ensures) c.in_ok-saved.ensures
-          c.in_ok-add_tags.ensures c.in_ok-add_loose.ensures,
+          (map entry_of c.add_tags.new.saved.items) (map entry_of c.add_unnamed.new.saved.items) (map entry_of c.add_loose.new.saved.items) c.in_ok-absent.ensures c.in_ok-tagged.ensures.exact (ap (map entry_of) c.in_ok-names.ensures) c.in_ok-saved.ensures
+          c.in_ok-add_tags.ensures c.in_ok-add_unnamed.ensures c.in_ok-add_loose.ensures,
     )
