@@ -32,7 +32,7 @@ def read(path):
 
 def listed():
     """Return the number and the name of each row of docs/refusals.md, and when the fault is returned."""
-    return [(int(number), fault.split()[-1], cause) for number, fault, cause, _ in table("/docs/refusals.md", "# Refusals")]
+    return [(int(number), fault.split()[-1], cause) for number, fault, cause, *_ in table("/docs/refusals.md", "# Refusals")]
 
 
 def used(page):
