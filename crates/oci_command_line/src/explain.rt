@@ -349,7 +349,11 @@ List the tags with `ocicp tags SRC`. The pattern must match a whole tag. Quote i
 
 109 NoIndex
 The folder has blobs and no `index.json`, or for `prune` one without entries, so nothing says which blobs are wanted. Nothing was changed.
-Put `index.json` back. If you have no copy of it, `ocicp copy` into the folder writes a new one; the next `ocicp prune` then removes what only the lost one named. If nothing is to be kept, delete the folder.";
+Put `index.json` back. If you have no copy of it, `ocicp copy` into the folder writes a new one; the next `ocicp prune` then removes what only the lost one named. If nothing is to be kept, delete the folder.
+
+110 IndexChanged
+Another program wrote `index.json` or removed it while the command ran. It stays as that program left it. Copied blobs stay.
+Run the command again: it then starts from the new index, and copies only what is missing. Do not let another program write into the folder meanwhile.";
 
 /// What `explain` prints about an error number.
 #[derive(Clone, Copy, Serialize)]

@@ -30,7 +30,7 @@ use oci_layout_copy::mirror::{mirror, prepare_destination};
 use oci_layout_copy::{Copied, Goal, Host, check_source, copy_between};
 use oci_layout_store::Layout;
 use oci_plan::{Existing, Plan};
-use oci_program::{Form, Outcome, ProgramFault, check_index, make_and_lock_folder};
+use oci_program::{Form, Outcome, ProgramFault, SeenIndex, check_index, make_and_lock_folder};
 use oci_progress::Progress;
 use oci_prune_answer::print_answer_with_fault;
 use oci_prune_fault::PruneFault;
@@ -86,6 +86,7 @@ use std::io::Write;
 ///   `BadManifest` if one of its held manifests cannot be read.
 /// - 109 `NoIndex` with `--prune`, if DST has blobs and no `index.json`.
 /// - 80 `DestinationOpen` and 81 `Plan` if there is no plan.
+/// - 110 `IndexChanged` if another program wrote DST's `index.json` meanwhile. Blobs that arrived stay.
 /// - 82 `Push` and 88 `Fetch` if a blob cannot be copied, and 74 `Device` if the index cannot be
 ///   written, or if it is not known whether it and the copied blobs are on the disk. Blobs that
 ///   arrived stay.
@@ -210,10 +211,11 @@ where
         words.waits,
         err,
     )?;
+    let seen = SeenIndex::of(&destination)?;
     check_index_if(words.prunes, &destination)?;
-    let destination = open_or_create(rt.alloc(), destination)?;
+    let (destination, seen) = open_or_create(rt.alloc(), destination, seen)?;
     make_blobs_folder(rt, words.destination, destination.first_failure())?;
-    copy_under_lock(rt, source, destination, selected, words, &lock, err)
+    copy_under_lock(rt, source, destination, &seen, selected, words, &lock, err)
 }
 
 /// Plans a copy into an open layout, removes files left by killed copies, and copies.
@@ -221,6 +223,7 @@ fn copy_under_lock<R: Host, S: Dir + Sync, D: PrunableDir + Drop + Send, X: Writ
     rt: &R,
     source: &Layout<S>,
     mut destination: Layout<D>,
+    seen: &SeenIndex,
     selected: &Selected,
     words: &CopyWords<'_>,
     lock: &FolderLock<R>,
@@ -243,6 +246,7 @@ where
             rt,
             source,
             destination,
+            seen,
             &plan,
             selected,
             goal,
@@ -254,6 +258,7 @@ where
             rt,
             source,
             destination,
+            seen,
             &plan,
             selected,
             &options,
@@ -267,6 +272,7 @@ fn mirror_and_end<R: Host, S: Dir + Sync, D: PrunableDir + Drop + Send, X: Write
     rt: &R,
     source: &Layout<S>,
     destination: Layout<D>,
+    seen: &SeenIndex,
     plan: &Plan,
     selected: &Selected,
     goal: &Goal,
@@ -288,6 +294,7 @@ where
         rt,
         source,
         destination,
+        seen,
         plan,
         selected,
         goal,
@@ -304,6 +311,7 @@ fn copy_and_end<R: Host, S: Dir + Sync, D: PrunableDir + Drop + Send, X: Write +
     rt: &R,
     source: &Layout<S>,
     destination: Layout<D>,
+    seen: &SeenIndex,
     plan: &Plan,
     selected: &Selected,
     options: &Options,
@@ -317,7 +325,16 @@ where
     ensures { IfOk result (IsCopyMade S.device D.device options.now source.now selected.now
         destination) }
 {
-    let (_left, copied) = copy_between(rt, source, destination, plan, selected, options, progress);
+    let (_left, copied) = copy_between(
+        rt,
+        source,
+        destination,
+        seen,
+        plan,
+        selected,
+        options,
+        progress,
+    );
     progress.end();
     match copied {
         Ok(report) => Ok(Copied {

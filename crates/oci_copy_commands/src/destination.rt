@@ -4,7 +4,7 @@ ghost use Rattle.oci_copy_commands.specs.Run.{IsCreatedIn, IsFound, IsReady, IsS
 use oci_dir::{Dir, FirstFailure};
 use oci_folder::{FolderLock, Lockable};
 use oci_layout_store::{Layout, LayoutFault};
-use oci_program::ProgramFault;
+use oci_program::{ProgramFault, SeenIndex};
 use std::alloc::Global;
 use std::rt::Files;
 use std::{fs, io};
@@ -46,9 +46,9 @@ pub(crate) fn make_blobs_folder<R: Files + AllocGlobal>(
     }
 }
 
-/// Opens the layout in a directory as it is. Creates one if there is no `oci-layout` and no index
-/// that the creation would replace. Waits until the index is on the disk: a process that was killed
-/// may have replaced it shortly before.
+/// Opens the layout in a directory as it is, whose index was seen before. Creates one if there is no
+/// `oci-layout` and no index that the creation would replace, and returns what its index has then. Waits
+/// until the index is on the disk: a process that was killed may have replaced it shortly before.
 ///
 /// # Errors
 ///
@@ -61,32 +61,39 @@ pub(crate) fn make_blobs_folder<R: Files + AllocGlobal>(
 pub(crate) fn open_or_create<D: Dir + Drop>(
     alloc: Global,
     dir: D,
-) -> Result<Layout<D>, ProgramFault>
-    ensures { IfOk result (IsReady D.device dir) }
+    seen: SeenIndex,
+) -> Result<(Layout<D>, SeenIndex), ProgramFault>
+    ensures { IfOk result (λ it. IsReady D.device dir it.0) }
 {
-    match find(alloc, dir) {
-        Ok(layout) => settled(layout),
-        Err(fault) => Err(fault),
-    }
+    let (layout, seen) = find(alloc, dir, seen)?;
+    let ready = settled(layout)?;
+    Ok((ready, seen))
 }
 
 /// Opens the layout in a directory as it is, or creates one, as [`open_or_create`] does.
-fn find<D: Dir + Drop>(alloc: Global, dir: D) -> Result<Layout<D>, ProgramFault>
-    ensures { IfOk result (IsFound D.device dir) }
+fn find<D: Dir + Drop>(
+    alloc: Global,
+    dir: D,
+    seen: SeenIndex,
+) -> Result<(Layout<D>, SeenIndex), ProgramFault>
+    ensures { IfOk result (λ it. IsFound D.device dir it.0) }
 {
     match Layout::open_as_is(alloc, dir) {
-        Ok(layout) => Ok(layout),
+        Ok(layout) => Ok((layout, seen)),
         Err((dir, LayoutFault::NoLayoutFile)) => create(alloc, dir),
         Err((_dir, fault)) => Err(ProgramFault::Destination(fault)),
     }
 }
 
 /// Creates a layout in a directory, if there is no index that the creation would replace.
-fn create<D: Dir + Drop>(alloc: Global, dir: D) -> Result<Layout<D>, ProgramFault>
-    ensures { IfOk result (IsCreatedIn D.device dir) }
+fn create<D: Dir + Drop>(alloc: Global, dir: D) -> Result<(Layout<D>, SeenIndex), ProgramFault>
+    ensures { IfOk result (λ it. IsCreatedIn D.device dir it.0) }
 {
     match Layout::create_if_free(alloc, dir) {
-        Ok(layout) => Ok(layout),
+        Ok(layout) => {
+            let seen = SeenIndex::of(layout.dir())?;
+            Ok((layout, seen))
+        }
         Err((_dir, fault)) => Err(ProgramFault::Destination(fault)),
     }
 }

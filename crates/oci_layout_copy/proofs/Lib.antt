@@ -6,6 +6,7 @@ mod Refusals
 mod Removed
 mod Retagged
 mod Saved
+mod Seen
 mod Settled
 mod Cleaning
 mod PlannedCopies

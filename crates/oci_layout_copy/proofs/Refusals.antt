@@ -1,5 +1,5 @@
 -- Why a mirror is refused.
-use Rattle.std.proofs.Common.{◌≡◌, ◌⊎◌, inl, inr, ℕ, Bool, not, List, Result, Ok, Err, sym, subst, ◌∙◌, arith}
+use Rattle.std.proofs.Common.{◌≡◌, ◌⊎◌, inl, inr, ℕ, Bool, not, List, Option, Result, Ok, Err, sym, subst, ◌∙◌, arith}
 use Rattle.std.specs.Prelude.{◌≤◌, IsOk, IfErr, OnErr, OnOk}
 use Rattle.oci_manifest.specs.Descriptor.{Descriptor}
 use Rattle.oci_copy.specs.Cause.{IsAnswerByWorkers, RefusedByWorkers}
@@ -10,6 +10,7 @@ use Rattle.oci_layout_store.specs.Layout.{LayoutState}
 use Rattle.oci_layout_store.specs.Refusal.{IsSettledFault}
 use Rattle.oci_layout_store.specs.declared.fault.LayoutFault.{LayoutFault}
 use Rattle.oci_layout_store.specs.declared.fault.LayoutFault.TheVariants as layout
+use Rattle.oci_program.specs.SeenIndex.{OrOtherIndex}
 use Rattle.oci_program.specs.declared.fault.ProgramFault.{ProgramFault}
 use Rattle.oci_program.specs.declared.fault.ProgramFault.TheVariants as program
 use Rattle.oci_prune.specs.Plan.{roots_with}
@@ -95,11 +96,11 @@ refused_there holds copied e (inl same) there = after_copy holds e (subst (λ r.
 refused_there holds copied e (inr it) there = subst (λ (x : CopyFault). AfterRefusedCopy holds (program.Copy x)) (sym it.1) tt
 
 -- what a refused copy leaves is left after a mirror whose copy was refused
-pub after_refused : {D X Y : Type 0} (holds : Type 0) (copied : Result X CopyFault) (is_exact : Bool) (roots : List Descriptor) (start : ℕ) (dir : Device) (l : LayoutState D) (answer : Result Y ProgramFault)
-    → IfErr answer (IsRefusedMirror (λ e. (copied ≡ Err e) ⊎ (IsOk copied × (e ≡ copy.Memory))) is_exact roots start dir l) → OnErr copied holds → IfErr answer (AfterRefusedCopy holds)
-after_refused holds copied is_exact roots start dir l (Ok y) is there = is
-after_refused holds copied is_exact roots start dir l (Err (program.Copy e)) is there = refused_there holds copied e is there
-after_refused holds copied is_exact roots start dir l (Err e) is there = tt
+pub after_refused : {D X Y : Type 0} (holds : Type 0) (copied : Result X CopyFault) (is_exact : Bool) (roots : List Descriptor) (start : ℕ) (dir : Device) (seen : Option (List ℕ)) (l : LayoutState D) (answer : Result Y ProgramFault)
+    → IfErr answer (OrOtherIndex dir seen (IsRefusedMirror (λ e. (copied ≡ Err e) ⊎ (IsOk copied × (e ≡ copy.Memory))) is_exact roots start dir l)) → OnErr copied holds → IfErr answer (AfterRefusedCopy holds)
+after_refused holds copied is_exact roots start dir seen l (Ok y) is there = is
+after_refused holds copied is_exact roots start dir seen l (Err (program.Copy e)) is there = refused_there holds copied e is there
+after_refused holds copied is_exact roots start dir seen l (Err e) is there = tt
 
 -- ---- a prune by its save
 

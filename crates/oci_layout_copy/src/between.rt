@@ -17,6 +17,8 @@ ghost use Rattle.oci_layout_store.specs.Layout.{OnlyIndex};
 ghost use Rattle.oci_prune.specs.Settled.{CanSettle, LeavesOneOf};
 ghost use Rattle.oci_layout_copy.specs.Between.{BringsOnlyChecked, BringsOnlyMet, HasReached, HoldsWhatCame, IsCopiedBetween, IsSaved, IsTrusted};
 ghost use Rattle.oci_layout_copy.specs.Refusal.{AfterRefusedCopy, IsRefusedBetween, IsSaveFault};
+ghost use Rattle.oci_layout_store.specs.Index.{index_file};
+ghost use Rattle.oci_program.specs.SeenIndex.{OrOtherIndex};
 ghost use Rattle.oci_selection.specs.Selected.{set_tags};
 ghost use Rattle.oci_layout_copy.specs.Settled.{StartsSettled};
 
@@ -26,7 +28,7 @@ use oci_layout_store::{Layout, OpenedIndex};
 use oci_manifest::Key;
 use oci_plan::Plan;
 use oci_pool::Hooks;
-use oci_program::ProgramFault;
+use oci_program::{ProgramFault, SeenIndex};
 use oci_selection::Selected;
 use oci_store::{Dest, RefFault, Store, Tagger};
 use std::sync::Wait;
@@ -36,14 +38,15 @@ use std::thread::Threads;
 /// selected entries, and saves it.
 ///
 /// The plan is one that `plan_copy` made of these two layouts, the selected roots and these
-/// options. The destination is always returned. A refused copy is not saved: `index.json` is
-/// unchanged, and the files of blobs that arrived stay.
+/// options. The destination is always returned. `seen` is what its `index.json` had before it was opened.
+/// A refused copy is not saved: `index.json` is unchanged, and the files of blobs that arrived stay.
 ///
 /// # Errors
 ///
 /// - 82 `Push` if the destination refuses a blob, and 88 `Fetch` if the source does.
 /// - 85 `BadWorkers` if there are more than 64 workers. Nothing is copied.
-/// - 74 `Device` if `index.json` could not be written, or if it is not known whether it and the
+/// - 110 `IndexChanged` if `index.json` is no longer what was seen.
+/// - 74 `Device` if `index.json` could not be read or written, or if it is not known whether it and the
 ///   copied blobs are on the disk.
 /// - Out of memory, at any point.
 ///
@@ -57,6 +60,7 @@ pub fn copy_between<
     rt: &R,
     source: &Layout<S>,
     destination: Layout<D>,
+    seen: &SeenIndex,
     plan: &Plan,
     selected: &Selected,
     options: &Options,
@@ -84,13 +88,14 @@ where
     ensures untagged { IfErr result.1 (AfterRefusedCopy (result.0.tags ≡ destination.tags)) }
     ensures remembered { IfErr result.1 (AfterRefusedCopy
         (result.0.opened ≡ destination.opened)) }
-    ensures refused { IfErr result.1 (IsRefusedBetween (RefusedByWorkers options.now.workers
+    ensures refused { IfErr result.1 (OrOtherIndex (D.device result.0.dir) seen.now.0
+        (IsRefusedBetween (RefusedByWorkers options.now.workers
         (RefusedAt (Contains plan.now.keys) (IsStepCause
         (CanFail ⟦<Layout<D> as Store>⟧.state (⟦<Layout<D> as Store>⟧.state destination))
         (⟦<Layout<S> as Store>⟧.state source.now) (⟦<Layout<D> as Store>⟧.state destination))))
         (λ fault. (before : ℕ) × ((⟦<Layout<D> as Store>⟧.state destination).failures ≤ before)
         × IsSaveFault (D.device result.0.dir).fails_reads before
-        (⟦<Layout<D> as Store>⟧.state result.0).failures fault)) }
+        (⟦<Layout<D> as Store>⟧.state result.0).failures fault))) }
     ensures reached { OnOk result.1 (HasReached (⟦<Layout<S> as Store>⟧.state source.now)
         (⟦<Layout<D> as Store>⟧.state destination) selected.now.0
         (⟦<Layout<D> as Store>⟧.state result.0)) }
@@ -130,7 +135,7 @@ where
         options,
         hooks,
     );
-    finish(destination, index, from, copied, selected)
+    finish(destination, seen, index, from, copied, selected)
 }
 
 /// Gives the destination of a copy back what it remembered of its index. Sets the selected tags,
@@ -138,6 +143,7 @@ where
 /// `from` were held before the copy.
 fn finish<D: Dir>(
     destination: Layout<D>,
+    seen: &SeenIndex,
     index: OpenedIndex,
     from: usize,
     copied: Result<Report, CopyFault>,
@@ -155,10 +161,11 @@ fn finish<D: Dir>(
     ensures files { OnOk result.1 ((⟦<Layout<D> as Store>⟧.state destination).is_sound
         → HasFiles (D.device result.0.dir).file (⟦<Layout<D> as Store>⟧.state destination).entries
         result.0.graph result.0.tags result.0.opened) }
-    ensures refused { IfErr result.1 (IsRefusedBetween
+    ensures refused { IfErr result.1 (OrOtherIndex (D.device result.0.dir) seen.now.0
+        (IsRefusedBetween
         (λ fault. (copied ≡ Err fault) ⊎ (IsOk copied × (fault ≡ CopyFault.Memory)))
         (IsSaveFault (D.device result.0.dir).fails_reads (D.device destination.dir).failures
-        (D.device result.0.dir).failures)) }
+        (D.device result.0.dir).failures))) }
     ensures left { (entries : List Entry) (tags : Tags) → CanSettle (D.device destination.dir)
         from destination.graph entries tags → LeavesOneOf (D.device result.0.dir) entries tags
         (⟦<Layout<D> as Store>⟧.state destination).entries result.0.tags }
@@ -170,7 +177,7 @@ fn finish<D: Dir>(
     let mut destination = destination;
     destination.put_index(index);
     match copied {
-        Ok(report) => match tag_and_save(&mut destination, selected, from) {
+        Ok(report) => match tag_and_save(&mut destination, seen, selected, from) {
             Ok(()) => (destination, Ok(report)),
             Err(fault) => (destination, Err(fault)),
         },
@@ -179,14 +186,17 @@ fn finish<D: Dir>(
 }
 
 /// Sets the selected tags in a layout that holds their keys, brings the selected entries, and saves
-/// it. It waits for the files of the keys from the place `from` on before it writes the index, so
-/// that a power cut leaves no index without them.
+/// it, if its index is what was seen. It waits for the files of the keys from the place `from` on before
+/// it writes the index, so that a power cut leaves no index without them.
 fn tag_and_save<D: Dir>(
     destination: &mut Layout<D>,
+    seen: &SeenIndex,
     selected: &Selected,
     from: usize,
 ) -> Result<(), ProgramFault>
     requires held { HasAll destination.old.graph selected.now.0 }
+    ensures seen { OnOk result ((D.device destination.old.dir).is_honest
+        → (D.device destination.old.dir).file index_file ≡ seen.now.0) }
     ensures tagged { OnOk result (destination.new.tags
         ≡ set_tags destination.old.tags selected.now.1) }
     ensures brought { OnOk result (Brings (map entry_of selected.now.2) destination.new.tags
@@ -197,9 +207,10 @@ fn tag_and_save<D: Dir>(
         → HasFiles (D.device destination.new.dir).file
         (⟦<Layout<D> as Store>⟧.state destination.old).entries destination.new.graph
         destination.new.tags destination.new.opened) }
-    ensures refused { IfErr result (IsRefusedBetween (λ fault. fault ≡ CopyFault.Memory)
+    ensures refused { IfErr result (OrOtherIndex (D.device destination.new.dir) seen.now.0
+        (IsRefusedBetween (λ fault. fault ≡ CopyFault.Memory)
         (IsSaveFault (D.device destination.new.dir).fails_reads
-        (D.device destination.old.dir).failures (D.device destination.new.dir).failures)) }
+        (D.device destination.old.dir).failures (D.device destination.new.dir).failures))) }
     ensures left { (entries : List Entry) (tags : Tags)
         → CanSettle (D.device destination.old.dir) from destination.old.graph entries tags
         → LeavesOneOf (D.device destination.new.dir) entries tags
@@ -209,6 +220,7 @@ fn tag_and_save<D: Dir>(
         → Lasts (D.device destination.new.dir)
         (⟦<Layout<D> as Store>⟧.state destination.old).entries destination.new.tags) }
 {
+    seen.check(destination.dir())?;
     if let Err(fault) = tag_all(destination, selected.tags()) {
         return Err(ProgramFault::Copy(CopyFault::from(fault)));
     }

@@ -7,7 +7,7 @@ ghost use Rattle.oci_store.specs.Keyed.{HasAll};
 ghost use Rattle.oci_store.specs.Tags.{Tags};
 ghost use Rattle.oci_layout_store.specs.Brought.{Brings};
 ghost use Rattle.oci_layout_store.specs.Entries.{entry_of, said};
-ghost use Rattle.oci_layout_store.specs.Index.{HasIndex};
+ghost use Rattle.oci_layout_store.specs.Index.{index_file, HasIndex};
 ghost use Rattle.oci_prune.specs.Plan.{roots_of, roots_with};
 ghost use Rattle.oci_prune.specs.Pruned.{KeepsReached};
 ghost use Rattle.oci_layout_copy.specs.Mirror.{HoldsOnlyReached, IsCleaned, IsCleanedSettled, IsPruned, IsRefusedMirror};
@@ -15,6 +15,7 @@ ghost use Rattle.oci_selection.specs.Selected.{set_tags, IsOfRoot};
 ghost use Rattle.oci_layout_store.specs.Lasts.{Lasts};
 ghost use Rattle.oci_prune.specs.Settled.{LeavesOneOf};
 ghost use Rattle.oci_layout_copy.specs.Settled.{AreSettled, CanCleanUp};
+ghost use Rattle.oci_program.specs.SeenIndex.{OrOtherIndex};
 
 use crate::goal::Goal;
 use crate::mirror::fault_of;
@@ -23,7 +24,7 @@ use oci_copy::CopyFault;
 use oci_dir::PrunableDir;
 use oci_layout_store::Layout;
 use oci_manifest::Key;
-use oci_program::ProgramFault;
+use oci_program::{ProgramFault, SeenIndex};
 use oci_prune::{PrunePlan, Pruned, plan_prune_keeping, prune};
 use oci_selection::Selected;
 use oci_store::Store;
@@ -49,6 +50,7 @@ pub struct CleanUp {
 pub(crate) fn settle_and_clean_up<D: PrunableDir>(
     alloc: Global,
     destination: &mut Layout<D>,
+    seen: &SeenIndex,
     from: usize,
     selected: &Selected,
     goal: &Goal,
@@ -73,9 +75,10 @@ pub(crate) fn settle_and_clean_up<D: PrunableDir>(
     ensures reached { KeepsReached destination.old.graph destination.new.graph
         (values_of destination.new.tags) }
     ensures closed { IsClosed destination.old.graph → IsClosed destination.new.graph }
-    ensures refused { IfErr result (IsRefusedMirror (λ fault. fault ≡ CopyFault.Memory)
+    ensures refused { IfErr result (OrOtherIndex (D.device destination.new.dir) seen.now.0
+        (IsRefusedMirror (λ fault. fault ≡ CopyFault.Memory)
         is_exact goal.now.0 (D.device destination.old.dir).failures
-        (D.device destination.new.dir) destination.new) }
+        (D.device destination.new.dir) destination.new)) }
     ensures left { (entries : List Entry) (tags : Tags)
         → CanCleanUp (D.device destination.old.dir) from destination.old.graph entries tags
         → LeavesOneOf (D.device destination.new.dir) entries tags
@@ -86,13 +89,13 @@ pub(crate) fn settle_and_clean_up<D: PrunableDir>(
         (⟦<Layout<D> as Store>⟧.state destination.new).entries destination.new.tags) }
 {
     match destination.settle_blobs(from) {
-        Ok(()) => clean_up(alloc, destination, from, selected, goal, is_exact),
+        Ok(()) => clean_up(alloc, destination, seen, from, selected, goal, is_exact),
         Err(fault) => Err(ProgramFault::Destination(fault)),
     }
 }
 
 /// Sets the tags of a goal in a layout that holds their keys, removes all others, brings the selected
-/// entries, saves it, and removes what no tag needs.
+/// entries, saves it, and removes what no tag needs, if the index is what was seen.
 ///
 /// # Errors
 ///
@@ -100,6 +103,7 @@ pub(crate) fn settle_and_clean_up<D: PrunableDir>(
 fn clean_up<D: PrunableDir>(
     alloc: Global,
     destination: &mut Layout<D>,
+    seen: &SeenIndex,
     from: usize,
     selected: &Selected,
     goal: &Goal,
@@ -107,6 +111,8 @@ fn clean_up<D: PrunableDir>(
 ) -> Result<CleanUp, ProgramFault>
     requires held { HasAll destination.old.graph goal.now.0 }
     requires roots { All (Contains goal.now.0) selected.now.0 }
+    ensures seen { OnOk result ((D.device destination.old.dir).is_honest
+        → (D.device destination.old.dir).file index_file ≡ seen.now.0) }
     ensures tags { OnOk result (destination.new.tags ≡ set_tags [] goal.now.1) }
     ensures brought { OnOk result (Brings (map entry_of selected.now.2) destination.new.tags
         destination.old.opened destination.new.opened) }
@@ -124,9 +130,10 @@ fn clean_up<D: PrunableDir>(
     ensures reached { KeepsReached destination.old.graph destination.new.graph
         (values_of destination.new.tags) }
     ensures closed { IsClosed destination.old.graph → IsClosed destination.new.graph }
-    ensures refused { IfErr result (IsRefusedMirror (λ fault. fault ≡ CopyFault.Memory)
+    ensures refused { IfErr result (OrOtherIndex (D.device destination.new.dir) seen.now.0
+        (IsRefusedMirror (λ fault. fault ≡ CopyFault.Memory)
         is_exact goal.now.0 (D.device destination.old.dir).failures
-        (D.device destination.new.dir) destination.new) }
+        (D.device destination.new.dir) destination.new)) }
     ensures left { (entries : List Entry) (tags : Tags)
         → CanCleanUp (D.device destination.old.dir) from destination.old.graph entries tags
         → AreSettled (D.device destination.old.dir) (drop from destination.old.graph)
@@ -138,6 +145,7 @@ fn clean_up<D: PrunableDir>(
         → Lasts (D.device destination.new.dir)
         (⟦<Layout<D> as Store>⟧.state destination.new).entries destination.new.tags) }
 {
+    seen.check(destination.dir())?;
     let untagged = retag(alloc, destination, goal)?;
     destination.bring(selected.entries())?;
     match prune_and_save(alloc, destination, from, goal.roots(), is_exact) {

@@ -22,6 +22,7 @@ ghost use Rattle.oci_selection.specs.Selected.{set_tags, IsOfRoot};
 ghost use Rattle.oci_layout_store.specs.Lasts.{Lasts};
 ghost use Rattle.oci_prune.specs.Settled.{LeavesOneOf};
 ghost use Rattle.oci_layout_copy.specs.Settled.{CanCleanUp, StartsSettled};
+ghost use Rattle.oci_program.specs.SeenIndex.{OrOtherIndex};
 
 use crate::clean_up::{CleanUp, settle_and_clean_up};
 use crate::copied::Copied;
@@ -34,7 +35,7 @@ use oci_layout_store::{Layout, OpenedIndex};
 use oci_manifest::Key;
 use oci_plan::Plan;
 use oci_pool::Hooks;
-use oci_program::ProgramFault;
+use oci_program::{ProgramFault, SeenIndex};
 use oci_prune::plan_prune_keeping;
 use oci_prune_fault::PruneFault;
 use oci_selection::Selected;
@@ -163,9 +164,9 @@ fn check_plan<D: PrunableDir>(
 /// if it is among the roots of the goal, or they reach it.
 ///
 /// The plan is one that `plan_copy` made of these two layouts, the selected roots and these options,
-/// and the goal is one that fits the destination, as from [`prepare_destination`]. The destination is
-/// always returned. If the copy is refused, no tag, no entry and no file is removed, and the index is
-/// not written.
+/// and the goal is one that fits the destination, as from [`prepare_destination`]. `seen` is what the
+/// destination's `index.json` had before it was opened. The destination is always returned. If the copy
+/// is refused, no tag, no entry and no file is removed, and the index is not written.
 ///
 /// # Errors
 ///
@@ -173,13 +174,15 @@ fn check_plan<D: PrunableDir>(
 /// - 85 `BadWorkers` if there are more than 64 workers. Nothing is copied.
 /// - 96 `Unknown`, 73 `BadIndex`, 88 `Fetch` and 77 `BadManifest` if the destination cannot be pruned
 ///   after all. The copied blobs stay, and the index is not written.
-/// - 74 `Device` if `index.json` could not be written, or if it is not known whether it and the
+/// - 110 `IndexChanged` if `index.json` is no longer what was seen. The copied blobs stay.
+/// - 74 `Device` if `index.json` could not be read or written, or if it is not known whether it and the
 ///   copied blobs are on the disk.
 /// - Out of memory, at any point.
 pub fn mirror<R: Host, S: Dir + Sync, D: PrunableDir + Drop + Send, H: Hooks + Sync>(
     rt: &R,
     source: &Layout<S>,
     destination: Layout<D>,
+    seen: &SeenIndex,
     plan: &Plan,
     selected: &Selected,
     goal: &Goal,
@@ -228,12 +231,13 @@ where
     ensures contents { IfErr result.1 (AfterRefusedCopy (KeepsContents
         (⟦<Layout<S> as Store>⟧.state source.now) (⟦<Layout<D> as Store>⟧.state destination)
         (⟦<Layout<D> as Store>⟧.state result.0))) }
-    ensures refused { IfErr result.1 (IsRefusedMirror (RefusedByWorkers options.now.workers
+    ensures refused { IfErr result.1 (OrOtherIndex (D.device result.0.dir) seen.now.0
+        (IsRefusedMirror (RefusedByWorkers options.now.workers
         (RefusedAt (Contains plan.now.keys) (IsStepCause
         (CanFail ⟦<Layout<D> as Store>⟧.state (⟦<Layout<D> as Store>⟧.state destination))
         (⟦<Layout<S> as Store>⟧.state source.now) (⟦<Layout<D> as Store>⟧.state destination))))
         is_exact goal.now.0 (D.device destination.dir).failures (D.device result.0.dir)
-        result.0) }
+        result.0)) }
 
     // A power cut at any moment leaves the old layout or the new one.
     ensures left { StartsSettled (⟦<Layout<S> as Store>⟧.state source.now)
@@ -263,6 +267,7 @@ where
     finish(
         rt.alloc(),
         destination,
+        seen,
         index,
         from,
         copied,
@@ -277,6 +282,7 @@ where
 fn finish<D: PrunableDir>(
     alloc: Global,
     destination: Layout<D>,
+    seen: &SeenIndex,
     index: OpenedIndex,
     from: usize,
     copied: Result<Report, CopyFault>,
@@ -303,10 +309,11 @@ fn finish<D: PrunableDir>(
     ensures closed { IsClosed destination.graph → IsClosed result.0.graph }
     ensures unsaved { OnErr copied (OnlyIndex destination result.0) }
     ensures remembered { OnErr copied (result.0.opened ≡ index) }
-    ensures refused { IfErr result.1 (IsRefusedMirror
+    ensures refused { IfErr result.1 (OrOtherIndex (D.device result.0.dir) seen.now.0
+        (IsRefusedMirror
         (λ fault. (copied ≡ Err fault) ⊎ (IsOk copied × (fault ≡ CopyFault.Memory)))
         is_exact goal.now.0 (D.device destination.dir).failures (D.device result.0.dir)
-        result.0) }
+        result.0)) }
     ensures left { (entries : List Entry) (tags : Tags)
         → CanCleanUp (D.device destination.dir) from destination.graph entries tags
         → LeavesOneOf (D.device result.0.dir) entries tags
@@ -320,7 +327,15 @@ fn finish<D: PrunableDir>(
     destination.put_index(index);
     match copied {
         Ok(report) => {
-            match settle_and_clean_up(alloc, &mut destination, from, selected, goal, is_exact) {
+            match settle_and_clean_up(
+                alloc,
+                &mut destination,
+                seen,
+                from,
+                selected,
+                goal,
+                is_exact,
+            ) {
                 Ok(removed) => (destination, Ok(copied_of(report, removed))),
                 Err(fault) => (destination, Err(fault)),
             }

@@ -1,3 +1,4 @@
 pub mod Indexed
+pub mod SeenIndex
 pub mod Opened
 pub mod Status

@@ -83,6 +83,7 @@ program_number (fault.Locked folder) = Some 99
 program_number (fault.NoPlatform platform platforms) = Some 107
 program_number fault.NoMatch = Some 108
 program_number fault.NoIndex = Some 109
+program_number fault.IndexChanged = Some 110
 program_number (fault.Archive e) = Some (archive_number e)
 program_number (fault.Key e) = Some (key_number_of e)
 program_number (fault.Push e) = Some (push_number e)

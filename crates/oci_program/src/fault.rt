@@ -58,6 +58,9 @@ pub enum ProgramFault {
     /// The folder that a command would remove blobs from has blobs, and no `index.json`.
     #[error("109 NoIndex")]
     NoIndex,
+    /// Another program wrote `index.json` while a command changed the layout, or removed it.
+    #[error("110 IndexChanged")]
+    IndexChanged,
     /// The file that a command reads is no archive, or could not be read.
     #[error("{0}")]
     Archive(#[from] ArchiveFault),
@@ -168,6 +171,7 @@ impl ProgramFault {
             ProgramFault::NoPlatform(_, _) => Some(107),
             ProgramFault::NoMatch => Some(108),
             ProgramFault::NoIndex => Some(109),
+            ProgramFault::IndexChanged => Some(110),
             ProgramFault::Archive(fault) => Some(fault.number()),
             ProgramFault::Key(fault) => Some(fault.number()),
             ProgramFault::Push(fault) => Some(fault.number()),

@@ -3,7 +3,7 @@
 //!
 //! | Type | What it is |
 //! |---|---|
-//! | [`ProgramFault`] | why a command is refused, by a fault from below or one of 92 to 95, 99 and 107 to 109 |
+//! | [`ProgramFault`] | why a command is refused, by a fault from below or one of 92 to 95, 99 and 107 to 110 |
 //! | [`Outcome`] | the result of a command that was not refused |
 //! | [`Form`] | lines or JSON, the form in which a command prints |
 //! | [`Ending`] | why a run ended early: an invalid command line, or a refused command |
@@ -15,7 +15,8 @@
 //! [`finish_run`] ends its run, and [`end_early`] a run that did not come to a command.
 //! [`lock_folder`] and [`make_and_lock_folder`] lock the folder that a command writes into;
 //! [`check_is_layout`] looks before whether it has a layout, and [`open_settled`] opens that after.
-//! [`check_index`] refuses to remove blobs from a folder that has lost its `index.json`.
+//! [`check_index`] refuses to remove blobs from a folder that has lost its `index.json`, and [`SeenIndex`]
+//! to write over an index that another program wrote meanwhile.
 #![tactic(auto)]
 
 mod answer;
@@ -30,6 +31,7 @@ mod refusal;
 mod refusal_document;
 mod refused;
 mod refused_path;
+mod seen_index;
 mod sum;
 
 pub use answer::{Form, Tagged, print_answer};
@@ -42,4 +44,5 @@ pub use opened::open_settled;
 pub use outcome::Outcome;
 pub use refusal::{Refusal, Subject};
 pub use refused_path::{RefusedPath, Side, Sides};
+pub use seen_index::SeenIndex;
 pub use sum::Sum;

@@ -109,6 +109,7 @@ impl ProgramFault {
             ProgramFault::Source(fault) => Some((Role::Read, part_of_prune(fault))),
             ProgramFault::NoMatch => Some((Role::Read, Part::Whole)),
             ProgramFault::NoIndex => Some((Role::Written, Part::File("index.json"))),
+            ProgramFault::IndexChanged => Some((Role::Written, Part::File("index.json"))),
             ProgramFault::Fetch(_) => Some((Role::Read, Part::Failed(None))),
             ProgramFault::Verify(VerifyFault::Device) => Some((Role::Read, Part::Failed(None))),
             ProgramFault::File(path) => Some((Role::Read, Part::Named(path))),

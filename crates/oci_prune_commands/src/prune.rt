@@ -1,6 +1,8 @@
 ghost use Rattle.std.specs.Prelude.{◌≡◌, [], true, false, None, IfErr, IfOk, OnOk};
 ghost use Rattle.std.specs.Io.KnownBytes.{Appends};
 ghost use Rattle.oci_layout_store.specs.BlobFiles.{AreBlobs};
+ghost use Rattle.oci_layout_store.specs.Index.{index_file};
+ghost use Rattle.oci_prune.specs.Plan.{IsPrunePlan, roots_of};
 ghost use Rattle.oci_program.specs.Indexed.{HasIndexOrNoBlobs, IsRefusedWithout};
 ghost use Rattle.oci_prune_answer.specs.Pruned.{prune_text};
 ghost use Rattle.oci_prune_answer.specs.declared.prune_answer.PruneAnswer.{PruneAnswer};
@@ -14,8 +16,6 @@ ghost use Rattle.oci_prune_commands.specs.PrunedLayout.{
   KeepsHeldKeys,
   KeepsPlanned,
   LosesLeftovers,
-  PlansHeld,
-  PlansTagged,
 };
 
 use oci_command_line::PruneWords;
@@ -23,8 +23,8 @@ use oci_dir::PrunableDir;
 use oci_folder::{FolderLock, Lockable};
 use oci_layout_store::Layout;
 use oci_program::{
-    Form, Outcome, ProgramFault, check_index, check_is_layout, lock_folder, open_settled,
-    print_answer,
+    Form, Outcome, ProgramFault, SeenIndex, check_index, check_is_layout, lock_folder,
+    open_settled, print_answer,
 };
 use oci_prune::{
     PrunePlan, Pruned, free_keys, plan_leftovers, plan_prune, plan_prune_keeping, prune,
@@ -57,6 +57,8 @@ use std::rt::Files;
 ///   `--leftovers`.
 /// - 109 `NoIndex` if there are blobs and no `index.json`, or, without `--untagged`, one without entries.
 /// - 96 `Unknown` if it is not known what a manifest needs, since it is missing or damaged.
+/// - 110 `IndexChanged` if another program wrote `index.json` since the layout was opened; not with
+///   `--leftovers`.
 /// - 98 `LinkedBlobs` if a folder of blobs is a link.
 /// - 88 `Fetch` and 77 `BadManifest` with `--untagged`, if a held manifest cannot be read.
 /// - 79 `NotRemoved` if a file cannot be removed. The others are removed and printed.
@@ -138,11 +140,12 @@ fn prune_under_lock<R: Files + AllocGlobal, D: PrunableDir + Drop>(
     ensures { IfOk result (λ done. done.1 ≡ None → IsPruneRun D.device dir words.now
         done.0) }
 {
+    let seen = SeenIndex::of(&dir)?;
     check_index_for(&dir, words)?;
     let mut layout = open_settled(alloc, dir)?;
     check_entries_for(&layout, words)?;
     let left = untagged_left(alloc, &layout, words)?;
-    let (plan, pruned) = prune_layout(alloc, &mut layout, words)?;
+    let (plan, pruned) = prune_layout(alloc, &mut layout, &seen, words)?;
     let answer = PruneAnswer::of(alloc, plan, &pruned, left)?;
     Ok((answer, pruned.into_fault()))
 }
@@ -218,22 +221,40 @@ fn untagged_left<D: PrunableDir>(
     Ok(Some(free.len()))
 }
 
-/// Prunes a layout as the words ask for. Returns the plan, and what was removed.
+/// Prunes a layout as the words ask for, if its index is what was seen. Returns the plan, and what was
+/// removed.
 fn prune_layout<D: PrunableDir>(
     alloc: Global,
     layout: &mut Layout<D>,
+    seen: &SeenIndex,
     words: &PruneWords<'_>,
-) -> Result<(PrunePlan, Pruned), PruneFault>
+) -> Result<(PrunePlan, Pruned), ProgramFault>
     ensures { IfOk result (λ done. IsPrunedBy D.device words.now layout.old layout.new
         done.0 done.1) }
 {
     if words.only_leftovers {
-        remove_leftovers(alloc, layout)
-    } else if words.removes_untagged {
-        remove_untagged(alloc, layout)
-    } else {
-        remove_unreached(alloc, layout)
+        return Ok(remove_leftovers(alloc, layout)?);
     }
+    let plan = plan_by(alloc, layout, words)?;
+    let pruned = prune_seen(alloc, layout, seen, &plan)?;
+    Ok((plan, pruned))
+}
+
+/// Prunes a layout by a plan of it, if its index is what was seen.
+fn prune_seen<D: PrunableDir>(
+    alloc: Global,
+    layout: &mut Layout<D>,
+    seen: &SeenIndex,
+    plan: &PrunePlan,
+) -> Result<Pruned, ProgramFault>
+    requires { IsPrunePlan (D.device layout.old.dir) layout.old.graph (roots_of layout.old)
+        plan.now }
+    ensures seen { OnOk result ((D.device layout.old.dir).is_honest
+        → (D.device layout.old.dir).file index_file ≡ seen.now.0) }
+    ensures pruned { IfOk result (KeepsPlanned D.device layout.old layout.new plan.now) }
+{
+    seen.check(layout.dir())?;
+    Ok(prune(alloc, layout, plan)?)
 }
 
 /// Plans the prune of a layout that the words ask for.
@@ -242,7 +263,9 @@ fn plan_by<D: PrunableDir>(
     layout: &Layout<D>,
     words: &PruneWords<'_>,
 ) -> Result<PrunePlan, PruneFault>
-    ensures { IfOk result (IsPlannedBy D.device words.now layout.now) }
+    ensures planned { IfOk result (IsPlannedBy D.device words.now layout.now) }
+    ensures others { IfOk result (λ plan. words.now.only_leftovers ≡ false
+        → IsPrunePlan (D.device layout.now.dir) layout.now.graph (roots_of layout.now) plan) }
 {
     if words.only_leftovers {
         plan_leftovers(alloc, layout)
@@ -262,33 +285,5 @@ fn remove_leftovers<D: PrunableDir>(
 {
     let plan = plan_leftovers(alloc, layout)?;
     let pruned = prune_leftovers(alloc, layout, &plan)?;
-    Ok((plan, pruned))
-}
-
-/// Removes from a layout what no tag needs. Returns the plan, and what was removed.
-fn remove_untagged<D: PrunableDir>(
-    alloc: Global,
-    layout: &mut Layout<D>,
-) -> Result<(PrunePlan, Pruned), PruneFault>
-    ensures planned { IfOk result (λ done. PlansTagged D.device layout.old done.0) }
-    ensures pruned { IfOk result (λ done. KeepsPlanned D.device layout.old layout.new
-        done.0 done.1) }
-{
-    let plan = plan_prune_keeping(alloc, layout, &[], true)?;
-    let pruned = prune(alloc, layout, &plan)?;
-    Ok((plan, pruned))
-}
-
-/// Removes from a layout the files that no held key needs. Returns the plan, and what was removed.
-fn remove_unreached<D: PrunableDir>(
-    alloc: Global,
-    layout: &mut Layout<D>,
-) -> Result<(PrunePlan, Pruned), PruneFault>
-    ensures planned { IfOk result (λ done. PlansHeld D.device layout.old done.0) }
-    ensures pruned { IfOk result (λ done. KeepsPlanned D.device layout.old layout.new
-        done.0 done.1) }
-{
-    let plan = plan_prune(alloc, layout)?;
-    let pruned = prune(alloc, layout, &plan)?;
     Ok((plan, pruned))
 }

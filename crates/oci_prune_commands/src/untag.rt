@@ -41,7 +41,8 @@ use oci_folder::{FolderLock, Lockable};
 use oci_layout_store::{IndexEntry, Layout};
 use oci_manifest::Key;
 use oci_program::{
-    Form, Outcome, ProgramFault, check_is_layout, lock_folder, open_settled, print_answer,
+    Form, Outcome, ProgramFault, SeenIndex, check_is_layout, lock_folder, open_settled,
+    print_answer,
 };
 use oci_store::{Dest, RefFault, Store, Untagger};
 use serde::Serialize;
@@ -67,6 +68,7 @@ use std::rt::Files;
 ///   list `manifests`; 74 also if the folder cannot be locked, if `index.json` cannot be written, or
 ///   if it is not known whether it is on the disk, before the tag is removed or after.
 /// - 99 `Locked` if another process has the lock, and the words say not to wait.
+/// - 110 `IndexChanged` if another program wrote `index.json` while the layout was opened.
 /// - 35 `EmptyReference` if the tag is empty, and 36 `UnknownReference` if no entry has it.
 /// - 94 `Output` if `out` cannot be written. The tag is removed.
 /// - Out of memory, at any point.
@@ -168,7 +170,9 @@ fn untag_under_lock<R: Files + AllocGlobal, D: Dir + Drop>(
     ensures untagged { IfOk result (λ answer. IsUntagRun D.device dir tag.now answer.descriptor
         answer.descriptors.items) }
 {
+    let seen = SeenIndex::of(&dir)?;
     let mut layout = open_settled(alloc, dir)?;
+    seen.check(layout.dir())?;
     untag_layout(alloc, &mut layout, tag)
 }
 

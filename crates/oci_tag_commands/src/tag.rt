@@ -30,7 +30,8 @@ use oci_folder::{FolderLock, Lockable};
 use oci_layout_store::{IndexEntry, Layout};
 use oci_manifest::Key;
 use oci_program::{
-    Form, Outcome, ProgramFault, check_is_layout, lock_folder, open_settled, print_answer,
+    Form, Outcome, ProgramFault, SeenIndex, check_is_layout, lock_folder, open_settled,
+    print_answer,
 };
 use oci_reference::resolve;
 use oci_store::{Dest, Store, Tagger};
@@ -64,6 +65,7 @@ use std::rt::Files;
 /// - 75 `Corrupt` and 77 `BadManifest` if the reference is that of a damaged blob, and 73 `BadIndex`
 ///   if its last entry is no descriptor.
 /// - 35 `EmptyReference` if the tag is empty, once the reference is resolved.
+/// - 110 `IndexChanged` if another program wrote `index.json` while the layout was opened.
 /// - 94 `Output` if `out` cannot be written. The tag is set.
 /// - Out of memory, at any point.
 pub fn run_tag<
@@ -132,7 +134,9 @@ fn tag_under_lock<R: Files + AllocGlobal, D: Dir + Drop>(
     ensures tagged { IfOk result (λ answer. IsTagRun D.device dir reference.now tag.now
         answer.descriptor) }
 {
+    let seen = SeenIndex::of(&dir)?;
     let mut layout = open_settled(alloc, dir)?;
+    seen.check(layout.dir())?;
     tag_layout(alloc, &mut layout, reference, tag)
 }
 

@@ -9,6 +9,7 @@ use Rattle.oci_layout_store.specs.Meaning.{meaning}
 use Rattle.oci_layout_store.proofs.Crosses.{layout_send, layout_sync}
 use Rattle.oci_layout_store.proofs.Law.{keys_of_one_digest}
 use Rattle.oci_layout_copy.proofs.Saved.{after_report, sound_after, came_after, checked_after, met_after, report_after, copied_after, reached_after, files_after, refused_after, workers_after}
+use Rattle.oci_layout_copy.proofs.Seen.{or_seen}
 use Rattle.oci_layout_copy.proofs.Settled.{lasts_between, left_between}
 use Rattle.oci_layout_copy.proofs.between.copy_between.Goals as goal
 
@@ -85,8 +86,9 @@ pub returns-clause-refused : goal.returns-clause-refused
 returns-clause-refused g c =
     let left = c.copy_plan-destination in
     let only = c.take_index-index.ensures.only in
-    refused_after c.args.options.now.workers _ _ _ (inl refl) (λ fault is. ((g.D.Dir.device left.result.0.dir).failures, (rw only.dir at left.ensures.grows.failures), is))
-    left.result.1 (rw (only.dir, only.graph, only.tags) at left.ensures.refused) c.finish.result.1 c.finish.ensures.refused
+    or_seen (g.D.Dir.device c.finish.result.0.dir) c.args.seen.now.0
+    (refused_after c.args.options.now.workers _ _ _ (inl refl) (λ fault is. ((g.D.Dir.device left.result.0.dir).failures, (rw only.dir at left.ensures.grows.failures), is))
+    left.result.1 (rw (only.dir, only.graph, only.tags) at left.ensures.refused)) c.finish.result.1 c.finish.ensures.refused
 
 pub returns-clause-left : goal.returns-clause-left
 returns-clause-left g c =

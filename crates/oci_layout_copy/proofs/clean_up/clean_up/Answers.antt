@@ -1,4 +1,4 @@
-use Rattle.std.proofs.Common.{List, map, sym, subst, ◌∙◌}
+use Rattle.std.proofs.Common.{◌≡◌, List, map, sym, subst, ◌∙◌}
 use Rattle.std.specs.Prelude.{Contains}
 use Rattle.std.specs.List.{All}
 use Rattle.std.specs.Map.{values_of}
@@ -13,6 +13,10 @@ use Rattle.oci_layout_copy.specs.Mirror.{relabeled, HoldsOnlyReached, IsPruned}
 use Rattle.oci_layout_copy.proofs.Exact.{fewer_stay, only_roots, roots_stay}
 use Rattle.oci_layout_copy.proofs.Goals.{of_more_roots}
 use Rattle.oci_layout_copy.proofs.Mirrored.{same_layout, tagged_stay}
+use Rattle.oci_layout_copy.proofs.Seen.{mirror_seen, mirror_unseen}
+use Rattle.std.proofs.lemmas.Result.{err_from_is_err_and}
+use Rattle.oci_copy.specs.declared.fault.CopyFault.{CopyFault}
+use Rattle.oci_copy.specs.declared.fault.CopyFault.TheVariants as copy
 use Rattle.oci_selection.proofs.NamedRoots.{brought_named}
 use Rattle.oci_layout_copy.proofs.Cleaning.{are_settled_same, can_clean_up_same}
 use Rattle.oci_layout_copy.proofs.clean_up.clean_up.Goals as goal
@@ -96,4 +100,13 @@ returns-in-Ok-clause-lasts g c = λ entries tags can settled.
     c.in-Ok.ensures.lasts entries tags (can_clean_up_same g.D.Dir.device first old c.args.from entries tags dir graph can) (are_settled_same g.D.Dir.device first old c.args.from dir graph settled)
 
 pub returns-in-Err-clause-refused : goal.returns-in-Err-clause-refused
-returns-in-Err-clause-refused g c = rw (c.roots.ensures, c.bring.ensures.only.dir, c.retag.ensures.only.dir) at c.in-Err.ensures.refused
+returns-in-Err-clause-refused g c =
+    let new = c.prune_and_save.new.destination in
+    mirror_unseen (g.D.Dir.device new.dir) c.args.seen.now.0 (λ (e : CopyFault). e ≡ copy.Memory) c.args.is_exact c.args.goal.now.0 (g.D.Dir.device c.args.destination.now.dir).failures new c.in-Err.fault (rw (c.roots.ensures, c.bring.ensures.only.dir, c.retag.ensures.only.dir) at c.in-Err.ensures.refused)
+
+pub returns-in_err-check-clause-refused : goal.returns-in_err-check-clause-refused
+returns-in_err-check-clause-refused g c =
+    let old = c.args.destination.now in
+    let dir = g.D.Dir.device old.dir in
+    let p = err_from_is_err_and c.from_residual.result c.from_residual.ensures.1 in
+    rw (p.1, p.2) (mirror_seen dir c.args.seen.now.0 (λ (e : CopyFault). e ≡ copy.Memory) c.args.is_exact c.args.goal.now.0 dir.failures old _ (rw c.dir.ensures at c.in_err-check.ensures.cause))

@@ -10,6 +10,8 @@ use Rattle.oci_copy.specs.declared.fault.CopyFault.TheVariants as copy
 use Rattle.oci_selection.specs.Selected.{IsOfRoot}
 use Rattle.oci_layout_copy.proofs.Cleaning.{are_settled_now, can_clean_up_settled}
 use Rattle.oci_layout_copy.proofs.Refusals.{settled_refused}
+use Rattle.oci_layout_copy.proofs.Seen.{mirror_unseen}
+use Rattle.oci_program.specs.declared.fault.ProgramFault.TheVariants as program
 use Rattle.oci_layout_copy.proofs.clean_up.settle_and_clean_up.Goals as goal
 
 pub returns-in-Ok-clause-pruned : goal.returns-in-Ok-clause-pruned
@@ -52,4 +54,5 @@ pub returns-in-Err-clause-refused : goal.returns-in-Err-clause-refused
 returns-in-Err-clause-refused g c =
     let old = g.D.Dir.device c.args.destination.now.dir in
     let settled = c.settle_blobs.new.self in
-    settled_refused (λ (e : CopyFault). e ≡ copy.Memory) c.args.is_exact c.args.goal.now.0 old.failures old (g.D.Dir.device settled.dir) settled (omega arith) c.settle_blobs.ensures.only.reads c.in-Err.fault c.in-Err.ensures.cause
+    mirror_unseen (g.D.Dir.device settled.dir) c.args.seen.now.0 (λ (e : CopyFault). e ≡ copy.Memory) c.args.is_exact c.args.goal.now.0 old.failures settled (program.Destination c.in-Err.fault)
+    (settled_refused (λ (e : CopyFault). e ≡ copy.Memory) c.args.is_exact c.args.goal.now.0 old.failures old (g.D.Dir.device settled.dir) settled (omega arith) c.settle_blobs.ensures.only.reads c.in-Err.fault c.in-Err.ensures.cause)

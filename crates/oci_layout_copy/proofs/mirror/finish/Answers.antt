@@ -7,6 +7,7 @@ use Rattle.oci_layout_store.specs.Entries.{said}
 use Rattle.oci_layout_store.specs.Layout.{OpenedIndex}
 use Rattle.oci_selection.specs.Selected.{IsOfRoot}
 use Rattle.oci_layout_copy.proofs.Refusals.{cleaned_refused}
+use Rattle.oci_layout_copy.proofs.Seen.{or_else}
 use Rattle.oci_layout_copy.proofs.mirror.finish.Goals as goal
 
 pub returns-in-Ok-settle_and_clean_up-clause-pruned : goal.returns-in-Ok-settle_and_clean_up-clause-pruned
@@ -26,5 +27,6 @@ pub returns-in-Err-settle_and_clean_up-clause-refused : goal.returns-in-Err-sett
 returns-in-Err-settle_and_clean_up-clause-refused g c =
     let start = (g.D.Dir.device c.args.destination.dir).failures in
     let new = c.settle_and_clean_up.new.destination in
-    cleaned_refused (λ (e : CopyFault). e ≡ copy.Memory) c.args.is_exact c.args.goal.now.0 start (λ (e : CopyFault). (c.args.copied ≡ Err e) ⊎ (IsOk c.args.copied × (e ≡ copy.Memory))) (λ e is. inr (search rules, is)) start (omega arith)
-    (g.D.Dir.device new.dir) new c.in-Err-settle_and_clean_up.fault (rw c.put_index.ensures.only.dir at c.in-Err-settle_and_clean_up.ensures.refused)
+    or_else (g.D.Dir.device new.dir) c.args.seen.now.0
+    (cleaned_refused (λ (e : CopyFault). e ≡ copy.Memory) c.args.is_exact c.args.goal.now.0 start (λ (e : CopyFault). (c.args.copied ≡ Err e) ⊎ (IsOk c.args.copied × (e ≡ copy.Memory))) (λ e is. inr (search rules, is)) start (omega arith)
+    (g.D.Dir.device new.dir) new) c.in-Err-settle_and_clean_up.fault (rw c.put_index.ensures.only.dir at c.in-Err-settle_and_clean_up.ensures.refused)

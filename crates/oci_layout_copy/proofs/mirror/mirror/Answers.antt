@@ -15,6 +15,7 @@ use Rattle.oci_layout_copy.proofs.Goals.{goal_held, some_stay}
 use Rattle.oci_layout_copy.proofs.Mirrored.{both_give, contents_after, err_gives, held_stay, mirrored, reached_kept, report_gives}
 use Rattle.oci_layout_copy.proofs.Refusals.{after_refused, mirror_refused}
 use Rattle.oci_layout_copy.proofs.Saved.{workers_after}
+use Rattle.oci_layout_copy.proofs.Seen.{or_seen}
 use Rattle.oci_layout_copy.proofs.Cleaning.{lasts_mirrored, left_mirrored}
 use Rattle.oci_layout_copy.proofs.mirror.mirror.Goals as goal
 
@@ -74,7 +75,7 @@ returns-clause-unpruned g c =
     let only = c.take_index-index.ensures.only in
     let grows = rw (c.roots-roots.ensures, only.dir, only.graph, only.tags) at left.ensures.grows in
     let new = c.finish.result.0 in
-    after_refused (BeginsWith c.args.destination.graph new.graph) left.result.1 c.args.is_exact c.args.goal.now.0 (g.D.Dir.device left.result.0.dir).failures (g.D.Dir.device new.dir) new c.finish.result.1 c.finish.ensures.refused
+    after_refused (BeginsWith c.args.destination.graph new.graph) left.result.1 c.args.is_exact c.args.goal.now.0 (g.D.Dir.device left.result.0.dir).failures (g.D.Dir.device new.dir) c.args.seen.now.0 new c.finish.result.1 c.finish.ensures.refused
     (err_gives left.result.1 (λ same. rw same.graph grows.begins) c.finish.ensures.unsaved)
 
 pub returns-clause-contents : goal.returns-clause-contents
@@ -88,7 +89,7 @@ returns-clause-contents g c =
     let source = meaning (g.S.Dir.device from.dir) from.graph from.tags in
     let old = meaning (g.D.Dir.device to.dir) to.graph to.tags in
     let copied = meaning (g.D.Dir.device left.result.0.dir) left.result.0.graph left.result.0.tags in
-    after_refused (KeepsContents source old (meaning (g.D.Dir.device new.dir) new.graph new.tags)) left.result.1 c.args.is_exact c.args.goal.now.0 (g.D.Dir.device left.result.0.dir).failures (g.D.Dir.device new.dir) new c.finish.result.1 c.finish.ensures.refused
+    after_refused (KeepsContents source old (meaning (g.D.Dir.device new.dir) new.graph new.tags)) left.result.1 c.args.is_exact c.args.goal.now.0 (g.D.Dir.device left.result.0.dir).failures (g.D.Dir.device new.dir) c.args.seen.now.0 new c.finish.result.1 c.finish.ensures.refused
     (err_gives left.result.1 (λ same. rw (same.dir, same.graph, same.tags) (contents_after source old copied c.args.selected.now.0 (keys_of_one_digest (g.S.Dir.device from.dir).file from.graph) grows)) c.finish.ensures.unsaved)
 
 pub returns-clause-refused : goal.returns-clause-refused
@@ -96,8 +97,9 @@ returns-clause-refused g c =
     let left = c.copy_plan-destination in
     let only = c.take_index-index.ensures.only in
     let new = c.finish.result.0 in
-    mirror_refused c.args.options.now.workers _ (inl refl) left.result.1 (rw (only.dir, only.graph, only.tags) at left.ensures.refused) c.args.is_exact c.args.goal.now.0
-    (g.D.Dir.device c.args.destination.dir).failures (g.D.Dir.device left.result.0.dir).failures (rw only.dir at left.ensures.grows.failures) (g.D.Dir.device new.dir) new c.finish.result.1 c.finish.ensures.refused
+    or_seen (g.D.Dir.device new.dir) c.args.seen.now.0
+    (mirror_refused c.args.options.now.workers _ (inl refl) left.result.1 (rw (only.dir, only.graph, only.tags) at left.ensures.refused) c.args.is_exact c.args.goal.now.0
+    (g.D.Dir.device c.args.destination.dir).failures (g.D.Dir.device left.result.0.dir).failures (rw only.dir at left.ensures.grows.failures) (g.D.Dir.device new.dir) new) c.finish.result.1 c.finish.ensures.refused
 
 pub returns-clause-left : goal.returns-clause-left
 returns-clause-left g c =

@@ -8,7 +8,7 @@ returns g c = record {
   indexed = c.in_ok-check_index_for.ensures.indexed;
   wanted = λ keeps. rw c.in_ok-layout.ensures.same at (c.in_ok-check_entries_for.ensures keeps);
   plan = c.in_ok-plan.plan;
-  planned = c.in_ok-plan.ensures;
+  planned = c.in_ok-plan.ensures.planned;
   shown = c.in_ok-planned.ensures.shown;
   counted = rw c.in_ok-planned.ensures.left c.in_ok-left.ensures;
 }
