@@ -11,6 +11,8 @@ pub(crate) struct Argument {
     pub kind: Kind,
     /// What the help says of it.
     pub help: &'static str,
+    /// Names of the same flag in other tools, which the help does not show.
+    pub aliases: &'static [&'static str],
     /// The arguments that are refused beside it.
     pub conflicts: &'static [&'static str],
     /// The arguments without which it is refused.
@@ -52,6 +54,7 @@ impl Argument {
             id,
             kind,
             help,
+            aliases: &[],
             conflicts: &[],
             needs: &[],
         }
@@ -62,6 +65,7 @@ impl Argument {
         let argument = Arg::new(alloc, self.id).help(self.help);
         self.kind
             .apply(self.id, argument)?
+            .aliases(self.aliases)?
             .conflicts_with_all(self.conflicts)?
             .requires_all(self.needs)
     }

@@ -12,6 +12,7 @@ Examples:
 /// and a file for DST
 pub(crate) const COPY: CommandText = CommandText {
     name: "copy",
+    aliases: &[],
     about: "Copies an image, or every tag, from one layout into another",
     details: Some(
         "Copies an image or another blob, with everything that it reaches, and tags it in DST. Signatures \
@@ -38,10 +39,7 @@ pub(crate) fn copy_arguments(most_workers: u32) -> [Argument; 20] {
         all(),
         matching(),
         platform(),
-        flag(
-            "referrers",
-            "Also copies what is attached to any copied blob, by `subject` or by a tag such as `sha256-DIGITS.sig`. Without --prune, --platform and --artifact-type also the indexes that list it. Refused if SRC has a damaged manifest (75, 77) or an unreadable entry (73)",
-        ),
+        referrers(),
         depth(),
         artifact_type(),
         flag(
@@ -155,6 +153,17 @@ fn platform() -> Argument {
     }
 }
 
+/// `--referrers`
+fn referrers() -> Argument {
+    let help = "Also copies what is attached to any copied blob, by `subject` or by a tag such as \
+         `sha256-DIGITS.sig`. Without --prune, --platform and --artifact-type also the indexes that list it. \
+         Refused if SRC has a damaged manifest (75, 77) or an unreadable entry (73)";
+    Argument {
+        aliases: &["recursive"],
+        ..flag("referrers", help)
+    }
+}
+
 /// `--depth`
 fn depth() -> Argument {
     let help =
@@ -162,7 +171,6 @@ fn depth() -> Argument {
          indexes and referrers; 0 means no limit";
     Argument {
         conflicts: &["prune", "platform"],
-        needs: &["referrers"],
         ..Argument::new("depth", DEPTH, help)
     }
 }

@@ -9,6 +9,7 @@ Example:
 /// `mem [--workers N] [--sha512] TYPE=PATH..`
 pub(crate) const MEM: CommandText = CommandText {
     name: "mem",
+    aliases: &[],
     about: "Copies between two stores in memory, and lists the blobs that arrived",
     details: Some(
         "Copies between two stores in memory, and lists the blobs that arrived.\n\n\

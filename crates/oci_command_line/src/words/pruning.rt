@@ -11,6 +11,7 @@ Examples:
 /// `prune [--dry-run] [--untagged | --leftovers] [--no-wait] [--no-sync] FOLDER`
 pub(crate) const PRUNE: CommandText = CommandText {
     name: "prune",
+    aliases: &["gc"],
     about: "Removes the files of a layout that `index.json` does not need, to free their space",
     details: Some(
         "Removes the files of a layout that `index.json` does not need, to free their space.\n\n\

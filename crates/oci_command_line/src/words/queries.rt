@@ -4,6 +4,7 @@ use crate::words::text::CommandText;
 /// `tags [--all] FOLDER`
 pub(crate) const TAGS: CommandText = CommandText {
     name: "tags",
+    aliases: &["ls"],
     about: "Lists the tags of a layout, each with the digest, size and media type it resolves to",
     details: Some(
         "Lists the tags of a layout in byte order, each with the digest, the size and the media type of the \
@@ -19,6 +20,7 @@ pub(crate) const TAGS: CommandText = CommandText {
 /// `resolve [--json] FOLDER REF`
 pub(crate) const RESOLVE: CommandText = CommandText {
     name: "resolve",
+    aliases: &[],
     about: "Prints the digest, size and media type that a reference resolves to",
     details: None,
     usage: "ocicp resolve [OPTIONS] <FOLDER> <REF>",
@@ -28,6 +30,7 @@ pub(crate) const RESOLVE: CommandText = CommandText {
 /// `predecessors [--json] FOLDER REF`
 pub(crate) const PREDECESSORS: CommandText = CommandText {
     name: "predecessors",
+    aliases: &[],
     about: "Lists the manifests that list a blob: indexes, and referrers such as signatures",
     details: Some(
         "Lists the manifests that list the blob of a reference: indexes, and referrers such as signatures. \
@@ -43,6 +46,7 @@ pub(crate) const PREDECESSORS: CommandText = CommandText {
 /// `tree [--referrers] FOLDER REF`
 pub(crate) const TREE: CommandText = CommandText {
     name: "tree",
+    aliases: &[],
     about: "Shows the blobs that a reference reaches as a tree, for people to read",
     details: Some(
         "Shows the blobs that a reference reaches as a tree, for people to read. Scripts should use \
@@ -59,6 +63,7 @@ pub(crate) const TREE: CommandText = CommandText {
 /// `cat [--platform PLATFORM] FOLDER REF`
 pub(crate) const CAT: CommandText = CommandText {
     name: "cat",
+    aliases: &[],
     about: "Writes the bytes of a blob, such as a manifest, to the standard output",
     details: Some(
         "Writes the bytes of the blob that a reference resolves to, and nothing else, to the standard \
@@ -74,6 +79,7 @@ pub(crate) const CAT: CommandText = CommandText {
 /// `verify [--workers N] [--json] FOLDER`
 pub(crate) const VERIFY: CommandText = CommandText {
     name: "verify",
+    aliases: &[],
     about: "Checks each blob of a layout against its digest, and that no listed blob is missing",
     details: Some(
         "Checks each blob that `index.json` reaches against its digest, and that no listed blob is missing. \
@@ -92,6 +98,7 @@ pub(crate) const VERIFY: CommandText = CommandText {
 /// `explain [--json] NUMBER`
 pub(crate) const EXPLAIN: CommandText = CommandText {
     name: "explain",
+    aliases: &[],
     about: "Explains the number of an error: what it means, and what to do",
     details: None,
     usage: "ocicp explain [OPTIONS] <NUMBER>",

@@ -13,6 +13,7 @@ Examples:
 /// `repair [--dry-run] [--workers N] [--no-wait] [--no-sync] FOLDER FROM..`
 pub(crate) const REPAIR: CommandText = CommandText {
     name: "repair",
+    aliases: &[],
     about: "Makes the missing and damaged blobs of a layout whole, from other layouts",
     details: Some(
         "Makes the missing and damaged blobs of a layout whole, from other layouts.\n\n\

@@ -6,6 +6,7 @@ use crate::words::text::CommandText;
 /// `tag [--no-wait] [--no-sync] FOLDER REF NEWTAG`
 pub(crate) const TAG: CommandText = CommandText {
     name: "tag",
+    aliases: &[],
     about: "Sets a tag of a layout to the blob that a reference resolves to",
     details: Some(
         "Sets a tag of a layout to the blob that a reference resolves to. If NEWTAG names another blob \
@@ -37,6 +38,7 @@ pub(crate) fn tag_arguments() -> [Argument; 7] {
 /// `untag [--no-wait] [--no-sync] FOLDER TAG`
 pub(crate) const UNTAG: CommandText = CommandText {
     name: "untag",
+    aliases: &["rm"],
     about: "Removes a tag from a layout, and keeps the blob that it names",
     details: Some(
         "Removes a tag from a layout. The blob that it names stays, with everything that it reaches; \

@@ -6,6 +6,8 @@ use std::alloc::{AllocError, Global};
 #[derive(Clone, Copy)]
 pub(crate) struct CommandText {
     pub name: &'static str,
+    /// Names of the same command in other tools, which the help does not show.
+    pub aliases: &'static [&'static str],
     /// One sentence, without a full stop.
     pub about: &'static str,
     /// What `--help` says in its place, if there is more to say.
@@ -27,7 +29,7 @@ impl CommandText {
         for argument in arguments {
             built.push(argument.build(alloc)?)?;
         }
-        self.command(alloc).args(built)
+        self.command(alloc).aliases(self.aliases)?.args(built)
     }
 
     /// Makes the command without arguments.
