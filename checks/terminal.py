@@ -1,9 +1,10 @@
 """Refusals on a terminal: a second line explains the last number of the first one. Through a pipe there is no such line. And answers on a
 terminal, where control characters are escaped."""
+import json
 import os
 
-from support.layouts import E, FOO, M2, key, write_layout
-from support.program import run
+from support.layouts import E, FOO, INDEX, M2, Content, descriptor, key, write_layout
+from support.program import run, told
 from support.terminal import run_on_terminal
 
 UNKNOWN = "The layout has no tag with this name, and no blob with this digest"
@@ -36,6 +37,19 @@ def answers(room):
         yield name, None if found == (0, "%s %s\n" % (tag, key(M2))) else "status %d, %r" % found
 
 
+def platforms(room):
+    """Check a refusal that prints a platform of an index, on a terminal and through a pipe."""
+    entry = dict(json.loads(descriptor(M2)), platform={"os": ODD, "architecture": "b"})
+    listed = Content(INDEX, json.dumps({"schemaVersion": 2, "manifests": [entry]}).encode())
+    write_layout(room + "/platforms", [E, FOO, M2, listed], {"one": listed})
+    words = ["resolve", "--platform", "a/b", "platforms", "one"]
+    line = "ocicp: 107 NoPlatform a/b %s/b\n"
+    status, text = run_on_terminal(words, room)
+    yield "a platform of an index", None if status == 1 and text.startswith(line % ESCAPED) else "status %d, %r" % (status, text)
+    ended = run(words, room)
+    yield "a platform of an index, through a pipe", None if (ended.status, ended.err) == (1, line % ODD) else told(ended)
+
+
 def pipes(room):
     """Check paths of a pipe, which is no archive."""
     os.mkfifo(room + "/pipe")
@@ -47,6 +61,7 @@ def pipes(room):
 
 def checks(room):
     yield from answers(room)
+    yield from platforms(room)
     yield from pipes(room)
     write_layout(room + "/source", [E, FOO, M2], {"one": M2})
     write_layout(room + "/spoiled", [E, FOO, M2], {"one": M2})

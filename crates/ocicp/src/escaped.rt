@@ -4,20 +4,22 @@ use std::io::Write;
 /// The first byte of the two that a control character from U+0080 to U+009F has in UTF-8.
 const LEAD: u8 = 0xc2;
 
-/// A writer to a terminal. It writes each control character, but for line feeds and tabs, as an
-/// escape such as `\u{1b}`, so that a text of a layout cannot make the terminal do anything.
+/// A writer to what may be a terminal. On one it writes each control character, but for line feeds and
+/// tabs, as an escape such as `\u{1b}`, so that a text of a layout cannot make the terminal do anything.
 #[derive(Drop)]
 pub(crate) struct Escaped<W> {
     out: W,
+    is_terminal: bool,
     /// Whether a byte [`LEAD`] was taken that is not written yet, since the next one decides.
     holds_lead: bool,
 }
 
 impl<W: Write> Escaped<W> {
     /// Returns a writer that writes to `out`.
-    pub(crate) fn new(out: W) -> Escaped<W> {
+    pub(crate) fn new(out: W, is_terminal: bool) -> Escaped<W> {
         Escaped {
             out,
+            is_terminal,
             holds_lead: false,
         }
     }
@@ -50,6 +52,9 @@ impl<W: Write> Escaped<W> {
 
 impl<W: Write> Write for Escaped<W> {
     fn write(&mut self, bytes: &[u8]) -> io::Result<usize> {
+        if !self.is_terminal {
+            return self.out.write(bytes);
+        }
         for byte in bytes {
             self.put(*byte)?;
         }

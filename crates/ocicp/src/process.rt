@@ -21,11 +21,10 @@ pub fn run_process<R: Env + Host, W: Write + IsTerminal + Drop, X: Write + IsTer
     };
     let is_shown = out.is_terminal();
     match BufWriter::new(rt.alloc(), out) {
-        Ok(out) if is_shown => {
-            let mut out = Escaped::new(out);
+        Ok(out) => {
+            let mut out = Escaped::new(out, is_shown);
             run_words_on(rt, &words, err.is_terminal(), &mut out, err)
         }
-        Ok(mut out) => run_words_on(rt, &words, err.is_terminal(), &mut out, err),
         Err(error) => end(rt, Ending::Fault(ProgramFault::of_output(error)), err),
     }
 }

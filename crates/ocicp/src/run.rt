@@ -16,6 +16,7 @@ ghost use Rattle.ocicp.specs.Run.{
   IsUntagDone,
 };
 
+use crate::escaped::Escaped;
 use crate::meaning::print_meaning;
 use crate::place::{Place, open_copy, open_folder, open_new_file, open_sources};
 use crate::sides::{Failures, sides_of};
@@ -96,15 +97,16 @@ fn run_noting<'w, R: Host, W: Write, X: Write + Send>(
         Ok(line) => line,
         Err(fault) => return end_unparsed(rt.alloc(), words, fault, err),
     };
-    run_line(rt, &line, failures, out, err)
+    run_line(rt, &line, failures, on_terminal, out, err)
 }
 
 /// Runs the command of a valid command line, and ends the run. What fails in its folders is noted
-/// in `failures`.
+/// in `failures`. On a terminal, control characters of a refusal are escaped.
 fn run_line<'w, R: Host, W: Write, X: Write + Send>(
     rt: &R,
     line: &CommandLine<'w>,
     failures: &'w Failures,
+    on_terminal: bool,
     out: &mut W,
     err: &mut X,
 ) -> u8
@@ -119,11 +121,12 @@ fn run_line<'w, R: Host, W: Write, X: Write + Send>(
     let form = form_of(line.as_json);
     let done = run_request(rt, &line.request, failures, form, out, err);
     let sides = sides_of(rt, &line.request, failures);
-    let ended = finish_run(rt.alloc(), done, form, &sides, out, err);
+    let mut err = Escaped::new(err, on_terminal);
+    let ended = finish_run(rt.alloc(), done, form, &sides, out, &mut err);
     if line.hints
         && let Some(refusal) = &ended.refusal
     {
-        print_meaning(rt, &line.request, refusal, err);
+        print_meaning(rt, &line.request, refusal, &mut err);
     }
     ended.status
 }
