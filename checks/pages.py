@@ -1,5 +1,5 @@
-"""The pages that people read: the README is short, the pages of tasks do not repeat the manual, each page says for whom it is, and each flag
-that a page names is one of the command."""
+"""The pages that people read: they are short, those of tasks do not repeat the manual, each page says for whom it is, and each flag that a
+page names is one of the command."""
 import glob
 import os
 import re
@@ -8,14 +8,16 @@ from support.program import TOP, first
 
 README = "README.md"
 MANUAL = "docs/ocicp.1"
-# The most words of the README.
-WORDS = 1500
+CHANGES = "CHANGELOG.md"
+# The most words of some pages, and of all pages together but for the manual, which is made from the help.
+WORDS = {README: 1500, MANUAL: 4000, "docs/promises.md": 4500, "docs/DECISIONS.md": 4000}
+TOGETHER = 20000
 # Pages that repeat no run of so many words of the manual.
 UNLIKE = [README, "docs/howto.md", "docs/damage.md"]
 RUN = 8
 # The beginning of the line that says for whom a page is.
 READERS = "For "
-# Pages for those who change the program, which name flags of other tools and do not say for whom they are.
+# Pages for those who change the program, which name flags of other tools.
 INNER = ["docs/contributing.md", "docs/map.md"]
 # A command of a line of the shell, up to the next one.
 PART = re.compile(r"[^|;&\n]+")
@@ -28,9 +30,8 @@ def read(path):
 
 
 def pages():
-    """Return the pages for users, and for those who write programs over the library."""
-    found = sorted(os.path.relpath(path, TOP) for path in glob.glob(TOP + "/docs/*.md"))
-    return [README, *(page for page in found if page not in INNER)]
+    """Return all pages but the manual."""
+    return [README, CHANGES, *sorted(os.path.relpath(path, TOP) for path in glob.glob(TOP + "/docs/*.md"))]
 
 
 def flags():
@@ -92,12 +93,16 @@ def wrong_first_line(page):
 
 
 def checks(room):
-    count = len(read(README).split())
-    yield "the words of README.md", "it has %d, and may have %d" % (count, WORDS) if count > WORDS else None
+    for page, most in WORDS.items():
+        count = len(read(page).split())
+        yield "the words of " + page, "it has %d, and may have %d" % (count, most) if count > most else None
+    count = sum(len(read(page).split()) for page in pages())
+    yield "the words of all pages", "they have %d, and may have %d" % (count, TOGETHER) if count > TOGETHER else None
     for page in UNLIKE:
         yield page + " does not repeat the manual", repeated(page)
     known = flags()
     for page in pages():
-        yield "flags on " + page, wrong_flags(page, known)
+        if page not in (CHANGES, *INNER):
+            yield "flags on " + page, wrong_flags(page, known)
         if page != README:
             yield "the readers of " + page, wrong_first_line(page)
