@@ -40,7 +40,7 @@ NO_PLACE = {"missing/new.tar": "No such file or directory"}
 # Words that are no command line, before FILE.
 INVALID = [
     "--descend source one", "--descend --all source", "--prune --all source", "--prune --all --referrers source", "--prune --dry-run --all source",
-    "--descend --dry-run source one", "--prune source one", "--workers 65 source one", "--depth 1 source one", "--match one source one",
+    "--descend --dry-run source one", "--prune source one", "--workers 65 source one", "--match one source one",
     "--platform linux/arm64 --all source", "--all source one", "source", "--all", "",
 ]
 

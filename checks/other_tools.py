@@ -165,12 +165,15 @@ class Index:
             return "%s: %s" % (" ".join(words), told(ended))
         return "%s: the index has changed" % words if err and index_bytes(self.room) != before else None
 
-    def wrong_index(self, entries, *new):
-        """Return the problem with the saved index, or None. These contents are new."""
+    def saved(self, entries, *new):
+        """Return the entries that a save writes for these. These contents are new."""
         keys = self.held.keys.union(key_of(entry(it)) for it in new)
         listed = set().union(*map(Held(self.room + "/layout").listed, keys))
-        wanted = saved_text(saved_entries(entries, keys, listed))
-        found = index_bytes(self.room).decode()
+        return saved_entries(entries, keys, listed)
+
+    def wrong_index(self, entries, *new):
+        """Return the problem with the saved index, or None. These contents are new."""
+        wanted, found = saved_text(self.saved(entries, *new)), index_bytes(self.room).decode()
         return None if found == wanted else "the index is %.500s, and not %.500s" % (found, wanted)
 
     def wrong_copies(self):
@@ -183,11 +186,12 @@ class Index:
             self.wrong_index([*self.without("v1"), named(NEW, "v1")], NEW, E, BAR),
         ])
         self.restore()
+        entries = [*self.entries, named(NEW, TAG)]
         return complaint or first([
             self.wrong(["copy", "source", "v1", "layout", TAG], 0, copied),
-            self.wrong_index([*self.entries, named(NEW, TAG)], NEW, E, BAR),
+            self.wrong_index(entries, NEW, E, BAR),
             self.wrong(["untag", "layout", TAG], 0, "untagged %s\n" % key(NEW)),
-            self.wrong_index(self.entries, NEW, E, BAR),
+            self.wrong_index([it for it in self.saved(entries, NEW, E, BAR) if name_of(it) != TAG], NEW, E, BAR),
         ])
 
     def wrong_name(self, name):
