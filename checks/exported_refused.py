@@ -126,13 +126,9 @@ def outputs(room):
     whole = archive_of(room + "/folder")
     full = lambda: open("/dev/full", "wb")
     for what, make in ("a full disk", full), ("a pipe that nobody reads", closed_pipe):
-        for words in "source one FILE", "--all --workers 3 source FILE":
+        # (an archive of less than 8 KB is in the program's buffer until that is flushed)
+        for words in "source one FILE", "--all --workers 3 source FILE", "source small FILE":
             yield "copy --archive %s, FILE is %s" % (words, what), wrong_output(room, copy_of(words, "-"), make)
-        # (an archive of less than 8 KB is in the program's buffer until its last line is printed)
-        with make() as out:
-            ended = run_bytes(copy_of("source small FILE", "-"), room, stdout=out)
-        right = ended.status == 1 and ended.err.endswith("\nocicp: 94 Output\n")
-        yield "a small archive, FILE is %s" % what, None if right else told_bytes(ended)
         yield "the lines go to %s" % what, first([
             wrong_output(room, copy_of("source one FILE", "lines.tar"), make),
             None if content_of(room + "/lines.tar") == whole else "the archive is another one",

@@ -1,6 +1,8 @@
 -- Lemmas about the archive of a copy.
-use Rattle.std.proofs.Common.{◌≡◌, true, inl, inr, List, [], sym, ap, ◌∙◌}
+use Rattle.std.proofs.Common.{◌≡◌, ℕ, true, inl, inr, List, [], Option, None, Some, refl, sym, ap, ◌∙◌}
 use Rattle.std.specs.Prelude.{◌⊎◌, Contains}
+use Rattle.std.specs.BTreeMap.{get_by_text}
+use Rattle.std.specs.Io.KnownBytes.{Appends, Keeps}
 use Rattle.std.specs.List.{All}
 use Rattle.std.proofs.lemmas.Bool.{true≢false}
 use Rattle.std.proofs.lemmas.List.Elements.{All-weaker}
@@ -10,6 +12,7 @@ use Rattle.oci_copy.specs.declared.options.Options.{Options}
 use Rattle.oci_export.specs.Archive.{Item}
 use Rattle.oci_export.specs.Export.{IsExport, IsListed}
 use Rattle.oci_dir.specs.Device.{Device}
+use Rattle.oci_dir.specs.declared.mem_dir.MemDir.{MemDir}
 use Rattle.oci_layout_store.specs.Index.{HasLayoutFile}
 use Rattle.oci_layout_store.specs.Layout.{no_index, LayoutState}
 use Rattle.oci_manifest.specs.Descriptor.{Descriptor}
@@ -75,3 +78,14 @@ is_archived from memory words source_dir source selected plan outline items answ
       files = exported.files honest outlined.version outline.tags outline.opened outlined.saved;
       answers = answers;
     }
+
+-- an empty directory in memory has no files
+pub no_files : (dir : MemDir) → dir.files.entries ≡ [] → (path : List ℕ) → get_by_text dir.files path ≡ None
+no_files dir none path = rw none refl
+
+-- what is kept after it was appended was appended
+pub Appends-kept : (old mid new : Option (List ℕ)) (bytes : List ℕ) → Appends old mid bytes → Keeps mid new → Appends old new bytes
+Appends-kept None mid new bytes added kept = tt
+Appends-kept (Some x) None new bytes added kept = absurd added
+Appends-kept (Some x) (Some y) None bytes added kept = absurd kept
+Appends-kept (Some x) (Some y) (Some z) bytes added kept = kept ∙ added

@@ -1,5 +1,5 @@
 -- What `copy --archive` did, in terms of the words of its command line.
-use Rattle.std.specs.Prelude.{◌≡◌, ℕ, ⊤, true, false, List, [], length, map, string_bytes, Option}
+use Rattle.std.specs.Prelude.{◌≡◌, ℕ, ⊤, true, false, List, [], length, map, string_bytes, Option, None}
 use Rattle.std.specs.Io.KnownBytes.{Appends}
 use Rattle.std.specs.List.{All}
 use Rattle.oci_command_line.specs.declared.changing.CopyWords.{CopyWords}
@@ -35,6 +35,10 @@ use Rattle.oci_copy_commands.specs.declared.dry_run.PlanAnswer.{PlanAnswer}
 -- a directory in memory
 abbrev pub MemoryDir : Type 0
 MemoryDir = MemDir
+
+-- a directory has no files
+abbrev pub HasNoFiles : Device → Type 0
+HasNoFiles dir = (path : List ℕ) → dir.file path ≡ None
 
 -- the selected tags were set, the selected entries were brought, and the layout was saved
 pub record IsSavedOutline {M : Type 0} (memory : M → Device) (selected : Selected) (old new : LayoutState M) : Type 0 where
@@ -88,12 +92,12 @@ IsArchivedTo {T = T} from memory to words source_dir dir name answer = (left : T
 -- `--dry-run` planned that copy. As lines, the text of its answer was appended.
 pub record IsFileRunOf {S M T : Type 0} (from : S → Device) (memory : M → Device) (to : T → Device) (words : CopyWords) (source_dir : S) (dir : T) (name : List ℕ) (printed : Form) (old new : Option (List ℕ)) : Type 0 where
   pub archived : words.is_dry ≡ false → (answer : CopyAnswer) × IsArchivedTo from memory to words source_dir dir name answer × (printed ≡ form.Lines → Appends old new (copy_text answer))
-  pub planned : words.is_dry ≡ true → (answer : PlanAnswer) × (empty : M) × IsAnsweredDryRun from memory memory words source_dir empty answer × (printed ≡ form.Lines → Appends old new (plan_text answer))
+  pub planned : words.is_dry ≡ true → (answer : PlanAnswer) × (empty : M) × HasNoFiles (memory empty) × IsAnsweredDryRun from memory memory words source_dir empty answer × (printed ≡ form.Lines → Appends old new (plan_text answer))
 
 -- A run with these words appended the archive that they ask for, or with `--dry-run` planned that copy.
 pub record IsOutputRunOf {S M : Type 0} (from : S → Device) (memory : M → Device) (words : CopyWords) (source_dir : S) (printed : Form) (old new : Option (List ℕ)) : Type 0 where
   pub archived : words.is_dry ≡ false → (answer : CopyAnswer) × (items : List Item) × IsArchived from memory words source_dir items answer × Appends old new (archive_of items)
-  pub planned : words.is_dry ≡ true → (answer : PlanAnswer) × (empty : M) × IsAnsweredDryRun from memory memory words source_dir empty answer × (printed ≡ form.Lines → Appends old new (plan_text answer))
+  pub planned : words.is_dry ≡ true → (answer : PlanAnswer) × (empty : M) × HasNoFiles (memory empty) × IsAnsweredDryRun from memory memory words source_dir empty answer × (printed ≡ form.Lines → Appends old new (plan_text answer))
 
 -- ---- refusals
 

@@ -1,8 +1,10 @@
 ghost use Rattle.std.specs.Prelude.{◌≡◌, List, true, false, IfOk, OnOk};
 ghost use Rattle.std.specs.Io.KnownBytes.{Appends};
 ghost use Rattle.oci_export.specs.Archive.{archive_of, Item};
+ghost use Rattle.oci_export.specs.Export.{IsExport};
 ghost use Rattle.oci_copy_commands.specs.Archived.{
   refusal_of,
+  HasNoFiles,
   MemoryDir,
   IsArchiveAnswer,
   IsArchived,
@@ -28,11 +30,13 @@ use oci_export::{ExportFault, outline, save_archive, write_archive};
 use oci_layout_copy::{Copied, Host, tag_all};
 use oci_layout_store::{Layout, LayoutFault};
 use oci_plan::Plan;
+use oci_pool::Hooks;
 use oci_program::{Form, Outcome, ProgramFault, print_answer};
 use oci_progress::Progress;
 use oci_selection::Selected;
+use oci_store::Source;
 use std::alloc::Global;
-use std::io::Write;
+use std::io::{ErrorKind, Write};
 
 /// `copy --archive SRC SRCREF FILE [DSTREF]` and `copy --archive --all SRC FILE`: writes the layout
 /// that a copy into a new folder makes into a new file of a directory, as a tar archive, and prints what
@@ -75,8 +79,9 @@ where
 
     // With it that copy was planned. As lines, the text of the plan's answer was printed.
     ensures planned { words.now.is_dry ≡ true → OnOk result ((answer : PlanAnswer)
-        × (empty : MemoryDir) × IsAnsweredDryRun S.device ⟦<MemDir as Dir>⟧.device
-        ⟦<MemDir as Dir>⟧.device words.now source empty answer × (form ≡ Form.Lines
+        × (empty : MemoryDir) × HasNoFiles (⟦<MemDir as Dir>⟧.device empty)
+        × IsAnsweredDryRun S.device ⟦<MemDir as Dir>⟧.device ⟦<MemDir as Dir>⟧.device words.now
+        source empty answer × (form ≡ Form.Lines
         → Appends (W.contents out.old) (W.contents out.new) (plan_text answer))) }
 {
     if words.is_dry {
@@ -87,9 +92,9 @@ where
     Ok(print_answer(rt.alloc(), &answer, form, out)?)
 }
 
-/// `copy --archive SRC SRCREF - [DSTREF]` and `copy --archive --all SRC -`: writes the archive to `out`,
-/// as [`run_archive`] writes it into a file, and prints what the copy prints on `err`. With `--dry-run`
-/// only the plan is printed, on `out`.
+/// `copy --archive SRC SRCREF - [DSTREF]` and `copy --archive --all SRC -`: writes the archive to
+/// `out`, as [`run_archive`] writes it into a file, and prints what the copy prints on `err`. With
+/// `--dry-run` only the plan is printed, on `out`.
 ///
 /// # Errors
 ///
@@ -111,8 +116,9 @@ where
 
     // With it that copy was planned. As lines, the text of the plan's answer was printed.
     ensures planned { words.now.is_dry ≡ true → OnOk result ((answer : PlanAnswer)
-        × (empty : MemoryDir) × IsAnsweredDryRun S.device ⟦<MemDir as Dir>⟧.device
-        ⟦<MemDir as Dir>⟧.device words.now source empty answer × (form ≡ Form.Lines
+        × (empty : MemoryDir) × HasNoFiles (⟦<MemDir as Dir>⟧.device empty)
+        × IsAnsweredDryRun S.device ⟦<MemDir as Dir>⟧.device ⟦<MemDir as Dir>⟧.device words.now
+        source empty answer × (form ≡ Form.Lines
         → Appends (W.contents out.old) (W.contents out.new) (plan_text answer))) }
 {
     if words.is_dry {
@@ -162,7 +168,7 @@ fn archive_onto<R: Host, S: Dir + Drop, W: Write, X: Write>(
     let (source, selected) = open_selected(rt.alloc(), source, words)?;
     let (plan, outline) = outline_of(rt.alloc(), &source, &selected, words)?;
     let progress = Progress::new(rt, err, words.shown, &plan);
-    let written = write_archive(rt.alloc(), &source, &outline, &progress, out);
+    let written = write_flushed(rt.alloc(), &source, &outline, &progress, out);
     progress.end();
     match written {
         Ok(()) => Ok(answer_of(rt.alloc(), selected, &plan)?),
@@ -170,7 +176,29 @@ fn archive_onto<R: Host, S: Dir + Drop, W: Write, X: Write>(
     }
 }
 
-/// Opens the source as it is, and selects there what the words name.
+/// Writes the archive of a layout to an output, and flushes that, so that nothing is said of an
+/// archive that did not arrive.
+fn write_flushed<S: Source, D: Dir, H: Hooks, W: Write>(
+    alloc: Global,
+    source: &S,
+    layout: &Layout<D>,
+    hooks: &H,
+    out: &mut W,
+) -> Result<(), ExportFault>
+    ensures { OnOk result ((items : List Item) × IsExport (S.state source.now)
+        (D.device layout.now.dir) layout.now.graph items
+        × Appends (W.contents out.old) (W.contents out.new) (archive_of items)) }
+{
+    write_archive(alloc, source, layout, hooks, out)?;
+    match out.flush() {
+        Ok(()) => Ok(()),
+        Err(error) if error.kind() == ErrorKind::OutOfMemory => Err(ExportFault::Memory),
+        Err(_) => Err(ExportFault::Output),
+    }
+}
+
+/// Opens the source as it is, and selects there what the words name. Refuses a source that a mirror
+/// must not follow, if the words prune.
 fn open_selected<S: Dir + Drop>(
     alloc: Global,
     source: S,
@@ -184,8 +212,8 @@ fn open_selected<S: Dir + Drop>(
     Ok((source, selected))
 }
 
-/// Plans the copy of what is selected into an empty layout, and returns the plan and the layout that
-/// this copy makes, but for the files of its blobs.
+/// Plans the copy of what is selected into an empty layout, and returns the plan and the layout
+/// that this copy makes, but for the files of its blobs.
 fn outline_of<S: Dir>(
     alloc: Global,
     source: &Layout<S>,

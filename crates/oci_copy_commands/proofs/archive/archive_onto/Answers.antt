@@ -4,7 +4,7 @@ use Rattle.oci_copy_commands.proofs.archive.archive_onto.Goals as goal
 
 pub returns-in-Ok : goal.returns-in-Ok
 returns-in-Ok g c =
-    let made = c.in-Ok.ensures.written in (
+    let made = c.in-Ok.ensures in (
       made.0,
       is_archived g.S.Dir.device device_of c.args.words.now c.args.source c.in_ok-source.source c.in_ok-source.selected c.in_ok-plan.plan
           c.in_ok-plan.outline made.0 c.in_ok-answer_of-in-Ok.field-0 c.in_ok-source.ensures c.in_ok-plan.ensures tt made.1 c.in_ok-answer_of-in-Ok.ensures,
