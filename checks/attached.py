@@ -1,5 +1,6 @@
 """`copy --referrers` of layouts made by hand and at random, also into mirrors and of some types, against what belongs to the image by the rules
-of docs/howto.md, worked out from the files. Mirrors of some tags likewise, also without `--referrers`."""
+of docs/howto.md, worked out from the files. Mirrors of some tags likewise, also without `--referrers`; copies of all tags, also with
+`--untagged`; and what each of them says that it leaves in SRC."""
 import json
 import os
 import random
@@ -10,7 +11,7 @@ from support.files import read
 from support.indexes import entry, named
 from support.layouts import BAR, E, FOO, I1, M2, M3, S, digits, image, index, write_layout
 from support.program import first, run, told
-from support.pruning import MEMBERS, Held, files_of, key_of, name_of, path, text
+from support.pruning import MEMBERS, Held, files_of, key_of, name_of, notes, path, text, texts_of
 
 OCTETS = "application/octet-stream"
 SBOM, SIGNATURE = "application/spdx+json", "application/vnd.example.signature"
@@ -98,12 +99,6 @@ def write_entries(folder, contents, entries, strays=()):
         json.dump({"schemaVersion": 2, "manifests": values}, file)
 
 
-def texts_of(key):
-    """Return the texts that name the digest of a key in a tag."""
-    whole = key.digest.replace(":", "-")
-    return {whole, whole[: len("sha512-") + 64]}
-
-
 def is_matching(name):
     """Return whether the pattern `v*` matches a name."""
     return name.startswith("v")
@@ -144,6 +139,11 @@ class Source(Held):
     def belonging(self, keys):
         return self.members(keys, self.attached)
 
+    def left(self, roots, held):
+        """Return what is attached to what these keys reach, directly or not, but for what is held in DST."""
+        members = self.belonging(roots)
+        return (self.attached(members) & members) - held
+
     def said(self, names):
         """Return the entries of each of these names."""
         entries = json.loads(read(self.folder + "/index.json"))["manifests"]
@@ -175,13 +175,36 @@ def wrong_copy(room, words, source, tag, members, tags):
     ended = run(["copy", *words, "source", tag, "new"], room)
     copied = ["copied %s\n" % text(source.tags[it]) for it in [tag, *sorted(set(tags) - {tag})]]
     out = "".join(copied) + "planned %d pushed %d skipped 0\n" % (len(members), len(members))
-    if ended[:3] != (0, out, ""):
+    left = set() if words else source.left({source.tags[tag]}, members)
+    if ended[:3] != (0, out, notes(len(left))):
         return "%s: %s" % (" ".join(words), told(ended))
     new = Held(room + "/new")
     return first([
         None if new.keys == members else "%s: it brings %s, not %s" % (words, sorted(map(text, new.keys)), sorted(map(text, members))),
         None if new.tags == tags else "%s: the tags are %s" % (words, new.tags),
     ])
+
+
+def wrong_all(room, source):
+    """Return the problem with copies of all tags of a source, some with its images without a tag, or None."""
+    for flags in [], ["--untagged"], ["--referrers"], ["--referrers", "--untagged"]:
+        roots = source.named_keys | (source.free() if "--untagged" in flags else set())
+        members = source.members(roots, lambda keys: set())
+        if "--referrers" in flags:
+            members = source.belonging({above for key in roots for above in source.climbed(key, 0)})
+        attached = set() if "--referrers" in flags else source.left(roots, members)
+        untagged = source.free() - members
+        for form in [], ["--json"]:
+            shutil.rmtree(room + "/new", ignore_errors=True)
+            ended = run(["copy", "--all", *form, *flags, "source", "new"], room)
+            if ended.status != 0 or ended.err != ("" if form else notes(len(attached), len(untagged))):
+                return "%s: %s" % (flags, told(ended))
+            if Held(room + "/new").keys != members:
+                return "%s: it brings %s, not %s" % (flags, sorted(map(text, Held(room + "/new").keys)), sorted(map(text, members)))
+        value = json.loads(ended.out)
+        left = {name: {key_of(it) for it in value.get(name, [])} for name in ("attachedLeft", "untaggedLeft")}
+        if left != {"attachedLeft": attached, "untaggedLeft": untagged} or [] in (value.get("attachedLeft"), value.get("untaggedLeft")):
+            return "%s: %s" % (flags, ended.out)
 
 
 def wrong_tree(room, source, tag):
@@ -224,6 +247,7 @@ def wrong_layout(room, layout):
         problem = problem or wrong_tree(room, source, tag) or wrong_types(room, source, tag)
         if problem:
             return "%s: %s" % (tag, problem)
+    return wrong_all(room, source)
 
 
 class Mirror:
@@ -238,6 +262,9 @@ class Mirror:
         self.members = self.source.belonging(tagged)
         self.roots = tagged | self.source.attached(self.members)
         self.layout = self.source
+        # What it leaves in SRC: of what is attached nothing, since it has that too.
+        self.left = set()
+        self.untagged = self.source.free()
 
     def blobs(self):
         return {it for it in files_of(self.room + "/mirror") if it.startswith("blobs/")}
@@ -271,7 +298,7 @@ class Mirror:
         if planned:
             return planned
         ended = run(["copy", *self.words, "source", "mirror"], self.room)
-        if ended[:3] != (0, out, ""):
+        if ended[:3] != (0, out, notes(len(self.left - self.members), len(self.untagged - self.members))):
             return "a mirror: %s, and not %r" % (told(ended), out)
         after = Source(self.room + "/mirror")
         return first([
@@ -302,6 +329,7 @@ class PartMirror(Mirror):
         self.stay, kept = self.exactly(spared) if is_exact else (spared, self.before.keys_of(spared))
         self.layout = Both(self.before, self.source, self.source.members(self.roots, lambda keys: set()))
         self.members = self.layout.members(self.roots | kept, lambda keys: set() if is_exact else self.layout.referrers(keys))
+        self.left, self.untagged = set() if is_exact else self.source.left(self.roots, set()), set()
 
     def select(self, is_exact):
         """Set the tags that are copied, and the keys that the copy starts from."""

@@ -97,6 +97,13 @@ def wrong_explanation(number, name, folder):
         return "%d is %s in docs/refusals.md: %s" % (number, name or "no number", told(ended))
 
 
+def wrong_explanations(name, numbers, folder):
+    """Return the problem with the output of `explain` for a name, or None. It is that for each number with this name, in their order."""
+    ended, each = run(["explain", name], folder), [run(["explain", str(number)], folder) for number in numbers]
+    if (ended.status, ended.err, ended.out) != (0, "", "\n".join(it.out for it in each)):
+        return "%s is not explained as %s: %s" % (name, ", ".join(map(str, numbers)), told(ended))
+
+
 def wrong_use(page, names):
     """Return the problem with the numbers of refusals on a page, or None."""
     found = list(used(page))
@@ -117,5 +124,7 @@ def checks(room):
     yield "docs/refusals.md", wrong_list(rows)
     yield "the texts of the faults", wrong_texts()
     yield "explain", first(wrong_explanation(number, names.get(number), room) for number in NUMBERS)
+    having = {name: [it for it in sorted(names) if names[it] == name] for name in names.values()}
+    yield "explain by name", first(wrong_explanations(*it, room) for it in having.items())
     for page in PAGES:
         yield page, wrong_use(page, names)

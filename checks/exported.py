@@ -113,7 +113,7 @@ def wrong_out(export):
     remove(export.room + "/folder")
     document = export.run("folder", "--json").out
     return first([
-        None if ended == (0, export.archive, export.ended.out) else "onto the output: " + told_bytes(ended),
+        None if ended == (0, export.archive, export.ended.out + export.ended.err) else "onto the output: " + told_bytes(ended),
         None if as_json == (0, export.archive, document) else "onto the output with --json: " + told_bytes(as_json),
     ])
 
@@ -149,14 +149,17 @@ def wrong_progress(export):
     """Return the problem with the lines of --progress, or None. There is to be one for each blob, in the order of the archive."""
     planned = export.run("new", "--dry-run").out.splitlines()[:-1]
     ended, onto = export.run("progress.tar", "--archive", "--progress"), export.run_out("--progress")
-    lines, wanted = ended.err.splitlines(), ["pushed " + it for it in planned]
+    # (what stays in SRC comes last)
+    notes = export.ended.err
+    err = ended.err.removesuffix(notes)
+    lines, wanted = err.splitlines(), ["pushed " + it for it in planned]
     # (blobs of one digest share a file, and a line)
     paths = [path_of(it) for it in lines]
     return first([
         None if (ended.status, ended.out) == (0, export.ended.out) else "--progress: " + told(ended),
         None if set(lines) <= set(wanted) and set(paths) == set(map(path_of, wanted)) else "--progress prints %s, and not %s" % (lines, wanted),
         None if sorted(set(paths)) == paths else "--progress has another order: %s" % lines,
-        None if onto == (0, export.archive, ended.err + ended.out) else "--progress onto the output: " + told_bytes(onto),
+        None if onto == (0, export.archive, err + ended.out + notes) else "--progress onto the output: " + told_bytes(onto),
     ])
 
 

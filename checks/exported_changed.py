@@ -91,9 +91,9 @@ def spoiled(room):
         (LONG, "another first byte", b"!" + LONG.bytes[1:], unread),
         (SMALL, "another last byte", SMALL.bytes[:-1] + b"!", unread),
         (E, "other bytes", b"[]", unread),
-        (LONG, "a byte fewer", LONG.bytes[:-1], "81 Plan 53 NotFound %s"),
-        (LONG, "a byte more", LONG.bytes + b"!", "81 Plan 53 NotFound %s"),
-        (SMALL, "no byte", b"", "81 Plan 53 NotFound %s"),
+        (LONG, "a byte fewer", LONG.bytes[:-1], "75 Corrupt %s"),
+        (LONG, "a byte more", LONG.bytes + b"!", "75 Corrupt %s"),
+        (SMALL, "no byte", b"", "75 Corrupt %s"),
         (LAYERED, "another last byte", LAYERED.bytes[:-1] + b" ", "75 Corrupt %s"),
         (LAYERED, "a byte more", LAYERED.bytes + b"\n", "75 Corrupt %s"),
     ]:

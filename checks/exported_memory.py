@@ -40,7 +40,8 @@ class Copy:
         self.archive = archive_of(folder + "/folder")
         os.rename(folder + "/folder", folder + ".folder")
         is_out = words[-1] == "-"
-        self.ended = Ended(0, self.archive.decode() if is_out else into_folder.out, into_folder.out if is_out else "")
+        said = (into_folder.out if is_out else "") + into_folder.err
+        self.ended = Ended(0, self.archive.decode() if is_out else into_folder.out, said)
 
     def wrong_left(self, status):
         """Return the problem with what a run has left, or None."""
@@ -57,7 +58,7 @@ class Copy:
             return None
         out, is_out = ended.out.encode(), self.words[-1] == "-"
         is_right_out = self.archive.startswith(out) and (is_cut(out) or out == self.archive) if is_out else not out
-        is_memory = MEMORY if "--json" not in self.words else '{"error":[{"name":"Memory"}]}\n'
+        is_memory = MEMORY if "--json" not in self.words else '{"error":[{"name":"Memory"}],"kind":"memory"}\n'
         # (the lines that a copy onto the output prints may be there in part)
         is_right_err = ended.err == is_memory or is_out and ended.err.endswith(is_memory)
         return None if refused and ended.status == 3 and is_right_out and is_right_err else told(ended)

@@ -9,6 +9,7 @@ import subprocess
 from support.exports import archive_of, content_of, copy_of, remove, run_bytes, told_bytes, write
 from support.files import files, read, wrong_refusal
 from support.indexes import entry, named
+from support.json_lines import kind_of
 from support.layouts import BAR, E, FOO, I1, IMAGE, LAYER, M2, M3, Content, blob, image, key, write_layout
 from support.odd_archives import damaged
 from support.program import NOBODY, PROGRAM, SECONDS, first, run, told
@@ -79,7 +80,7 @@ def wrong_place(room, path, reason, **how):
     # (the path is that of the file, or of its folder)
     place = "(%s|%s)" % (path, os.path.dirname(path))
     line, hint = "ocicp: 74 Device\n", "ocicp: 74 Device\nDST `%s`: .*: %s\\. Run `ocicp explain 74` for what to do\\.\n" % (place, reason)
-    document = re.escape('{"error":[{"number":74,"name":"Device"}],"side":"DST","path":"PLACE","os":"%s"}\n' % reason).replace("PLACE", place)
+    document = re.escape('{"error":[{"number":74,"name":"Device"}],"kind":"%s","side":"DST","path":"PLACE","os":"%s"}\n' % (kind_of(74, reason), reason)).replace("PLACE", place)
     wanted = {"--workers=2": line, "--all": line, "--no-sync": line, "--hint": hint, "--json": document}
     ends = [run(copy_of("source FILE" if flag == "--all" else "source one FILE", path, flag), room, **how) for flag in wanted]
     return first([
@@ -134,7 +135,7 @@ def outputs(room):
             None if content_of(room + "/lines.tar") == whole else "the archive is another one",
         ])
         remove(room + "/lines.tar")
-    as_json = '{"error":[{"number":94,"name":"Output"}]}\n'
+    as_json = '{"error":[{"number":94,"name":"Output"}],"kind":"device"}\n'
     yield "--json, FILE is a full disk", wrong_output(room, copy_of("source one FILE", "-", "--json"), full, err=as_json)
     # (without the file 1 the next one that is opened has its number)
     for what, file in ("FILE is -", "-"), ("FILE is a file", "closed.tar"):

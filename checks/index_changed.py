@@ -26,7 +26,7 @@ COMMANDS = {
     "a prune of what no tag needs": (["prune", "--untagged", "copied"], 1),
 }
 REFUSED = "ocicp: 110 IndexChanged\n"
-DOCUMENT = '{"error":[{"number":110,"name":"IndexChanged"}],"side":"%s","path":"copied/index.json"}\n'
+DOCUMENT = '{"error":[{"number":110,"name":"IndexChanged"}],"kind":"locked","side":"%s","path":"copied/index.json"}\n'
 HINT = "`copied/index.json`: Another program wrote `index.json` or removed it while the command ran."
 
 

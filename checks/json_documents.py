@@ -103,8 +103,8 @@ def example(room):
     for command in ["tags L", "tree --referrers L base", "verify L", "copy --all L M", "copy --all --prune L M", "untag M both", "prune M",
                     "prune --untagged M"]:
         yield "the example, " + command, rooms.wrong(words_of(command, L="layout", M="mirror"))
-    for number in range(256):
-        complaint = rooms.wrong(["explain", str(number)]) if run(["explain", str(number)], room).status == 0 else None
+    for word in [*map(str, range(256)), "NotFound", "Memory"]:
+        complaint = rooms.wrong(["explain", word]) if run(["explain", word], room).status == 0 else None
         if complaint:
             break
     yield "explain", complaint

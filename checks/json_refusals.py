@@ -8,7 +8,7 @@ import shutil
 import subprocess
 
 from support import refused_malloc, shim
-from support.json_lines import CARRIED, MEMORY
+from support.json_lines import CARRIED, KINDS, MEMORY, OF_SYSTEM
 from support.json_rooms import CHANGES, Rooms, run_long, with_json
 from support.layouts import BAR, E, FOO, I1, IMAGE, INDEX, LAYER, M2, M3, S, Content, blob, descriptor, image, write_layout
 from support.odd_archives import damaged
@@ -239,6 +239,14 @@ def wrong_table():
     return None if listed == carried else "it has %s, and not %s" % (listed, carried)
 
 
+def wrong_kinds():
+    """Return the problem with the kinds in docs/json.md, or None. The table has the numbers of each; faults of memory print none."""
+    rows = {kinds.strip("`"): {*map(int, re.findall(r"\d+", numbers))} for kinds, _, numbers in table("/docs/json.md", "### Kinds")}
+    listed, wanted = {kind: its for kind, its in rows.items() if its}, {kind: its for kind, its in KINDS.items() if kind != "memory"}
+    twice = sum(map(len, KINDS.values())) != len(set().union(*KINDS.values()))
+    return "it has %s, and not %s" % (listed, wanted) if listed != wanted or twice or {*rows} != {*KINDS, *OF_SYSTEM.values(), "refused"} else None
+
+
 def on_terminal(room):
     """Check that on a terminal too only the document is printed, after the line of progress."""
     write_good(room)
@@ -309,6 +317,7 @@ def checks(room):
         yield from group(refused)
     yield "these refusals are seen", None if refused.numbers == NUMBERS else "and not %s" % sorted(refused.numbers ^ NUMBERS)
     yield "the table of docs/json.md", wrong_table()
+    yield "the kinds in docs/json.md", wrong_kinds()
     for group in on_terminal, plain, of_memory:
         folder = "%s/%s" % (room, group.__name__)
         os.mkdir(folder)

@@ -21,7 +21,7 @@ COMMANDS = {
     "a copy": (COPY, COPIED),
     "a prune": (["prune", "--untagged", "copied"], ([BAR], {"old": BAR})),
     "tag": (["tag", "copied", "old", "other"], ([BAR, OTHER], {"old": BAR, "other": BAR})),
-    "untag": (["untag", "copied", "old"], ([BAR, OTHER], {})),
+    "untag": (["untag", "copied", "old"], ([OTHER], {})),
     "a repair": (["repair", "--workers", "1", "copied", "source"], ([BAR, OTHER], {"old": BAR})),
 }
 WAITS = "ocicp: waiting for another process that writes into copied\n"

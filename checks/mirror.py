@@ -1,4 +1,5 @@
-"""`copy --all --prune`, against `copy --all`, `untag` and `prune --untagged` one after the other, refused, and killed half-way. Wants `cc`."""
+"""`copy --all --prune`, against `copy --all`, an index without the other tags and `prune --untagged` one after the other, refused, and killed
+half-way. Wants `cc`."""
 import os
 import shutil
 import signal
@@ -6,6 +7,7 @@ import signal
 from support import shim
 from support.dry_runs import wrong_dry_run
 from support.files import files, stamps
+from support.indexes import without_names
 from support.layouts import BAR, E, FOO, I1, LAYER, M2, M3, S, Content, blob, image, key, write_layout
 from support.program import first, run, told, wrong_layout
 from support.pruning import Held, Prune
@@ -43,17 +45,16 @@ def fresh(room, source, mirror):
 
 
 def in_turn(room, folder):
-    """Mirror into a folder by three commands, and return the text that the one command is to print."""
+    """Mirror into a folder by three commands, and return the texts that the one command is to print."""
     copied = run(["copy", "--all", "source", folder], room)
     assert copied.status == 0, told(copied)
     tags, wanted = Held("%s/%s" % (room, folder)).tags, Held(room + "/source").tags
     others = sorted(set(tags) - set(wanted), key=str.encode)
-    for name in others:
-        assert run(["untag", folder, name], room).status == 0
+    without_names("%s/%s" % (room, folder), others)
     prune = Prune("%s/%s" % (room, folder), True)
     assert run(["prune", "--untagged", folder], room).status == 0
     lines = ["untagged %s %s %d %s\n" % (name, tags[name].digest, tags[name].size, tags[name].media_type) for name in others]
-    return copied.out + "".join(lines) + prune.out
+    return copied.out + "".join(lines) + prune.out, copied.err
 
 
 def mirrored(room, library):
@@ -66,13 +67,13 @@ def mirrored(room, library):
                     file.write(OLD.bytes)
             shutil.rmtree(room + "/turn", ignore_errors=True)
             shutil.copytree(room + "/mirror", room + "/turn")
-            out = in_turn(room, "turn")
+            out, left = in_turn(room, "turn")
             planned = wrong_dry_run(room, ["--all", "--prune"], out)
             saves, ended = shim.run_marked(library, ["copy", "--all", "--prune", "source", "mirror"], room)
             again = run(["copy", "--all", "--prune", "source", "mirror"], room)
             yield "%s, where there is %s" % (source, mirror), first([
                 planned,
-                None if ended[:3] == (0, out, "") else told(ended),
+                None if ended[:3] == (0, out, left) else told(ended),
                 None if files(room + "/mirror") == files(room + "/turn") else "other files than by three commands",
                 None if saves == 1 else "the index is put in place %d times" % saves,
                 None if again.status == 0 and "pushed 0" in again.out and "removed 0 files 0" in again.out else told(again),

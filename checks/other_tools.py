@@ -7,7 +7,7 @@ import shutil
 from support.indexes import entry, last_places, named, random_entries, saved_entries, saved_text
 from support.layouts import BAR, E, FOO, I1, INDEX, M2, M3, NAME, S, image, key, write_layout
 from support.program import first, run, told
-from support.pruning import Held, is_readable, key_of, name_of, text
+from support.pruning import Held, is_readable, key_of, name_of, notes, text
 
 CONTENTS = [E, FOO, BAR, M2, M3, I1, S]
 NEW = image([BAR])
@@ -93,8 +93,7 @@ def tags(room, layout):
 
 
 def wrong_change(room, index, unlisted):
-    """Return the problem with a tag that is set and removed again, or None. Only the entry of its image, without a name, is new, and those of
-    the unlisted manifests.
+    """Return the problem with a tag that is set and removed again with its image, or None. Only the entries of the unlisted manifests are new.
     """
     fresh(room, index)
     entries = index["manifests"] + [entry(it) for it in unlisted]
@@ -108,7 +107,7 @@ def wrong_change(room, index, unlisted):
         wrong_run(room, "copy", "source", "v1", "layout", TAG),
         None if index_bytes(room) == once else "a second copy changed the index",
         wrong_run(room, "untag", "layout", TAG),
-        wrong_index(room, [*entries, entry(NEW)], members),
+        wrong_index(room, entries, members),
         None if tags(room, "layout") == before else "the tags changed",
     ])
 
@@ -190,9 +189,20 @@ class Index:
         return complaint or first([
             self.wrong(["copy", "source", "v1", "layout", TAG], 0, copied),
             self.wrong_index(entries, NEW, E, BAR),
-            self.wrong(["untag", "layout", TAG], 0, "untagged %s\n" % key(NEW)),
-            self.wrong_index([it for it in self.saved(entries, NEW, E, BAR) if name_of(it) != TAG], NEW, E, BAR),
+            self.wrong_untag(TAG),
         ])
+
+    def wrong_untag(self, name):
+        """Return the problem with the removal of a name, or None. With a tag goes what belongs to it alone."""
+        held, entries = Held(self.room + "/layout"), json.loads(index_bytes(self.room))["manifests"]
+        left, own = held.left_without(name), [it for it in entries if name_of(it) == name]
+        lines = ["untagged %s\n" % (text(key_of(it)) if is_readable(it) else "-") for it in own]
+        lines += ["untagged %s\n" % text(it) for it in held.belonged(name)]
+        rest = [it for it in entries if name_of(it) != name and not (is_readable(it) and key_of(it) in held.keys - left)]
+        wanted = saved_text(saved_entries(rest, left, set().union(*map(held.listed, left))))
+        complaint = self.wrong(["untag", "layout", name], 0, "".join(lines))
+        found = index_bytes(self.room).decode()
+        return complaint or (None if found == wanted else "the index is %.500s, and not %.500s" % (found, wanted))
 
     def wrong_name(self, name):
         """Return the problem with a name, or None."""
@@ -204,11 +214,9 @@ class Index:
             ended = 0, text(self.held.tags[name]) + "\n", ""
         else:
             ended = 1, "", refusal(self.last[name]) if not is_readable(entries[-1]) else "ocicp: 36 UnknownReference\n"
-        lines = ["untagged %s\n" % (text(key_of(it)) if is_readable(it) else "-") for it in entries]
         return first([
             self.wrong(["resolve", "layout", name], *ended),
-            self.wrong(["untag", "layout", name], 0, "".join(lines)),
-            self.wrong_index(self.without(name)),
+            self.wrong_untag(name),
         ])
 
     def wrong_lists(self):
@@ -236,7 +244,7 @@ class Index:
         of_all = [it for place, entry in enumerate(self.entries) if name_of(entry) for it in self.lack_of(place, entry)]
         return first([
             self.wrong_answer(["prune", "--dry-run", "layout"], (absent + unreadable)[:1]),
-            self.wrong_answer(["prune", "--dry-run", "--untagged", "layout"], (no_tags + absent + unreadable)[:1]),
+            self.wrong_answer(["prune", "--dry-run", "--untagged", "layout"], (absent + unreadable + no_tags)[:1]),
             self.wrong_answer(["copy", "--all", "layout", "all"], (of_all + no_tags)[:1]),
             self.wrong_answer(["copy", "--all", "--referrers", "--dry-run", "layout", "all"], (unreadable + of_all + no_tags)[:1]),
         ])
@@ -251,7 +259,9 @@ class Index:
     def wrong_answer(self, words, lines):
         """Return the problem with a command that is to be refused with one of these lines, or to succeed if there is none, or None."""
         ended = run(words, self.room)
-        right = ended[:2] == (1, "") and ended.err in lines if lines else (ended.status, ended.err) == (0, "")
+        # (a copy says how many images without a tag stay)
+        left = self.held.free() - Held(self.room + "/all").keys if ended.status == 0 and words == ["copy", "--all", "layout", "all"] else ()
+        right = ended[:2] == (1, "") and ended.err in lines if lines else (ended.status, ended.err) == (0, notes(0, len(left)))
         return None if right else "%s: %s, and not %s" % (" ".join(words), told(ended), lines)
 
 

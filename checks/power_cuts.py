@@ -221,6 +221,7 @@ SIGNED_ONE = [*COMMON, *OF_ONE, ONE, SIGNED, SIGNATURE], {"new": ONE}, [SIGNATUR
 TWO_TAGS = [*COMMON, *OF_ONE, *OF_TWO, ONE, TWO], {"a": ONE, "b": TWO}
 ONLY_OLD = [*COMMON, *OF_OLD, OLD], {"old": OLD}
 OLD_AND_ONE = [*COMMON, *OF_OLD, *OF_ONE, OLD, ONE], {"old": OLD, "new": ONE}
+SIGNED_AND_OLD = [*SIGNED_ONE[0], *OF_OLD, OLD], {"old": OLD, "new": ONE}, [SIGNATURE]
 NO_TAG = [*COMMON, *OF_OLD, *OF_ONE, OLD, ONE], {"old": OLD}, [ONE]
 COPY, ALL, REPAIR, SET = ["source", "new", "copied"], ["--all", "source", "copied"], ["copied", "source"], {"new": ONE}
 SAVE = "rename", "copied/index.json"
@@ -254,6 +255,7 @@ CASES = {
        for name, case in cases.items() for workers in ("1 worker", "3 workers")},
     "tag": Case(["tag", "copied", "old", "new"], None, OLD_AND_ONE, {"new": OLD}),
     "untag": Case(["untag", "copied", "new"], None, OLD_AND_ONE, {"new": None}),
+    "untag with a signature": Case(["untag", "copied", "new"], None, SIGNED_AND_OLD, {"new": None, key(SIGNATURE).digest: None}),
     "prune": Case(["prune", "copied"], None, ([*NO_TAG[0], *OF_TWO], *NO_TAG[1:])),
     "prune --untagged": Case(["prune", "--untagged", "copied"], None, NO_TAG, {key(ONE).digest: None}),
     "prune --untagged after one that was killed after its save": Case(

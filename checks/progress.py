@@ -55,7 +55,7 @@ REFUSED = "ocicp: 88 Fetch %s 21 Corrupt\n" % key(LONG)
 REFUSED_AS_JSON = document({"error": [
     {"number": 88, "name": "Fetch", "descriptor": described(LONG)},
     {"number": 21, "name": "Corrupt"},
-], "side": "SRC", "path": "spoiled/" + blob(LONG)})
+], "kind": "damaged", "side": "SRC", "path": "spoiled/" + blob(LONG)})
 # The words, the status, and the text below the line when it was erased. `*` is for a sentence about the refusal.
 CASES = [
     ("copy source one copied", 0, COPIED),

@@ -33,9 +33,9 @@ def wrong_prune(words, library, room, nth):
 
 
 def wrong_without(layout, name):
-    """Return the problem with a layout from which a tag was removed, and nothing else, or None."""
+    """Return the problem with a layout from which a tag was removed with what belongs to it alone, or None."""
     others = {it: TAGS[it] for it in TAGS if it != name}
-    return wrong_layout(layout.room, "layout", layout.prune.held.keys, others)
+    return wrong_layout(layout.room, "layout", layout.prune.held.left_without(name), others)
 
 
 def wrong_untag(name, library, room, nth):

@@ -10,7 +10,7 @@ from support import shim
 from support.files import files, stamps, wrong_refusal
 from support.layouts import BAR, E, FOO, I1, LAYER, M2, M3, S, Content, blob, digits, image, index, key, write_layout
 from support.program import NOBODY, PROGRAM, first, run, told
-from support.pruning import Prune, last_line
+from support.pruning import Prune, notes, last_line
 
 SECONDS = 60
 A = Content(LAYER, b"a layer")
@@ -226,7 +226,8 @@ def locked(room):
         yield "%s waits for the lock" % words[0], wrong_wait(room, words, out or Prune(room + "/layout").out)
     for name, words in commands.items():
         ended = run(words, room)
-        wanted = (1, "ocicp: 36 UnknownReference\n") if name == "untag" else (0, "")
+        # (`prune --untagged` has removed the layer without a tag, which the source still has)
+        wanted = {"untag": (1, "ocicp: 36 UnknownReference\n"), "copy --all": (0, notes(0, 1))}.get(name, (0, ""))
         yield "%s --no-wait, of a folder that is free" % name, None if (ended.status, ended.err) == wanted else told(ended)
 
 

@@ -392,7 +392,7 @@ def more_pushes(room):
         yield "a push of a layer", here.wrong_refusal("push layout@%s HOST/fifth:v1" % digest(FOO), "is no manifest")
         yield "a push of a missing tag", here.wrong_refusal("push layout:v2 HOST/fifth:v1", "ocicp: 36 UnknownReference\n")
         shutil.copy(here.room + "/layout/" + blob(ONE), "%s/layout/%s" % (here.room, blob(TWO)))
-        line = "ocicp: 81 Plan 53 NotFound %s\n" % key(TWO)
+        line = "ocicp: 75 Corrupt %s\n" % key(TWO)
         yield "a push with a damaged manifest", here.wrong_refusal("push layout:v1 HOST/fifth:v1", line)
     # (`ocicp cat` writes a part of a blob of more than 4 MiB before it has checked all of it)
     huge = Content(LAYER, bytes(5 * MEGABYTE))

@@ -1,16 +1,20 @@
-"""The command `untag`, and the findings of `verify` for entries without a file. Wants `cc`."""
+"""The command `untag`, also of random layouts, against the rules of its help, and the findings of `verify` for entries without a file. Wants `cc`."""
 import os
+import random
 import shutil
 import signal
 
+from attached import random_layout
 from support import shim
 from support.files import files, wrong_refusal
 from support.layouts import BAR, E, FOO, I1, LAYER, M2, M3, S, Content, blob, digits, key, write_layout
 from support.program import first, run, told
-from support.pruning import Held
+from support.pruning import Held, Prune, text
 
 CONTENTS = [E, FOO, BAR, M2, M3, I1, S]
 TAGS = {"both": I1, "one": M2, "again": M2, "layer": BAR, "sha256:" + digits(M3): S, "a longer name, with spaces: \u00e9": M3}
+# The number of random layouts.
+LAYOUTS = 40
 UNKNOWN, EMPTY = "36 UnknownReference", "35 EmptyReference"
 
 
@@ -29,33 +33,52 @@ def lines(names):
 
 
 def wrong_untag(room, name):
-    """Return the problem with the removal of one tag, or None. The other tags and each blob are to stay, and the digest to be resolved."""
-    fresh(room)
-    before = files(room + "/layout")
+    """Return the problem with the removal of one tag, or None. What belongs to it alone is to go with it, and each file is to stay until a
+    prune."""
+    held, before = Held(room + "/layout"), files(room + "/layout")
+    left = held.left_without(name)
     ended = run(["untag", "layout", name], room)
-    after = files(room + "/layout")
-    named = "sha256:" + digits(TAGS[name])
-    resolved, verified = run(["resolve", "layout", named], room), run(["verify", "layout"], room)
+    after, saved = files(room + "/layout"), Held(room + "/layout")
+    lines = ["untagged %s\n" % text(it) for it in [*held.by_name[name], *held.belonged(name)]]
+    pruned = Prune(room + "/layout")
+    prune = run(["prune", "layout"], room) if saved.has_entries else None
     return first([
-        None if ended[:3] == (0, "untagged %s\n" % key(TAGS[name]), "") else told(ended),
-        None if tags(room) == lines({it: TAGS[it] for it in TAGS if it != name}) else "tags: %s" % (tags(room),),
+        None if ended[:3] == (0, "".join(lines), "") else told(ended),
         None if {**after, "index.json": None} == {**before, "index.json": None} else "another file has changed",
-        None if verified[:3] == (0, "held %d\n" % len(CONTENTS), "") else told(verified),
-        None if named in TAGS or resolved[:3] == (0, key(TAGS[name]) + "\n", "") else told(resolved),
+        None if saved.keys == left else "what is held is not what is left",
+        None if saved.tags == {it: key for it, key in held.tags.items() if it != name and key in left} else "the tags: %s" % sorted(saved.tags),
+        None if not prune or prune[:3] == (0, pruned.out, "") else told(prune),
         wrong_refusal(room, ["untag", "layout", name], UNKNOWN),
     ])
 
 
 def one_by_one(room):
     for name in TAGS:
+        fresh(room)
         yield "untag %s" % name, wrong_untag(room, name)
     fresh(room)
-    ended = [run(["untag", "layout", name], room) for name in TAGS]
-    yield "each tag in turn", first([
-        first(None if it[:3] == (0, "untagged %s\n" % key(TAGS[name]), "") else told(it) for name, it in zip(TAGS, ended)),
-        None if tags(room) == (0, "", "") else "tags: %s" % (tags(room),),
-        None if len(Held(room + "/layout").keys) == len(CONTENTS) else "not all is held",
-    ])
+    yield "each tag in turn", first(wrong_untag(room, name) for name in TAGS)
+
+
+def at_random(room):
+    """Remove each tag of random layouts, which have signatures and tags by digest, one by one and in turn."""
+    gone = 0
+    for seed in range(LAYOUTS):
+        chance = random.Random(seed)
+        contents, names, manifests = random_layout(chance)
+        untagged = [it for it in manifests if chance.random() < 0.3]
+        for is_fresh in True, False:
+            found = []
+            for number, name in enumerate(names):
+                if is_fresh or not number:
+                    shutil.rmtree(room + "/layout", ignore_errors=True)
+                    write_layout(room + "/layout", contents, names, untagged)
+                held = Held(room + "/layout")
+                if name in held.tags:
+                    gone += len(held.keys - held.left_without(name))
+                    found.append(wrong_untag(room, name))
+            yield "random layout %d, %s" % (seed, "tag by tag" if is_fresh else "each tag in turn"), first(found)
+    yield "what goes with the tags of random layouts", None if gone > LAYOUTS else "only %d keys" % gone
 
 
 def refused(room):
@@ -102,7 +125,7 @@ def absent(room):
 
 
 def checks(room):
-    for number, group in enumerate([one_by_one, refused, killed, absent]):
+    for number, group in enumerate([one_by_one, at_random, refused, killed, absent]):
         folder = "%s/%d" % (room, number)
         os.mkdir(folder)
         yield from group(folder)

@@ -22,11 +22,12 @@ CONTENTS = {
 }
 
 # The answers of a copy from a layout with each harm in the place of a file. A harm without an answer of its own is no regular file, or is a
-# link in the place of a file that no digest checks. An empty answer is success. A layer or config of another size counts as missing, and so
-# does what is no regular file.
+# link in the place of a file that no digest checks. An empty answer is success. A layer or config of another size is damaged, and so is what is
+# no regular file.
 LEAF = {
-    "": ["81 Plan 53 NotFound KEY"],
+    "": ["75 Corrupt KEY"],
     "a link to itself": ["74 Device"],
+    "a link to nothing": ["81 Plan 53 NotFound KEY"],
 }
 FROM = {
     "oci-layout": {

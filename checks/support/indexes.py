@@ -4,7 +4,7 @@ import json
 
 from support.files import read
 from support.layouts import INDEX, NAME, descriptor, image
-from support.pruning import MEMBERS, is_readable, key_of, name_of
+from support.pruning import MEMBERS, Held, is_readable, key_of, name_of
 
 # Values that are no objects, or have nothing that a descriptor has.
 OTHERS = [None, True, -7, 1.5, "a \"text\"\n", [], [{"z": 1, "a": [{"y": None, "b": "\u00e9"}]}], {}, {"x": [1, None, {"z": 1, "y": 2}]}]
@@ -54,6 +54,14 @@ def random_entries(chance, contents, names):
         readable = entry(content, number=chance.randrange(9), **members)
         entries.append(readable if chance.random() < 0.5 else unreadable(chance, name))
     return entries
+
+
+def without_names(folder, names):
+    """Write the index of a layout without the tags of these names. What they named stays, as entries without a tag."""
+    held, entries = Held(folder), json.loads(read(folder + "/index.json"))["manifests"]
+    rest, listed = [it for it in entries if name_of(it) not in names], set().union(*map(held.listed, held.keys))
+    with open(folder + "/index.json", "w") as file:
+        file.write(saved_text(saved_entries(rest, held.keys, listed)))
 
 
 def last_places(entries):

@@ -1,4 +1,5 @@
 """The lines that each command prints, made again from the document that it prints with `--json`."""
+import errno
 import json
 import os
 
@@ -38,7 +39,21 @@ REPORTING = [*WHOLE, "verify", "repair"]
 # The line of an unreadable entry, without its place, and the lines of a damaged manifest, without its key.
 UNREADABLE = "ocicp: 73 BadIndex 14 BadDescriptor manifests "
 DAMAGED = ["ocicp: 75 Corrupt ", "ocicp: 77 BadManifest "]
-MEMORY = '{"error":[{"name":"Memory"}]}\n'
+MEMORY = '{"error":[{"name":"Memory"}],"kind":"memory"}\n'
+# The last numbers of the refusals of each kind. The others are of the kind `refused`.
+KINDS = {
+    "notFound": {20, 36, 37, 45, 70, 97, 100, 107, 108},
+    "damaged": {*range(10, 15), 21, 31, 32, 40, 42, 53, 55, 71, 73, 75, 77, 80, 83, 96, 102, 103, 109},
+    "locked": {99, 110},
+    "device": {22, 43, 74, 79, 90, 93, 94, 105},
+    "memory": {15, 23, 34, 38, 41, 47, 48, 52, 58, 63, 76, 86, 89, 91, 106},
+}
+# The kinds that some reasons of the system have in the place of `device`.
+OF_SYSTEM = {
+    os.strerror(error): kind for kind, errors in {
+        "notFound": [errno.ENOENT], "full": [errno.ENOSPC, errno.EDQUOT], "denied": [errno.EACCES, errno.EPERM, errno.EROFS],
+    }.items() for error in errors
+}
 
 
 def object_of(members):
@@ -136,7 +151,11 @@ def of_verify(value, words):
 
 
 def of_explain(value, words):
-    return ["%d %s\n%s" % tuple(taken(value, {"number": int, "name": str, "text": str}))]
+    more = value.pop("more", None)
+    if more == []:
+        raise ValueError("more is empty")
+    explained = [taken(it, {"number": int, "name": str, "text": str}) for it in [value, *(more or [])]]
+    return ["\n\n".join("%d %s\n%s" % tuple(it) for it in explained)]
 
 
 def of_tag(value, words):
@@ -147,12 +166,13 @@ def of_tag(value, words):
 
 
 def of_untag(value, words):
-    tag, descriptor, descriptors = taken(value, {"tag": str, "descriptor": (dict, type(None)), "descriptors": list})
+    members = {"tag": str, "descriptor": (dict, type(None)), "descriptors": list, "belonged": list}
+    tag, descriptor, descriptors, belonged = taken(value, members)
     if tag != words[-1]:
         raise ValueError("the tag is %r" % tag)
     if descriptors[-1] != descriptor:
         raise ValueError("the last entry has %s" % descriptors[-1])
-    return ["untagged " + ("-" if it is None else key(it)) for it in descriptors]
+    return ["untagged " + ("-" if it is None else key(it)) for it in descriptors + [it or {} for it in belonged]]
 
 
 def of_mem(value, words):
@@ -213,7 +233,8 @@ def of_copy(value, words):
     if "--dry-run" in words:
         return of_plan(value, words)
     prunes = "--prune" in words
-    copied, *counts = taken(value, {**COPIED, **(CLEANED if prunes else {})})[:4]
+    left = {it: list for it in ("attachedLeft", "untaggedLeft") if it in value}
+    copied, *counts = taken(value, {**COPIED, **(CLEANED if prunes else {}), **left})[:4]
     if "--all" not in words and [it["tag"] for it in copied] != [tag_of(words)]:
         raise ValueError("the tag is not %r" % tag_of(words))
     lines = ["copied " + tagged(it)[1] for it in copied] + ["planned %d pushed %d skipped %d" % tuple(counts)]
@@ -280,6 +301,12 @@ def fault(value):
     return " ".join([str(number), name, *(key(it) if isinstance(it, dict) else str(it) for it in values)])
 
 
+def kind_of(number, reason):
+    """Return the kind of a refusal with this last number and this reason of the system, or None."""
+    kind = next((kind for kind, numbers in KINDS.items() if number in numbers), "refused")
+    return OF_SYSTEM.get(reason, kind) if kind == "device" else kind
+
+
 def of_error(text):
     """Return the error output as it is without `--json`: with a line in the place of the document."""
     if text == MEMORY:
@@ -288,7 +315,9 @@ def of_error(text):
     if not document.startswith("{"):
         return text
     value = read_document(document)
-    faults, *_ = taken(value, {"error": list, **{name: kind for name, kind in AT.items() if name in value}})
-    if "path" not in value and len(value) > 1 or value.get("side", "SRC") not in ("SRC", "DST", "FOLDER"):
+    faults, kind, *_ = taken(value, {"error": list, "kind": str, **{name: kind for name, kind in AT.items() if name in value}})
+    if kind != kind_of(faults[-1]["number"], value.get("os")):
+        raise ValueError("the kind of %s is %r" % (value, kind))
+    if "path" not in value and len(value) > 2 or value.get("side", "SRC") not in ("SRC", "DST", "FOLDER"):
         raise ValueError("the file of the refusal is in %s" % value)
     return "%socicp: %s\n" % (before, " ".join(map(fault, faults)))

@@ -8,6 +8,7 @@ import time
 from support import json_lines
 from support.files import files
 from support.program import PROGRAM, SECONDS, Ended, told
+from support.pruning import notes
 
 FORMS = ["lines", "json"]
 CHANGES = ["copy", "tag", "untag", "prune", "repair"]
@@ -27,7 +28,7 @@ def with_json(words):
 
 def lines_of(words, ended, folder):
     """Return the lines for the output and the error output of a run with `--json`, and how the line of each refusal after the output begins."""
-    out, reported = ended.out, []
+    out, reported, left = ended.out, [], []
     # (a refusal has no document on stdout, but for those of a prune which could not remove a file, of unreadable entries, and of damaged
     # manifests)
     if ended.status == 0 or out:
@@ -36,7 +37,8 @@ def lines_of(words, ended, folder):
         reported = json_lines.take_reported(value, words)
         lines = json_lines.LINES[words[0]](value, words, *labels)
         out = "".join(line + "\n" for line in lines)
-    return out, json_lines.of_error(ended.err), reported
+        left = [len(value.get(it, [])) for it in ("attachedLeft", "untaggedLeft")] if words[0] == "copy" else []
+    return out, json_lines.of_error(ended.err) + notes(*left or [0]), reported
 
 
 def first_reported(err, reported):

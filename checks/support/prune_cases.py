@@ -15,7 +15,8 @@ STRAY, ZEROS = "blobs/sha256/" + "0" * 63 + "1", "0" * 64
 # Layers and images that no other sample has, and manifests that refer to them.
 A, B, OLD = Content(LAYER, b"a layer"), Content(LAYER, b"b layer"), Content(LAYER, b"old layer")
 A_ZIPPED, LONG = A._replace(media_type=GZIP), A._replace(algorithm="sha512")
-OLD_IMAGE = image([A, OLD])
+FAR = A._replace(media_type=FOREIGN)
+OLD_IMAGE, FAR_IMAGE = image([A, OLD]), image([FAR])
 LONG_IMAGE, OLD_LONG = image([LONG]), image([B], subject=M3)._replace(algorithm="sha512")
 SIGNED = image([B], subject=S)
 BILL = index([SIGNED], subject=S)
@@ -92,7 +93,9 @@ CASES = {
     }),
     "a layer that is not distributed": Case([E, FOO, image([FOO]), image([FOO._replace(media_type=FOREIGN), BAR])],
                                             {"new": image([FOO._replace(media_type=FOREIGN), BAR])}, [image([FOO])],
-                                            goes=[FOO, image([FOO])], free=[image([FOO])], is_whole=False),
+                                            goes=[FOO, image([FOO])], free=[image([FOO])], shared=[FOO], is_whole=False),
+    "the file of a layer that is not distributed": Case([E, FOO, M2, FAR_IMAGE], {"new": FAR_IMAGE}, [M2], {blob(FAR): FAR.bytes, STRAY: b"stray"},
+                                                        goes=[FOO, M2, STRAY], free=[M2]),
 }
 
 

@@ -16,7 +16,7 @@ MEMBERS = {
     DOCKER_LIST: ["manifests"],
     ARTIFACT: ["subject", "blobs"],
 }
-# Layers of these types are not distributed, so no manifest needs them.
+# Layers of these types are not distributed: no copy brings them.
 FOREIGN = re.compile(
     r"application/vnd\.oci\.image\.layer\.nondistributable\.v1\.tar(\+gzip|\+zstd)?"
     r"|application/vnd\.docker\.image\.rootfs\.foreign\.diff\.tar\.gzip"
@@ -75,6 +75,9 @@ class Held:
         # (of two entries with one name the last counts, held or not)
         last = {name_of(it): is_readable(it) and key_of(it) for it in entries}
         self.tags = {name: key for name, key in last.items() if name and key in self.keys}
+        # The name and the key of each entry, and the keys of the entries of each name.
+        self.listing = [(name_of(it), key_of(it)) for it in entries if is_readable(it)]
+        self.by_name = {name: [key for other, key in self.listing if other == name] for name, _ in self.listing if name}
         # The keys of the entries with a name, also of those that a tag hides.
         self.named_keys = {key_of(it) for it in entries if name_of(it) and is_readable(it)} & self.keys
 
@@ -88,10 +91,13 @@ class Held:
         value = json.loads(read("%s/%s" % (self.folder, path(key)))).get(name) or []
         return [key_of(it) for it in (value if isinstance(value, list) else [value])]
 
+    def all_listed(self, key):
+        """Return the keys that a key lists, also those that are not distributed."""
+        return [it for name in MEMBERS.get(key.media_type, []) for it in self.member(key, name)]
+
     def listed(self, key):
-        """Return the keys that a key lists."""
-        found = [it for name in MEMBERS.get(key.media_type, []) for it in self.member(key, name)]
-        return [it for it in found if not FOREIGN.fullmatch(it.media_type)]
+        """Return the keys that a key lists and that are distributed."""
+        return [it for it in self.all_listed(key) if not FOREIGN.fullmatch(it.media_type)]
 
     def subject(self, key):
         return self.member(key, "subject") if "subject" in MEMBERS.get(key.media_type, []) else []
@@ -125,6 +131,44 @@ class Held:
         return self.keys - bound
 
 
+    def follow(self, keys, tags):
+        """Return the keys of those of these tags whose names, up to the first dot, are made of the digest of a manifest of these keys."""
+        made = set().union(*(texts_of(it) for it in keys if it.media_type in MEMBERS))
+        return {key for name, key in tags.items() if name.split(".")[0] in made}
+
+    def is_known(self):
+        """Return whether each entry is a descriptor and there, and each manifest that a key lists is there."""
+        listed = set().union(*map(self.listed, self.keys))
+        return not self.unreadable and not self.absent and {it for it in listed if it.media_type in MEMBERS} <= self.keys
+
+    def left_without(self, tag):
+        """Return the keys that are left when a tag is removed with what belonged to it alone: those that belong to other tags, to entries
+        that these hide, to free keys, or to keys that did not belong to the tag. A tag that follows another manifest counts for nothing."""
+        if not self.is_known() or tag not in self.tags:
+            return self.keys
+        tags = {name: key for name, key in self.tags.items() if name != tag}
+        manifests = {it for it in self.keys if it.media_type in MEMBERS}
+        own = {key for name, key in tags.items() if name.split(".")[0] in texts_of(key) or key not in self.follow(manifests, {name: key})}
+        hidden = {key for name, keys in self.by_name.items() if name != tag for key in keys[:-1]}
+
+        def attached(keys):
+            return self.referrers(keys) | self.follow(keys, tags)
+
+        gone = self.members(set(self.by_name[tag]), attached)
+        return self.members(own | hidden | self.free() | (self.keys - gone), attached)
+
+    def belonged(self, tag):
+        """Return the keys of the other entries that go with a tag, in the order of the index."""
+        gone = self.keys - self.left_without(tag)
+        return [key for name, key in self.listing if name != tag and key in gone]
+
+
+def texts_of(key):
+    """Return the texts that name the digest of a key in a tag."""
+    whole = key.digest.replace(":", "-")
+    return {whole, whole[: len("sha512-") + 64]}
+
+
 class Prune:
     """A prune of a layout, with `--untagged` or without. Drafts at these paths are still written."""
 
@@ -134,8 +178,8 @@ class Prune:
         self.removed = sorted(held.keys - self.kept)
         # The keys without a tag that are counted.
         self.free = set() if untagged else held.free()
-        # (a kept image needs what is left of a layer of another size)
-        needed = {path(it) for key in self.kept for it in [key, *held.listed(key)]}
+        # (a kept image needs what is left of a layer of another size, and layers that no copy brings)
+        needed = {path(it) for key in self.kept for it in [key, *held.all_listed(key)]}
         had = set(map(path, held.keys))
         lengths = {it: os.lstat("%s/%s" % (folder, it)).st_size for it in files_of(folder)}
         blobs = [it for it in lengths if BLOB.fullmatch(it) and it not in needed]
@@ -157,11 +201,11 @@ class Prune:
         self.drafts = sorted(drafts)
         self.refusals = [
             *(["109 NoIndex"] if not (untagged or held.has_entries) and any(map(BLOB.fullmatch, lengths)) else []),
-            *(["97 NoTags"] if untagged and not held.tags else []),
             *("96 Unknown " + text(it) for it in held.absent),
             *("73 BadIndex 14 BadDescriptor manifests %d" % it for it in held.unreadable[:1]),
             *("96 Unknown " + text(it) for it in self.lacking()),
             *["98 LinkedBlobs " + it for it in LINKS if os.path.islink("%s/%s" % (folder, it))][:1],
+            *(["97 NoTags"] if untagged and not held.tags else []),
         ]
         self.out = "".join(it + "\n" for it in self.lines)
 
@@ -175,6 +219,18 @@ def last_line(kept, removed, lengths, free=0):
     """Return the line of the counts. The keys without a tag that stay are only counted if there is one."""
     line = "kept %d removed %d files %d bytes %d" % (kept, removed, len(lengths), sum(lengths))
     return line + (" untagged %d (see --untagged)" % free if free else "")
+
+
+def notes(attached, untagged=0):
+    """Return the lines of a copy on its error output, if it leaves so much in SRC that is attached, and so many images without a tag."""
+    lines = []
+    if attached:
+        many = "1 manifest that is attached to it stays" if attached == 1 else "%d manifests that are attached to it stay" % attached
+        lines.append("ocicp: note: %s in SRC (--referrers brings %s)\n" % (many, "it" if attached == 1 else "them"))
+    if untagged:
+        many = "1 image without a tag stays" if untagged == 1 else "%d images without a tag stay" % untagged
+        lines.append("ocicp: note: %s in SRC (see --untagged)\n" % many)
+    return "".join(lines)
 
 
 def files_of(folder):

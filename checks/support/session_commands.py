@@ -54,8 +54,8 @@ int clock_gettime(clockid_t clock, struct timespec *time) {
 }
 """
 # How a run ends that cannot write its output, or has no memory to do so: the line and the document, and the status.
-BROKEN = ("ocicp: 94 Output", '{"error":[{"number":94,"name":"Output"}]}'), 1
-STARVED = ("ocicp: memory", '{"error":[{"name":"Memory"}]}'), 3
+BROKEN = ("ocicp: 94 Output", '{"error":[{"number":94,"name":"Output"}],"kind":"device"}'), 1
+STARVED = ("ocicp: memory", '{"error":[{"name":"Memory"}],"kind":"memory"}'), 3
 WAYS = {errno.EPIPE: BROKEN, errno.EIO: BROKEN, errno.ENOSPC: BROKEN, errno.ENOMEM: STARVED}
 
 

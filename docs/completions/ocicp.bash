@@ -8,7 +8,7 @@ _ocicp() {
   fi
   case ${COMP_WORDS[1]} in
     copy)
-      flags='--archive --all --match --platform --referrers --depth --artifact-type --descend --prune --workers --progress --dry-run --hint --json --no-wait --no-sync --help' valued='--match --platform --depth --artifact-type --workers' kinds=(folder tag folder tag)
+      flags='--archive --all --match --untagged --platform --referrers --depth --artifact-type --descend --prune --workers --progress --dry-run --hint --json --no-wait --no-sync --help' valued='--match --platform --depth --artifact-type --workers' kinds=(folder tag folder tag)
       [[ " ${COMP_WORDS[*]} " != *' --all '* ]] || kinds=(folder folder)
       ;;
     tag)
@@ -39,7 +39,7 @@ _ocicp() {
       flags='--platform --hint --json --help' valued='--platform' kinds=(folder tag)
       ;;
     verify)
-      flags='--workers --hint --json --help' valued='--workers' kinds=(folder)
+      flags='--workers --hint --json --help' valued='--workers' kinds=(folder tag)
       ;;
     mem)
       flags='--workers --sha512 --hint --json --help' valued='--workers' last=file

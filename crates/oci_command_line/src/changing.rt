@@ -49,6 +49,8 @@ pub struct CopyWords<'w> {
     pub shown: Shown,
     /// Whether the copy is only planned and printed.
     pub is_dry: bool,
+    /// Whether the images that no tag names are copied too. Only with `Selection::AllTags`.
+    pub brings_untagged: bool,
     /// Whether the copy also looks below the blobs that the destination has.
     pub descends: bool,
     /// Whether the tags that the source does not have are removed afterwards, with what no tag of

@@ -1,7 +1,8 @@
-ghost use Rattle.std.specs.Prelude.{◌≡◌, IfSome};
-ghost use Rattle.oci_command_line.specs.Explain.{before_space, Writes};
+ghost use Rattle.std.specs.Prelude.{◌≡◌, ◌∷◌, All, IfOk, IfSome};
+ghost use Rattle.oci_command_line.specs.Explain.{before_space, IsAskedBy, Writes};
 
 use serde::Serialize;
+use std::alloc::{AllocError, Global};
 use std::fmt::{self, Display, Formatter, Write};
 
 /// An entry of three lines for each error number, with an empty line between two numbers: the number and its
@@ -148,7 +149,7 @@ Memory ran out while a graph was ordered.
 Give the process more memory.
 
 53 NotFound
-The copy needs the named blob, and the source does not have it, or has a damaged file there. Nothing was copied.
+The copy needs the named blob, and the source does not have it. Nothing was copied.
 Run `ocicp repair SRC FROM`, with a layout that has the blob.
 
 54 TooLarge
@@ -355,7 +356,7 @@ Put `index.json` back. If you have no copy of it, `ocicp copy` into the folder w
 Another program wrote `index.json` or removed it while the command ran. It stays as that program left it. Copied blobs stay.
 Run the command again: it then starts from the new index, and copies only what is missing. Do not let another program write into the folder meanwhile.";
 
-/// What `explain` prints about an error number.
+/// What `explain` prints of one error number.
 #[derive(Clone, Copy, Serialize)]
 pub struct Explanation {
     /// The number of the error.
@@ -375,17 +376,68 @@ impl Display for Explanation {
     }
 }
 
-/// Returns the explanation of a number, which is written without leading zeros. `None` if no error
-/// has it.
-pub(crate) fn find_explanation(number: &str) -> Option<Explanation>
-    ensures number { IfSome result (λ found. Writes number.now found.number) }
+/// What `explain` prints: the explanation of a number, or those of all numbers that have a name.
+#[derive(Drop, Serialize)]
+pub struct Explanations {
+    /// The explanation of the number, or of the first one that has the name.
+    #[serde(flatten)]
+    pub first: Explanation,
+    /// Those of the other numbers that have the name.
+    #[serde(skip_serializing_if = "Vec::is_empty")]
+    pub more: Vec<Explanation>,
+}
+
+impl Display for Explanations {
+    /// Prints each explanation, with an empty line between two.
+    fn fmt<W: Write>(&self, f: &mut Formatter<W>) -> fmt::Result {
+        write!(f, "{}", self.first)?;
+        for explanation in &self.more {
+            write!(f, "\n{explanation}")?;
+        }
+        Ok(())
+    }
+}
+
+/// Returns the explanations for a word: that of the number which it is, without leading zeros, or those
+/// of the numbers that have the name which it is, in their order. `None` if no error has it.
+pub(crate) fn find_explanations(
+    alloc: Global,
+    word: &str,
+) -> Result<Option<Explanations>, AllocError>
+    ensures asked { IfOk result (λ found. IfSome found (λ it.
+        All (IsAskedBy word.now) (it.first ∷ it.more.items))) }
 {
+    let mut found = explanations_for(alloc, word)?;
+    if found.is_empty() {
+        return Ok(None);
+    }
+    let first = found.remove(0);
+    Ok(Some(Explanations { first, more: found }))
+}
+
+/// Returns the explanations for a word, in the order of the table.
+fn explanations_for(alloc: Global, word: &str) -> Result<Vec<Explanation>, AllocError>
+    ensures asked { IfOk result (λ found. All (IsAskedBy word.now) found.items) }
+{
+    let mut found = Vec::new(alloc);
     for entry in REFUSALS.split("\n\n") {
-        if first_word(entry) == number {
-            return parse_entry(entry);
+        if let Some(explanation) = explanation_for(entry, word) {
+            found.push(explanation)?;
         }
     }
-    None
+    Ok(found)
+}
+
+/// Returns the explanation of an entry of the table, if a word is its number or its name.
+fn explanation_for(entry: &'static str, word: &str) -> Option<Explanation>
+    ensures asked { IfSome result (λ found. IsAskedBy word.now found) }
+{
+    let explanation = parse_entry(entry)?;
+    if first_word(entry) == word || explanation.name == word {
+        Some(explanation)
+    } else {
+        None
+    }
 }
 
 /// Returns the first sentence of the meaning of an error number, without its full stop. `None` if

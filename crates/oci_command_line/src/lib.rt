@@ -12,7 +12,7 @@
 //! | [`RepairWords`] | the words of `repair` |
 //! | [`MemWords`] | the words of `mem` |
 //! | [`Query`] | a command that reads one layout |
-//! | [`Explanation`] | the explanation of an error number |
+//! | [`Explanations`] | the explanations of an error number, or of those that have a name |
 //! | [`CommandLineFault`] | why parsing failed |
 //!
 //! [`first_sentence`] returns the meaning of an error number in one sentence.
@@ -25,6 +25,6 @@ mod request;
 mod words;
 
 pub use changing::{CopyWords, PruneWords, RepairWords, Selection, Shown, TagWords, UntagWords};
-pub use explain::{Explanation, first_sentence};
+pub use explain::{Explanation, Explanations, first_sentence};
 pub use memory::{Algorithm, MemWords};
 pub use request::{CommandLine, CommandLineFault, Query, Request};

@@ -1,5 +1,5 @@
 use crate::changing::{CopyWords, PruneWords, RepairWords, Selection, Shown, TagWords, UntagWords};
-use crate::explain::{Explanation, find_explanation};
+use crate::explain::{Explanations, find_explanations};
 use crate::memory::{Algorithm, MemWords};
 use crate::words::command;
 use clap::error::ErrorKind;
@@ -24,8 +24,8 @@ pub struct CommandLine<'w> {
 pub enum Request<'w> {
     /// `--help` or `--version`, with the text to print and its last line feed.
     Text(String),
-    /// `explain`, with the explanation to print.
-    Explain(Explanation),
+    /// `explain`, with the explanations to print.
+    Explain(Explanations),
     /// `mem`, with its items and flags.
     Mem(MemWords<'w>),
     /// `copy`, with its folders, references and flags.
@@ -85,6 +85,8 @@ pub enum Query<'w> {
     },
     /// `verify`.
     Verify {
+        /// The reference whose blob is checked with all that it reaches. `None`: the whole layout is.
+        reference: Option<&'w str>,
         /// The number of workers; 0 means the default number. `None`: one for each processor.
         workers: Option<u32>,
         /// Whether a line on the terminal shows how much was checked so far.
@@ -165,7 +167,7 @@ fn request_of<'w>(
     most_workers: u32,
 ) -> Result<Request<'w>, CommandLineFault> {
     match name {
-        "explain" => explanation_of(alloc, word(matches, "number"), most_workers),
+        "explain" => explanation_of(alloc, word(matches, "error"), most_workers),
         "copy" => copy_of(alloc, matches, on_terminal),
         "tag" => Ok(Request::Tag(tag_words(matches))),
         "untag" => Ok(Request::Untag(untag_words(matches))),
@@ -181,13 +183,7 @@ fn request_of<'w>(
         "predecessors" => Ok(of_folder(matches, predecessors_of(alloc, matches)?)),
         "tree" => Ok(of_folder(matches, tree_of(matches))),
         "cat" => Ok(of_folder(matches, cat_of(matches))),
-        "verify" => Ok(of_folder(
-            matches,
-            Query::Verify {
-                workers: matches.get_one("workers"),
-                shows_progress: on_terminal,
-            },
-        )),
+        "verify" => Ok(of_folder(matches, verify_of(matches, on_terminal))),
         _ => Ok(Request::Mem(mem_words(alloc, matches)?)),
     }
 }
@@ -254,24 +250,33 @@ fn cat_of<'w>(matches: &ArgMatches<'w>) -> Query<'w> {
     }
 }
 
-/// The request for the explanation of a number. An unknown number makes the command line invalid.
+/// The query for what is wrong with a layout, or with what the named reference reaches.
+fn verify_of<'w>(matches: &ArgMatches<'w>, on_terminal: bool) -> Query<'w> {
+    Query::Verify {
+        reference: matches.get_str("reference"),
+        workers: matches.get_one("workers"),
+        shows_progress: on_terminal,
+    }
+}
+
+/// The request for the explanations of a number or a name. An unknown one makes the command line invalid.
 fn explanation_of<'w>(
     alloc: Global,
-    number: &str,
+    word: &str,
     most_workers: u32,
 ) -> Result<Request<'w>, CommandLineFault> {
-    match find_explanation(number) {
-        Some(explanation) => Ok(Request::Explain(explanation)),
+    match find_explanations(alloc, word)? {
+        Some(explanations) => Ok(Request::Explain(explanations)),
         None => {
-            let error = unknown_number(alloc, number, most_workers)?;
+            let error = unknown_error(alloc, word, most_workers)?;
             Err(CommandLineFault::Usage(text_of(alloc, &error)?))
         }
     }
 }
 
-/// The error of a command line with an unknown number.
-fn unknown_number(alloc: Global, number: &str, most_workers: u32) -> Result<Error, AllocError> {
-    let message = format!(in alloc; "no error has the number '{number}'")?;
+/// The error of a command line with a word that no error has as its number or its name.
+fn unknown_error(alloc: Global, word: &str, most_workers: u32) -> Result<Error, AllocError> {
+    let message = format!(in alloc; "no error has the number or the name '{word}'")?;
     command(alloc, most_workers)?.error(ErrorKind::InvalidValue, &message)
 }
 
@@ -324,6 +329,7 @@ fn copy_words<'w>(
         types: texts(alloc, matches, "artifact-type")?,
         shown: shown(matches, on_terminal),
         is_dry: matches.get_flag("dry-run"),
+        brings_untagged: matches.get_flag("untagged"),
         descends: matches.get_flag("descend"),
         prunes: matches.get_flag("prune"),
         waits: waits(matches),

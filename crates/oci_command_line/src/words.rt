@@ -12,7 +12,7 @@ use crate::words::copying::{COPY, copy_arguments};
 use crate::words::memory::{MEM, mem_arguments};
 use crate::words::pruning::{PRUNE, prune_arguments};
 use crate::words::queries::{
-    CAT, EXPLAIN, PREDECESSORS, RESOLVE, TAGS, TREE, VERIFY, error_number, folder, platform,
+    CAT, EXPLAIN, PREDECESSORS, RESOLVE, TAGS, TREE, VERIFY, explained_error, folder, platform,
     predecessors_type, reference, tags_all, tree_referrers, verify_arguments,
 };
 use crate::words::repair::{REPAIR, repair_arguments};
@@ -55,7 +55,7 @@ pub(crate) fn command<'w>(alloc: Global, most_workers: u32) -> Result<Command<'w
         (CAT, &[platform(), hint(), json(), folder(), reference()]),
         (VERIFY, &verify_arguments(most_workers)),
         (MEM, &mem_arguments(most_workers)),
-        (EXPLAIN, &[hint(), json(), error_number()]),
+        (EXPLAIN, &[hint(), json(), explained_error()]),
     ];
     let mut built = Vec::new(alloc);
     for (text, arguments) in &commands {

@@ -21,9 +21,11 @@ use Rattle.oci_store.specs.Graph.{Node}
 use Rattle.oci_store.specs.Keyed.{has_key, HasAll}
 use Rattle.oci_store.specs.State.{State}
 use Rattle.oci_copy_commands.specs.Archived.{IsArchiveAnswer, IsArchived, IsOutlined, IsSavedOutline}
+use Rattle.oci_copy_commands.specs.Behind.{IsLeftBehind}
 use Rattle.oci_copy_commands.specs.Run.{options_of, store_of, IsSelectedIn}
 use Rattle.oci_selection.specs.Selected.{Selected}
 use Rattle.oci_copy_commands.specs.declared.answer.CopyAnswer.{CopyAnswer}
+use Rattle.oci_copy_commands.specs.declared.behind.LeftBehind.{LeftBehind}
 use Rattle.oci_selection.proofs.Selections.{among_held}
 
 -- where the planned keys of a copy into an empty layout are held, its roots are
@@ -61,12 +63,12 @@ is_outlined from memory options source selected plan empty held outline no_keys 
 
 -- what was exported of such a layout is the archive that the words ask for
 pub is_archived : {S M : Type 0} (from : S → Device) (memory : M → Device) (words : CopyWords) (source_dir : S) (source : LayoutState S)
-    (selected : Selected) (plan : Planned) (outline : LayoutState M) (items : List Item) (answer : CopyAnswer)
+    (selected : Selected) (plan : Planned) (outline : LayoutState M) (items : List Item) (behind : LeftBehind) (answer : CopyAnswer)
     → IsSelectedIn from words source_dir source selected → IsOutlined from memory (options_of words) source selected plan outline
     → (memory outline.dir).is_honest
-    → IsExport (store_of from source) (memory outline.dir) outline.graph items → IsArchiveAnswer selected plan answer
+    → IsExport (store_of from source) (memory outline.dir) outline.graph items → IsLeftBehind from words source selected.0 outline.graph behind → IsArchiveAnswer selected plan behind answer
     → IsArchived from memory words source_dir items answer
-is_archived from memory words source_dir source selected plan outline items answer chosen outlined honest exported answers =
+is_archived from memory words source_dir source selected plan outline items behind answer chosen outlined honest exported left answers =
     record {
       source = source;
       selected = selected;
@@ -76,6 +78,8 @@ is_archived from memory words source_dir source selected plan outline items answ
       outlined = outlined;
       exported = exported;
       files = exported.files honest outlined.version outline.tags outline.opened outlined.saved;
+      behind = behind;
+      left = left;
       answers = answers;
     }
 

@@ -1,3 +1,4 @@
 mod Archived
+mod Leaving
 mod Printed
 mod Runs

@@ -10,10 +10,9 @@ use Rattle.oci_dir.specs.Device.{Device}
 use Rattle.oci_layout_store.specs.Layout.{LayoutState}
 use Rattle.oci_layout_copy.specs.Goal.{patterns_of, Goal, IsPrepared}
 use Rattle.oci_layout_copy.specs.Mirror.{is_exact}
-use Rattle.oci_copy_commands.specs.Run.{options_of, store_of, DryRun, IsCopyMade, IsCopyPlanned, IsMadeBy, IsMirrorMade, IsPlannedBy}
+use Rattle.oci_copy_commands.specs.Run.{options_of, store_of, Done, DryRun, IsCopyMade, IsCopyPlanned, IsMadeBy, IsMirrorMade, IsPlannedBy}
 use Rattle.oci_layout_copy.specs.PlannedMirror.{IsPlannedCleanUp}
 use Rattle.oci_selection.specs.Selected.{Selected}
-use Rattle.oci_layout_copy.specs.declared.copied.Copied.{Copied}
 use Rattle.oci_layout_copy.specs.declared.planned.PlannedCleanUp.{PlannedCleanUp}
 
 -- what follows of each success holds if there is one
@@ -29,26 +28,26 @@ with_lines (Err e) gives lines = tt
 -- ---- a copy
 
 -- a copy without `--prune` is the one that the words ask for
-pub copy_made_by : {S D : Type 0} (from : S → Device) (to : D → Device) (words : CopyWords) (source : LayoutState S) (selected : Selected) (old new : LayoutState D) (options : Options) (done : Copied)
-    → words.prunes ≡ false → options ≡ options_of words → new ≡ old → IsCopyMade from to options source selected new done → IsMadeBy from to words source selected old done
-copy_made_by {S} {D} from to words source selected old new options done plain named same made =
+pub copy_made_by : {S D : Type 0} (from : S → Device) (to : D → Device) (words : CopyWords) (source : LayoutState S) (selected : Selected) (old new : LayoutState D) (done : Done)
+    → words.prunes ≡ false → new ≡ old → IsCopyMade from to words source selected new done → IsMadeBy from to words source selected old done
+copy_made_by {S} {D} from to words source selected old new done plain same made =
     record {
-      copied = λ _. subst (λ (l : LayoutState D). IsCopyMade from to (options_of words) source selected l done) same (subst (λ (o : Options). IsCopyMade from to o source selected new done) named made);
+      copied = λ _. subst (λ (l : LayoutState D). IsCopyMade from to words source selected l done) same made;
       mirrored = λ prunes. absurd (true≢false (sym prunes ∙ plain));
     }
 
 -- a mirror of a prepared layout with `--prune` is the one that the words ask for
-pub mirror_made_by : {S D : Type 0} (from : S → Device) (to : D → Device) (words : CopyWords) (source : LayoutState S) (selected : Selected) (goal : Goal) (old prepared : LayoutState D) (options : Options) (done : Copied)
-    → words.prunes ≡ true → options ≡ options_of words → IsPrepared to (patterns_of words.selection) (is_exact words) (selected.0, selected.1) old prepared goal
-    → IsMirrorMade from to options (is_exact words) source selected goal prepared done → IsMadeBy from to words source selected old done
-mirror_made_by {S} {D} from to words source selected goal old prepared options done prunes named aim made =
+pub mirror_made_by : {S D : Type 0} (from : S → Device) (to : D → Device) (words : CopyWords) (source : LayoutState S) (selected : Selected) (goal : Goal) (old prepared : LayoutState D) (done : Done)
+    → words.prunes ≡ true → IsPrepared to (patterns_of words.selection) (is_exact words) (selected.0, selected.1) old prepared goal
+    → IsMirrorMade from to words source selected goal prepared done → IsMadeBy from to words source selected old done
+mirror_made_by {S} {D} from to words source selected goal old prepared done prunes aim made =
     record {
       copied = λ plain. absurd (true≢false (sym prunes ∙ plain));
       mirrored = λ _. record {
         prepared = prepared;
         goal = goal;
         aim = aim;
-        made = subst (λ (o : Options). IsMirrorMade from to o (is_exact words) source selected goal prepared done) named made;
+        made = made;
       };
     }
 

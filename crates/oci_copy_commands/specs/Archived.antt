@@ -26,10 +26,12 @@ use Rattle.oci_program.specs.declared.answer.Form.{Form}
 use Rattle.oci_program.specs.declared.answer.Form.TheVariants as form
 use Rattle.oci_program.specs.declared.fault.ProgramFault.{ProgramFault}
 use Rattle.oci_program.specs.declared.fault.ProgramFault.TheVariants as program
+use Rattle.oci_copy_commands.specs.Behind.{IsLeftBehind}
 use Rattle.oci_copy_commands.specs.Printed.{copy_text, plan_text, tags_of}
 use Rattle.oci_copy_commands.specs.Run.{options_of, store_of, IsAnsweredDryRun, IsSelectedIn}
 use Rattle.oci_selection.specs.Selected.{set_tags, Selected}
 use Rattle.oci_copy_commands.specs.declared.answer.CopyAnswer.{CopyAnswer}
+use Rattle.oci_copy_commands.specs.declared.behind.LeftBehind.{LeftBehind}
 use Rattle.oci_copy_commands.specs.declared.dry_run.PlanAnswer.{PlanAnswer}
 
 -- a directory in memory
@@ -63,12 +65,13 @@ pub record IsOutlined {S M : Type 0} (from : S → Device) (memory : M → Devic
   pub saved : HasIndex (memory outline.dir).file outline.graph outline.tags outline.opened
   pub version : HasLayoutFile (memory outline.dir).file
 
--- the answer names the selected tags and the number of the planned keys
-pub record IsArchiveAnswer (selected : Selected) (plan : Planned) (answer : CopyAnswer) : Type 0 where
+-- the answer names the selected tags, the number of the planned keys, and what was left behind
+pub record IsArchiveAnswer (selected : Selected) (plan : Planned) (stays : LeftBehind) (answer : CopyAnswer) : Type 0 where
   pub copied : tags_of answer.copied.items ≡ selected.1
   pub planned : answer.report.planned ≡ length plan.keys
   pub pushed : answer.report.pushed ≡ length plan.keys
   pub skipped : answer.report.skipped ≡ length plan.skipped
+  pub behind : answer.behind ≡ stays
 
 -- Items are what the archive has that a run with these words writes: the files of the layout that a
 -- copy of what they select into an empty layout makes.
@@ -81,7 +84,9 @@ pub record IsArchived {S M : Type 0} (from : S → Device) (memory : M → Devic
   pub outlined : IsOutlined from memory (options_of words) source selected plan outline
   pub exported : IsExport (store_of from source) (memory outline.dir) outline.graph items
   pub files : HasFiles (file_in items) (stored (file_in items) outline.graph) outline.graph outline.tags outline.opened
-  pub answers : IsArchiveAnswer selected plan answer
+  pub behind : LeftBehind
+  pub left : IsLeftBehind from words source selected.0 outline.graph behind
+  pub answers : IsArchiveAnswer selected plan behind answer
 
 -- such an archive was put into a new file of a directory, if that is honest
 abbrev pub IsArchivedTo : {S M T : Type 0} → (S → Device) → (M → Device) → (T → Device) → CopyWords → S → T → List ℕ → CopyAnswer → Type 0

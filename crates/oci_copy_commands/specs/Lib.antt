@@ -1,3 +1,4 @@
 pub mod Printed
 pub mod Run
 pub mod Archived
+pub mod Behind

@@ -13,6 +13,7 @@ use Rattle.oci_program.specs.declared.answer.Tagged.{Tagged}
 use Rattle.oci_selection.specs.Selected.{Selected}
 use Rattle.oci_copy_commands.specs.declared.answer.CleanUpAnswer.{CleanUpAnswer}
 use Rattle.oci_copy_commands.specs.declared.answer.CopyAnswer.{CopyAnswer}
+use Rattle.oci_copy_commands.specs.declared.behind.LeftBehind.{LeftBehind}
 use Rattle.oci_layout_copy.specs.declared.clean_up.CleanUp.{CleanUp}
 use Rattle.oci_layout_copy.specs.declared.copied.Copied.{Copied}
 use Rattle.oci_copy_commands.specs.declared.dry_run.PlanAnswer.{PlanAnswer}
@@ -42,11 +43,13 @@ IsRemovedAnswer None (Some answer) = ⊥
 IsRemovedAnswer (Some removed) None = ⊥
 IsRemovedAnswer (Some removed) (Some answer) = IsCleanUpAnswer removed answer
 
--- the answer of a copy names the selected tags, in their order, the report, and what was removed
-pub record IsCopyAnswer (selected : Selected) (done : Copied) (answer : CopyAnswer) : Type 0 where
+-- the answer of a copy names the selected tags, in their order, the report, what was removed, and what
+-- was left behind
+pub record IsCopyAnswer (selected : Selected) (done : Copied) (stays : LeftBehind) (answer : CopyAnswer) : Type 0 where
   pub copied : tags_of answer.copied.items ≡ selected.1
   pub report : answer.report ≡ done.report
   pub removed : IsRemovedAnswer done.removed answer.removed
+  pub behind : answer.behind ≡ stays
 
 -- ---- its lines
 

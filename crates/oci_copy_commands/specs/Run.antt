@@ -30,10 +30,12 @@ use Rattle.oci_layout_copy.specs.Between.{BringsOnlyMet, HasReached, IsCopiedBet
 use Rattle.oci_layout_copy.specs.Goal.{patterns_of, Goal, IsPrepared}
 use Rattle.oci_layout_copy.specs.Mirror.{is_exact, HoldsOnlyReached, IsMirrored, IsWholeSource}
 use Rattle.oci_layout_copy.specs.PlannedMirror.{IsPlannedCleanUp}
+use Rattle.oci_copy_commands.specs.Behind.{IsLeftBehind}
 use Rattle.oci_copy_commands.specs.Printed.{copy_text, fault_in, plan_text, IsCopyAnswer, IsPlanAnswer}
 use Rattle.oci_selection.specs.Selected.{set_tags, Selected, Selects}
 use Rattle.oci_layout_copy.specs.Settled.{StartsSettled}
 use Rattle.oci_copy_commands.specs.declared.answer.CopyAnswer.{CopyAnswer}
+use Rattle.oci_copy_commands.specs.declared.behind.LeftBehind.{LeftBehind}
 use Rattle.oci_layout_copy.specs.declared.copied.Copied.{Copied}
 use Rattle.oci_copy_commands.specs.declared.dry_run.PlanAnswer.{PlanAnswer}
 use Rattle.oci_layout_copy.specs.declared.planned.PlannedCleanUp.{PlannedCleanUp}
@@ -85,57 +87,64 @@ pub record IsReady {D : Type 0} (device : D → Device) (dir : D) (l : LayoutSta
   pub found : IsFound device dir first
   pub settled : IsSettledFrom device first l
 
+-- what a copy did, and what it left behind
+abbrev pub Done : Type 0
+Done = Copied × LeftBehind
+
 -- ---- a copy
 
--- A copy with these options of what is selected was made from a source into a layout, and there is a
+-- A copy by these words of what is selected was made from a source into a layout, and there is a
 -- layout that it left: with the selected tags and entries, all that is reached from the roots, and
--- saved.
-pub record IsCopyMade {S D : Type 0} (from : S → Device) (to : D → Device) (options : Options) (source : LayoutState S) (selected : Selected) (old : LayoutState D) (done : Copied) : Type 0 where
+-- saved. It names what stays behind.
+pub record IsCopyMade {S D : Type 0} (from : S → Device) (to : D → Device) (words : CopyWords) (source : LayoutState S) (selected : Selected) (old : LayoutState D) (done : Done) : Type 0 where
   pub left : LayoutState D
-  pub workers : options.workers ≤ 64
+  pub workers : words.workers ≤ 64
   pub tagged : left.tags ≡ set_tags old.tags selected.1
   pub brought : Brings (map entry_of selected.2) left.tags old.opened left.opened
   pub held : HasAll left.graph selected.0
   pub met : BringsOnlyMet (store_of from source) old.graph selected.0 left.graph
-  pub reported : IsReport options.existing (store_of from source) (store_of to old) selected.0 (store_of to left) done.report
+  pub reported : IsReport (existing_of words.descends) (store_of from source) (store_of to old) selected.0 (store_of to left) done.0.report
   pub reached : HasReached (store_of from source) (store_of to old) selected.0 (store_of to left)
   pub copied : IsCopiedBetween (store_of from source) (store_of to old) selected.0 (store_of to left)
   pub files : IsTrusted (store_of from source) (store_of to old) (store_of to left) → HasFiles (to left.dir).file (store_of to left).entries left.graph left.tags left.opened
   pub lasts : StartsSettled (store_of from source) (store_of to old) → Lasts (to left.dir) (store_of to left).entries left.tags
-  pub kept : done.removed ≡ None
+  pub kept : done.0.removed ≡ None
+  pub behind : IsLeftBehind from words source selected.0 left.graph done.1
 
 -- ---- a mirror
 
--- A mirror with these options and this goal was made from a source into a layout, and there is a layout
--- that it left: with exactly the tags of the goal, what they need, the selected entries, and saved.
-pub record IsMirrorMade {S D : Type 0} (from : S → Device) (to : D → Device) (options : Options) (is_exact : Bool) (source : LayoutState S) (selected : Selected) (goal : Goal) (old : LayoutState D) (done : Copied) : Type 0 where
+-- A mirror by these words with this goal was made from a source into a layout, and there is a layout
+-- that it left: with exactly the tags of the goal, what they need, the selected entries, and saved. It
+-- names what stays behind.
+pub record IsMirrorMade {S D : Type 0} (from : S → Device) (to : D → Device) (words : CopyWords) (source : LayoutState S) (selected : Selected) (goal : Goal) (old : LayoutState D) (done : Done) : Type 0 where
   pub left : LayoutState D
-  pub workers : options.workers ≤ 64
+  pub workers : words.workers ≤ 64
   pub tags : left.tags ≡ set_tags [] goal.1
   pub brought : Brings (map entry_of selected.2) left.tags old.opened left.opened
   pub saved : (to left.dir).is_honest → HasIndex (to left.dir).file left.graph left.tags left.opened
-  pub mirrored : IsMirrored to options.existing is_exact (store_of from source) selected.0 goal old left done
+  pub mirrored : IsMirrored to (existing_of words.descends) (is_exact words) (store_of from source) selected.0 goal old left done.0
   pub reached : HasReached (store_of from source) (store_of to old) selected.0 (store_of to left)
   pub held : HasAll left.graph goal.0
-  pub only : is_exact ≡ true → HoldsOnlyReached left.graph goal.0
+  pub only : is_exact words ≡ true → HoldsOnlyReached left.graph goal.0
   pub lasts : StartsSettled (store_of from source) (store_of to old) → Lasts (to left.dir) (store_of to left).entries left.tags
+  pub behind : IsLeftBehind from words source selected.0 left.graph done.1
 
 -- a mirror was made that the words ask for: of their patterns, and exact with `--referrers`
-pub record IsMirrorOf {S D : Type 0} (from : S → Device) (to : D → Device) (words : CopyWords) (source : LayoutState S) (selected : Selected) (old : LayoutState D) (done : Copied) : Type 0 where
+pub record IsMirrorOf {S D : Type 0} (from : S → Device) (to : D → Device) (words : CopyWords) (source : LayoutState S) (selected : Selected) (old : LayoutState D) (done : Done) : Type 0 where
   pub prepared : LayoutState D
   pub goal : Goal
   pub aim : IsPrepared to (patterns_of words.selection) (is_exact words) (selected.0, selected.1) old prepared goal
-  pub made : IsMirrorMade from to (options_of words) (is_exact words) source selected goal prepared done
+  pub made : IsMirrorMade from to words source selected goal prepared done
 
 -- ---- a run
 
 -- the copy was made that the words ask for, or with `--prune` the mirror
-pub record IsMadeBy {S D : Type 0} (from : S → Device) (to : D → Device) (words : CopyWords) (source : LayoutState S) (selected : Selected) (old : LayoutState D) (done : Copied) : Type 0 where
-  pub copied : words.prunes ≡ false → IsCopyMade from to (options_of words) source selected old done
+pub record IsMadeBy {S D : Type 0} (from : S → Device) (to : D → Device) (words : CopyWords) (source : LayoutState S) (selected : Selected) (old : LayoutState D) (done : Done) : Type 0 where
+  pub copied : words.prunes ≡ false → IsCopyMade from to words source selected old done
   pub mirrored : words.prunes ≡ true → IsMirrorOf from to words source selected old done
 
 -- the same in a directory, where the layout was opened or created before
-pub record IsMadeIn {S D : Type 0} (from : S → Device) (to : D → Device) (words : CopyWords) (source : LayoutState S) (selected : Selected) (dir : D) (done : Copied) : Type 0 where
+pub record IsMadeIn {S D : Type 0} (from : S → Device) (to : D → Device) (words : CopyWords) (source : LayoutState S) (selected : Selected) (dir : D) (done : Done) : Type 0 where
   pub old : LayoutState D
   pub ready : IsReady to dir old
   pub indexed : words.prunes ≡ true → (to dir).is_honest → HasIndexOrNoBlobs (to dir).file
@@ -148,7 +157,7 @@ pub record IsSelectedIn {S : Type 0} (from : S → Device) (words : CopyWords) (
   pub whole : words.prunes ≡ true → IsWholeSource (is_exact words) source
 
 -- a run with these words copied what they select of the source in one directory into another one
-pub record IsCopyRun {S D : Type 0} (from : S → Device) (to : D → Device) (words : CopyWords) (source_dir : S) (dir : D) (selected : Selected) (done : Copied) : Type 0 where
+pub record IsCopyRun {S D : Type 0} (from : S → Device) (to : D → Device) (words : CopyWords) (source_dir : S) (dir : D) (selected : Selected) (done : Done) : Type 0 where
   pub source : LayoutState S
   pub chosen : IsSelectedIn from words source_dir source selected
   pub made : IsMadeIn from to words source selected dir done
@@ -156,10 +165,10 @@ pub record IsCopyRun {S D : Type 0} (from : S → Device) (to : D → Device) (w
 -- such a run was made without a fault of its prune, and this is its answer
 pub record IsAnsweredRun {S D : Type 0} (from : S → Device) (to : D → Device) (words : CopyWords) (source_dir : S) (dir : D) (answer : CopyAnswer) : Type 0 where
   pub selected : Selected
-  pub done : Copied
+  pub done : Done
   pub run : IsCopyRun from to words source_dir dir selected done
-  pub whole : fault_in done.removed ≡ None
-  pub answers : IsCopyAnswer selected done answer
+  pub whole : fault_in done.0.removed ≡ None
+  pub answers : IsCopyAnswer selected done.0 done.1 answer
 
 -- ---- a dry run
 

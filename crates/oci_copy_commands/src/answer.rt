@@ -9,6 +9,7 @@ ghost use Rattle.oci_copy_commands.specs.Printed.{
   IsRemovedAnswer,
 };
 
+use crate::behind::LeftBehind;
 use oci_copy::Report;
 use oci_digest::NoMemory;
 use oci_layout_copy::{CleanUp, Copied, PlannedCleanUp};
@@ -35,10 +36,14 @@ pub(crate) struct CopyAnswer {
     /// What was removed, with `--prune`.
     #[serde(flatten)]
     removed: Option<CleanUpAnswer>,
+    /// What was left behind. It has no line here: its lines are for stderr.
+    #[serde(flatten)]
+    pub(crate) behind: LeftBehind,
 }
 
 impl CopyAnswer {
-    /// Returns what a copy of the selected tags did, and the fault of its prune, if it has one.
+    /// Returns what a copy of the selected tags did and left behind, and the fault of its prune, if it
+    /// has one.
     ///
     /// # Errors
     ///
@@ -47,8 +52,9 @@ impl CopyAnswer {
         alloc: Global,
         selected: Selected,
         done: Copied,
+        behind: LeftBehind,
     ) -> Result<(CopyAnswer, Option<PruneFault>), NoMemory>
-        ensures answer { IfOk result (λ it. IsCopyAnswer selected done it.0) }
+        ensures answer { IfOk result (λ it. IsCopyAnswer selected done behind it.0) }
         ensures fault { IfOk result (λ it. it.1 ≡ fault_in done.removed) }
     {
         let Copied { report, removed } = done;
@@ -58,6 +64,7 @@ impl CopyAnswer {
             copied,
             report,
             removed,
+            behind,
         };
         Ok((answer, fault))
     }

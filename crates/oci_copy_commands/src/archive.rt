@@ -20,14 +20,15 @@ ghost use Rattle.oci_copy_commands.specs.declared.dry_run.PlanAnswer.{PlanAnswer
 ghost use Rattle.oci_store.specs.Keyed.{HasAll};
 
 use crate::answer::CopyAnswer;
+use crate::behind::LeftBehind;
 use crate::copy::{check_source_if, is_exact, options_of};
 use crate::dry_run::{empty_layout, show_plan};
 use oci_command_line::CopyWords;
-use oci_copy::{CopyFault, Report, plan_copy};
+use oci_copy::{CopyFault, Report};
 use oci_digest::NoMemory;
 use oci_dir::{Dir, MemDir};
 use oci_export::{ExportFault, outline, save_archive, write_archive};
-use oci_layout_copy::{Copied, Host, tag_all};
+use oci_layout_copy::{Copied, Host, plan_from, tag_all};
 use oci_layout_store::{Layout, LayoutFault};
 use oci_plan::Plan;
 use oci_pool::Hooks;
@@ -89,7 +90,9 @@ where
         return Ok(show_plan(rt.alloc(), source, empty, words, form, out)?);
     }
     let answer = archive_into(rt, source, folder, name, words, err)?;
-    Ok(print_answer(rt.alloc(), &answer, form, out)?)
+    let outcome = print_answer(rt.alloc(), &answer, form, out)?;
+    answer.behind.tell(form, err);
+    Ok(outcome)
 }
 
 /// `copy --archive SRC SRCREF - [DSTREF]` and `copy --archive --all SRC -`: writes the archive to
@@ -126,7 +129,9 @@ where
         return Ok(show_plan(rt.alloc(), source, empty, words, form, out)?);
     }
     let answer = archive_onto(rt, source, words, out, err)?;
-    Ok(print_answer(rt.alloc(), &answer, form, err)?)
+    let outcome = print_answer(rt.alloc(), &answer, form, err)?;
+    answer.behind.tell(form, err);
+    Ok(outcome)
 }
 
 /// Writes the archive of what the words select into a new file of a directory.
@@ -143,12 +148,13 @@ fn archive_into<R: Host, S: Dir + Drop, T: Dir + Drop, X: Write>(
 {
     let (source, selected) = open_selected(rt.alloc(), source, words)?;
     let (plan, outline) = outline_of(rt.alloc(), &source, &selected, words)?;
+    let behind = LeftBehind::of(rt.alloc(), &source, &outline, &selected, words)?;
     let progress = Progress::new(rt, err, words.shown, &plan);
     let mut folder = folder;
     let saved = save_archive(rt.alloc(), &source, &outline, &progress, &mut folder, name);
     progress.end();
     match saved {
-        Ok(()) => Ok(answer_of(rt.alloc(), selected, &plan)?),
+        Ok(()) => Ok(answer_of(rt.alloc(), selected, &plan, behind)?),
         Err(fault) => Err(fault_of_file(rt.alloc(), words.destination, fault)),
     }
 }
@@ -167,11 +173,12 @@ fn archive_onto<R: Host, S: Dir + Drop, W: Write, X: Write>(
 {
     let (source, selected) = open_selected(rt.alloc(), source, words)?;
     let (plan, outline) = outline_of(rt.alloc(), &source, &selected, words)?;
+    let behind = LeftBehind::of(rt.alloc(), &source, &outline, &selected, words)?;
     let progress = Progress::new(rt, err, words.shown, &plan);
     let written = write_flushed(rt.alloc(), &source, &outline, &progress, out);
     progress.end();
     match written {
-        Ok(()) => Ok(answer_of(rt.alloc(), selected, &plan)?),
+        Ok(()) => Ok(answer_of(rt.alloc(), selected, &plan, behind)?),
         Err(fault) => Err(fault_of(fault)),
     }
 }
@@ -224,7 +231,7 @@ fn outline_of<S: Dir>(
         (options_of words.now) source.now selected.now it.0 it.1) }
 {
     let empty = empty_layout(alloc)?;
-    let plan = plan_copy(alloc, source, &empty, selected.roots(), &options_of(words))?;
+    let plan = plan_from(alloc, source, &empty, selected.roots(), &options_of(words))?;
     let mut layout = match outline(alloc, source, &plan) {
         Ok(layout) => layout,
         Err(fault) => return Err(fault_of(fault)),
@@ -250,9 +257,15 @@ fn save_selected(layout: &mut Layout<MemDir>, selected: &Selected) -> Result<(),
     }
 }
 
-/// Returns what a copy of the selected tags and this plan into a new folder prints.
-fn answer_of(alloc: Global, selected: Selected, plan: &Plan) -> Result<CopyAnswer, NoMemory>
-    ensures { IfOk result (IsArchiveAnswer selected plan.now) }
+/// Returns what a copy of the selected tags and this plan into a new folder, which leaves this behind,
+/// prints.
+fn answer_of(
+    alloc: Global,
+    selected: Selected,
+    plan: &Plan,
+    behind: LeftBehind,
+) -> Result<CopyAnswer, NoMemory>
+    ensures { IfOk result (IsArchiveAnswer selected plan.now behind) }
 {
     let planned = plan.len() as u64;
     let report = Report {
@@ -264,7 +277,7 @@ fn answer_of(alloc: Global, selected: Selected, plan: &Plan) -> Result<CopyAnswe
         report,
         removed: None,
     };
-    let (answer, _) = CopyAnswer::of(alloc, selected, done)?;
+    let (answer, _) = CopyAnswer::of(alloc, selected, done, behind)?;
     Ok(answer)
 }
 

@@ -20,14 +20,15 @@ ghost use Rattle.oci_copy_commands.specs.declared.answer.CopyAnswer.{CopyAnswer 
 ghost use Rattle.oci_copy_commands.specs.declared.dry_run.PlanAnswer.{PlanAnswer};
 
 use crate::answer::CopyAnswer;
+use crate::behind::LeftBehind;
 use crate::destination::{make_blobs_folder, open_or_create, remove_leftovers};
 use crate::dry_run::show_plan;
 use oci_command_line::{CopyWords, Selection};
-use oci_copy::{Options, plan_copy};
+use oci_copy::Options;
 use oci_dir::{Dir, MemDir, PrunableDir};
 use oci_folder::FolderLock;
 use oci_layout_copy::mirror::{mirror, prepare_destination};
-use oci_layout_copy::{Copied, Goal, Host, check_source, copy_between};
+use oci_layout_copy::{Copied, Goal, Host, check_source, copy_between, plan_from};
 use oci_layout_store::Layout;
 use oci_plan::{Existing, Plan};
 use oci_program::{Form, Outcome, ProgramFault, SeenIndex, check_index, make_and_lock_folder};
@@ -42,7 +43,7 @@ use std::io::Write;
 /// `copy SRC SRCREF DST [DSTREF]` and `copy --all SRC DST`: copies the selected blobs, tags them in
 /// the destination, brings the entries of SRC's index, and saves it. With `--platform` the manifest
 /// for a platform is selected in place of the index that SRCREF names. Prints in this form the key of
-/// each tag and the report. With `--progress` each blob is printed on `err` when it arrives.
+/// each tag and the report, and what stays in the source; as lines, that is for `err`. With `--progress` each blob is printed on `err` when it arrives.
 /// Without it, on a terminal, one line shows how much has arrived. With `--dry-run` only the plan
 /// is printed, and with `--prune` what would be removed. With `--all --prune` the tags that the source
 /// does not have are removed too, and what no tag then needs; the tags and what was removed are
@@ -59,7 +60,7 @@ use std::io::Write;
 ///
 /// # Errors
 ///
-/// With 80, 81, 99 and the faults before them, no blob, tag or entry of DST is changed.
+/// With 75, 77, 80, 81, 99 and the faults before them, no blob, tag or entry of DST is changed.
 ///
 /// - 70 to 74 if SRC or DST is not a layout or cannot be read; 70 for DST only if it has another
 ///   `index.json` than that of an empty layout; 74 also if DST cannot be created or locked, if its
@@ -85,7 +86,8 @@ use std::io::Write;
 /// - 98 `LinkedBlobs` with `--prune`, if DST has a link to a folder of blobs. 88 `Fetch` and 77
 ///   `BadManifest` if one of its held manifests cannot be read.
 /// - 109 `NoIndex` with `--prune`, if DST has blobs and no `index.json`.
-/// - 80 `DestinationOpen` and 81 `Plan` if there is no plan.
+/// - 80 `DestinationOpen` and 81 `Plan` if there is no plan. 75 `Corrupt` and 77 `BadManifest` if it needs
+///   a blob whose file in SRC is damaged.
 /// - 110 `IndexChanged` if another program wrote DST's `index.json` meanwhile. Blobs that arrived stay.
 /// - 82 `Push` and 88 `Fetch` if a blob cannot be copied, and 74 `Device` if the index cannot be
 ///   written, or if it is not known whether it and the copied blobs are on the disk. Blobs that
@@ -129,7 +131,9 @@ where
         return Ok(show_plan(rt.alloc(), source, destination, words, form, out)?);
     }
     let (answer, fault) = copy_layout(rt, source, destination, words, err)?;
-    Ok(print_answer_with_fault(rt.alloc(), &answer, fault, form, out)?)
+    let outcome = print_answer_with_fault(rt.alloc(), &answer, fault, form, out)?;
+    answer.behind.tell(form, err);
+    Ok(outcome)
 }
 
 /// Copies from one directory into another, whose folder is locked during the copy. Returns what was
@@ -150,8 +154,8 @@ where
     let source = Layout::open_as_is(rt.alloc(), source)?;
     let selected = Selected::of(rt.alloc(), &source, words)?;
     check_source_if(words.prunes, is_exact(words), &source)?;
-    let copied = copy_selected(rt, &source, destination, &selected, words, err)?;
-    Ok(CopyAnswer::of(rt.alloc(), selected, copied)?)
+    let (copied, behind) = copy_selected(rt, &source, destination, &selected, words, err)?;
+    Ok(CopyAnswer::of(rt.alloc(), selected, copied, behind)?)
 }
 
 /// Refuses a source that a mirror must not follow, if the copy prunes.
@@ -196,7 +200,7 @@ fn copy_selected<R: Host, S: Dir + Sync, D: PrunableDir + Drop + Send, X: Write 
     selected: &Selected,
     words: &CopyWords<'_>,
     err: &mut X,
-) -> Result<Copied, ProgramFault>
+) -> Result<(Copied, LeftBehind), ProgramFault>
 where
     S::Draft: Send,
     D::Draft: Send,
@@ -228,7 +232,7 @@ fn copy_under_lock<R: Host, S: Dir + Sync, D: PrunableDir + Drop + Send, X: Writ
     words: &CopyWords<'_>,
     lock: &FolderLock<R>,
     err: &mut X,
-) -> Result<Copied, ProgramFault>
+) -> Result<(Copied, LeftBehind), ProgramFault>
 where
     S::Draft: Send,
     D::Draft: Send,
@@ -238,7 +242,7 @@ where
 {
     let options = options_of(words);
     let goal = goal_of(rt.alloc(), &mut destination, selected, words)?;
-    let plan = plan_copy(rt.alloc(), source, &destination, selected.roots(), &options)?;
+    let plan = plan_from(rt.alloc(), source, &destination, selected.roots(), &options)?;
     remove_leftovers(rt, lock)?;
     let progress = Progress::new(rt, err, words.shown, &plan);
     match &goal {
@@ -250,8 +254,7 @@ where
             &plan,
             selected,
             goal,
-            is_exact(words),
-            &options,
+            words,
             &progress,
         ),
         None => copy_and_end(
@@ -261,13 +264,13 @@ where
             seen,
             &plan,
             selected,
-            &options,
+            words,
             &progress,
         ),
     }
 }
 
-/// Makes a planned mirror, and then ends its progress line.
+/// Makes a planned mirror, ends its progress line, and finds out what it leaves behind.
 fn mirror_and_end<R: Host, S: Dir + Sync, D: PrunableDir + Drop + Send, X: Write + Send>(
     rt: &R,
     source: &Layout<S>,
@@ -276,21 +279,21 @@ fn mirror_and_end<R: Host, S: Dir + Sync, D: PrunableDir + Drop + Send, X: Write
     plan: &Plan,
     selected: &Selected,
     goal: &Goal,
-    is_exact: bool,
-    options: &Options,
+    words: &CopyWords<'_>,
     progress: &Progress<'_, R, X>,
-) -> Result<Copied, ProgramFault>
+) -> Result<(Copied, LeftBehind), ProgramFault>
 where
     S::Draft: Send,
     D::Draft: Send,
-    requires planned { IsPlanOf (⟦<Layout<S> as Store>⟧.state source.now) options.now
-        (⟦<Layout<D> as Store>⟧.state destination) selected.now.0 plan.now }
-    requires whole { IsWholeSource is_exact source.now }
+    requires planned { IsPlanOf (⟦<Layout<S> as Store>⟧.state source.now)
+        (options_of words.now) (⟦<Layout<D> as Store>⟧.state destination) selected.now.0
+        plan.now }
+    requires whole { IsWholeSource (is_exact words.now) source.now }
     requires fits { Fits destination selected.now.0 goal.now.0 }
-    ensures { IfOk result (IsMirrorMade S.device D.device options.now is_exact source.now
-        selected.now goal.now destination) }
+    ensures { IfOk result (IsMirrorMade S.device D.device words.now source.now selected.now
+        goal.now destination) }
 {
-    let (_left, mirrored) = mirror(
+    let (left, mirrored) = mirror(
         rt,
         source,
         destination,
@@ -298,15 +301,21 @@ where
         plan,
         selected,
         goal,
-        is_exact,
-        options,
+        is_exact(words),
+        &options_of(words),
         progress,
     );
     progress.end();
-    mirrored
+    match mirrored {
+        Ok(copied) => {
+            let behind = LeftBehind::of(rt.alloc(), source, &left, selected, words)?;
+            Ok((copied, behind))
+        }
+        Err(fault) => Err(fault),
+    }
 }
 
-/// Makes a planned copy, and then ends its progress line.
+/// Makes a planned copy, ends its progress line, and finds out what it leaves behind.
 fn copy_and_end<R: Host, S: Dir + Sync, D: PrunableDir + Drop + Send, X: Write + Send>(
     rt: &R,
     source: &Layout<S>,
@@ -314,33 +323,37 @@ fn copy_and_end<R: Host, S: Dir + Sync, D: PrunableDir + Drop + Send, X: Write +
     seen: &SeenIndex,
     plan: &Plan,
     selected: &Selected,
-    options: &Options,
+    words: &CopyWords<'_>,
     progress: &Progress<'_, R, X>,
-) -> Result<Copied, ProgramFault>
+) -> Result<(Copied, LeftBehind), ProgramFault>
 where
     S::Draft: Send,
     D::Draft: Send,
-    requires { IsPlanOf (⟦<Layout<S> as Store>⟧.state source.now) options.now
+    requires { IsPlanOf (⟦<Layout<S> as Store>⟧.state source.now) (options_of words.now)
         (⟦<Layout<D> as Store>⟧.state destination) selected.now.0 plan.now }
-    ensures { IfOk result (IsCopyMade S.device D.device options.now source.now selected.now
+    ensures { IfOk result (IsCopyMade S.device D.device words.now source.now selected.now
         destination) }
 {
-    let (_left, copied) = copy_between(
+    let (left, copied) = copy_between(
         rt,
         source,
         destination,
         seen,
         plan,
         selected,
-        options,
+        &options_of(words),
         progress,
     );
     progress.end();
     match copied {
-        Ok(report) => Ok(Copied {
-            report,
-            removed: None,
-        }),
+        Ok(report) => {
+            let behind = LeftBehind::of(rt.alloc(), source, &left, selected, words)?;
+            let copied = Copied {
+                report,
+                removed: None,
+            };
+            Ok((copied, behind))
+        }
         Err(fault) => Err(fault),
     }
 }

@@ -35,10 +35,9 @@ ghost use Rattle.oci_copy_commands.specs.declared.dry_run.PlanAnswer.{PlanAnswer
 use crate::answer::CleanUpAnswer;
 use crate::copy::{check_index_if, check_source_if, goal_of, is_exact, options_of};
 use oci_command_line::CopyWords;
-use oci_copy::plan_copy;
 use oci_digest::NoMemory;
 use oci_dir::{Dir, MemDir, PrunableDir};
-use oci_layout_copy::{PlannedCleanUp, plan_mirror};
+use oci_layout_copy::{PlannedCleanUp, plan_from, plan_mirror};
 use oci_layout_store::{Layout, LayoutFault};
 use oci_manifest::Key;
 use oci_plan::Plan;
@@ -82,7 +81,7 @@ use std::io::Write;
 ///   `NoMatch` is for a SRC whose tags do not.
 /// - 96 `Unknown`, 98 `LinkedBlobs`, 109 `NoIndex`, 88 `Fetch` and 77 `BadManifest` with `--prune`, as of
 ///   [`run_copy`](crate::run_copy), and if DST could not be pruned after the copy.
-/// - 80 `DestinationOpen` and 81 `Plan` if there is no plan.
+/// - 75 `Corrupt`, 77 `BadManifest`, 80 `DestinationOpen` and 81 `Plan` if there is no plan.
 /// - 94 `Output` if `out` cannot be written.
 /// - Out of memory, at any point.
 pub(crate) fn show_plan<S: Dir + Drop, D: PrunableDir + Drop, W: Write>(
@@ -200,7 +199,7 @@ fn plan_into<S: Dir, D: PrunableDir + Drop>(
             Ok((plan, Some(clean_up)))
         }
         None => {
-            let plan = plan_copy(alloc, source, &destination, selected.roots(), &options)?;
+            let plan = plan_from(alloc, source, &destination, selected.roots(), &options)?;
             Ok((plan, None))
         }
     }

@@ -7,6 +7,7 @@
 
 mod answer;
 mod archive;
+mod behind;
 mod copy;
 mod destination;
 mod dry_run;

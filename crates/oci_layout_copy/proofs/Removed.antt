@@ -1,18 +1,23 @@
 -- What a prune removed is still so after the save that follows it.
-use Rattle.std.proofs.Common.{◌≡◌, inl, inr, ℕ, Bool, false, not, List, [], ◌∷◌, map, Option, None, is_some, refl, sym, ap, subst, ◌∙◌}
+use Rattle.std.proofs.Common.{◌≡◌, inl, inr, ℕ, Bool, true, false, not, List, [], ◌∷◌, get_or, map, Option, None, is_some, refl, sym, ap, subst, ◌∙◌}
 use Rattle.std.specs.Prelude.{◌↔◌}
+use Rattle.std.specs.List.{All}
 use Rattle.std.specs.Str.{bytes_eq}
 use Rattle.std.proofs.lemmas.Bool.{cases_Bool}
 use Rattle.std.proofs.lemmas.List.Elements.{All-weaker}
 use Rattle.std.proofs.lemmas.Slice.Eq.{bytes_eq-Decides}
 use Rattle.oci_manifest.specs.Descriptor.{Descriptor}
+use Rattle.oci_store.specs.Content.{Entry}
 use Rattle.oci_store.specs.Graph.{Node}
+use Rattle.oci_store.specs.Keyed.{has_key}
 use Rattle.oci_layout_store.specs.Blobs.{blob_path, stored}
 use Rattle.oci_dir.specs.Device.{Device, File, Same, Touches}
 use Rattle.oci_layout_store.specs.Index.{index_file}
 use Rattle.oci_layout_store.specs.Layout.{LayoutState, OnlyFiles}
 use Rattle.oci_dir.specs.Prunable.{by_name}
 use Rattle.oci_layout_store.proofs.Files.{index_blob}
+use Rattle.oci_layout_store.proofs.Prunable.{stored-apart, IsApart}
+use Rattle.oci_prune.specs.Plan.{NeedsFile}
 use Rattle.oci_prune.specs.Pruned.{is_gone, HasOnlyNeeded}
 use Rattle.oci_prune.specs.declared.plan.PrunedFile.{PrunedFile}
 use Rattle.oci_prune.specs.declared.plan.PrunePlan.{PrunePlan}
@@ -25,9 +30,16 @@ gone_same old new [] touches = refl
 gone_same old new (f ∷ files) touches =
     ap (λ (o : Option (List ℕ)). not (is_some o) ∷ map (is_gone new) files) (touches (blob_path f.digest) (index_blob f.digest)) ∙ ap (λ (flags : List Bool). is_gone old f ∷ flags) (gone_same old new files touches)
 
--- the same digests have files
+-- the same digests have files, and are needed
 needed_same : (old new : File) (graph : List Node) → Touches old new index_file → HasOnlyNeeded old graph → HasOnlyNeeded new graph
-needed_same old new graph touches only digest is none = touches (blob_path digest) (index_blob digest) ∙ only digest is none
+needed_same old new graph touches only digest is none =
+    touches (blob_path digest) (index_blob digest) ∙ only digest is (λ needs. none (subst (λ (entries : List Entry). NeedsFile graph entries (λ k. has_key graph k ≡ true) digest) (sym same) needs))
+  where
+    apart_index : All (IsApart index_file) graph
+    apart_index place d lt = index_blob (get_or graph place d).0.digest
+
+    same : stored new graph ≡ stored old graph
+    same = stored-apart old new index_file graph apart_index touches
 
 apart : (path : List ℕ) → (index_file ≡ path → ⊥) → bytes_eq index_file path ≡ false
 apart path free = elim (cases_Bool (bytes_eq index_file path)) [ inl same ↦ absurd (free ((bytes_eq-Decides index_file path).0 same)) | inr other ↦ other ]

@@ -4,3 +4,4 @@ pub mod Mirror
 pub mod Refusal
 pub mod PlannedMirror
 pub mod Settled
+pub mod Unplanned

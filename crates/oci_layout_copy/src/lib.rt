@@ -1,5 +1,6 @@
 //! Copies between two image layouts, and mirrors.
 //!
+//! [`plan_from`] plans a copy from a layout, and names a damaged file that it needs.
 //! [`copy_between`] makes a planned copy of [`Selected`](oci_selection::Selected) blobs, sets their tags
 //! and saves the destination. Its contract says what the copy leaves.
 //!
@@ -21,6 +22,7 @@ mod host;
 mod kept;
 pub mod mirror;
 mod planned;
+mod planning;
 mod retag;
 mod whole;
 
@@ -30,4 +32,5 @@ pub use copied::Copied;
 pub use goal::Goal;
 pub use host::Host;
 pub use planned::{PlannedCleanUp, plan_mirror};
+pub use planning::plan_from;
 pub use whole::check_source;

@@ -90,8 +90,8 @@ pub fn prepare_destination<D: PrunableDir>(
 /// - 73 `BadIndex` if a remembered entry of its index is no descriptor: for the first one.
 /// - 98 `LinkedBlobs` if a folder of blobs is a link.
 /// - 96 `Unknown` if it has tags, and any other manifest is damaged: the first one.
-/// - 77 `BadManifest` and 88 `Fetch` if it has tags, and a held manifest cannot be read, unless the
-///   mirror is exact.
+/// - 77 `BadManifest` and 88 `Fetch` if it has tags, and a held manifest cannot be read; if the mirror
+///   is exact, one that is kept.
 /// - 96 `Unknown` if it has tags, and a kept manifest lists a missing one.
 /// - 74 `Device` if the directory cannot be read.
 /// - Out of memory, at any point.
@@ -135,8 +135,7 @@ fn check_unlinked<D: PrunableDir>(layout: &Layout<D>) -> Result<(), ProgramFault
     }
 }
 
-/// Refuses a layout whose prune is refused that also keeps these keys, unless that is because it has
-/// no tags.
+/// Refuses a layout whose prune is refused that also keeps these keys, unless it has no tags.
 fn check_plan<D: PrunableDir>(
     alloc: Global,
     layout: &Layout<D>,
@@ -148,9 +147,12 @@ fn check_plan<D: PrunableDir>(
     ensures known { OnOk result (layout.now.tags ≢ []
         → IsKnown D.device is_exact layout.now keys.now) }
 {
+    let tags = layout.tags()?;
+    if tags.is_empty() {
+        return Ok(());
+    }
     match plan_prune_keeping(alloc, layout, keys, !is_exact) {
         Ok(_) => Ok(()),
-        Err(PruneFault::NoTags) => Ok(()),
         Err(fault) => Err(fault_of(fault)),
     }
 }

@@ -9,8 +9,9 @@ ghost use Rattle.oci_layout_copy.specs.PlannedMirror.{IsCopyAfter, IsPlannedClea
 
 use crate::goal::Goal;
 use crate::mirror::fault_of;
+use crate::planning::plan_from;
 use crate::retag::other_tags;
-use oci_copy::{Options, plan_copy};
+use oci_copy::Options;
 use oci_digest::NoMemory;
 use oci_dir::{Dir, PrunableDir};
 use oci_layout_store::Layout;
@@ -37,7 +38,7 @@ pub struct PlannedCleanUp {
 ///
 /// # Errors
 ///
-/// - 80 `DestinationOpen` and 81 `Plan` if there is no plan of the copy.
+/// - 75 `Corrupt`, 77 `BadManifest`, 80 `DestinationOpen` and 81 `Plan` if there is no plan of the copy.
 /// - 96 `Unknown`, 73 `BadIndex`, 98 `LinkedBlobs`, 88 `Fetch`, 77 `BadManifest` and 74 `Device` if
 ///   the destination could not be pruned after the copy.
 /// - Out of memory, at any point.
@@ -60,7 +61,7 @@ pub fn plan_mirror<S: Dir, D: PrunableDir>(
     ensures copied { IfOk result (λ it. IsCopyAfter (⟦<Layout<S> as Store>⟧.state source.now)
         (⟦<Layout<D> as Store>⟧.state destination.now) it.0.keys selected.now.0) }
 {
-    let plan = plan_copy(alloc, source, destination, selected.roots(), options)?;
+    let plan = plan_from(alloc, source, destination, selected.roots(), options)?;
     let clean_up = plan_clean_up(alloc, source, destination, &plan, goal, is_exact)?;
     Ok((plan, clean_up))
 }

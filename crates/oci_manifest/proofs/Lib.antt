@@ -7,3 +7,4 @@ pub mod Members
 pub mod Laws
 pub mod Subjects
 pub mod ArtifactTypes
+pub mod Asides

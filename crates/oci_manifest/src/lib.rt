@@ -17,7 +17,7 @@
 //! Only the members in this table are read. `schemaVersion`, the manifest's own `mediaType`,
 //! `data`, `urls`, `platform`, `annotations` and unknown members are ignored. Member names are
 //! matched exactly. If a member is repeated, `serde_json` decides which value counts. Layers of the
-//! four types that are not distributed are not successors.
+//! four types that are not distributed are not successors; [`undistributed`] returns them.
 //!
 //! [`artifact_type`] returns the type that a manifest declares, and [`subject`] the key of the
 //! manifest that it refers to. [`read_links`] returns the successors and the subject at once. [`key_of`]
@@ -47,4 +47,5 @@ pub use kind::Kind;
 pub use manifest::{
     Links, artifact_type, artifact_type_is_what_is_declared, index_keys, key_of, read_json,
     read_links, subject, subject_is_what_is_stated, successors, successors_are_what_is_listed,
+    undistributed, undistributed_are_what_is_listed,
 };

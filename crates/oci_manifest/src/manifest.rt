@@ -9,6 +9,7 @@ ghost use Rattle.oci_manifest.specs.declared.kind.Kind.{Kind};
 ghost use Rattle.oci_manifest.specs.declared.kind.Kind.TheVariants.{Leaf};
 
 mod artifact;
+mod aside;
 mod descriptor;
 mod distinct;
 mod links;
@@ -19,6 +20,7 @@ use crate::fault::ManifestFault;
 use crate::key::Key;
 use crate::kind::Kind;
 pub use artifact::{artifact_type, artifact_type_is_what_is_declared};
+pub use aside::{undistributed, undistributed_are_what_is_listed};
 pub use descriptor::key_of;
 use distinct::keep_distributed;
 pub use links::{Links, read_links};

@@ -13,7 +13,7 @@ use std::io;
 use std::io::Write;
 
 /// The line of a refusal for lack of memory, which is written without any.
-const MEMORY_LINE: &str = "{\"error\":[{\"name\":\"Memory\"}]}\n";
+const MEMORY_LINE: &str = "{\"error\":[{\"name\":\"Memory\"}],\"kind\":\"memory\"}\n";
 
 /// How a run ended.
 #[derive(Drop)]
@@ -27,11 +27,12 @@ pub struct Ended<'w> {
 /// Ends a run: flushes `out` if the command was done, or prints its fault on `err` in this form.
 ///
 /// The lines of a fault are `ocicp: ` and its text. Its document is
-/// `{"error":[{"number":N,"name":"..", ..}]}` on one line, with an object for each fault of the text,
-/// the outermost first, and in each the values that it carries. If a file or folder of `sides` is
-/// the cause, its word, its path and the system's reason follow as `side`, `path` and `os`. If
-/// memory ran out, or runs out while the document is made, the document is
-/// `{"error":[{"name":"Memory"}]}` and the status is 3. A fault that `err` does not take is left out; the status is the same.
+/// `{"error":[{"number":N,"name":"..", ..}],"kind":".."}` on one line, with an object for each fault of
+/// the text, the outermost first, and in each the values that it carries, and with the class of the
+/// refusal. If a file or folder of `sides` is the cause, its word, its path and the system's reason
+/// follow as `side`, `path` and `os`. If memory ran out, or runs out while the document is made, the
+/// document is `{"error":[{"name":"Memory"}],"kind":"memory"}` and the status is 3. A fault that `err`
+/// does not take is left out; the status is the same.
 ///
 /// # Errors
 ///

@@ -8,7 +8,7 @@
 //! | [`Form`] | lines or JSON, the form in which a command prints |
 //! | [`Ending`] | why a run ended early: an invalid command line, or a refused command |
 //! | [`Ended`] | how a run ended: its exit status, and its [`Refusal`] |
-//! | [`Sides`], [`RefusedPath`] | the folders of a command line, and the cause of a refusal |
+//! | [`Sides`], [`RefusedPath`], [`Reason`] | the folders of a command line, and the cause of a refusal |
 //! | [`Tagged`], [`Sum`] | parts of answers: a tag with its key, and a sum |
 //!
 //! A command returns an [`Outcome`] or a [`ProgramFault`]. [`print_answer`] prints its answer.
@@ -24,6 +24,7 @@ mod ending;
 mod fault;
 mod finish;
 mod indexed;
+mod kind;
 mod locking;
 mod opened;
 mod outcome;
@@ -43,6 +44,6 @@ pub use locking::{check_is_layout, lock_folder, make_and_lock_folder};
 pub use opened::open_settled;
 pub use outcome::Outcome;
 pub use refusal::{Refusal, Subject};
-pub use refused_path::{RefusedPath, Side, Sides};
+pub use refused_path::{Reason, RefusedPath, Side, Sides};
 pub use seen_index::SeenIndex;
 pub use sum::Sum;

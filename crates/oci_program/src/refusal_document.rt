@@ -1,8 +1,11 @@
 ghost use Rattle.std.specs.Prelude.{◌≡◌, ◌++◌, ◌∷◌, [], IfOk, OnOk};
-ghost use Rattle.oci_program.specs.Status.{entry_numbers, numbers};
+ghost use Rattle.std.specs.Option.{option_map};
+ghost use Rattle.oci_program.specs.Kind.{IsKind, kind_at};
+ghost use Rattle.oci_program.specs.Status.{entry_numbers, last_number, numbers};
 
 use crate::fault::ProgramFault;
-use crate::refused_path::{RefusedPath, Sides};
+use crate::kind::Kind;
+use crate::refused_path::{Reason, RefusedPath, Sides};
 use oci_archive::Compression;
 use oci_digest::NoMemory;
 use oci_manifest::Key;
@@ -15,6 +18,8 @@ use std::fmt::Display;
 pub(crate) struct RefusalDocument<'f> {
     /// The faults of its line, the outermost first.
     error: Vec<Entry<'f>>,
+    /// The class of the refusal.
+    kind: Kind,
     /// The word of the folder or archive that the refusal is about: `SRC`, `DST` or `FOLDER`.
     #[serde(skip_serializing_if = "Option::is_none")]
     side: Option<&'f str>,
@@ -33,20 +38,36 @@ impl<'f> RefusalDocument<'f> {
         fault: &'f ProgramFault,
         sides: &Sides<'f>,
     ) -> Result<RefusalDocument<'f>, NoMemory>
-        ensures { IfOk result (λ document. entry_numbers document.error.items ≡ numbers fault.now) }
+        ensures numbers { IfOk result (λ document.
+            entry_numbers document.error.items ≡ numbers fault.now) }
+        ensures kind { IfOk result (λ document.
+            IsKind (last_number fault.now) document.os document.kind) }
     {
         let mut error = Vec::new(alloc);
         fault.add_to(alloc, &mut error)?;
-        let (side, path, os) = match fault.refused_path(alloc, sides)? {
+        let (side, path, reason) = match fault.refused_path(alloc, sides)? {
             Some(RefusedPath { side, path, reason }) => (side, Some(path), reason),
             None => (None, None, None),
         };
+        let (kind, os) = kind_and_text(fault, reason);
         Ok(RefusalDocument {
             error,
+            kind,
             side,
             path,
             os,
         })
+    }
+}
+
+/// Returns the kind of a fault's refusal, and the text of the system's reason if there is one.
+fn kind_and_text(fault: &ProgramFault, reason: Option<Reason>) -> (Kind, Option<String>)
+    ensures kind { result.0 ≡ kind_at (last_number fault.now) reason }
+    ensures text { result.1 ≡ option_map (λ r. r.text) reason }
+{
+    match reason {
+        Some(Reason { text, kind }) => (fault.kind(Some(kind)), Some(text)),
+        None => (fault.kind(None), None),
     }
 }
 

@@ -1,3 +1,6 @@
+ghost use Rattle.std.specs.Prelude.{◌≡◌, IfOk, IfSome};
+ghost use Rattle.std.specs.IoError.{error_kind};
+
 use crate::fault::ProgramFault;
 use oci_archive::ArchiveFault;
 use oci_copy::CopyFault;
@@ -53,8 +56,17 @@ pub struct RefusedPath<'w> {
     pub side: Option<&'w str>,
     /// Its path.
     pub path: String,
-    /// The system's reason, if a call of the system failed there: for example `Permission denied`.
-    pub reason: Option<String>,
+    /// The system's reason, if a call of the system failed there.
+    pub reason: Option<Reason>,
+}
+
+/// Why a call of the system failed.
+#[derive(Drop)]
+pub struct Reason {
+    /// The system's text: for example `Permission denied`.
+    pub text: String,
+    /// The kind of the error.
+    pub kind: io::ErrorKind,
 }
 
 /// A side of a command.
@@ -246,20 +258,25 @@ fn reason_at(
     alloc: Global,
     failure: Option<&Failure>,
     path: &str,
-) -> Result<Option<String>, NoMemory> {
+) -> Result<Option<Reason>, NoMemory> {
     match failure {
         Some(failure) if failure.path.as_str() == path => reason_of(alloc, failure.error),
         _ => Ok(None),
     }
 }
 
-/// Returns the text of an error of the system, without its number.
-fn reason_of(alloc: Global, error: io::Error) -> Result<Option<String>, NoMemory> {
+/// Returns an error of the system as a reason, whose text has no number.
+fn reason_of(alloc: Global, error: io::Error) -> Result<Option<Reason>, NoMemory>
+    ensures { IfOk result (λ found. IfSome found (λ reason. reason.kind ≡ error_kind error)) }
+{
     if error.raw_os_error().is_none() {
         return Ok(None);
     }
     let text = format!(in alloc; "{error}")?;
-    Ok(Some(String::from_str(alloc, without_number(&text))?))
+    Ok(Some(Reason {
+        text: String::from_str(alloc, without_number(&text))?,
+        kind: error.kind(),
+    }))
 }
 
 /// Returns the text of an error of the system, without its number at the end.

@@ -48,7 +48,8 @@ value_at-append_right (p ∷ a) b k h =
       | inr other ↦ rw other (value_at-append_right a b k (rw other at h))
     ]
 
-value_at-filter : {X : Type 0} (arrives : Descriptor → Bool) (b : Bool) (pairs : List (Descriptor × X)) (k : Descriptor) → arrives k ≡ b → value_at (filter (λ (p : Descriptor × X). arrives p.0) pairs) k ≡ cond b (value_at pairs k) None
+-- what is left of pairs when only some keys stay
+pub value_at-filter : {X : Type 0} (arrives : Descriptor → Bool) (b : Bool) (pairs : List (Descriptor × X)) (k : Descriptor) → arrives k ≡ b → value_at (filter (λ (p : Descriptor × X). arrives p.0) pairs) k ≡ cond b (value_at pairs k) None
 value_at-filter arrives b pairs k h = lookup-filter-keys (λ other. same_key other k) arrives b (λ j same. ap arrives ((Decides-same_key j k).0 same) ∙ h) pairs
 
 -- a key that is not there before has what arrives

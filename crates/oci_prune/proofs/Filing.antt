@@ -17,13 +17,15 @@ use Rattle.std.proofs.lemmas.Map.Views.{btree_set_contains_iff}
 use Rattle.std.proofs.lemmas.Option.{same_Some}
 use Rattle.std.proofs.lemmas.Slice.Eq.{bytes_eq-Decides}
 use Rattle.oci_manifest.specs.Descriptor.{Descriptor, key_cmp}
+use Rattle.oci_store.specs.Content.{Entry}
 use Rattle.oci_store.specs.Graph.{IsEdge, Node}
 use Rattle.oci_store.specs.Keyed.{has_key, value_at}
 use Rattle.oci_store.proofs.KeyOrder.{key_cmp_total, key_cmp_exact}
 use Rattle.oci_dir.specs.Device.{File}
 use Rattle.oci_layout_store.specs.BlobFiles.{AreBlobs}
 use Rattle.oci_prune.proofs.Elements.{no_element, next_element, in_map_filter, map_filter_in}
-use Rattle.oci_prune.specs.Files.{AreNeeded, HasDigests, pruned_file, unneeded_in}
+use Rattle.oci_prune.specs.Aside.{Lists, ListsAside}
+use Rattle.oci_prune.specs.Files.{AddsNeeded, AreNeeded, HasDigests, pruned_file, unneeded_in}
 use Rattle.oci_prune.specs.Plan.{AreHeld, AreUnneeded, IsUnneeded, HasDigestIn, NeedsFile}
 use Rattle.oci_prune.specs.declared.plan.PrunedFile.{PrunedFile}
 
@@ -72,10 +74,10 @@ digests_more keys i key old new lt is h grown =
 
 -- ---- the keys that need files
 
-pub needed_none : (graph : List Node) → AreNeeded graph [] []
-needed_none graph k = (λ c. absurd (no_element k c), λ h. elim h [ inl c ↦ c | inr by ↦ absurd (no_element by.0 by.1) ])
+pub needed_none : (graph : List Node) (entries : List Entry) → AreNeeded graph entries [] []
+needed_none graph entries k = (λ c. absurd (no_element k c), λ h. elim h [ inl c ↦ c | inr by ↦ absurd (no_element by.0 by.1) ])
 
--- a key was added, with what it lists
+-- a key was added, with the keys that it lists in the graph
 abbrev Grows : List Node → Descriptor → List Descriptor → List Descriptor → Type 0
 Grows graph key old new = (k : Descriptor) → Contains new k ↔ (Contains old k ⊎ ((key ≡ k) ⊎ IsEdge graph key k))
 
@@ -111,11 +113,34 @@ keys_added graph key old pushed new listed lists is grown k = (to, back)
       ]
     ]
 
+-- and then the keys that it lists and that are not distributed
+pub aside_added : (graph : List Node) (entries : List Entry) (key : Descriptor) (old mid new aside : List Descriptor) → Grows graph key old mid → new ≡ mid ++ aside → ((k : Descriptor) → Contains aside k ↔ ListsAside entries key k)
+    → AddsNeeded graph entries key old new
+aside_added graph entries key old mid new aside grows grown are k = (
+  λ c. elim (Contains-append_cases mid aside k (subst (λ (ks : List Descriptor). Contains ks k) grown c)) [
+    | inl first ↦ elim ((grows k).0 first) [
+      | inl was ↦ inl was
+      | inr more ↦ elim more [ inl same ↦ inr (inl same) | inr edge ↦ inr (inr (inl edge)) ]
+    ]
+    | inr there ↦ inr (inr (inr ((are k).0 there)))
+  ],
+  λ h. subst (λ (ks : List Descriptor). Contains ks k) (sym grown) (elim h [
+    | inl was ↦ before ((grows k).1 (inl was))
+    | inr more ↦ elim more [
+      | inl same ↦ before ((grows k).1 (inr (inl same)))
+      | inr lists ↦ elim lists [ inl edge ↦ before ((grows k).1 (inr (inr edge))) | inr there ↦ Contains-append_right mid aside k ((are k).1 there) ]
+    ]
+  ]),
+)
+  where
+    before : Contains mid k → Contains (mid ++ aside) k
+    before c = Contains-append_left mid aside k c
+
 -- one key more, with the keys that it lists
-pub needed_more : (graph : List Node) (keys : List Descriptor) (i : ℕ) (key : Descriptor) (old new : List Descriptor) → i < length keys → key ≡ get_or keys i key → AreNeeded graph (take i keys) old → Grows graph key old new
-    → AreNeeded graph (take (i + 1) keys) new
-needed_more graph keys i key old new lt is h grown =
-    subst (λ (ks : List Descriptor). AreNeeded graph ks new) (sym (next_element keys i key lt is)) (λ k. (to k, back k))
+pub needed_more : (graph : List Node) (entries : List Entry) (keys : List Descriptor) (i : ℕ) (key : Descriptor) (old new : List Descriptor) → i < length keys → key ≡ get_or keys i key → AreNeeded graph entries (take i keys) old → AddsNeeded graph entries key old new
+    → AreNeeded graph entries (take (i + 1) keys) new
+needed_more graph entries keys i key old new lt is h grown =
+    subst (λ (ks : List Descriptor). AreNeeded graph entries ks new) (sym (next_element keys i key lt is)) (λ k. (to k, back k))
   where
     before : List Descriptor
     before = take i keys
@@ -124,14 +149,14 @@ needed_more graph keys i key old new lt is h grown =
     stays k c = Contains-append_left before (key ∷ []) k c
 
     To : Descriptor → Type 0
-    To k = Contains (before ++ key ∷ []) k ⊎ ((from : Descriptor) × Contains (before ++ key ∷ []) from × IsEdge graph from k)
+    To k = Contains (before ++ key ∷ []) k ⊎ ((from : Descriptor) × Contains (before ++ key ∷ []) from × Lists graph entries from k)
 
     to : (k : Descriptor) → Contains new k → To k
     to k c = elim ((grown k).0 c) [
       | inl was ↦ elim ((h k).0 was) [ inl here ↦ inl (stays k here) | inr by ↦ inr (by.0, stays by.0 by.1, by.2) ]
       | inr more ↦ elim more [
         | inl same ↦ inl (subst (λ (x : Descriptor). Contains (before ++ key ∷ []) x) same (Contains-push before key))
-        | inr edge ↦ inr (key, Contains-push before key, edge)
+        | inr lists ↦ inr (key, Contains-push before key, lists)
       ]
     ]
 
@@ -140,7 +165,7 @@ needed_more graph keys i key old new lt is h grown =
       | inl here ↦ elim (Contains-push_cases before key k here) [ inl was ↦ (grown k).1 (inl ((h k).1 (inl was))) | inr same ↦ (grown k).1 (inr (inl same)) ]
       | inr by ↦ elim (Contains-push_cases before key by.0 by.1) [
         | inl was ↦ (grown k).1 (inl ((h k).1 (inr (by.0, was, by.2))))
-        | inr same ↦ (grown k).1 (inr (inr (subst (λ (x : Descriptor). IsEdge graph x k) (sym same) by.2)))
+        | inr same ↦ (grown k).1 (inr (inr (subst (λ (x : Descriptor). Lists graph entries x k) (sym same) by.2)))
       ]
     ]
 
@@ -161,9 +186,9 @@ both true false to back = sym (to refl)
 both false true to back = back refl
 both false false to back = refl
 
-pub are_unneeded : (file : File) (graph : List Node) (kept : BTreeSet Descriptor) (kept_keys needed_keys held_keys : List Descriptor) (needed held : Digests) (blobs : List (List ℕ × ℕ)) → AreBlobs file blobs → kept_keys ≡ kept.keys → AreNeeded graph kept_keys needed_keys
-    → HasDigests needed_keys needed → AreHeld graph held_keys → HasDigests held_keys held → AreUnneeded file graph kept (unneeded_in needed held blobs)
-are_unneeded file graph kept kept_keys needed_keys held_keys needed held blobs are same are_needed has_needed are_held has_held = record {
+pub are_unneeded : (file : File) (graph : List Node) (entries : List Entry) (kept : BTreeSet Descriptor) (kept_keys needed_keys held_keys : List Descriptor) (needed held : Digests) (blobs : List (List ℕ × ℕ)) → AreBlobs file blobs → kept_keys ≡ kept.keys → AreNeeded graph entries kept_keys needed_keys
+    → HasDigests needed_keys needed → AreHeld graph held_keys → HasDigests held_keys held → AreUnneeded file graph entries kept (unneeded_in needed held blobs)
+are_unneeded file graph entries kept kept_keys needed_keys held_keys needed held blobs are same are_needed has_needed are_held has_held = record {
   each = λ f. (to f, back f);
   order = subst (λ (ds : List (List ℕ)). IsStrictlySortedBy (slice_cmp nat_cmp) ds) (sym (digests_in_order needed held blobs)) (IsStrictlySortedBy-filter (slice_cmp nat_cmp) (λ (digest : List ℕ). not (contains (slice_cmp nat_cmp) needed digest)) (keys_of blobs) are.order);
 }
@@ -177,11 +202,11 @@ are_unneeded file graph kept kept_keys needed_keys held_keys needed held blobs a
     from_among : (k : Descriptor) → Contains kept_keys k → Kept k
     from_among k c = (btree_set_contains_iff key_cmp_total key_cmp_exact kept k).1 (subst (λ (ks : List Descriptor). Contains ks k) same c)
 
-    needed_from_kept : (digest : List ℕ) → NeedsFile graph Kept digest → contains (slice_cmp nat_cmp) needed digest ≡ true
+    needed_from_kept : (digest : List ℕ) → NeedsFile graph entries Kept digest → contains (slice_cmp nat_cmp) needed digest ≡ true
     needed_from_kept digest p =
         (has_needed digest).1 (p.0, (are_needed p.0).1 (elim p.1 [ inl is ↦ inl (among p.0 is) | inr by ↦ inr (by.0, among by.0 by.1, by.2) ]), p.2)
 
-    kept_from_needed : (digest : List ℕ) → contains (slice_cmp nat_cmp) needed digest ≡ true → NeedsFile graph Kept digest
+    kept_from_needed : (digest : List ℕ) → contains (slice_cmp nat_cmp) needed digest ≡ true → NeedsFile graph entries Kept digest
     kept_from_needed digest h =
         let p = (has_needed digest).0 h in
         (p.0, elim ((are_needed p.0).0 p.1) [ inl is ↦ inl (from_among p.0 is) | inr by ↦ inr (by.0, from_among by.0 by.1, by.2) ], p.2)
@@ -192,17 +217,17 @@ are_unneeded file graph kept kept_keys needed_keys held_keys needed held blobs a
       λ p. (has_held digest).1 (p.0, (are_held.each p.0).1 p.1, p.2),
     )
 
-    to : (f : PrunedFile) → Contains (unneeded_in needed held blobs) f → IsUnneeded file graph kept f
+    to : (f : PrunedFile) → Contains (unneeded_in needed held blobs) f → IsUnneeded file graph entries kept f
     to f h =
         let r = in_map_filter (pruned_file held) (λ (blob : List ℕ × ℕ). not (contains (slice_cmp nat_cmp) needed blob.0)) blobs f h in
         let blob = (are.each r.0.0 r.0.1).0 r.1 in
-        subst (IsUnneeded file graph kept) r.3
+        subst (IsUnneeded file graph entries kept) r.3
         (record { is_digest = blob.0; there = blob.1; unneeded = λ p. cc (sym r.2 ∙ ap not (needed_from_kept r.0.0 p)); held = held_iff r.0.0 })
 
-    free : (digest : List ℕ) → (NeedsFile graph Kept digest → ⊥) → not (contains (slice_cmp nat_cmp) needed digest) ≡ true
+    free : (digest : List ℕ) → (NeedsFile graph entries Kept digest → ⊥) → not (contains (slice_cmp nat_cmp) needed digest) ≡ true
     free digest never = elim (cases_Bool (contains (slice_cmp nat_cmp) needed digest)) [ inl there ↦ absurd (never (kept_from_needed digest there)) | inr gone ↦ ap not gone ]
 
-    back : (f : PrunedFile) → IsUnneeded file graph kept f → Contains (unneeded_in needed held blobs) f
+    back : (f : PrunedFile) → IsUnneeded file graph entries kept f → Contains (unneeded_in needed held blobs) f
     back f u =
         let there : Contains blobs (f.digest, f.length) = (are.each f.digest f.length).1 (u.is_digest, u.there) in
         let flag : contains (slice_cmp nat_cmp) held f.digest ≡ f.is_held = both (contains (slice_cmp nat_cmp) held f.digest) f.is_held (λ h. u.held.1 ((held_iff f.digest).0 h)) (λ h. (held_iff f.digest).1 (u.held.0 h)) in

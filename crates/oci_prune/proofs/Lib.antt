@@ -2,6 +2,7 @@ pub mod Keeping
 pub mod Remembered
 pub mod Stating
 pub mod Elements
+pub mod Asides
 pub mod Filing
 pub mod Sparing
 pub mod Noting
@@ -18,3 +19,4 @@ pub mod Bringing
 pub mod Arriving
 pub mod Typing
 pub mod Unlisting
+pub mod Parting

@@ -18,7 +18,7 @@ use Rattle.std.proofs.lemmas.Slice.Eq.{bytes_eq-Decides}
 use Rattle.oci_manifest.specs.Descriptor.{Descriptor, key_cmp}
 use Rattle.oci_store.specs.Content.{Entry}
 use Rattle.oci_store.specs.Graph.{IsEdge, Node}
-use Rattle.oci_store.specs.Keyed.{has_key}
+use Rattle.oci_store.specs.Keyed.{has_key, value_at}
 use Rattle.oci_store.specs.Tags.{Tags}
 use Rattle.oci_store.proofs.Lookups.{has_key-from_Contains}
 use Rattle.oci_layout_store.specs.Blobs.{blob_path, stored}
@@ -28,10 +28,12 @@ use Rattle.oci_layout_store.specs.Layout.{OpenedIndex}
 use Rattle.oci_layout_store.proofs.Files.{index_blob}
 use Rattle.oci_layout_store.proofs.Prunable.{stored-apart, IsApart, IsSound-apart}
 use Rattle.oci_layout_store.proofs.Stored.{blob_path-injective}
+use Rattle.oci_prune.specs.Aside.{Lists, ListsAside}
 use Rattle.oci_prune.specs.Plan.{AreUnneeded, HasDigestIn, IsSafe, NeedsFile}
 use Rattle.oci_prune.specs.Pruned.{is_gone, kept_of, AllAmong, AreApart, HasOnlyNeeded, IsGone, IsNone, IsOfNoKey, IsPathAmong, IsPathOf, IsThere, IsTouchedUnsaved, Spares}
 use Rattle.oci_prune.specs.declared.plan.PrunedFile.{PrunedFile}
 use Rattle.oci_prune.specs.declared.plan.PrunePlan.{PrunePlan}
+use Rattle.oci_prune.proofs.Arriving.{value_at-filter}
 use Rattle.oci_prune.proofs.Elements.{no_element, Contains-head, Contains-tail, Contains-cons}
 use Rattle.oci_prune.proofs.Sparing.{apart_both, map_same, path_among, spares_both, spares_index}
 use Rattle.oci_prune.proofs.Leaving.{kept_value, kept_from_left, stored_left, decide_digest}
@@ -40,7 +42,7 @@ abbrev Set : Type 0
 Set = BTreeSet Descriptor
 
 -- no key that is left needs a file that is to go
-pub unneeded_left : (file : File) (graph now : List Node) (set : Set) (files : List PrunedFile) → AreUnneeded file graph set files → now ≡ kept_of set graph → All (λ (f : PrunedFile). All (λ (k : Descriptor). k.digest ≢ f.digest) (keys_of now)) files
+pub unneeded_left : {entries : List Entry} (file : File) (graph now : List Node) (set : Set) (files : List PrunedFile) → AreUnneeded file graph entries set files → now ≡ kept_of set graph → All (λ (f : PrunedFile). All (λ (k : Descriptor). k.digest ≢ f.digest) (keys_of now)) files
 unneeded_left file graph now set files are left place d lt at e within same =
     let f = get_or files place d in
     let k = get_or (keys_of now) at e in
@@ -49,7 +51,7 @@ unneeded_left file graph now set files are left place d lt at e within same =
     ((are.each f).0 (Contains-get_or files place d lt)).unneeded (k, inl kept, same)
 
 -- no held key has a file that is not held
-pub unheld_of_no_key : (file : File) (graph : List Node) (set : Set) (files : List PrunedFile) → AreUnneeded file graph set files → AllAmong false (IsOfNoKey graph) files
+pub unheld_of_no_key : {entries : List Entry} (file : File) (graph : List Node) (set : Set) (files : List PrunedFile) → AreUnneeded file graph entries set files → AllAmong false (IsOfNoKey graph) files
 unheld_of_no_key file graph set files are place d lt flag at e within same =
     let f = get_or files place d in
     let k = get_or (keys_of graph) at e in
@@ -57,7 +59,7 @@ unheld_of_no_key file graph set files are place d lt flag at e within same =
     cc (sym flag ∙ ((are.each f).0 (Contains-get_or files place d lt)).held.1 (k, held, same))
 
 -- after the removal of files that no key has and the save, no key that is left needs a file that is to go
-pub unneeded_after : (file : File) (graph same left : List Node) (set : Set) (files listed : List PrunedFile) → AreUnneeded file graph set files → same ≡ graph → left ≡ kept_of set same → listed ≡ files → AllAmong true (IsOfNoKey left) listed
+pub unneeded_after : {entries : List Entry} (file : File) (graph same left : List Node) (set : Set) (files listed : List PrunedFile) → AreUnneeded file graph entries set files → same ≡ graph → left ≡ kept_of set same → listed ≡ files → AllAmong true (IsOfNoKey left) listed
 unneeded_after file graph same left set files listed are first second is =
     subst (λ (fs : List PrunedFile). AllAmong true (IsOfNoKey left) fs) (sym is)
     (λ place d lt flag. unneeded_left file graph left set files are (second ∙ ap (λ (g : List Node). kept_of set g) first) place d lt)
@@ -99,9 +101,9 @@ spares_unsaved a b c graph left plan first second =
     apart place d lt = index_blob (get_or graph place d).0.digest
 
 -- only the index and these files changed, and these files are gone
-pub only_needed : (old new : Device) (graph now : List Node) (roots : List Descriptor) (set : Set) (files : List PrunedFile) → IsSafe graph roots set → AreUnneeded old.file graph set files → now ≡ kept_of set graph
-    → ((path : List ℕ) → ((index_file ≡ path) ⊎ IsPathOf files path → ⊥) → new.file path ≡ old.file path) → All (IsGone new.file) files → HasOnlyNeeded new.file now
-only_needed old new graph now roots set files safe are left other gone digest is never = at (old.file (blob_path digest)) refl
+pub only_needed : (old new : Device) (graph now : List Node) (roots : List Descriptor) (set : Set) (files : List PrunedFile) → IsSafe graph roots set → AreUnneeded old.file graph (stored old.file graph) set files → now ≡ kept_of set graph
+    → stored new.file now ≡ filter (λ (e : Entry). contains key_cmp set e.0) (stored old.file graph) → ((path : List ℕ) → ((index_file ≡ path) ⊎ IsPathOf files path → ⊥) → new.file path ≡ old.file path) → All (IsGone new.file) files → HasOnlyNeeded new.file now
+only_needed old new graph now roots set files safe are left contents other gone digest is never = at (old.file (blob_path digest)) refl
   where
     free : old.file (blob_path digest) ≡ None → IsPathOf files (blob_path digest) → ⊥
     free none p =
@@ -114,8 +116,16 @@ only_needed old new graph now roots set files safe are left other gone digest is
     edge_now : (from k : Descriptor) → contains key_cmp set from ≡ true → IsEdge graph from k → IsEdge now from k
     edge_now from k kept edge = subst (λ (g : List Node). IsEdge g from k) (sym left) (edge.0, kept_value set graph from kept ∙ edge.1, edge.2)
 
-    unneeded : NeedsFile graph (λ (k : Descriptor). contains key_cmp set k ≡ true) digest → ⊥
-    unneeded p = never (p.0, elim p.1 [ inl is ↦ inl (held_now p.0 is) | inr by ↦ inr (by.0, held_now by.0 by.1, edge_now by.0 p.0 by.1 by.2) ], p.2)
+    aside_now : (from k : Descriptor) → contains key_cmp set from ≡ true → ListsAside (stored old.file graph) from k → ListsAside (stored new.file now) from k
+    aside_now from k kept lists =
+        let stays : value_at (stored new.file now) from ≡ value_at (stored old.file graph) from = ap (λ (es : List Entry). value_at es from) contents ∙ value_at-filter (contains key_cmp set) true (stored old.file graph) from kept in
+        (lists.0, lists.1, stays ∙ lists.2, lists.3, lists.4)
+
+    lists_now : (from k : Descriptor) → contains key_cmp set from ≡ true → Lists graph (stored old.file graph) from k → Lists now (stored new.file now) from k
+    lists_now from k kept lists = elim lists [ inl edge ↦ inl (edge_now from k kept edge) | inr aside ↦ inr (aside_now from k kept aside) ]
+
+    unneeded : NeedsFile graph (stored old.file graph) (λ (k : Descriptor). contains key_cmp set k ≡ true) digest → ⊥
+    unneeded p = never (p.0, elim p.1 [ inl is ↦ inl (held_now p.0 is) | inr by ↦ inr (by.0, held_now by.0 by.1, lists_now by.0 p.0 by.1 by.2) ], p.2)
 
     at : (found : Option (List ℕ)) → found ≡ old.file (blob_path digest) → new.file (blob_path digest) ≡ None
     at None e = other (blob_path digest) (λ touched. elim touched [ inl is ↦ not_index digest is | inr p ↦ free (sym e) p ]) ∙ sym e
@@ -133,7 +143,7 @@ has_index-stays old new graph now tags later opened left e g t o h = rw (g, t, o
 
 -- ---- the flags of the files
 
-pub are_there : (file : File) (graph : List Node) (set : Set) (files : List PrunedFile) → AreUnneeded file graph set files → All (IsThere file) files
+pub are_there : {entries : List Entry} (file : File) (graph : List Node) (set : Set) (files : List PrunedFile) → AreUnneeded file graph entries set files → All (IsThere file) files
 are_there file graph set files are place d lt = ap is_some (((are.each (get_or files place d)).0 (Contains-get_or files place d lt)).there.1)
 
 -- what is so of all files is so of those that are held or not
@@ -209,7 +219,7 @@ digests_apart (x ∷ files) order (suc place) f at =
     in_map (y ∷ fs) zero h e = let is : y ≡ h = cc e in subst (λ (z : PrunedFile). Contains (y.digest ∷ map digest_in fs) z.digest) is (Contains-head y.digest (map digest_in fs))
     in_map (y ∷ fs) (suc i) h e = Contains-tail y.digest (map digest_in fs) h.digest (in_map fs i h e)
 
-pub are_apart : (file : File) (graph : List Node) (set : Set) (files : List PrunedFile) → AreUnneeded file graph set files → AreApart files
+pub are_apart : {entries : List Entry} (file : File) (graph : List Node) (set : Set) (files : List PrunedFile) → AreUnneeded file graph entries set files → AreApart files
 are_apart file graph set files are place f at earlier_place d lt same =
     let g = get_or (take place files) earlier_place d in
     let inside : Contains (take place files) g = Contains-get_or (take place files) earlier_place d lt in

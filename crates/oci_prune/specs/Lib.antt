@@ -1,10 +1,12 @@
 pub mod Belongs
 pub mod Subjects
+pub mod Aside
 pub mod Attached
 pub mod Belonging
 pub mod Walk
 pub mod Plan
 pub mod Free
+pub mod Untagged
 pub mod After
 pub mod Files
 pub mod Refusal

@@ -10,14 +10,16 @@ use Rattle.oci_digest.specs.Digest.{IsDigest}
 use Rattle.oci_manifest.specs.Descriptor.{Descriptor, key_cmp}
 use Rattle.oci_manifest.specs.MediaTypes.{kind_of}
 use Rattle.oci_manifest.specs.declared.kind.Kind.TheVariants.{Leaf}
+use Rattle.oci_store.specs.Content.{Entry}
 use Rattle.oci_store.specs.Graph.{Node, IsEdge, Reaches}
 use Rattle.oci_store.specs.Keyed.{has_key}
 use Rattle.oci_store.specs.State.{State}
-use Rattle.oci_layout_store.specs.Blobs.{blob_path}
+use Rattle.oci_layout_store.specs.Blobs.{blob_path, stored}
 use Rattle.oci_dir.specs.Device.{Device, File}
 use Rattle.oci_layout_store.specs.Layout.{LayoutState}
 use Rattle.oci_dir.specs.Prunable.{HasLength, ListsFiles, by_name}
 use Rattle.oci_layout_store.specs.Saved.{shadowed_keys}
+use Rattle.oci_prune.specs.Aside.{Lists}
 use Rattle.oci_prune.specs.Belongs.{AllKnown, AreMembers}
 use Rattle.oci_prune.specs.Subjects.{Refers}
 use Rattle.oci_prune.specs.declared.plan.PrunedFile.{PrunedFile}
@@ -62,20 +64,21 @@ abbrev pub HasDigestIn : (Descriptor → Type 0) → List ℕ → Type 0
 HasDigestIn is_one digest = (k : Descriptor) × is_one k × (k.digest ≡ digest)
 
 -- one of these keys needs the file of a digest: it has the digest, or it lists a key that has it,
--- held or not
-abbrev pub NeedsFile : List Node → (Descriptor → Type 0) → List ℕ → Type 0
-NeedsFile graph is_one digest = HasDigestIn (λ k. is_one k ⊎ ((from : Descriptor) × is_one from × IsEdge graph from k)) digest
+-- held or not, also that of a layer that is not distributed
+abbrev pub NeedsFile : List Node → List Entry → (Descriptor → Type 0) → List ℕ → Type 0
+NeedsFile graph entries is_one digest = HasDigestIn (λ k. is_one k ⊎ ((from : Descriptor) × is_one from × Lists graph entries from k)) digest
 
--- a digest's file that no kept key needs, with its length, and whether a held key has the digest
-pub record IsUnneeded (file : File) (graph : List Node) (kept : BTreeSet Descriptor) (f : PrunedFile) : Type 0 where
+-- a digest's file that no kept key needs, with its length, and whether a held key has the digest; the
+-- held keys have these bytes
+pub record IsUnneeded (file : File) (graph : List Node) (entries : List Entry) (kept : BTreeSet Descriptor) (f : PrunedFile) : Type 0 where
   pub is_digest : IsDigest f.digest
   pub there : HasLength file (blob_path f.digest) f.length
-  pub unneeded : NeedsFile graph (λ k. contains key_cmp kept k ≡ true) f.digest → ⊥
+  pub unneeded : NeedsFile graph entries (λ k. contains key_cmp kept k ≡ true) f.digest → ⊥
   pub held : IsTrue f.is_held ↔ HasDigestIn (λ k. has_key graph k ≡ true) f.digest
 
 -- the files that no kept key needs, in byte order of their paths
-pub record AreUnneeded (file : File) (graph : List Node) (kept : BTreeSet Descriptor) (files : List PrunedFile) : Type 0 where
-  pub each : (f : PrunedFile) → Contains files f ↔ IsUnneeded file graph kept f
+pub record AreUnneeded (file : File) (graph : List Node) (entries : List Entry) (kept : BTreeSet Descriptor) (files : List PrunedFile) : Type 0 where
+  pub each : (f : PrunedFile) → Contains files f ↔ IsUnneeded file graph entries kept f
   pub order : IsStrictlySortedBy (slice_cmp nat_cmp) (map (λ (f : PrunedFile). f.digest) files)
 
 -- a plan for a layout in a directory: it keeps the roots and what they reach, and removes the other
@@ -84,7 +87,7 @@ pub record IsPrunePlan (dir : Device) (graph : List Node) (roots : List Descript
   pub safe : IsSafe graph roots plan.kept
   pub rooted : All (λ k. contains key_cmp plan.kept k ≡ true) roots
   pub removed : AreRemoved graph plan.kept plan.removed.items
-  pub files : dir.is_honest → AreUnneeded dir.file graph plan.kept plan.files.items
+  pub files : dir.is_honest → AreUnneeded dir.file graph (stored dir.file graph) plan.kept plan.files.items
   pub drafts : dir.is_honest → ListsFiles dir.draft (by_name plan.drafts.items)
 
 -- a plan keeps each held key, and no other, so that it removes none
@@ -109,5 +112,5 @@ pub record IsPlanAfter (dir : Device) (after : State) (roots : List Descriptor) 
   pub known : (keeps ≡ true → after.is_honest) → AllKnown after.nodes roots (RefersIf keeps after)
   pub safe : IsSafe after.nodes roots plan.kept
   pub removed : AreRemoved after.nodes plan.kept plan.removed.items
-  pub files : dir.is_honest → AreUnneeded dir.file after.nodes plan.kept plan.files.items
+  pub files : dir.is_honest → after.is_honest → AreUnneeded dir.file after.nodes after.entries plan.kept plan.files.items
   pub drafts : plan.drafts.items ≡ []

@@ -92,7 +92,7 @@ RemovesIf false old new path = Same old new
 
 -- no digest has a file unless a key of the graph needs it
 abbrev pub HasOnlyNeeded : File → List Node → Type 0
-HasOnlyNeeded file graph = (digest : List ℕ) → IsDigest digest → (NeedsFile graph (λ k. has_key graph k ≡ true) digest → ⊥) → file (blob_path digest) ≡ None
+HasOnlyNeeded file graph = (digest : List ℕ) → IsDigest digest → (NeedsFile graph (stored file graph) (λ k. has_key graph k ≡ true) digest → ⊥) → file (blob_path digest) ≡ None
 
 -- only files at touched paths changed in a directory, and the contents of a graph stayed
 pub record Spares (old new : Device) (graph : List Node) (touched : List ℕ → Type 0) : Type 0 where

@@ -16,7 +16,8 @@ use Rattle.oci_layout_store.specs.Layout.{LayoutState, OpenedIndex, manifests_of
 use Rattle.oci_layout_store.specs.Refusal.{IsFirstUnreadable}
 use Rattle.oci_layout_store.specs.declared.fault.LayoutFault.{LayoutFault}
 use Rattle.oci_layout_store.specs.declared.fault.LayoutFault.TheVariants as layout
-use Rattle.oci_prune.specs.Belongs.{IsUnknown}
+use Rattle.oci_prune.specs.Aside.{IsAsideFault}
+use Rattle.oci_prune.specs.Belongs.{Belongs, IsUnknown}
 use Rattle.oci_prune.specs.Plan.{RefersIf}
 use Rattle.oci_prune.specs.Subjects.{IsSubjectFault}
 use Rattle.oci_prune_fault.specs.declared.fault.PruneFault.{PruneFault}
@@ -76,16 +77,32 @@ IsCheckFault dir graph opened (fault.LinkedBlobs path) = dir.is_honest → dir.l
 IsCheckFault dir graph opened (fault.Layout (layout.BadIndex e)) = IsFirstUnreadable (said opened.content).entries (layout.BadIndex e)
 IsCheckFault dir graph opened e = IsDeviceFault (dir.fails_reads ≡ true) e
 
+-- the key is held, and it is kept by a prune from these roots
+abbrev pub IsKeptKey : State → List Descriptor → Bool → Descriptor → Type 0
+IsKeptKey store roots keeps k = (has_key store.nodes k ≡ true) × ((keeps ≡ true → store.is_honest) → Belongs store.nodes roots (RefersIf keeps store) k)
+
+-- why a held manifest was to be read and was not: for its subject, or, if it is kept, for its layers that
+-- are not distributed
+abbrev pub IsReadFault : State → List Descriptor → Bool → PruneFault → Type 0
+IsReadFault store roots keeps e = IsSubjectFault store (λ k. (keeps ≡ true) × (has_key store.nodes k ≡ true)) e ⊎ IsAsideFault store (IsKeptKey store roots keeps) e
+
 -- why there is no plan of a prune from these roots for a store, which a layout is or will be that was
 -- opened from this index; its files are in a directory
 abbrev pub IsFaultAfter : Device → OpenedIndex → State → List Descriptor → Bool → PruneFault → Type 0
-IsFaultAfter dir opened after roots keeps fault.NoTags = ⊥
+IsFaultAfter dir opened after roots keeps (fault.Fetch k e) = IsReadFault after roots keeps (fault.Fetch k e)
 IsFaultAfter dir opened after roots keeps (fault.Unknown k) =
     IsFirstUnheld after.nodes opened k ⊎ (after.is_honest → IsUnknown after.nodes roots (RefersIf keeps after) k)
 IsFaultAfter dir opened after roots keeps (fault.LinkedBlobs path) = dir.is_honest → dir.link ≡ Some path.now
 IsFaultAfter dir opened after roots keeps (fault.Layout layout.Device) = dir.fails_reads ≡ true
 IsFaultAfter dir opened after roots keeps (fault.Layout (layout.BadIndex e)) = IsFirstUnreadable (said opened.content).entries (layout.BadIndex e)
-IsFaultAfter dir opened after roots keeps e = IsSubjectFault after (λ k. (keeps ≡ true) × (has_key after.nodes k ≡ true)) e
+IsFaultAfter dir opened after roots keeps (fault.Layout (layout.BadManifest k e)) = IsReadFault after roots keeps (fault.Layout (layout.BadManifest k e))
+IsFaultAfter dir opened after roots keeps fault.Memory = Unit {0}
+IsFaultAfter dir opened after roots keeps other = ⊥
+
+-- a layout has no tag, or that was not found out
+abbrev pub IsUntaggedFault : Device → PruneFault → Type 0
+IsUntaggedFault dir fault.NoTags = Unit {0}
+IsUntaggedFault dir e = IsDeviceFault (dir.fails_reads ≡ true) e
 
 -- why there is no plan of a prune from these roots for a layout in a directory
 abbrev pub IsPlanFaultFrom : {D : Type 0} → Device → LayoutState D → List Descriptor → Bool → PruneFault → Type 0
@@ -99,6 +116,8 @@ IsUnknownListed graph k = (from : Descriptor) × IsEdge graph from k × (has_key
 -- why there is no plan of a prune that keeps each held key of a layout in a directory
 abbrev pub IsHeldPlanFault : {D : Type 0} → Device → LayoutState D → PruneFault → Type 0
 IsHeldPlanFault dir l (fault.Unknown k) = IsFirstUnheld l.graph l.opened k ⊎ (dir.is_honest → IsUnknownListed l.graph k)
+IsHeldPlanFault dir l (fault.Fetch k e) = IsAsideFault (meaning dir l.graph l.tags) (λ other. has_key l.graph other ≡ true) (fault.Fetch k e)
+IsHeldPlanFault dir l (fault.Layout (layout.BadManifest k e)) = IsAsideFault (meaning dir l.graph l.tags) (λ other. has_key l.graph other ≡ true) (fault.Layout (layout.BadManifest k e))
 IsHeldPlanFault dir l e = IsCheckFault dir l.graph l.opened e
 
 -- a save may fail: reads may fail, or a put failed

@@ -14,7 +14,7 @@ ghost use Rattle.oci_prune.specs.Subjects.{IsSubjectFault};
 
 use crate::attachments::Attachments;
 use crate::files::digests_of;
-use crate::held::{held_keys, keys_without, tag_roots};
+use crate::held::{copies, held_keys, joined, keys_without, tag_roots};
 use crate::members::add_member;
 use oci_digest::{Digest, NoMemory};
 use oci_dir::Dir;
@@ -47,9 +47,30 @@ pub fn free_keys<D: Dir>(alloc: Global, layout: &Layout<D>) -> Result<BTreeSet<K
         (meaning (D.device layout.now.dir) layout.now.graph layout.now.tags)
         (λ k. has_key layout.now.graph k ≡ true)) }
 {
+    free_beside(alloc, layout, &[])
+}
+
+/// Returns the keys of a layout that would be free if these keys had tags too.
+///
+/// # Errors
+///
+/// Those of [`free_keys`].
+pub(crate) fn free_beside<D: Dir>(
+    alloc: Global,
+    layout: &Layout<D>,
+    keys: &[Key],
+) -> Result<BTreeSet<Key>, PruneFault>
+    ensures exact { IfOk result (λ free. (D.device layout.now.dir).is_honest → AreFree
+        (meaning (D.device layout.now.dir) layout.now.graph layout.now.tags)
+        (keys.now ++ roots_of layout.now) free) }
+    ensures cause { IfErr result (IsSubjectFault
+        (meaning (D.device layout.now.dir) layout.now.graph layout.now.tags)
+        (λ k. has_key layout.now.graph k ≡ true)) }
+{
     let attachments = Attachments::in_layout(alloc, layout, &[])?;
     let held = held_keys(alloc, layout)?;
-    let named = digests_of(alloc, &tag_roots(alloc, layout)?)?;
+    let roots = joined(copies(alloc, keys)?, tag_roots(alloc, layout)?)?;
+    let named = digests_of(alloc, &roots)?;
     let attached = attached_keys(alloc, &attachments, &held)?;
     let apart = keys_without(alloc, &held, &attached)?;
     let unnamed = keys_of_others(alloc, &apart, &named)?;

@@ -67,7 +67,7 @@ pub(crate) fn tag_roots<D: Dir>(alloc: Global, layout: &Layout<D>) -> Result<Vec
 }
 
 /// Returns copies of keys.
-fn copies(alloc: Global, keys: &[Key]) -> Result<Vec<Key>, NoMemory>
+pub(crate) fn copies(alloc: Global, keys: &[Key]) -> Result<Vec<Key>, NoMemory>
     ensures { IfOk result (λ all. all.items ≡ keys.now) }
 {
     let mut all = Vec::new(alloc);
@@ -76,7 +76,7 @@ fn copies(alloc: Global, keys: &[Key]) -> Result<Vec<Key>, NoMemory>
 }
 
 /// Returns the keys of tags.
-fn named_keys(alloc: Global, tags: &[(String, Key)]) -> Result<Vec<Key>, NoMemory>
+pub(crate) fn named_keys(alloc: Global, tags: &[(String, Key)]) -> Result<Vec<Key>, NoMemory>
     ensures { IfOk result (λ keys. keys.items ≡ values_of (by_bytes tags.now)) }
 {
     let mut keys = Vec::new(alloc);
@@ -87,7 +87,7 @@ fn named_keys(alloc: Global, tags: &[(String, Key)]) -> Result<Vec<Key>, NoMemor
 }
 
 /// Returns the keys of both lists.
-fn joined(keys: Vec<Key>, more: Vec<Key>) -> Result<Vec<Key>, NoMemory>
+pub(crate) fn joined(keys: Vec<Key>, more: Vec<Key>) -> Result<Vec<Key>, NoMemory>
     ensures { IfOk result (λ all. all.items ≡ keys.items ++ more.items) }
 {
     let mut all = keys;

@@ -13,7 +13,8 @@
 //!
 //! [`plan_prune`] plans a prune that keeps each held key, so all that an entry of the index reaches,
 //! and changes nothing. Of the files under `blobs` that are named by a digest it removes those of
-//! neither a held key nor one that a held key lists, and the drafts that killed processes left. A
+//! neither a held key nor one that a held key lists, be it a layer that is not distributed, and the
+//! drafts that killed processes left. A
 //! layout is refused in which an entry or a listed manifest is absent or any manifest is damaged,
 //! since nobody knows what it lists, or in which an entry of the index is no descriptor, since nobody
 //! knows what it needs.
@@ -42,6 +43,7 @@
 #![tactic(auto)]
 
 mod after;
+mod aside;
 mod attachments;
 mod belonging;
 mod files;
@@ -56,8 +58,10 @@ mod plan;
 mod referrers;
 mod removal;
 mod run;
+mod save;
 mod type_filter;
 mod typed;
+mod untagged;
 mod whole;
 
 pub use attachments::Attachments;
@@ -69,4 +73,6 @@ pub use leftovers::{plan_leftovers, prune_leftovers};
 pub use oci_prune_fault::PruneFault;
 pub use plan::{PrunePlan, PrunedFile, plan_prune, plan_prune_after, plan_prune_keeping};
 pub use run::{Pruned, prune};
+pub use save::save_only;
 pub use typed::{belonging_of_types, referrers_of_types};
+pub use untagged::{plan_untag, untag_others};

@@ -1,4 +1,4 @@
-ghost use Rattle.std.specs.Prelude.{◌≡◌, ◌≢◌, ◌⊎◌, [], true, Some, None, IfOk, IfErr, OnOk, slice_get, string_bytes};
+ghost use Rattle.std.specs.Prelude.{◌≡◌, ◌≢◌, [], true, None, IfOk, IfErr, OnOk, string_bytes};
 ghost use Rattle.oci_store.specs.Keyed.{HasAll, first_missing};
 ghost use Rattle.oci_layout_store.specs.Blobs.{blob_path};
 ghost use Rattle.oci_layout_store.specs.Meaning.{meaning};
@@ -7,7 +7,7 @@ ghost use Rattle.oci_layout_store.specs.Layout.{manifests_of};
 ghost use Rattle.oci_prune.specs.After.{after_copy};
 ghost use Rattle.oci_prune.specs.Belongs.{AllKnown};
 ghost use Rattle.oci_prune.specs.Plan.{AreKept, IsPlanAfter, IsPrunePlan, IsSafe, KeepsEach, KnowsListed, RefersIf, roots_of, roots_with};
-ghost use Rattle.oci_prune.specs.Refusal.{ChecksWhole, IsEntryFault, IsFaultAfter, IsHeldPlanFault, IsLinkFault, IsPlanFaultFrom, IsUnknownFault};
+ghost use Rattle.oci_prune.specs.Refusal.{ChecksWhole, IsFaultAfter, IsHeldPlanFault, IsLinkFault, IsPlanFaultFrom, IsUntaggedFault};
 
 use crate::after::{AfterCopy, held_after};
 use crate::files::plan_files;
@@ -67,10 +67,10 @@ impl PrunedFile {
 ///
 /// All held keys are kept, so no key is removed. The files under `blobs` are removed that are named
 /// by a digest of neither a held key nor one that a held key lists. So the file of a layer that was
-/// cut stays if its image does.
+/// cut stays if its image does, and so does that of a layer that is not distributed.
 ///
-/// No manifest is read. The time grows with the held keys, the keys that they list and the files,
-/// times a logarithm.
+/// Each manifest is read once. The time grows with the held keys, the keys that they list and the
+/// files, times a logarithm, and with the bytes of the manifests.
 ///
 /// # Errors
 ///
@@ -80,6 +80,7 @@ impl PrunedFile {
 /// - 73 `BadIndex` if an entry of the opened index is no descriptor: the first one. Checked third.
 /// - 98 `LinkedBlobs` if `blobs`, `blobs/sha256` or `blobs/sha512` is a link. Checked fourth.
 /// - 96 `Unknown` if a held key lists a key of a manifest kind that is not held.
+/// - 77 `BadManifest` if a manifest cannot be read, and 88 `Fetch` if its bytes cannot be fetched.
 /// - 74 `Device` if a folder cannot be read.
 /// - 89 `Memory` if memory runs out.
 pub fn plan_prune<D: PrunableDir>(
@@ -127,14 +128,16 @@ pub fn plan_prune<D: PrunableDir>(
 /// bytes of the layout are.
 ///
 /// If `keeps_referrers`, each held manifest of a kind that may have a subject is read once; Docker
-/// manifests are not. The time grows with the held keys, the keys that they list and the files,
-/// times a logarithm.
+/// manifests are not. Then each kept manifest is read once, for its layers that are not distributed.
+/// The time grows with the held keys, the keys that they list and the files, times a logarithm, and
+/// with the bytes of these manifests.
 ///
 /// # Errors
 ///
-/// - 97 `NoTags` if the layout has no tag. Checked first. Then those of [`plan_prune`], in its order.
+/// - The first four of [`plan_prune`], in its order.
+/// - 97 `NoTags` if the layout has no tag. Checked fifth.
 /// - 77 `BadManifest` if such a manifest cannot be read, and 88 `Fetch` if its bytes cannot be
-///   fetched; only if `keeps_referrers`.
+///   fetched.
 /// - 96 `Unknown` if a given key, or a key that a kept key lists, is of a manifest kind and not held.
 pub fn plan_prune_keeping<D: PrunableDir>(
     alloc: Global,
@@ -154,35 +157,24 @@ pub fn plan_prune_keeping<D: PrunableDir>(
         → AllKnown layout.now.graph (roots_with layout.now keys.now) (RefersIf keeps_referrers
         (meaning (D.device layout.now.dir) layout.now.graph layout.now.tags))) }
     ensures tagged { OnOk result (layout.now.tags ≢ []) }
-    ensures whole { OnOk result (layout.now.opened.absent ≡ []) }
-    ensures sound { OnOk result (HasAll layout.now.graph
-        (manifests_of layout.now.opened.damaged)) }
-    ensures readable { OnOk result
-        (unreadable_places (said layout.now.opened.content).entries ≡ []) }
-    ensures unlinked { OnOk result ((D.device layout.now.dir).is_honest
-        → (D.device layout.now.dir).link ≡ None) }
-    ensures first { layout.now.tags ≡ [] → IfErr result (λ e. (e ≡ PruneFault.NoTags)
-        ⊎ (e ≡ PruneFault.Memory)) }
-    ensures second { layout.now.tags ≢ [] → layout.now.opened.absent ≢ []
-        → IfErr result (IsUnknownFault (λ k. slice_get layout.now.opened.absent 0 ≡ Some k)) }
-    ensures third { layout.now.tags ≢ [] → layout.now.opened.absent ≡ []
-        → first_missing layout.now.graph (manifests_of layout.now.opened.damaged) ≢ None
-        → IfErr result (IsUnknownFault (λ k.
-        first_missing layout.now.graph (manifests_of layout.now.opened.damaged) ≡ Some k)) }
-    ensures fourth { layout.now.tags ≢ [] → layout.now.opened.absent ≡ []
-        → first_missing layout.now.graph (manifests_of layout.now.opened.damaged) ≡ None
-        → unreadable_places (said layout.now.opened.content).entries ≢ []
-        → IfErr result (IsEntryFault (said layout.now.opened.content).entries) }
-    ensures fifth { layout.now.tags ≢ [] → layout.now.opened.absent ≡ []
+    ensures checked { ChecksWhole layout.now.graph layout.now.opened result }
+    ensures linked { layout.now.opened.absent ≡ []
         → first_missing layout.now.graph (manifests_of layout.now.opened.damaged) ≡ None
         → unreadable_places (said layout.now.opened.content).entries ≡ []
         → (D.device layout.now.dir).is_honest → (D.device layout.now.dir).link ≢ None
         → IfErr result (IsLinkFault (D.device layout.now.dir)) }
+    ensures unlinked { OnOk result ((D.device layout.now.dir).is_honest
+        → (D.device layout.now.dir).link ≡ None) }
+    ensures untagged { layout.now.tags ≡ [] → layout.now.opened.absent ≡ []
+        → first_missing layout.now.graph (manifests_of layout.now.opened.damaged) ≡ None
+        → unreadable_places (said layout.now.opened.content).entries ≡ []
+        → (D.device layout.now.dir).is_honest → (D.device layout.now.dir).link ≡ None
+        → IfErr result (IsUntaggedFault (D.device layout.now.dir)) }
     ensures cause { IfErr result (IsPlanFaultFrom (D.device layout.now.dir) layout.now
         (roots_with layout.now keys.now) keeps_referrers) }
 {
-    let roots = root_keys(alloc, layout, keys)?;
     check_whole(layout, layout)?;
+    let roots = root_keys(alloc, layout, keys)?;
     let held = held_keys(alloc, layout)?;
     let kept = plan_keys(alloc, layout, &roots, &held, keeps_referrers)?;
     let removed = keys_without(alloc, &held, &kept)?;

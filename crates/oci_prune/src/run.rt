@@ -18,6 +18,7 @@ ghost use Rattle.oci_prune.specs.Settled.{CanSettle, LeavesOneOf};
 
 use crate::plan::PrunePlan;
 use crate::removal::{remove_drafts, remove_files};
+use crate::save::save_only;
 use oci_digest::NoMemory;
 use oci_dir::PrunableDir;
 use oci_layout_store::Layout;
@@ -232,7 +233,8 @@ fn remove_unheld<D: PrunableDir>(
     drafts: &mut Vec<bool>,
 ) -> Option<PruneFault>
     requires planned { (D.device layout.old.dir).is_honest
-        → AreUnneeded (D.device layout.old.dir).file layout.old.graph plan.now.kept
+        → AreUnneeded (D.device layout.old.dir).file layout.old.graph
+        (stored (D.device layout.old.dir).file layout.old.graph) plan.now.kept
         plan.now.files.items }
     requires files { length files.old.items ≡ length plan.now.files.items }
     requires drafts { length drafts.old.items ≡ length plan.now.drafts.items }
@@ -262,8 +264,6 @@ fn remove_unheld<D: PrunableDir>(
 
 /// Drops the keys that are not kept from a layout, and saves its index. Does not write it if all
 /// held keys are kept. The index is on the disk before a blob is removed.
-///
-/// No key came, so no file of a key is waited for.
 fn save_kept<D: PrunableDir>(layout: &mut Layout<D>, plan: &PrunePlan) -> Result<(), PruneFault>
     requires rooted { All (λ k. contains key_cmp plan.now.kept k ≡ true) (roots_of layout.old) }
     requires removed { AreRemoved layout.old.graph plan.now.kept plan.now.removed.items }
@@ -287,8 +287,6 @@ fn save_kept<D: PrunableDir>(layout: &mut Layout<D>, plan: &PrunePlan) -> Result
     if plan.removed.is_empty() {
         return Ok(());
     }
-    layout.retain(&plan.kept)?;
-    let count = layout.count();
-    layout.save_settled(count)?;
+    save_only(layout, &plan.kept)?;
     Ok(())
 }

@@ -47,7 +47,10 @@ pub(crate) fn check_whole<S: Source, D: PrunableDir>(
 
 /// Returns the first of the manifests that were damaged when a layout was opened which a store does
 /// not hold.
-fn first_damaged<S: Source, D: Dir>(store: &S, layout: &Layout<D>) -> Result<Option<Key>, NoMemory>
+pub(crate) fn first_damaged<S: Source, D: Dir>(
+    store: &S,
+    layout: &Layout<D>,
+) -> Result<Option<Key>, NoMemory>
     ensures { IfOk result (λ found. found ≡ first_missing (S.state store.now).nodes
         (manifests_of layout.now.opened.damaged)) }
 {

@@ -1,26 +1,41 @@
 -- The steps of `untag`.
-use Rattle.std.proofs.Common.{◌≡◌, ◌-◌, ℕ, inr, List, length, map, Option, Some, None, option_map, refl, sym, ap, subst, ◌∙◌}
-use Rattle.std.specs.Prelude.{Result, Ok, Err, IfOk, OnOk}
+use Rattle.std.proofs.Common.{◌≡◌, ◌-◌, ◌+◌, ◌<◌, ℕ, Bool, true, cond, inl, inr, List, [], ◌∷◌, ◌++◌, length, get_or, take, map, Option, Some, None, option_map, refl, sym, ap, subst, ◌∙◌}
+use Rattle.std.specs.Prelude.{Result, Ok, Err, IfOk, flat_map}
+use Rattle.std.specs.BTreeSet.{BTreeSet, contains}
+use Rattle.std.specs.List.{All}
+use Rattle.std.specs.Map.{values_of}
+use Rattle.std.proofs.lemmas.Bool.{cases_Bool}
+use Rattle.std.proofs.lemmas.Grind.{flat_map-append}
+use Rattle.std.proofs.lemmas.List.Elements.{All-cons, All-nil}
 use Rattle.std.specs.List.{slice_get}
-use Rattle.std.proofs.lemmas.List.{length-map}
+use Rattle.std.proofs.lemmas.List.{append-nil, length-map}
 use Rattle.std.proofs.lemmas.Option.{slice_get-map}
-use Rattle.oci_manifest.specs.Descriptor.{Descriptor}
+use Rattle.std.proofs.lemmas.Slice.Eq.{bytes_eq-Decides}
+use Rattle.oci_manifest.specs.Descriptor.{Descriptor, key_cmp}
 use Rattle.oci_layout_store.specs.Blobs.{stored}
 use Rattle.oci_layout_store.specs.Brought.{Forgets}
 use Rattle.oci_dir.specs.Device.{Device, Touches}
 use Rattle.oci_layout_store.specs.Entries.{IndexEntry, entry_of, said}
 use Rattle.oci_layout_store.specs.Index.{HasIndex, index_file}
 use Rattle.oci_layout_store.specs.Lasts.{Lasts}
-use Rattle.oci_layout_store.specs.Layout.{LayoutState}
+use Rattle.oci_layout_store.specs.Layout.{LayoutState, OnlyTags, OpenedIndex}
+use Rattle.oci_layout_store.proofs.Opened.{next_entry}
 use Rattle.oci_layout_store.specs.declared.index.IndexEntry.{IndexEntry as CodeEntry}
 use Rattle.oci_program.specs.Opened.{IsOpenedSettled}
 use Rattle.oci_program.specs.declared.fault.ProgramFault.{ProgramFault}
+use Rattle.oci_prune.specs.Plan.{IsSafe}
+use Rattle.oci_prune.specs.Pruned.{OnlyIndex, kept_of}
 use Rattle.oci_prune.specs.Settled.{CanSettle}
+use Rattle.oci_prune.specs.Untagged.{tags_of_kept}
 use Rattle.oci_store.specs.Content.{Entry}
+use Rattle.oci_prune.proofs.Leaving.{closed_left}
+use Rattle.oci_prune.proofs.Settling.{can_settle_same}
+use Rattle.oci_store.specs.Closed.{IsClosed}
 use Rattle.oci_store.specs.Graph.{Node}
-use Rattle.oci_store.specs.Tags.{Tags, tag_at}
+use Rattle.oci_store.specs.Keyed.{HasDistinctKeys}
+use Rattle.oci_store.specs.Tags.{Tags, tag_at, without_tag}
 use Rattle.oci_prune_commands.specs.Named.{entries_named, keys_named}
-use Rattle.oci_prune_commands.specs.Untagged.{IsSavedAnew, IsUntagged, IsUntagRun, LosesName}
+use Rattle.oci_prune_commands.specs.Untagged.{GoesAlong, IsSavedAnew, IsUntagged, IsUntagRun, LosesName, LosesTag, keys_going, untagged}
 use Rattle.oci_prune_commands.specs.declared.untag.Untagged.{Untagged}
 
 -- ---- a name that is no tag
@@ -55,7 +70,6 @@ pub saved_anew : {D : Type 0} (device : D → Device) (old new : LayoutState D) 
     → ((entries : List Entry) (tags : Tags) → CanSettle (device old.dir) (length old.graph) old.graph entries tags → Lasts (device new.dir) (stored (device new.dir).file new.graph) new.tags)
     → IsSavedAnew device old new
 saved_anew device old new graph tags index other lasts = record {
-  graph = graph;
   index = λ honest.
       subst (λ (ns : List Node). HasIndex (device new.dir).file ns new.tags new.opened) (sym graph)
       (subst (λ (ts : Tags). HasIndex (device new.dir).file old.graph ts new.opened) (sym tags) (index honest));
@@ -63,32 +77,93 @@ saved_anew device old new graph tags index other lasts = record {
   lasts = lasts;
 }
 
-pub loses_entries : {D : Type 0} (device : D → Device) (name : List ℕ) (old mid new : LayoutState D) (named : List CodeEntry) (result : Result (Option Descriptor) ProgramFault) → mid ≡ old
+pub loses_entries : {D : Type 0} (device : D → Device) (name : List ℕ) (old mid new : LayoutState D) (named : List CodeEntry) (key : Option Descriptor) (belonged : List Descriptor) → mid ≡ old
     → map entry_of named ≡ entries_named name (said old.opened.content).entries
     → tag_at old.tags name ≡ None
-    → IfOk result (λ key. Some key ≡ option_map (λ (e : CodeEntry). e.key) (slice_get named (length named - 1)))
-    → OnOk result (Forgets (map entry_of named) mid.opened new.opened)
-    → OnOk result ((device mid.dir).is_honest → HasIndex (device new.dir).file mid.graph mid.tags new.opened)
+    → Some key ≡ option_map (λ (e : CodeEntry). e.key) (slice_get named (length named - 1))
+    → Forgets (map entry_of named) mid.opened new.opened
+    → ((device mid.dir).is_honest → HasIndex (device new.dir).file mid.graph mid.tags new.opened)
     → new.graph ≡ mid.graph → new.tags ≡ mid.tags
     → ((device mid.dir).is_honest → Touches (device mid.dir).file (device new.dir).file index_file)
-    → OnOk result ((entries : List Entry) (tags : Tags) → CanSettle (device mid.dir) (length mid.graph) mid.graph entries tags → Lasts (device new.dir) (stored (device new.dir).file new.graph) new.tags)
-    → IfOk result (LosesName device name old new)
-loses_entries {D} device name old mid new named (Ok key) same these none last forgets index graph tags other lasts =
+    → ((entries : List Entry) (tags : Tags) → CanSettle (device mid.dir) (length mid.graph) mid.graph entries tags → Lasts (device new.dir) (stored (device new.dir).file new.graph) new.tags)
+    → belonged ≡ []
+    → LosesName device name old new key belonged
+loses_entries {D} device name old mid new named key belonged same these no_tag last forgets index graph tags other lasts none =
     let these_mid : map entry_of named ≡ entries_named name (said mid.opened.content).entries = subst (λ (s : LayoutState D). map entry_of named ≡ entries_named name (said s.opened.content).entries) (sym same) these in
-    subst (λ (s : LayoutState D). LosesName device name s new key) same (inr (record {
-      no_tag = subst (λ (s : LayoutState D). tag_at s.tags name ≡ None) (sym same) none;
+    subst (λ (s : LayoutState D). LosesName device name s new key belonged) same (inr (record {
+      no_tag = subst (λ (s : LayoutState D). tag_at s.tags name ≡ None) (sym same) no_tag;
       last = last_named name (said mid.opened.content).entries named key these_mid last;
+      graph = graph;
       tags = tags;
+      none = none;
       opened = subst (λ (es : List IndexEntry). Forgets es mid.opened new.opened) these_mid forgets;
       saved = saved_anew device mid new graph tags index other lasts;
     }))
-loses_entries device name old mid new named (Err e) same these none last forgets index graph tags other lasts = tt
+
+-- ---- a tag
+
+abbrev layout_with : {D : Type 0} → D → List Node → Tags → OpenedIndex → LayoutState D
+layout_with dir graph tags opened = record { dir = dir; graph = graph; tags = tags; opened = opened }
+
+-- a layout that has lost a tag alone
+pub same_untagged : {D : Type 0} (tag : List ℕ) (old mid : LayoutState D) → OnlyTags old mid → mid.tags ≡ without_tag old.tags tag → mid ≡ untagged tag old
+same_untagged {D} tag old mid only tags =
+    ap (λ (d : D). layout_with d mid.graph mid.tags mid.opened) only.dir ∙ ap (λ (ns : List Node). layout_with old.dir ns mid.tags mid.opened) only.graph
+    ∙ ap (λ (ts : Tags). layout_with old.dir old.graph ts mid.opened) tags ∙ ap (λ (o : OpenedIndex). layout_with old.dir old.graph (without_tag old.tags tag) o) only.opened
+
+-- a tag is gone with what goes along
+pub loses_tag : {D : Type 0} (device : D → Device) (tag : List ℕ) (old mid new : LayoutState D) (going belonged : List Descriptor) (key : Descriptor) → mid ≡ untagged tag old → tag_at old.tags tag ≡ Some key → going ≡ keys_going tag old
+    → GoesAlong device tag going mid new belonged → IsSavedAnew device mid new → LosesTag device tag old new (Some key) belonged
+loses_tag {D} device tag old mid new going belonged key same named keys along saved =
+    let anew : IsSavedAnew device (untagged tag old) new = subst (λ (s : LayoutState D). IsSavedAnew device s new) same saved in
+    record {
+      named = named;
+      along = subst (λ (ks : List Descriptor). GoesAlong device tag ks (untagged tag old) new belonged) keys (subst (λ (s : LayoutState D). GoesAlong device tag going s new belonged) same along);
+      saved = record { index = anew.index; other = anew.other; lasts = anew.lasts };
+    }
+
+-- one entry more
+pub next_belonged : (f : IndexEntry → List Descriptor) (es : List CodeEntry) (i : ℕ) (e : CodeEntry) → i < length es → e ≡ get_or es i e → flat_map f (map entry_of (take (i + 1) es)) ≡ flat_map f (map entry_of (take i es)) ++ f (entry_of e)
+next_belonged f es i e lt is =
+    let so_far = flat_map f (map entry_of (take i es)) in
+    ap (flat_map f) (next_entry es i e lt is) ∙ flat_map-append f (map entry_of (take i es)) (entry_of e ∷ []) ∙ ap (λ (ks : List Descriptor). so_far ++ ks) (append-nil (f (entry_of e)))
+
+-- the tags of the kept keys name kept keys
+pub tags_are_kept : (kept : BTreeSet Descriptor) (tags : Tags) → All (λ (k : Descriptor). contains key_cmp kept k ≡ true) (values_of (tags_of_kept kept tags))
+tags_are_kept kept [] = All-nil (λ (k : Descriptor). contains key_cmp kept k ≡ true)
+tags_are_kept kept (t ∷ tags) =
+    let rest = tags_are_kept kept tags in
+    elim (cases_Bool (contains key_cmp kept t.1)) [
+      | inl stays ↦
+          subst (λ (b : Bool). All (λ (k : Descriptor). contains key_cmp kept k ≡ true) (values_of (cond b (t ∷ tags_of_kept kept tags) (tags_of_kept kept tags)))) (sym stays)
+          (All-cons (λ (k : Descriptor). contains key_cmp kept k ≡ true) t.1 (values_of (tags_of_kept kept tags)) stays rest)
+      | inr goes ↦ subst (λ (b : Bool). All (λ (k : Descriptor). contains key_cmp kept k ≡ true) (values_of (cond b (t ∷ tags_of_kept kept tags) (tags_of_kept kept tags)))) (sym goes) rest
+    ]
+
+-- ---- what is left is saved
+
+-- what is saved of a layout is saved of one with the same directory and graph
+pub saved_same : {D : Type 0} (device : D → Device) (old mid new : LayoutState D) → mid.dir ≡ old.dir → mid.graph ≡ old.graph → IsSavedAnew device mid new → IsSavedAnew device old new
+saved_same {D} device old mid new dir graph saved = record {
+  index = subst (λ (d : D). (device d).is_honest → HasIndex (device new.dir).file new.graph new.tags new.opened) dir saved.index;
+  other = subst (λ (d : D). (device d).is_honest → Touches (device d).file (device new.dir).file index_file) dir saved.other;
+  lasts = λ entries tags can. saved.lasts entries tags (can_settle_same device old mid (length old.graph) (length mid.graph) entries tags dir graph (ap length graph) can);
+}
+
+-- the kept keys are closed
+pub kept_closed : (graph now : List Node) (roots : List Descriptor) (kept : BTreeSet Descriptor) → now ≡ graph → HasDistinctKeys now → IsSafe graph roots kept → IsClosed graph → IsClosed (kept_of kept now)
+kept_closed graph now roots kept same distinct safe closed =
+    closed_left now roots kept distinct (subst (λ (ns : List Node). IsSafe ns roots kept) (sym same) safe) (subst (λ (ns : List Node). IsClosed ns) (sym same) closed)
+
+-- a change of the index alone
+pub touches_index : {D : Type 0} (device : D → Device) (old new : LayoutState D) → OnlyIndex device old new → (device old.dir).is_honest → Touches (device old.dir).file (device new.dir).file index_file
+touches_index device old new only honest = λ q apart. only.spared.other honest q (λ is. cc (sym apart ∙ (bytes_eq-Decides index_file q).1 is))
 
 -- ---- the command
 
 -- a layout that was opened, and left without a name
 pub untag_run : {D : Type 0} (device : D → Device) (dir : D) (name : List ℕ) (opened left : LayoutState D) (result : Result Untagged ProgramFault) → IsOpenedSettled device dir opened
-    → IfOk result (λ answer. IsUntagged device name opened left answer.descriptor answer.descriptors.items)
-    → IfOk result (λ answer. IsUntagRun device dir name answer.descriptor answer.descriptors.items)
+    → IfOk result (λ answer. IsUntagged device name opened left answer.descriptor answer.descriptors.items answer.belonged.items)
+    → IfOk result (λ answer. IsUntagRun device dir name answer.descriptor answer.descriptors.items answer.belonged.items)
 untag_run device dir name opened left (Ok answer) is_opened untagged = record { opened = opened; is_opened = is_opened; left = left; untagged = untagged }
 untag_run device dir name opened left (Err e) is_opened untagged = tt

@@ -1,10 +1,11 @@
 //! The commands of `ocicp` that remove: [`run_untag`] removes a tag of an image layout, and
 //! [`run_prune`] removes the files that its index, or its tags, do not need.
 //!
-//! [`untag_and_save`] removes a tag of an open layout, and [`forget_and_save`] a name that is no tag.
-//! Their contracts say what that leaves.
+//! [`untag_and_save`] removes a tag of an open layout with what belonged to it alone, and
+//! [`forget_and_save`] a name that is no tag. Their contracts say what that leaves.
 #![tactic(auto)]
 
+mod along;
 mod prune;
 mod untag;
 

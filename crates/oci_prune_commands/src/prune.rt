@@ -53,14 +53,13 @@ use std::rt::Files;
 ///   locked, if `index.json` cannot be written, or if it is not known whether it is on the disk. If
 ///   the new `index.json` is not saved, what went before is printed: files that no held blob has.
 /// - 99 `Locked` if another process has the lock, and the words say not to wait.
-/// - 97 `NoTags` if the layout has no tag; only with `--untagged`. The next four not with
-///   `--leftovers`.
 /// - 109 `NoIndex` if there are blobs and no `index.json`, or, without `--untagged`, one without entries.
+///   This and the next five not with `--leftovers`.
 /// - 96 `Unknown` if it is not known what a manifest needs, since it is missing or damaged.
-/// - 110 `IndexChanged` if another program wrote `index.json` since the layout was opened; not with
-///   `--leftovers`.
 /// - 98 `LinkedBlobs` if a folder of blobs is a link.
-/// - 88 `Fetch` and 77 `BadManifest` with `--untagged`, if a held manifest cannot be read.
+/// - 97 `NoTags` if the layout has no tag; only with `--untagged`.
+/// - 88 `Fetch` and 77 `BadManifest` if a held manifest cannot be read.
+/// - 110 `IndexChanged` if another program wrote `index.json` since the layout was opened.
 /// - 79 `NotRemoved` if a file cannot be removed. The others are removed and printed.
 /// - 94 `Output` if `out` cannot be written. The prune is done.
 /// - Out of memory, at any point.

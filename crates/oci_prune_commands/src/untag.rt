@@ -1,6 +1,8 @@
 ghost use Rattle.std.specs.Prelude.{
   ◌≡◌,
   ◌-◌,
+  ◌++◌,
+  true,
   List,
   length,
   map,
@@ -22,18 +24,24 @@ ghost use Rattle.oci_layout_store.specs.Index.{index_file, HasIndex};
 ghost use Rattle.oci_layout_store.specs.Lasts.{Lasts};
 ghost use Rattle.oci_layout_store.specs.Refusal.{IsSettledFault};
 ghost use Rattle.oci_layout_store.specs.Saved.{is_name};
+ghost use Rattle.oci_layout_store.specs.Meaning.{meaning};
 ghost use Rattle.oci_prune.specs.Settled.{CanSettle, LeavesOneOf};
+ghost use Rattle.oci_prune.specs.Subjects.{IsSubjectFault};
 ghost use Rattle.oci_store.specs.Content.{Entry};
-ghost use Rattle.oci_store.specs.Tags.{Tags, tag_at, without_tag};
+ghost use Rattle.oci_store.specs.Keyed.{has_key};
+ghost use Rattle.oci_store.specs.Tags.{Tags, without_tag};
 ghost use Rattle.oci_prune_commands.specs.Named.{entries_named};
-ghost use Rattle.oci_prune_commands.specs.Refusal.{IsRefusedUntag};
+ghost use Rattle.oci_prune_commands.specs.Refusal.{IsRefusedRest, IsRefusedUntag};
 ghost use Rattle.oci_prune_commands.specs.Untagged.{
+  belonged_lines,
   untagged_lines,
   IsUntagged,
   IsUntagRun,
   LosesName,
+  LosesTag,
 };
 
+use crate::along::{entry_keys, save_without};
 use oci_command_line::UntagWords;
 use oci_digest::NoMemory;
 use oci_dir::Dir;
@@ -52,11 +60,13 @@ use std::fmt::Display;
 use std::io::Write;
 use std::rt::Files;
 
-/// `untag FOLDER TAG`: removes a tag from the layout in a directory, and saves it. A tag whose last
-/// entry in `index.json` has no file, or a damaged one, or is no descriptor, is removed too. The
+/// `untag FOLDER TAG`: removes a tag from the layout in a directory, with the entries of what belonged
+/// to it alone, and saves it. A tag whose last entry in `index.json` has no file, or a damaged one, or
+/// is no descriptor, is removed too; then nothing goes along. The
 /// directory is the words' folder, which is locked from before the layout is opened until after it is
 /// saved. Prints in this form the keys of the entries that had the tag; the last one is the key that
-/// it named. An entry that is no descriptor has none. `F` is [`ProgramFault`] or another type that is
+/// it named. An entry that is no descriptor has none. The keys of the other entries that went follow.
+/// `F` is [`ProgramFault`] or another type that is
 /// made from one. A power cut at any moment leaves the layout with the tag or without it; this is a
 /// clause of [`untag_and_save`], its core.
 ///
@@ -88,19 +98,20 @@ pub fn run_untag<
 ) -> Result<Outcome, F>
     ensures good { IfOk result (λ outcome. outcome ≡ Outcome.Good) }
 
-    // The layout in the directory was opened, and left without the tag, and all else stays. As
-    // lines, the answer is that of each entry that went.
+    // The layout in the directory was opened, and left without the tag and what belonged to it
+    // alone, and all else stays. As lines, the answer is that of each entry that went.
     ensures untagged { OnOk result ((key : Option Descriptor) × (keys : List (Option Descriptor))
-        × IsUntagRun D.device dir words.now.tag.now key keys
+        × (belonged : List Descriptor)
+        × IsUntagRun D.device dir words.now.tag.now key keys belonged
         × (form ≡ Form.Lines → Appends (W.contents out.old) (W.contents out.new)
-        (untagged_lines keys))) }
+        (untagged_lines keys ++ belonged_lines belonged))) }
 {
     let untagged = untag_folder(rt, dir, words, err)?;
     Ok(print_answer(rt.alloc(), &untagged, form, out)?)
 }
 
 /// The tag that was removed. `Display` prints each key of `descriptors` on a line, and `-` in the
-/// place of no key.
+/// place of no key, and then each key of `belonged`.
 #[derive(Drop, Serialize)]
 struct Untagged {
     tag: String,
@@ -109,17 +120,59 @@ struct Untagged {
     /// The keys of the entries that went with the tag, in the order of the index. The last one is
     /// that of the tag.
     descriptors: Vec<Option<Key>>,
+    /// The keys of the other entries that went, since they belonged to the tag alone, in the order of
+    /// the index.
+    belonged: Vec<Key>,
 }
 
 impl Display for Untagged {
+    ghost use Rattle.std.specs.Prelude.{◌++◌, Some};
+    ghost use Rattle.oci_prune_commands.specs.Untagged.{belonged_lines, untagged_lines};
+
+    ghost output = { λ u. Some (untagged_lines u.descriptors.items
+        ++ belonged_lines u.belonged.items) };
+
+    fn fmt<W: fmt::Write>(&self, f: &mut fmt::Formatter<W>) -> fmt::Result {
+        write!(
+            f,
+            "{}{}",
+            GoneEntries(&self.descriptors),
+            Belonged(&self.belonged)
+        )
+    }
+}
+
+/// The entries that had the tag, by their keys. `Display` prints a line for each.
+#[derive(Clone, Copy)]
+struct GoneEntries<'k>(&'k [Option<Key>]);
+
+impl Display for GoneEntries<'_> {
     ghost use Rattle.std.specs.Prelude.{Some};
     ghost use Rattle.oci_prune_commands.specs.Untagged.{untagged_lines};
 
-    ghost output = { λ u. Some (untagged_lines u.descriptors.items) };
+    ghost output = { λ e. Some (untagged_lines e.0.now) };
 
     fn fmt<W: fmt::Write>(&self, f: &mut fmt::Formatter<W>) -> fmt::Result {
-        for key in &self.descriptors {
+        for key in self.0 {
             write!(f, "{}", GoneEntry(key))?;
+        }
+        Ok(())
+    }
+}
+
+/// The other entries that went, by their keys. `Display` prints a line for each.
+#[derive(Clone, Copy)]
+struct Belonged<'k>(&'k [Key]);
+
+impl Display for Belonged<'_> {
+    ghost use Rattle.std.specs.Prelude.{Some};
+    ghost use Rattle.oci_prune_commands.specs.Untagged.{belonged_lines};
+
+    ghost output = { λ e. Some (belonged_lines e.0.now) };
+
+    fn fmt<W: fmt::Write>(&self, f: &mut fmt::Formatter<W>) -> fmt::Result {
+        for key in self.0 {
+            writeln!(f, "untagged {key}")?;
         }
         Ok(())
     }
@@ -152,7 +205,7 @@ fn untag_folder<R: Files<File: Lockable> + AllocGlobal, D: Dir + Drop, X: Write>
 ) -> Result<Untagged, ProgramFault>
     ensures tag { IfOk result (λ answer. string_bytes answer.tag ≡ words.now.tag.now) }
     ensures untagged { IfOk result (λ answer. IsUntagRun D.device dir words.now.tag.now
-        answer.descriptor answer.descriptors.items) }
+        answer.descriptor answer.descriptors.items answer.belonged.items) }
 {
     check_is_layout(&dir)?;
     let lock = lock_folder(rt, words.folder, dir.first_failure(), words.waits, err)?;
@@ -168,7 +221,7 @@ fn untag_under_lock<R: Files + AllocGlobal, D: Dir + Drop>(
 ) -> Result<Untagged, ProgramFault>
     ensures tag { IfOk result (λ answer. string_bytes answer.tag ≡ tag.now) }
     ensures untagged { IfOk result (λ answer. IsUntagRun D.device dir tag.now answer.descriptor
-        answer.descriptors.items) }
+        answer.descriptors.items answer.belonged.items) }
 {
     let seen = SeenIndex::of(&dir)?;
     let mut layout = open_settled(alloc, dir)?;
@@ -184,33 +237,38 @@ fn untag_layout<D: Dir>(
 ) -> Result<Untagged, ProgramFault>
     ensures tag { IfOk result (λ answer. string_bytes answer.tag ≡ tag.now) }
     ensures untagged { IfOk result (λ answer. IsUntagged D.device tag.now layout.old layout.new
-        answer.descriptor answer.descriptors.items) }
+        answer.descriptor answer.descriptors.items answer.belonged.items) }
 {
     let name = String::from_str(alloc, tag)?;
     let named = entries_named(alloc, layout, tag)?;
     let descriptors = keys_of(alloc, &named)?;
-    let descriptor = remove_name(layout, tag, &named)?;
+    let (descriptor, belonged) = remove_name(alloc, layout, tag, &named)?;
     Ok(Untagged {
         tag: name,
         descriptor,
         descriptors,
+        belonged,
     })
 }
 
 /// Removes a tag, or forgets the entries of a name that is no tag, which are these. Returns the key
-/// that the name had.
+/// that the name had, and the keys of the other entries that went.
 fn remove_name<D: Dir>(
+    alloc: Global,
     layout: &mut Layout<D>,
     name: &str,
     named: &[IndexEntry],
-) -> Result<Option<Key>, ProgramFault>
+) -> Result<(Option<Key>, Vec<Key>), ProgramFault>
     requires { map entry_of named.now
         ≡ entries_named name.now (said layout.old.opened.content).entries }
-    ensures { IfOk result (LosesName D.device name.now layout.old layout.new) }
+    ensures { IfOk result (λ gone. LosesName D.device name.now layout.old layout.new gone.0
+        gone.1.items) }
 {
-    match untag_and_save(layout, name) {
-        Ok(key) => Ok(Some(key)),
-        Err(ProgramFault::Reference(RefFault::UnknownReference)) => forget_and_save(layout, named),
+    match untag_and_save(alloc, layout, name, named) {
+        Ok((key, belonged)) => Ok((Some(key), belonged)),
+        Err(ProgramFault::Reference(RefFault::UnknownReference)) => {
+            Ok((forget_and_save(layout, named)?, Vec::new(alloc)))
+        }
         Err(fault) => Err(fault),
     }
 }
@@ -258,7 +316,7 @@ fn copy_of(key: &Option<Key>) -> Result<Option<Key>, NoMemory>
 }
 
 /// Returns whether an entry has a name.
-fn has_name(entry: &IndexEntry, name: &str) -> bool
+pub(crate) fn has_name(entry: &IndexEntry, name: &str) -> bool
     ensures { result ≡ is_name name.now (text_of entry.now.name) }
 {
     match &entry.name {
@@ -267,48 +325,51 @@ fn has_name(entry: &IndexEntry, name: &str) -> bool
     }
 }
 
-/// Removes a tag from a layout, and saves the layout. Returns the key that the tag named, which is
-/// still held. If the tag cannot be removed, nothing is changed and nothing is saved.
+/// Removes a tag from a layout with what belonged to it alone, and saves the layout. `named` has the
+/// entries with its name. Returns the key that the tag named, and the keys of the other entries that
+/// went. [`plan_untag`](oci_prune::plan_untag) says what goes along: nothing, if it is not known what
+/// each held key lists. If the tag cannot be removed, nothing is changed and nothing is saved.
 ///
 /// # Errors
 ///
 /// - 35 `EmptyReference` if the tag is empty, and 36 `UnknownReference` if there is no such tag.
+/// - 77 `BadManifest` if a held manifest that may have a subject cannot be read, and 88 `Fetch` if its
+///   bytes cannot be fetched; not if the layout [remembers](Layout::subjects) the subjects. The tag is
+///   removed from the layout in memory.
 /// - 74 `Device` if `index.json` could not be written, or if it is not known whether it is on the
-///   disk. The tag is removed from the layout in memory.
+///   disk. The tag is removed from the layout in memory, with what belonged to it.
 /// - Out of memory, at any point.
-pub fn untag_and_save<D: Dir>(layout: &mut Layout<D>, tag: &str) -> Result<Key, ProgramFault>
-    ensures named { IfOk result (λ key. tag_at layout.old.tags tag.now ≡ Some key) }
-    ensures untagged { OnOk result (layout.new.tags ≡ without_tag layout.old.tags tag.now) }
-    ensures saved { OnOk result ((D.device layout.old.dir).is_honest
-        → HasIndex (D.device layout.new.dir).file layout.old.graph
-        (without_tag layout.old.tags tag.now) layout.old.opened) }
-    ensures graph { layout.new.graph ≡ layout.old.graph }
-    ensures opened { OnOk result (layout.new.opened ≡ layout.old.opened) }
+pub fn untag_and_save<D: Dir>(
+    alloc: Global,
+    layout: &mut Layout<D>,
+    tag: &str,
+    named: &[IndexEntry],
+) -> Result<(Key, Vec<Key>), ProgramFault>
+    requires { map entry_of named.now
+        ≡ entries_named tag.now (said layout.old.opened.content).entries }
+    ensures lost { IfOk result (λ gone. LosesTag D.device tag.now layout.old layout.new
+        (Some gone.0) gone.1.items) }
     ensures other { (D.device layout.old.dir).is_honest
         → Touches (D.device layout.old.dir).file (D.device layout.new.dir).file index_file }
     ensures refused { IfErr result (IsRefusedUntag layout.old.tags tag.now
-        (layout.new ≡ layout.old)
-        (IsSettledFault (D.device layout.old.dir) (D.device layout.new.dir))) }
+        (layout.new ≡ layout.old) (IsRefusedRest (layout.new.dir ≡ layout.old.dir)
+        (IsSubjectFault (meaning (D.device layout.old.dir) layout.old.graph
+        (without_tag layout.old.tags tag.now)) (λ k. has_key layout.old.graph k ≡ true))
+        (IsSettledFault (D.device layout.old.dir) (D.device layout.new.dir)))) }
 
-    // A power cut at any moment leaves the layout with the tag or without it.
+    // A power cut at any moment leaves the layout with the tag and all that it had, or without it.
     ensures left { (entries : List Entry) (tags : Tags) → CanSettle (D.device layout.old.dir)
         (length layout.old.graph) layout.old.graph entries tags
         → LeavesOneOf (D.device layout.new.dir) entries tags
         (⟦<Layout<D> as Store>⟧.state layout.new).entries layout.new.tags }
-    ensures lasts { OnOk result ((entries : List Entry) (tags : Tags)
-        → CanSettle (D.device layout.old.dir) (length layout.old.graph) layout.old.graph entries
-        tags → Lasts (D.device layout.new.dir)
-        (⟦<Layout<D> as Store>⟧.state layout.new).entries layout.new.tags) }
 {
+    let going = entry_keys(alloc, named)?;
     let key = match layout.untag(tag) {
         Ok(key) => key,
         Err(fault) => return Err(ProgramFault::Reference(fault)),
     };
-    let count = layout.count();
-    match layout.save_settled(count) {
-        Ok(()) => Ok(key),
-        Err(fault) => Err(ProgramFault::Layout(fault)),
-    }
+    let belonged = save_without(alloc, layout, tag, &going)?;
+    Ok((key, belonged))
 }
 
 /// Forgets the entries that have the name of one of these, and saves the layout. Returns the key of

@@ -1,5 +1,5 @@
 -- What `verify` finds.
-use Rattle.std.proofs.Common.{◌≡◌, ℕ, zero, suc, ◌+◌, ◌<◌, ◌≤◌, Bool, true, false, cond, not, ◌||◌, List, [], ◌∷◌, ◌++◌, map, length, drop, get_or, slice_get, option_map, Option, Some, None, refl, sym, ap, subst, ◌∙◌, append_assoc, append-nil, arith}
+use Rattle.std.proofs.Common.{◌≡◌, ℕ, zero, suc, ◌+◌, ◌<◌, ◌≤◌, Bool, true, false, cond, not, ◌||◌, filter, List, [], ◌∷◌, ◌++◌, map, length, drop, get_or, slice_get, option_map, Option, Some, None, refl, sym, ap, subst, ◌∙◌, append_assoc, append-nil, arith}
 use Rattle.std.specs.Prelude.{Contains, is_some, option_and_then}
 use Rattle.std.specs.BTreeSet.{BTreeSet, contains}
 use Rattle.std.specs.List.{All}
@@ -59,7 +59,7 @@ or_false : (b : Bool) → (b || false) ≡ b
 or_false true = refl
 or_false false = refl
 
-no_pair : (found : Option Open) → option_map pair_of found ≡ None → found ≡ None
+pub no_pair : (found : Option Open) → option_map pair_of found ≡ None → found ≡ None
 no_pair None h = refl
 no_pair (Some pair) h = cc h
 
@@ -77,9 +77,9 @@ found-from_closed graph damaged found is closed = no_pair found (is ∙ all_with
 
 -- the damaged keys in a set
 pub found_in_set : (graph : List Node) (set : BTreeSet Descriptor) (damaged : List Descriptor) → ((k : Descriptor) → contains key_cmp set k ≡ is_among damaged k)
-    → first_without_file (has_file graph (contains key_cmp set)) graph ≡ first_without_file (has_file graph (is_among damaged)) graph
-found_in_set graph set damaged among =
-    first_without_file-same (has_file graph (contains key_cmp set)) (has_file graph (is_among damaged)) (λ k. ap (λ (b : Bool). has_key graph k || b) (among k)) graph
+    → (nodes : List Node) → first_without_file (has_file graph (contains key_cmp set)) nodes ≡ first_without_file (has_file graph (is_among damaged)) nodes
+found_in_set graph set damaged among nodes =
+    first_without_file-same (has_file graph (contains key_cmp set)) (has_file graph (is_among damaged)) (λ k. ap (λ (b : Bool). has_key graph k || b) (among k)) nodes
 
 -- ---- the next node
 
@@ -88,18 +88,29 @@ turned [] k = refl
 turned (n ∷ graph) k = rw (same_key_laws.symm n.0 k, turned graph k) refl
 
 -- where no key occurs twice, a node is what is found under its key
-own_value : (graph : List Node) (n : Node) → HasDistinctKeys graph → Contains graph n → value_at graph n.0 ≡ Some n.1
+pub own_value : (graph : List Node) (n : Node) → HasDistinctKeys graph → Contains graph n → value_at graph n.0 ≡ Some n.1
 own_value graph n distinct there = turned graph n.0 ∙ lookup-from_Contains same_key_laws n.0 n.1 graph distinct there
 
-pub next_node : (has : Descriptor → Bool) (graph : List Node) (i : ℕ) (key : Descriptor) → HasDistinctKeys graph → i < length graph → option_map (λ (n : Node). n.0) (slice_get graph i) ≡ Some key
-    → first_without_file has (drop i graph) ≡ with_predecessor key (option_and_then (without_file has) (value_at graph key)) (first_without_file has (drop (i + 1) graph))
-next_node has graph i key distinct lt at =
+-- the nodes whose keys pass a test
+abbrev pub asked_in : (Descriptor → Bool) → List Node → List Node
+asked_in is_asked nodes = filter (λ (n : Node). is_asked n.0) nodes
+
+-- a node that is kept if a test says so
+pub first_if : (has : Descriptor → Bool) (n : Node) (rest : List Node) (asked : Bool) → first_without_file has (cond asked (n ∷ rest) rest) ≡ with_predecessor n.0 (cond asked (without_file has n.1) None) (first_without_file has rest)
+first_if has n rest true = refl
+first_if has n rest false = refl
+
+pub next_node : (has is_asked : Descriptor → Bool) (graph : List Node) (i : ℕ) (key : Descriptor) → HasDistinctKeys graph → i < length graph → option_map (λ (n : Node). n.0) (slice_get graph i) ≡ Some key
+    → first_without_file has (asked_in is_asked (drop i graph)) ≡ with_predecessor key (cond (is_asked key) (option_and_then (without_file has) (value_at graph key)) None) (first_without_file has (asked_in is_asked (drop (i + 1) graph)))
+next_node has is_asked graph i key distinct lt at =
     let d : Node = (key, []) in
     let n = get_or graph i d in
+    let rest = asked_in is_asked (drop (i + 1) graph) in
     let is : n.0 ≡ key = same_Some n.0 key (ap (option_map (λ (m : Node). m.0)) (sym (slice_get-get_or graph i d lt)) ∙ at) in
-    ap (first_without_file has) (drop_more graph i d lt)
-    ∙ ap (λ (o : Option (List Descriptor)). with_predecessor n.0 (option_and_then (without_file has) o) (first_without_file has (drop (i + 1) graph))) (sym (own_value graph n distinct (Contains-get_or graph i d lt)))
-    ∙ ap (λ (k : Descriptor). with_predecessor k (option_and_then (without_file has) (value_at graph k)) (first_without_file has (drop (i + 1) graph))) is
+    ap (λ (nodes : List Node). first_without_file has (asked_in is_asked nodes)) (drop_more graph i d lt)
+    ∙ first_if has n rest (is_asked n.0)
+    ∙ ap (λ (o : Option (List Descriptor)). with_predecessor n.0 (cond (is_asked n.0) (option_and_then (without_file has) o) None) (first_without_file has rest)) (sym (own_value graph n distinct (Contains-get_or graph i d lt)))
+    ∙ ap (λ (k : Descriptor). with_predecessor k (cond (is_asked k) (option_and_then (without_file has) (value_at graph k)) None) (first_without_file has rest)) is
 
 -- ---- entries whose name a later one has
 

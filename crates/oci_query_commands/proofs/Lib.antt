@@ -4,3 +4,4 @@ pub mod Listers
 pub mod AllTags
 pub mod Found
 pub mod Written
+pub mod Below

@@ -1,5 +1,5 @@
 -- What `verify` finds, and what is wrong with a layout.
-use Rattle.std.proofs.Common.{◌≡◌, ℕ, Bool, true, cond, not, Bor, inl, inr, List, [], ◌∷◌, map, Option, Some, None, IsSome, refl, sym, ap, subst, ◌∙◌}
+use Rattle.std.proofs.Common.{◌≡◌, ℕ, ◌&&◌, Bool, true, cond, not, Bor, inl, inr, List, [], ◌∷◌, map, Option, Some, None, IsSome, refl, sym, ap, subst, ◌∙◌}
 use Rattle.std.specs.Prelude.{◌↔◌, Contains}
 use Rattle.std.specs.BTreeSet.{BTreeSet, contains}
 use Rattle.std.specs.List.{All, filter}
@@ -68,7 +68,7 @@ HasFiles-opened dir graph tags index honest opened =
     (honest, subst (λ (g : List Node). All (IsThere dir.file) g) (sym opened.read.walked.held) (held_there true dir.file opened.read.walked.visited))
 
 -- ---- nothing is found exactly if nothing is wrong
-nothing_in : {X : Type 0} (xs : List X) → ((x : X) → Contains xs x → ⊥) → xs ≡ []
+pub nothing_in : {X : Type 0} (xs : List X) → ((x : X) → Contains xs x → ⊥) → xs ≡ []
 nothing_in [] none = refl
 nothing_in (x ∷ xs) none = absurd (none x (Contains-append_left (x ∷ []) xs x (Contains-push [] x)))
 
@@ -76,7 +76,7 @@ all_kept : (keys : List Descriptor) → filter (λ (k : Descriptor). not (is_amo
 all_kept [] = refl
 all_kept (k ∷ keys) = ap (λ (ks : List Descriptor). k ∷ ks) (all_kept keys)
 
-none_mapped : (keys : List (Bor Descriptor)) → map (λ (k : Bor Descriptor). k.now) keys ≡ [] → keys ≡ []
+pub none_mapped : (keys : List (Bor Descriptor)) → map (λ (k : Bor Descriptor). k.now) keys ≡ [] → keys ≡ []
 none_mapped [] h = refl
 none_mapped (k ∷ keys) h = cc h
 
@@ -135,8 +135,8 @@ kept_same p q same (k ∷ keys) =
     ap (λ (b : Bool). cond b (k ∷ filter p keys) (filter p keys)) (same k)
     ∙ ap (λ (rest : List Descriptor). cond (q k) (k ∷ rest) rest) (kept_same p q same keys)
 
-pub absent_are : (set : BTreeSet Descriptor) (damaged keys absent : List Descriptor) (others : List (Bor Descriptor)) → ((k : Descriptor) → contains key_cmp set k ≡ is_among damaged k)
-    → map (λ (k : Bor Descriptor). k.now) others ≡ filter (λ (k : Descriptor). not (contains key_cmp set k)) keys → keys ≡ absent → map (λ (k : Bor Descriptor). k.now) others ≡ filter (λ (k : Descriptor). not (is_among damaged k)) absent
-absent_are set damaged keys absent others among are same =
-    are ∙ kept_same (λ (k : Descriptor). not (contains key_cmp set k)) (λ (k : Descriptor). not (is_among damaged k)) (λ k. ap not (among k)) keys
-    ∙ ap (filter (λ (k : Descriptor). not (is_among damaged k))) same
+pub absent_are : (is_asked : Descriptor → Bool) (set : BTreeSet Descriptor) (damaged keys absent : List Descriptor) (others : List (Bor Descriptor)) → ((k : Descriptor) → contains key_cmp set k ≡ is_among damaged k)
+    → map (λ (k : Bor Descriptor). k.now) others ≡ filter (λ (k : Descriptor). is_asked k && not (contains key_cmp set k)) keys → keys ≡ absent → map (λ (k : Bor Descriptor). k.now) others ≡ filter (λ (k : Descriptor). is_asked k && not (is_among damaged k)) absent
+absent_are is_asked set damaged keys absent others among are same =
+    are ∙ kept_same (λ (k : Descriptor). is_asked k && not (contains key_cmp set k)) (λ (k : Descriptor). is_asked k && not (is_among damaged k)) (λ k. ap (λ (b : Bool). is_asked k && not b) (among k)) keys
+    ∙ ap (filter (λ (k : Descriptor). is_asked k && not (is_among damaged k))) same

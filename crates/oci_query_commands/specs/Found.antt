@@ -1,16 +1,17 @@
 -- What `verify` finds.
-use Rattle.std.specs.Prelude.{◌≡◌, ◌+◌, ◌-◌, ◌^◌, ◌||◌, ◌++◌, ◌∷◌, ℕ, Bool, if◌then◌else◌, not, min, List, [], length, map, filter, find, Option, Some, None, option_map, string_bytes}
+use Rattle.std.specs.Prelude.{◌≡◌, ◌↔◌, ◌+◌, ◌-◌, ◌^◌, ◌||◌, ◌&&◌, ◌++◌, ◌∷◌, ℕ, Bool, true, if◌then◌else◌, not, min, List, [], length, map, filter, find, Option, Some, None, option_map, string_bytes}
 use Rattle.std.specs.List.{list_any}
+use Rattle.std.specs.Map.{keys_of}
 use Rattle.oci_dir.specs.Device.{Device}
 use Rattle.oci_layout_store.specs.Entries.{IndexEntry, said}
 use Rattle.oci_layout_store.specs.Layout.{OpenedIndex}
 use Rattle.oci_layout_store.specs.Saved.{is_name}
 use Rattle.oci_manifest.specs.Descriptor.{Descriptor, is_among}
 use Rattle.oci_store.specs.Closed.{with_predecessor}
-use Rattle.oci_store.specs.Graph.{Node}
+use Rattle.oci_store.specs.Graph.{Node, Reaches}
 use Rattle.oci_store.specs.Keyed.{has_key}
 use Rattle.oci_program.specs.declared.answer.Tagged.{Tagged}
-use Rattle.oci_verify.specs.Corrupt.{AreCorrupt}
+use Rattle.oci_verify.specs.Corrupt.{AreCorrupt, AreCorruptOf}
 use Rattle.oci_verify.specs.Intact.{HasFiles}
 use Rattle.oci_query_commands.specs.declared.verify.Findings.{Findings}
 use Rattle.oci_query_commands.specs.declared.verify.Open.{Open}
@@ -65,3 +66,20 @@ pub record AreFindings (dir : Device) (graph : List Node) (index : OpenedIndex) 
   pub shadowed : map tagged_of findings.shadowed.items ≡ shadowed_in (said index.content).entries
   -- how many keys have a file; the count stops at the largest number of 64 bits
   pub held : findings.held ≡ min (length graph + length index.damaged) (2 ^ 64 - 1)
+
+-- ---- the findings below a key
+
+-- the findings of `verify` that speak of keys which pass a test, and the first of these that lists a key
+-- without a file
+pub record AreFindingsOf (dir : Device) (graph : List Node) (index : OpenedIndex) (is_asked : Descriptor → Bool) (findings : Findings) : Type 0 where
+  pub absent : map (λ k. k.now) findings.absent.items ≡ filter (λ k. is_asked k && not (is_among index.damaged k)) index.absent
+  pub corrupt : HasFiles dir graph → AreCorruptOf is_asked dir.file graph index.damaged findings.corrupt.items
+  pub without_file : option_map pair_of findings.open ≡ first_without_file (has_file graph (is_among index.damaged)) (filter (λ (n : Node). is_asked n.0) graph)
+  pub shadowed : map tagged_of findings.shadowed.items ≡ filter (λ (t : List ℕ × Descriptor). is_asked t.1) (shadowed_in (said index.content).entries)
+  pub held : findings.held ≡ min (length (filter is_asked (keys_of graph)) + length (filter is_asked index.damaged)) (2 ^ 64 - 1)
+
+-- the findings of `verify` that speak of the keys which a key reaches
+pub record AreFindingsBelow (dir : Device) (graph : List Node) (index : OpenedIndex) (root : Descriptor) (findings : Findings) : Type 0 where
+  pub is_reached : Descriptor → Bool
+  pub reached : (k : Descriptor) → (is_reached k ≡ true) ↔ Reaches graph (root ∷ []) k
+  pub found : AreFindingsOf dir graph index is_reached findings

@@ -1,15 +1,18 @@
 -- What the commands print as lines, and the bytes that `cat` writes.
-use Rattle.std.specs.Prelude.{ℕ, List, map, Option, option_copied}
+use Rattle.std.specs.Prelude.{ℕ, List, map, Option, Some, None, option_copied}
 use Rattle.std.specs.Io.KnownBytes.{Appends}
+use Rattle.std.specs.Map.{keys_of}
 use Rattle.oci_command_line.specs.declared.request.Query.{Query}
 use Rattle.oci_command_line.specs.declared.request.Query.TheVariants as query
 use Rattle.oci_dir.specs.Device.{Device}
+use Rattle.oci_manifest.specs.Descriptor.{Descriptor}
 use Rattle.oci_layout_store.specs.Layout.{OpenedIndex}
 use Rattle.oci_layout_store.specs.Meaning.{meaning}
 use Rattle.oci_layout_store.specs.Opened.{IsOpenedAsIs}
 use Rattle.oci_store.specs.Graph.{Node}
 use Rattle.oci_store.specs.Tags.{Tags}
-use Rattle.oci_query_commands.specs.Found.{AreFindings}
+use Rattle.oci_reference.specs.Reference.{Names}
+use Rattle.oci_query_commands.specs.Found.{AreFindings, AreFindingsBelow}
 use Rattle.oci_query_commands.specs.Lines.{findings_text, key_line, key_lines, listing_lines}
 use Rattle.oci_query_commands.specs.Listed.{ArePredecessorsOf, AreTags}
 use Rattle.oci_query_commands.specs.Named.{IsNamed}
@@ -19,6 +22,12 @@ use Rattle.oci_query_commands.specs.Written.{WritesNamed}
 abbrev pub Prints : {A : Type 0} → (A → Type 0) → (A → List ℕ) → Option (List ℕ) → Option (List ℕ) → Type 0
 Prints {A} IsAnswer text old new = (answer : A) × IsAnswer answer × Appends old new (text answer)
 
+-- exactly the lines of what `verify` finds in a whole layout were appended, or below the key that a
+-- reference names
+abbrev pub PrintsFindings : Device → List Node → Tags → OpenedIndex → Option (List ℕ) → Option (List ℕ) → Option (List ℕ) → Type 0
+PrintsFindings dir graph tags index None old new = Prints (AreFindings dir graph index) findings_text old new
+PrintsFindings dir graph tags index (Some reference) old new = (k : Descriptor) × Names (keys_of graph) tags reference k × Prints (AreFindingsBelow dir graph index k) findings_text old new
+
 -- exactly the lines of the answer of a layout to a query were appended, or the bytes of its blob;
 -- nothing is said of `tree`
 abbrev pub PrintsAnswer : Device → List Node → Tags → OpenedIndex → Query → Option (List ℕ) → Option (List ℕ) → Type 0
@@ -27,7 +36,7 @@ PrintsAnswer dir graph tags index (query.Resolve reference platform) old new = P
 PrintsAnswer dir graph tags index (query.Predecessors reference types) old new = Prints (ArePredecessorsOf (meaning dir graph tags) reference.now (map (λ t. t.now) types.items)) key_lines old new
 PrintsAnswer dir graph tags index (query.Tree reference platform shows_referrers) old new = Unit {0}
 PrintsAnswer dir graph tags index (query.Cat reference platform) old new = WritesNamed dir graph tags reference.now (option_copied platform) old new
-PrintsAnswer dir graph tags index (query.Verify workers shows_progress) old new = Prints (AreFindings dir graph index) findings_text old new
+PrintsAnswer dir graph tags index (query.Verify reference workers shows_progress) old new = PrintsFindings dir graph tags index (option_copied reference) old new
 
 -- a layout can be opened in a directory, and its answer to a query was appended
 pub record PrintsAnswerOf (dir : Device) (query : Query) (old new : Option (List ℕ)) : Type 0 where

@@ -2,9 +2,11 @@ ghost use Rattle.std.specs.Prelude.{◌≡◌, ◌≤◌, ℕ, None, Some};
 
 use oci_dir::Dir;
 use oci_layout_store::Layout;
+use oci_manifest::Key;
 use oci_progress::{Amount, ProgressLine};
 use oci_store::{Dest, PartWatcher};
-use oci_verify::FileWatcher;
+use oci_verify::{FileWatcher, is_asked};
+use std::collections::BTreeSet;
 use std::io::Write;
 use std::sync::Wait;
 use std::thread::{Threads, available_parallelism};
@@ -37,11 +39,13 @@ pub struct Progress<'p, R, X> {
 }
 
 impl<'p, R: Clock + Wait, X: Write> Progress<'p, R, X> {
-    /// Creates the line for the blobs of a layout, if it is shown.
+    /// Creates the line for the blobs of a layout that are asked for, all or those of a set, if it is
+    /// shown.
     pub fn new<D: Dir>(
         rt: &'p R,
         err: &'p mut X,
         layout: &Layout<D>,
+        asked: Option<&BTreeSet<Key>>,
         is_shown: bool,
     ) -> Progress<'p, R, X> {
         if !is_shown {
@@ -49,7 +53,10 @@ impl<'p, R: Clock + Wait, X: Write> Progress<'p, R, X> {
         }
         let mut all = Amount::NONE;
         for place in 0..layout.count() {
-            if let Some(key) = layout.key(place) {
+            let Some(key) = layout.key(place) else {
+                break;
+            };
+            if is_asked(asked, key) {
                 all = all.with(key);
             }
         }

@@ -6,7 +6,7 @@
 //! A damaged file, or an entry of the index that is no descriptor, stops no command that does not
 //! need it. `tags`, `predecessors`, and `tree` with referrers, which speak of a whole layout, print
 //! what they know of the blobs that it holds, and then refuse each such entry and each damaged
-//! manifest. `verify` reports each damaged file, and then refuses each such entry.
+//! manifest. `verify` of a whole layout reports each damaged file, and then refuses each such entry.
 //!
 //! `repair` checks a layout as `verify` does, so it shares [`Progress`], [`number_of_workers`] and
 //! [`print_findings_of_all`].

@@ -1,4 +1,4 @@
-ghost use Rattle.std.specs.Prelude.{◌≡◌, ◌↔◌, true, map, option_copied, IfOk, OnOk};
+ghost use Rattle.std.specs.Prelude.{◌≡◌, ◌↔◌, ℕ, true, List, None, Some, map, option_copied, IfOk, OnOk};
 ghost use Rattle.oci_layout_store.specs.Meaning.{meaning};
 ghost use Rattle.oci_query_commands.specs.Answered.{is_of_all, IsReadable, LeavesNothingOut};
 ghost use Rattle.oci_query_commands.specs.Found.{AreFindings};
@@ -6,8 +6,8 @@ ghost use Rattle.oci_verify.specs.Intact.{HasFiles};
 ghost use Rattle.oci_query_commands.specs.Lines.{findings_text, key_line, key_lines, listing_lines};
 ghost use Rattle.oci_query_commands.specs.Listed.{ArePredecessorsOf, AreTags};
 ghost use Rattle.oci_query_commands.specs.Named.{IsNamed};
-ghost use Rattle.oci_query_commands.specs.Printed.{Prints, PrintsAnswer, PrintsAnswerOf};
-ghost use Rattle.oci_query_commands.specs.Verified.{is_verify, IsFaulty, IsFaultyVerify, IsGoodVerify, IsVerified, IsWhole};
+ghost use Rattle.oci_query_commands.specs.Printed.{Prints, PrintsAnswer, PrintsAnswerOf, PrintsFindings};
+ghost use Rattle.oci_query_commands.specs.Verified.{is_verify, verified_reference, IsFaulty, IsFaultyVerify, IsGoodVerify, IsVerdict, IsVerified, IsVerifiedBelow, IsWhole};
 ghost use Rattle.oci_query_commands.specs.Written.{is_cat};
 
 use crate::cat::print_blob;
@@ -15,12 +15,13 @@ use crate::left_out::{print_answer_of_all, print_findings_of_all};
 use crate::listing::{Predecessors, Resolved, Tags};
 use crate::named::named_key;
 use crate::tree::{Labels, Tree};
-use crate::verify::verify;
+use crate::verify::{verify, verify_below};
 use oci_command_line::Query;
 use oci_dir::Dir;
 use oci_layout_store::Layout;
 use oci_manifest::Key;
 use oci_program::{Form, Outcome, ProgramFault, print_answer};
+use oci_reference::resolve;
 use std::alloc::Global;
 use std::io::Write;
 use std::sync::Wait;
@@ -37,16 +38,16 @@ use std::time::Clock;
 ///
 /// If the query is refused, nothing was printed on `out`, with three exceptions. What was printed
 /// before the fault of a write stays. So do the parts of a blob of more than 4 MiB that `cat` wrote
-/// before it found the file wrong, or could not read it. And `tags`, `predecessors`, `tree` with referrers, and `verify`
-/// print their answer, and are then refused for each entry of the index that is no descriptor, and
-/// all but `verify`, which has reported them, for each damaged manifest of the layout: as lines,
-/// `err` has the refusals of all but the last, which is returned; as JSON, the first is returned, and
-/// no other is told.
+/// before it found the file wrong, or could not read it. And `tags`, `predecessors`, `tree` with
+/// referrers, and `verify` of a whole layout print their answer, and are then refused for each entry
+/// of the index that is no descriptor, and all but `verify`, which has reported them, for each damaged
+/// manifest of the layout: as lines, `err` has the refusals of all but the last, which is returned; as
+/// JSON, the first is returned, and no other is told.
 ///
 /// - 70 to 74, as from [`oci_layout_store::Layout::open_as_is`].
 /// - 73 `BadIndex` with 14 `BadDescriptor("manifests", place)` for the entry at this place of the
-///   index, which is no descriptor: of `tags`, `predecessors`, `tree` with referrers, and `verify`
-///   after the answer, and if it is the last one of the name that is the reference.
+///   index, which is no descriptor: of `tags`, `predecessors`, `tree` with referrers, and `verify` of a
+///   whole layout after the answer, and if it is the last one of the name that is the reference.
 /// - 35 `EmptyReference` if the reference is empty, and 36 `UnknownReference` if it is unknown.
 /// - 75 `Corrupt` or 77 `BadManifest` if the reference names a damaged blob, or for a damaged
 ///   manifest of the layout after the answer.
@@ -74,11 +75,15 @@ pub fn run_query<
 where
     D::Draft: Send,
     // If the directory returns what was written into it, the outcome of `verify` is `Good` only if
-    // nothing is wrong with the layout, and `Faulty` only if something is.
+    // nothing is wrong with the layout, and `Faulty` only if something is. With a reference this is
+    // said of what it reaches.
     ensures verified { IfOk result (λ outcome. IsGoodVerify query.now outcome
         → (D.device dir).is_honest → IsVerified (D.device dir)) }
     ensures faulty { IfOk result (λ outcome. IsFaultyVerify query.now outcome
         → (D.device dir).is_honest → IsFaulty (D.device dir)) }
+    ensures below { IfOk result (λ outcome. (reference : List ℕ)
+        → verified_reference query.now ≡ Some reference → (D.device dir).is_honest
+        → IsVerifiedBelow (D.device dir) reference outcome) }
 
     // And `tags`, `predecessors`, and `tree` with referrers are done only if each entry of the index
     // is a descriptor, and no manifest is damaged.
@@ -119,6 +124,11 @@ where
     ensures verified { IfOk result (λ outcome. is_verify query.now ≡ true
         → HasFiles (D.device layout.now.dir) layout.now.graph → (outcome ≡ Outcome.Good)
         ↔ IsWhole (D.device layout.now.dir) layout.now.graph layout.now.opened) }
+    ensures below { IfOk result (λ outcome. (reference : List ℕ)
+        → verified_reference query.now ≡ Some reference
+        → HasFiles (D.device layout.now.dir) layout.now.graph
+        → IsVerdict (D.device layout.now.dir) layout.now.graph layout.now.tags layout.now.opened
+        reference outcome) }
     ensures answered { OnOk result (is_of_all query.now ≡ true
         → LeavesNothingOut (D.device layout.now.dir) layout.now.opened) }
     ensures printed { form ≡ Form.Lines → OnOk result (PrintsAnswer (D.device layout.now.dir)
@@ -151,9 +161,19 @@ where
             platform,
         } => print_blob(layout, reference, *platform, out),
         Query::Verify {
+            reference,
             workers,
             shows_progress,
-        } => print_findings(rt, layout, *workers, *shows_progress, form, out, err),
+        } => print_verified(
+            rt,
+            layout,
+            *reference,
+            *workers,
+            *shows_progress,
+            form,
+            out,
+            err,
+        ),
     }
 }
 
@@ -234,6 +254,44 @@ fn print_tree<D: Dir, W: Write, X: Write>(
     }
 }
 
+/// Prints what is wrong with a layout, or with what a reference of it reaches.
+fn print_verified<
+    R: AllocGlobal + Clock + Threads + Wait + Sync,
+    D: Dir + Sync,
+    W: Write,
+    X: Write + Send,
+>(
+    rt: &R,
+    layout: &Layout<D>,
+    reference: Option<&str>,
+    workers: Option<u32>,
+    shows_progress: bool,
+    form: Form,
+    out: &mut W,
+    err: &mut X,
+) -> Result<Outcome, ProgramFault>
+where
+    D::Draft: Send,
+    ensures whole { IfOk result (λ outcome. option_copied reference.entry ≡ None
+        → HasFiles (D.device layout.now.dir) layout.now.graph → (outcome ≡ Outcome.Good)
+        ↔ IsWhole (D.device layout.now.dir) layout.now.graph layout.now.opened) }
+    ensures below { IfOk result (λ outcome. (name : List ℕ)
+        → option_copied reference.entry ≡ Some name
+        → HasFiles (D.device layout.now.dir) layout.now.graph
+        → IsVerdict (D.device layout.now.dir) layout.now.graph layout.now.tags layout.now.opened
+        name outcome) }
+    ensures printed { form ≡ Form.Lines → OnOk result (PrintsFindings (D.device layout.now.dir)
+        layout.now.graph layout.now.tags layout.now.opened (option_copied reference.entry)
+        (W.contents out.old) (W.contents out.new)) }
+{
+    match reference {
+        Some(name) => {
+            print_findings_below(rt, layout, name, workers, shows_progress, form, out, err)
+        }
+        None => print_findings(rt, layout, workers, shows_progress, form, out, err),
+    }
+}
+
 /// Prints what is wrong with a layout, and refuses its entries that are no descriptors. Returns
 /// `Good` exactly if nothing is wrong.
 fn print_findings<
@@ -262,5 +320,39 @@ where
     let findings = verify(rt, layout, workers, shows_progress, err)?;
     let outcome = findings.outcome();
     print_findings_of_all(rt.alloc(), layout, findings, form, out, err)?;
+    Ok(outcome)
+}
+
+/// Prints what is wrong with what a reference of a layout reaches. Returns `Good` exactly if nothing
+/// is wrong.
+fn print_findings_below<
+    R: AllocGlobal + Clock + Threads + Wait + Sync,
+    D: Dir + Sync,
+    W: Write,
+    X: Write + Send,
+>(
+    rt: &R,
+    layout: &Layout<D>,
+    reference: &str,
+    workers: Option<u32>,
+    shows_progress: bool,
+    form: Form,
+    out: &mut W,
+    err: &mut X,
+) -> Result<Outcome, ProgramFault>
+where
+    D::Draft: Send,
+    ensures outcome { IfOk result (λ outcome.
+        HasFiles (D.device layout.now.dir) layout.now.graph
+        → IsVerdict (D.device layout.now.dir) layout.now.graph layout.now.tags layout.now.opened
+        reference.now outcome) }
+    ensures printed { form ≡ Form.Lines → OnOk result (PrintsFindings (D.device layout.now.dir)
+        layout.now.graph layout.now.tags layout.now.opened (Some reference.now)
+        (W.contents out.old) (W.contents out.new)) }
+{
+    let root = resolve(layout, reference)?;
+    let findings = verify_below(rt, layout, &root, workers, shows_progress, err)?;
+    let outcome = findings.outcome();
+    print_answer(rt.alloc(), &findings, form, out)?;
     Ok(outcome)
 }

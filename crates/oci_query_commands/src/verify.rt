@@ -1,13 +1,15 @@
-ghost use Rattle.std.specs.Prelude.{◌≡◌, ◌↔◌, ◌++◌, ◌∷◌, [], not, filter, flat_map, map, None, Some, option_and_then, option_map, string_bytes, IfOk, OnOk};
+ghost use Rattle.std.specs.Prelude.{◌≡◌, ◌↔◌, ◌≤◌, ◌++◌, ◌∷◌, ◌&&◌, [], not, if◌then◌else◌, filter, flat_map, length, map, None, Some, option_and_then, option_copied, option_map, string_bytes, IfOk, OnOk};
 ghost use Rattle.std.specs.BTreeSet.{contains};
 ghost use Rattle.std.specs.Fmt.{WritesOnOk};
+ghost use Rattle.std.specs.Map.{keys_of};
 ghost use Rattle.oci_layout_store.specs.Entries.{entry_of, text_of};
 ghost use Rattle.oci_layout_store.specs.Saved.{is_place, last_place};
 ghost use Rattle.oci_manifest.specs.Descriptor.{key_cmp};
-ghost use Rattle.oci_store.specs.Keyed.{value_at};
-ghost use Rattle.oci_query_commands.specs.Found.{first_without_file, has_file, pair_of, shadowed_in, tagged_if, tagged_of, without_file, AreFindings};
+ghost use Rattle.oci_store.specs.Keyed.{value_at, HasDistinctKeys};
+ghost use Rattle.oci_query_commands.specs.Found.{first_without_file, has_file, pair_of, shadowed_in, tagged_if, tagged_of, without_file, AreFindings, AreFindingsBelow, AreFindingsOf};
 ghost use Rattle.oci_query_commands.specs.Lines.{absent_line, corrupt_line, open_text, shadowed_line};
 ghost use Rattle.oci_query_commands.specs.Verified.{FindsNothing};
+ghost use Rattle.oci_verify.specs.Corrupt.{is_asked};
 
 use crate::checking::{Progress, number_of_workers};
 use oci_digest::NoMemory;
@@ -16,7 +18,7 @@ use oci_layout_store::{IndexEntry, Layout, Names};
 use oci_manifest::Key;
 use oci_program::{Outcome, ProgramFault, Tagged};
 use oci_store::{Dest, GraphSource};
-use oci_verify::{corrupt_keys, damaged_keys};
+use oci_verify::{corrupt_keys_among, damaged_keys, is_asked, reached_keys};
 use serde::Serialize;
 use std::alloc::Global;
 use std::collections::BTreeSet;
@@ -140,65 +142,151 @@ where
     ensures { IfOk result (AreFindings (D.device layout.now.dir) layout.now.graph
         layout.now.opened) }
 {
+    findings_of(rt, layout, None, workers, shows_progress, err)
+}
+
+/// `verify FOLDER REF`: as [`verify`], but reads and returns only what a key reaches.
+pub(crate) fn verify_below<
+    'l,
+    R: AllocGlobal + Clock + Threads + Wait + Sync,
+    D: Dir + Sync,
+    X: Write + Send,
+>(
+    rt: &R,
+    layout: &'l Layout<D>,
+    root: &Key,
+    workers: Option<u32>,
+    shows_progress: bool,
+    err: &mut X,
+) -> Result<Findings<'l>, ProgramFault>
+where
+    D::Draft: Send,
+    ensures found { IfOk result (AreFindingsBelow (D.device layout.now.dir) layout.now.graph
+        layout.now.opened root.now) }
+    ensures distinct { OnOk result (HasDistinctKeys layout.now.graph) }
+{
+    let reached = reached_keys(rt.alloc(), layout, root)?;
+    findings_of(rt, layout, Some(&reached), workers, shows_progress, err)
+}
+
+/// Returns what is wrong with the keys of a layout that are asked for, all or those of a set.
+fn findings_of<'l, R: AllocGlobal + Clock + Threads + Wait + Sync, D: Dir + Sync, X: Write + Send>(
+    rt: &R,
+    layout: &'l Layout<D>,
+    asked: Option<&BTreeSet<Key>>,
+    workers: Option<u32>,
+    shows_progress: bool,
+    err: &mut X,
+) -> Result<Findings<'l>, ProgramFault>
+where
+    D::Draft: Send,
+    ensures found { IfOk result (AreFindingsOf (D.device layout.now.dir) layout.now.graph
+        layout.now.opened (is_asked (option_copied asked.entry))) }
+    ensures distinct { OnOk result (HasDistinctKeys layout.now.graph) }
+{
     let alloc = rt.alloc();
     let workers = number_of_workers(rt, workers);
-    let progress = Progress::new(rt, err, layout, shows_progress);
-    let corrupt = corrupt_keys(rt, alloc, layout, workers, &progress);
+    let progress = Progress::new(rt, err, layout, asked, shows_progress);
+    let corrupt = corrupt_keys_among(rt, alloc, layout, asked, workers, &progress);
     progress.end();
     let damaged = damaged_keys(alloc, layout)?;
+    let shadowed = shadowed_entries(alloc, layout.entries())?;
     Ok(Findings {
-        absent: keys_without(alloc, layout.absent(), &damaged)?,
+        absent: keys_without(alloc, layout.absent(), asked, &damaged)?,
         corrupt: corrupt?,
-        open: open_key(layout, &damaged)?,
-        shadowed: shadowed_entries(alloc, layout.entries())?,
-        held: layout.count().saturating_add(layout.damaged().len()),
+        open: open_key(layout, asked, &damaged)?,
+        shadowed: tagged_among(alloc, shadowed, asked)?,
+        held: count_held(layout, asked).saturating_add(count_among(layout.damaged(), asked)),
     })
 }
 
-/// Returns those of these keys that are not damaged, in their order.
+/// Returns how many held keys are asked for.
+fn count_held<D: Dir>(layout: &Layout<D>, asked: Option<&BTreeSet<Key>>) -> usize
+    ensures count { result ≡ length (filter (is_asked (option_copied asked.entry))
+        (keys_of layout.now.graph)) }
+    ensures distinct { HasDistinctKeys layout.now.graph }
+{
+    let mut count = 0;
+    for place in 0..layout.count() {
+        let Some(key) = layout.key(place) else {
+            unreachable!();
+        };
+        count += one_if(is_asked(asked, key));
+    }
+    count
+}
+
+/// Returns how many of these keys are asked for.
+fn count_among(keys: &[Key], asked: Option<&BTreeSet<Key>>) -> usize
+    ensures { result ≡ length (filter (is_asked (option_copied asked.entry)) keys.now) }
+{
+    let mut count = 0;
+    for key in keys {
+        count += one_if(is_asked(asked, key));
+    }
+    count
+}
+
+/// Returns 1 if something is so, and else 0.
+fn one_if(is_so: bool) -> usize
+    ensures count { result ≡ (if is_so then 1 else 0) }
+    ensures most { result ≤ 1 }
+{
+    if is_so { 1 } else { 0 }
+}
+
+/// Returns those of these keys that are asked for and not damaged, in their order.
 fn keys_without<'l>(
     alloc: Global,
     keys: &'l [Key],
+    asked: Option<&BTreeSet<Key>>,
     damaged: &BTreeSet<Key>,
 ) -> Result<Vec<&'l Key>, NoMemory>
     ensures { IfOk result (λ others. map (λ key. key.now) others.items
-        ≡ filter (λ k. not (contains key_cmp damaged.now k)) keys.now) }
+        ≡ filter (λ k. is_asked (option_copied asked.entry) k
+        && not (contains key_cmp damaged.now k)) keys.now) }
 {
     let mut others = Vec::new(alloc);
     for key in keys {
-        add_unless(damaged, key, &mut others)?;
+        add_unless(asked, damaged, key, &mut others)?;
     }
     Ok(others)
 }
 
-/// Adds a key to these if it is not damaged.
+/// Adds a key to these if it is asked for and not damaged.
 fn add_unless<'l>(
+    asked: Option<&BTreeSet<Key>>,
     damaged: &BTreeSet<Key>,
     key: &'l Key,
     keys: &mut Vec<&'l Key>,
 ) -> Result<(), NoMemory>
     ensures { OnOk result (map (λ key. key.now) keys.new.items
         ≡ map (λ key. key.now) keys.old.items
-        ++ filter (λ k. not (contains key_cmp damaged.now k)) (key.now ∷ [])) }
+        ++ filter (λ k. is_asked (option_copied asked.entry) k
+        && not (contains key_cmp damaged.now k)) (key.now ∷ [])) }
 {
-    if !damaged.contains(key) {
+    if is_asked(asked, key) && !damaged.contains(key) {
         keys.push(key)?;
     }
     Ok(())
 }
 
-/// Returns the first held key that lists a key which is neither held nor damaged, with the first
-/// such key.
-fn open_key<D: Dir>(layout: &Layout<D>, damaged: &BTreeSet<Key>) -> Result<Option<Open>, NoMemory>
+/// Returns the first held key that is asked for and lists a key which is neither held nor damaged,
+/// with the first such key.
+fn open_key<D: Dir>(
+    layout: &Layout<D>,
+    asked: Option<&BTreeSet<Key>>,
+    damaged: &BTreeSet<Key>,
+) -> Result<Option<Open>, NoMemory>
     ensures { IfOk result (λ found. option_map pair_of found
         ≡ first_without_file (has_file layout.now.graph (contains key_cmp damaged.now))
-        layout.now.graph) }
+        (filter (λ n. is_asked (option_copied asked.entry) n.0) layout.now.graph)) }
 {
     for place in 0..layout.count() {
         let Some(holder) = layout.key(place) else {
             unreachable!();
         };
-        if let Some(missing) = missing_key(layout, holder, damaged)? {
+        if let Some(missing) = missing_key(layout, asked, holder, damaged)? {
             return Ok(Some(Open {
                 holder: holder.try_clone()?,
                 missing,
@@ -208,16 +296,22 @@ fn open_key<D: Dir>(layout: &Layout<D>, damaged: &BTreeSet<Key>) -> Result<Optio
     Ok(None)
 }
 
-/// Returns the first key that a held key lists and that is neither held nor damaged.
+/// Returns the first key that a held key lists and that is neither held nor damaged, if the held key
+/// is asked for.
 fn missing_key<D: Dir>(
     layout: &Layout<D>,
+    asked: Option<&BTreeSet<Key>>,
     holder: &Key,
     damaged: &BTreeSet<Key>,
 ) -> Result<Option<Key>, NoMemory>
-    ensures { IfOk result (λ found. found ≡ option_and_then
+    ensures { IfOk result (λ found. found ≡ (if is_asked (option_copied asked.entry) holder.now
+        then option_and_then
         (without_file (has_file layout.now.graph (contains key_cmp damaged.now)))
-        (value_at layout.now.graph holder.now)) }
+        (value_at layout.now.graph holder.now) else None)) }
 {
+    if !is_asked(asked, holder) {
+        return Ok(None);
+    }
     let Some(listed) = layout.successors(holder)? else {
         return Ok(None);
     };
@@ -260,6 +354,38 @@ fn shadowed_entries(alloc: Global, entries: &[IndexEntry]) -> Result<Vec<Tagged>
         add_unless_last(entry, place, &names, &mut shadowed)?;
     }
     Ok(shadowed)
+}
+
+/// Returns those of these whose keys are asked for, in their order.
+fn tagged_among(
+    alloc: Global,
+    entries: Vec<Tagged>,
+    asked: Option<&BTreeSet<Key>>,
+) -> Result<Vec<Tagged>, NoMemory>
+    ensures { IfOk result (λ found. map tagged_of found.items
+        ≡ filter (λ t. is_asked (option_copied asked.entry) t.1) (map tagged_of entries.items)) }
+{
+    let mut found = Vec::new(alloc);
+    for entry in entries {
+        add_tagged(asked, entry, &mut found)?;
+    }
+    Ok(found)
+}
+
+/// Adds a name with its key to these if the key is asked for.
+fn add_tagged(
+    asked: Option<&BTreeSet<Key>>,
+    entry: Tagged,
+    found: &mut Vec<Tagged>,
+) -> Result<(), NoMemory>
+    ensures { OnOk result (map tagged_of found.new.items ≡ map tagged_of found.old.items
+        ++ filter (λ t. is_asked (option_copied asked.entry) t.1) (tagged_of entry ∷ [])) }
+{
+    if !is_asked(asked, &entry.descriptor) {
+        return Ok(());
+    }
+    found.push(entry)?;
+    Ok(())
 }
 
 /// Adds the name and the key of an entry that has both, unless its place is the last one of the

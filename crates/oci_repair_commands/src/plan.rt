@@ -90,7 +90,7 @@ where
         keys.items) }
 {
     let workers = number_of_workers(rt, words.workers);
-    let progress = Progress::new(rt, err, layout, words.shows_progress);
+    let progress = Progress::new(rt, err, layout, None, words.shows_progress);
     let corrupt = corrupt_keys(rt, rt.alloc(), layout, workers, &progress);
     progress.end();
     match corrupt {

@@ -1,19 +1,22 @@
 -- Lemmas about the roots of a copy, and the tags that it sets.
 use Rattle.std.proofs.Common.{◌≡◌, ◌≢◌, ℕ, ◌+◌, ◌<◌, ◌≤◌, true, inl, inr, List, [], ◌∷◌, ◌++◌, map, length, get_or, take, Option, None, Some, refl, sym, ap, subst, ◌∙◌, arith}
 use Rattle.std.specs.Prelude.{◌↔◌, ◌⊎◌, Contains, option_map, String, string_bytes, Result, Ok, Err, IfOk, IfErr}
+use Rattle.std.specs.BTreeSet.{BTreeSet, contains}
 use Rattle.std.specs.List.{All, slice_get}
 use Rattle.std.specs.Map.{keys_of, values_of}
 use Rattle.std.specs.declared.alloc.Global.{Global}
 use Rattle.std.proofs.lemmas.List.{take_all, take_more}
+use Rattle.std.proofs.lemmas.Map.Views.{btree_set_contains_iff}
 use Rattle.std.proofs.lemmas.Option.{slice_get-get_or, slice_get-map}
-use Rattle.std.proofs.lemmas.List.Elements.{All-append, All-contains, All-contains_itself, All-cons, All-nil, All-weaker, Contains-append_left, Contains-append_right, Contains-push, Contains-push_cases}
-use Rattle.oci_manifest.specs.Descriptor.{Descriptor}
+use Rattle.std.proofs.lemmas.List.Elements.{All-append, All-contains, All-contains_itself, All-cons, All-nil, All-weaker, Contains-append_cases, Contains-append_left, Contains-append_right, Contains-push, Contains-push_cases}
+use Rattle.oci_manifest.specs.Descriptor.{Descriptor, key_cmp}
 use Rattle.oci_store.specs.Graph.{Node}
 use Rattle.oci_store.specs.Keyed.{has_key, HasAll}
 use Rattle.oci_store.specs.Tags.{by_bytes, AnswersTag}
 use Rattle.oci_store.specs.Visiting.{with_keys}
 use Rattle.oci_store.specs.declared.fault.RefFault.{RefFault}
 use Rattle.oci_store.specs.declared.fault.RefFault.TheVariants as fault
+use Rattle.oci_store.proofs.KeyOrder.{key_cmp_total, key_cmp_exact}
 use Rattle.oci_store.proofs.Membership.{Keys, Contains-from_among, among_from_Contains, among-append_cases, among-with_keys, stays-with_keys, there-with_keys, with_keys-append}
 use Rattle.oci_copy.proofs.Places.{Contains-from_slice_get}
 use Rattle.oci_layout_store.specs.Entries.{IndexEntry, entry_keys, entry_of}
@@ -21,7 +24,7 @@ use Rattle.oci_layout_store.specs.declared.index.IndexEntry.{IndexEntry as CodeE
 use Rattle.oci_layout_store.proofs.EntryKeys.{entry_keys-append}
 use Rattle.oci_layout_store.proofs.LastNames.{entries-more}
 use Rattle.oci_prune.proofs.Elements.{next_element}
-use Rattle.oci_selection.specs.Selected.{AreClimbed, AreClimbedOfKeys, IsClimbed, IsClimbedOfKeys}
+use Rattle.oci_selection.specs.Selected.{each_once, AreClimbed, AreClimbedOfKeys, IsClimbed, IsClimbedOfKeys}
 
 -- what is true of the elements so far, and of the next one
 pub all_more : {X : Type 0} (P : X → Type 0) (xs : List X) (i : ℕ) (x : X) → i < length xs → x ≡ get_or xs i x → P x → All P (take i xs) → All P (take (i + 1) xs)
@@ -123,6 +126,28 @@ placed_both first second keys is k = subst (λ (ks : Keys). Contains ks k ↔ Co
           | inr two ↦ there-with_keys (with_keys [] first) second k two
         ]
         )
+
+-- the keys of a set in their order have a property exactly if those in the set do
+pub set_in_order : (P : Descriptor → Type 0) (set : BTreeSet Descriptor) (keys : Keys) → ((k : Descriptor) → (contains key_cmp set k ≡ true) ↔ P k) → keys ≡ set.keys → (k : Descriptor) → Contains keys k ↔ P k
+set_in_order P set keys each are k =
+    let iff = btree_set_contains_iff key_cmp_total key_cmp_exact set k in (
+      λ there. (each k).0 (iff.1 (subst (λ (ks : Keys). Contains ks k) are there)),
+      λ is. subst (λ (ks : Keys). Contains ks k) (sym are) (iff.0 ((each k).1 is)),
+    )
+
+-- each once, keys that are the same as others and more are those others and more
+pub started : (wanted named more keys : Keys) → ((k : Descriptor) → Contains named k ↔ Contains wanted k) → keys ≡ each_once (named ++ more) → (k : Descriptor) → Contains keys k ↔ Contains (wanted ++ more) k
+started wanted named more keys same is k =
+    let both = placed_both named more keys (is ∙ with_keys-append [] named more) k in (
+      (λ there. elim (Contains-append_cases named more k (both.0 there)) [
+        | inl one ↦ Contains-append_left wanted more k ((same k).0 one)
+        | inr two ↦ Contains-append_right wanted more k two
+      ]),
+      (λ there. both.1 (elim (Contains-append_cases wanted more k there) [
+        | inl one ↦ Contains-append_left named more k ((same k).1 one)
+        | inr two ↦ Contains-append_right named more k two
+      ])),
+    )
 
 -- the keys of the entries so far, and then that of the next entry
 pub placed_next : (keys : Keys) (es : List CodeEntry) (i : ℕ) (e : CodeEntry) → i < length es → e ≡ get_or es i e

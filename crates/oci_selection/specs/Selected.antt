@@ -30,6 +30,8 @@ use Rattle.oci_reference.specs.Reference.{Names}
 use Rattle.oci_reference.specs.declared.platform.Picked.{Picked}
 use Rattle.oci_prune.specs.Attached.{AttachedBy}
 use Rattle.oci_prune.specs.Belonging.{IsBelonging, IsComplete}
+use Rattle.oci_prune.specs.Free.{IsFree}
+use Rattle.oci_prune.specs.Plan.{roots_of as prune_roots}
 use Rattle.oci_prune.specs.Typed.{RefersByTypes}
 use Rattle.oci_prune.specs.declared.belonging.Belonging.{Belonging}
 
@@ -125,6 +127,11 @@ AreAllRoots store patterns (OfTypes types) keys roots others = ((once : List Des
 abbrev pub named_keys : Tags → List IndexEntry → List Descriptor
 named_keys tags named = values_of tags ++ entry_keys named
 
+-- the images of a source that no tag names, if they are asked for, and otherwise none
+abbrev pub AreUntagged : {D : Type 0} → (D → Device) → LayoutState D → Bool → List Descriptor → Type 0
+AreUntagged device source false keys = keys ≡ []
+AreUntagged device source true keys = (device source.dir).is_honest → (k : Descriptor) → Contains keys k ↔ IsFree (meaning (device source.dir) source.graph source.tags) (prune_roots source) k
+
 -- ---- the tags
 
 -- an entry has a key that is held, if it has a name that matches one of the patterns
@@ -203,14 +210,17 @@ SelectsPlatform device source platform from to referrers s =
     × (has_key source.graph picked.key ≡ true)
     × SelectsKey device source referrers picked.key (name_of from to) (renamed (Some (name_of from to)) (entry_for (picked_of picked)) ∷ []) s
 
--- A copy of the tags that match one of the patterns selects what each entry of their names names, and
--- the tags that come with these. With no patterns each tag matches, and no other one comes.
-pub record SelectsAllTags {D : Type 0} (device : D → Device) (source : LayoutState D) (patterns : List (List ℕ)) (referrers : Referrers) (s : Selected) : Type 0 where
+-- A copy of the tags that match one of the patterns selects what each entry of their names names, the
+-- images without a tag if these are asked for, and the tags that come with these. With no patterns each
+-- tag matches, and no other one comes.
+pub record SelectsAllTags {D : Type 0} (device : D → Device) (source : LayoutState D) (patterns : List (List ℕ)) (brings_untagged : Bool) (referrers : Referrers) (s : Selected) : Type 0 where
   pub others : Tags
+  pub untagged : List Descriptor
+  pub are_untagged : AreUntagged device source brings_untagged untagged
   pub named : AreNamedHeld source.graph patterns source.opened.content.entries
   pub tagged : matching_tags patterns source.tags ≢ []
   pub tags : s.1 ≡ matching_tags patterns source.tags ++ others
-  pub roots : AreAllRoots (meaning (device source.dir) source.graph source.tags) patterns referrers (named_keys (matching_tags patterns source.tags) (matching_entries patterns (said source.opened.content).entries)) s.0 others
+  pub roots : AreAllRoots (meaning (device source.dir) source.graph source.tags) patterns referrers (named_keys (matching_tags patterns source.tags) (matching_entries patterns (said source.opened.content).entries) ++ untagged) s.0 others
   pub entries : map entry_of s.2 ≡ with_roots (said source.opened.content).entries (matching_entries patterns (said source.opened.content).entries ++ tag_entries (said source.opened.content).entries others) s.0
 
 -- a copy of a reference selects the key that it names, or with a platform the manifest for that
@@ -220,9 +230,9 @@ SelectsNamed device source from to (Some platform) referrers s = SelectsPlatform
 
 -- a copy selects what its words name: a reference, the manifest for a platform, or the tags that match
 -- one of their patterns
-abbrev pub SelectsBy : {D : Type 0} → (D → Device) → LayoutState D → Referrers → Selection → Selected → Type 0
-SelectsBy device source referrers (selection.Reference from to platform) s = SelectsNamed device source from.now to.now (option_copied platform) referrers s
-SelectsBy device source referrers (selection.AllTags patterns) s = SelectsAllTags device source (texts_of patterns.items) referrers s
+abbrev pub SelectsBy : {D : Type 0} → (D → Device) → LayoutState D → Bool → Referrers → Selection → Selected → Type 0
+SelectsBy device source brings_untagged referrers (selection.Reference from to platform) s = SelectsNamed device source from.now to.now (option_copied platform) referrers s
+SelectsBy device source brings_untagged referrers (selection.AllTags patterns) s = SelectsAllTags device source (texts_of patterns.items) brings_untagged referrers s
 
 abbrev pub Selects : {D : Type 0} → (D → Device) → LayoutState D → CopyWords → Selected → Type 0
-Selects device source words s = (referrers : Referrers) × AreReferrersOf words referrers × SelectsBy device source referrers words.selection s
+Selects device source words s = (referrers : Referrers) × AreReferrersOf words referrers × SelectsBy device source words.brings_untagged referrers words.selection s

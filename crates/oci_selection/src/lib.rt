@@ -5,7 +5,8 @@
 //! patterns; [`Selected::of`] makes it as the words of a copy ask. [`Referrers`] says what comes along:
 //! nothing, what leads to the selected keys, or what is attached to them.
 //!
-//! [`named_keys`], [`both`] and [`joined`] make lists of keys and tags.
+//! [`named_keys`], [`both`] and [`joined`] make lists of keys and tags, and [`untagged_keys`] finds the images
+//! that no tag names.
 #![tactic(auto)]
 
 mod referrers;
@@ -13,5 +14,5 @@ mod roots;
 mod selected;
 
 pub use referrers::Referrers;
-pub use roots::{both, named_keys};
+pub use roots::{both, named_keys, untagged_keys};
 pub use selected::{Selected, joined};

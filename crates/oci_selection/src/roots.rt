@@ -1,5 +1,5 @@
 //! The roots of a copy, and the tags of the source that come with them.
-ghost use Rattle.std.specs.Prelude.{◌≡◌, ◌↔◌, ◌⊎◌, ◌++◌, [], ◌∷◌, map, Contains, IfOk, IfErr, OnOk};
+ghost use Rattle.std.specs.Prelude.{◌≡◌, ◌↔◌, ◌⊎◌, ◌++◌, [], ◌∷◌, true, map, Contains, IfOk, IfErr, OnOk};
 ghost use Rattle.std.specs.Map.{values_of};
 ghost use Rattle.oci_manifest.specs.Descriptor.{Descriptor};
 ghost use Rattle.oci_store.specs.Tags.{by_bytes, without_tag, AreNames};
@@ -18,6 +18,7 @@ ghost use Rattle.oci_selection.specs.Selected.{
   AreClimbedOfKeys,
   AreOfRoots,
   AreReferenceRoots,
+  AreUntagged,
   AreWithAttached,
   IsClimbed,
   IsSourceBelonging,
@@ -32,8 +33,8 @@ use oci_layout_store::{IndexEntry, Layout};
 use oci_manifest::Key;
 use oci_plan::climb;
 use oci_program::ProgramFault;
-use oci_prune::{Belonging, belonging_of, belonging_of_types};
-use oci_store::{GraphSource, KeyList};
+use oci_prune::{Belonging, belonging_of, belonging_of_types, free_keys};
+use oci_store::{GraphSource, KeyList, keys_of_set};
 use std::alloc::Global;
 use std::slice;
 
@@ -287,6 +288,53 @@ pub fn named_keys(
     place_tags(tags, &mut keys)?;
     place_named(named, &mut keys)?;
     Ok(keys.into_keys())
+}
+
+/// Returns the keys that a copy of tags starts from, each once: theirs, those of the entries of their
+/// names, and these.
+pub(crate) fn start_keys(
+    alloc: Global,
+    tags: &[(String, Key)],
+    named: &[IndexEntry],
+    untagged: &[Key],
+) -> Result<Vec<Key>, NoMemory>
+    ensures { IfOk result (λ keys. (k : Descriptor) → Contains keys.items k
+        ↔ Contains (named_keys (by_bytes tags.now) (map entry_of named.now) ++ untagged.now) k) }
+{
+    let named = named_keys(alloc, tags, named)?;
+    both(alloc, &named, untagged)
+}
+
+/// Returns the images of a source that no tag names, in key order, if they are asked for.
+///
+/// # Errors
+///
+/// - 77 `BadManifest` and 88 `Fetch` if a manifest of the source cannot be read.
+/// - Out of memory, at any point.
+pub fn untagged_keys<D: Dir>(
+    alloc: Global,
+    source: &Layout<D>,
+    is_asked: bool,
+) -> Result<Vec<Key>, ProgramFault>
+    ensures exact { IfOk result (λ keys. AreUntagged D.device source.now is_asked keys.items) }
+    ensures refused { IfErr result IsOtherFault }
+{
+    if is_asked {
+        all_untagged(alloc, source)
+    } else {
+        Ok(Vec::new(alloc))
+    }
+}
+
+/// Returns the images of a source that no tag names, in key order.
+fn all_untagged<D: Dir>(alloc: Global, source: &Layout<D>) -> Result<Vec<Key>, ProgramFault>
+    ensures exact { IfOk result (λ keys. AreUntagged D.device source.now true keys.items) }
+    ensures refused { IfErr result IsOtherFault }
+{
+    match free_keys(alloc, source) {
+        Ok(found) => Ok(keys_of_set(alloc, &found)?),
+        Err(fault) => Err(ProgramFault::Source(fault)),
+    }
 }
 
 /// Adds the keys of tags, each if it is new.

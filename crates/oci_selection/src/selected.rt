@@ -23,7 +23,7 @@ ghost use Rattle.oci_selection.specs.Selected.{
 };
 
 use crate::referrers::{Referrers, referrers_of};
-use crate::roots::{named_keys, roots_of_keys, roots_of_reference};
+use crate::roots::{roots_of_keys, roots_of_reference, start_keys, untagged_keys};
 use oci_command_line::{CopyWords, Selection};
 use oci_digest::NoMemory;
 use oci_dir::Dir;
@@ -108,7 +108,8 @@ impl Selected {
                 platform,
             } => Selected::named(alloc, source, from, to, *platform, referrers),
             Selection::AllTags { patterns } => {
-                Selected::all_tags(alloc, source, patterns, referrers)
+                let brings_untagged = words.brings_untagged;
+                Selected::all_tags(alloc, source, patterns, brings_untagged, referrers)
             }
         }
     }
@@ -245,7 +246,8 @@ impl Selected {
     /// Selects the blob of each tag of the source whose name matches one of the patterns, and that of
     /// each entry of such a name, also if a later entry has the name too. If there are no patterns,
     /// each name matches. The copy sets these tags, brings these entries, and those of the other
-    /// roots.
+    /// roots. If `brings_untagged`, the images of the source that no tag names are selected too, as
+    /// [`free_keys`](oci_prune::free_keys) finds them.
     ///
     /// With any referrers, what is attached to what these reach is selected too, and if the copy climbs,
     /// the keys that list them or refer to them, as from [`Selected::reference`]. The tags that are
@@ -259,22 +261,25 @@ impl Selected {
     ///   out.
     /// - 97 `NoTags` if there is no tag.
     /// - 108 `NoMatch` if there are tags, and none matches.
-    /// - 77 `BadManifest` and 88 `Fetch` with referrers, if a manifest of the source cannot be read.
+    /// - 77 `BadManifest` and 88 `Fetch` with referrers, or if `brings_untagged`, if a manifest of the
+    ///   source cannot be read.
     /// - Out of memory, at any point.
     pub fn all_tags<D: Dir>(
         alloc: Global,
         source: &Layout<D>,
         patterns: &[&str],
+        brings_untagged: bool,
         referrers: Referrers<'_>,
     ) -> Result<Selected, ProgramFault>
         ensures selects { IfOk result (SelectsAllTags D.device source.now
-            (texts_of patterns.now) referrers.entry) }
+            (texts_of patterns.now) brings_untagged referrers.entry) }
         ensures refused { IfErr result (IsNoTagsFault (texts_of patterns.now) source.now.tags) }
     {
         check_entries(alloc, source, source.entries(), patterns)?;
         let tags = tags_to_copy(alloc, source, patterns)?;
         let named = matching_entries(alloc, source.entries(), patterns)?;
-        let keys = named_keys(alloc, &tags, &named)?;
+        let untagged = untagged_keys(alloc, source, brings_untagged)?;
+        let keys = start_keys(alloc, &tags, &named, &untagged)?;
         let roots = roots_of_keys(alloc, source, &keys, patterns, referrers)?;
         Selected::with_tags(alloc, source, tags, named, roots)
     }

@@ -1,3 +1,4 @@
 pub mod Intact
 pub mod Corrupt
 pub mod Crosses
+pub mod Reaching

@@ -1,3 +1,4 @@
 pub mod Intact
 pub mod Corrupt
 pub mod Fault
+pub mod Reached

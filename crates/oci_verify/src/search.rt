@@ -1,10 +1,11 @@
-ghost use Rattle.std.specs.Prelude.{◌≡◌, ◌↔◌, ◌⊎◌, ◌≤◌, ◌<◌, ℕ, true, length, IfOk, IfErr, OnOk};
+ghost use Rattle.std.specs.Prelude.{◌≡◌, ◌↔◌, ◌⊎◌, ◌≤◌, ◌<◌, ℕ, true, length, option_copied, Contains, IfOk, IfErr, OnOk};
 ghost use Rattle.std.specs.BTreeSet.{contains};
 ghost use Rattle.oci_manifest.specs.Descriptor.{Descriptor, is_among, key_cmp};
-ghost use Rattle.oci_verify.specs.Corrupt.{AreAnswers, AreCorrupt};
+ghost use Rattle.oci_verify.specs.Corrupt.{is_asked, AreAnswers, AreCorrupt, AreCorruptOf};
 ghost use Rattle.oci_verify.specs.Fault.{IsHeldFault, IsRunFault, IsVerifyFault};
 ghost use Rattle.oci_verify.specs.Intact.{HasFiles};
 
+use crate::asked::is_asked;
 use crate::fault::VerifyFault;
 use crate::job::FileCheck;
 use crate::watcher::FileWatcher;
@@ -57,13 +58,43 @@ where
     ensures cause { IfErr result (IsVerifyFault workers (D.device layout.now.dir)
         layout.now.graph) }
 {
+    corrupt_keys_among(rt, alloc, layout, None, workers, watcher)
+}
+
+/// Returns those keys of a set whose files are damaged or do not match them, as [`corrupt_keys`]
+/// does, or all without a set. No file of another key is read.
+///
+/// # Errors
+///
+/// Those of [`corrupt_keys`], but of the files of these keys.
+pub fn corrupt_keys_among<R: Threads + Wait + Sync, D: Dir + Sync, W: FileWatcher + Sync>(
+    rt: &R,
+    alloc: Global,
+    layout: &Layout<D>,
+    asked: Option<&BTreeSet<Key>>,
+    workers: u32,
+    watcher: &W,
+) -> Result<Vec<Key>, VerifyFault>
+where
+    D::Draft: Send,
+    ensures workers { OnOk result (workers ≤ 64) }
+    ensures corrupt { IfOk result (λ keys. HasFiles (D.device layout.now.dir) layout.now.graph
+        → AreCorruptOf (is_asked (option_copied asked.entry)) (D.device layout.now.dir).file
+        layout.now.graph layout.now.opened.damaged keys.items) }
+    ensures cause { IfErr result (IsVerifyFault workers (D.device layout.now.dir)
+        layout.now.graph) }
+{
     if workers > MAX_WORKERS {
         return Err(VerifyFault::BadWorkers);
     }
     let order = order_without_edges(alloc, layout.count())?;
-    let job = FileCheck { layout, watcher };
+    let job = FileCheck {
+        layout,
+        asked,
+        watcher,
+    };
     match run(rt, alloc, &order, workers, &job) {
-        Ok(answers) => Ok(keys_found(alloc, layout, &answers)?),
+        Ok(answers) => Ok(keys_found(alloc, layout, asked, &answers)?),
         Err(stopped) => Err(fault_of(layout, workers, stopped.into_fault())),
     }
 }
@@ -113,18 +144,21 @@ fn fault_of_read<D: Dir>(_layout: &Layout<D>, fault: FetchFault) -> VerifyFault
     }
 }
 
-/// Returns the damaged keys of a layout and the held ones whose answer is true, in key order.
+/// Returns the damaged keys of a layout that are asked for, and the held ones whose answer is true,
+/// in key order.
 fn keys_found<D: Dir>(
     alloc: Global,
     layout: &Layout<D>,
+    asked: Option<&BTreeSet<Key>>,
     answers: &[bool],
 ) -> Result<Vec<Key>, NoMemory>
-    requires { AreAnswers (D.device layout.now.dir) layout.now.graph answers.now }
+    requires { AreAnswers (is_asked (option_copied asked)) (D.device layout.now.dir)
+        layout.now.graph answers.now }
     ensures { IfOk result (λ keys. HasFiles (D.device layout.now.dir) layout.now.graph
-        → AreCorrupt (D.device layout.now.dir).file layout.now.graph layout.now.opened.damaged
-        keys.items) }
+        → AreCorruptOf (is_asked (option_copied asked.entry)) (D.device layout.now.dir).file
+        layout.now.graph layout.now.opened.damaged keys.items) }
 {
-    let mut found = damaged_keys(alloc, layout)?;
+    let mut found = asked_of(alloc, layout.damaged(), asked)?;
     for place in 0..layout.count() {
         let Some(key) = layout.key(place) else {
             unreachable!();
@@ -133,6 +167,22 @@ fn keys_found<D: Dir>(
     }
     let keys = keys_of_set(alloc, &found)?;
     Ok(keys)
+}
+
+/// Returns the set of those of these keys that are asked for.
+fn asked_of(
+    alloc: Global,
+    keys: &[Key],
+    asked: Option<&BTreeSet<Key>>,
+) -> Result<BTreeSet<Key>, NoMemory>
+    ensures { IfOk result (λ set. (k : Descriptor) → (contains key_cmp set k ≡ true)
+        ↔ ((is_asked (option_copied asked.entry) k ≡ true) × Contains keys.now k)) }
+{
+    let mut set = BTreeSet::new(alloc);
+    for key in keys {
+        add_if(is_asked(asked, key), key, &mut set)?;
+    }
+    Ok(set)
 }
 
 /// Adds a key to these if the answer for it is true.
@@ -159,7 +209,7 @@ pub fn damaged_keys<D: Dir>(alloc: Global, layout: &Layout<D>) -> Result<BTreeSe
 }
 
 /// Returns the set of these keys.
-fn set_of(alloc: Global, keys: &[Key]) -> Result<BTreeSet<Key>, NoMemory>
+pub(crate) fn set_of(alloc: Global, keys: &[Key]) -> Result<BTreeSet<Key>, NoMemory>
     ensures { IfOk result (λ set. (k : Descriptor) → contains key_cmp set k
         ≡ is_among keys.now k) }
 {

@@ -1,5 +1,5 @@
 -- What is said of a command that was done, in two cases, and of a query that was answered.
-use Rattle.std.proofs.Common.{◌≡◌, ◌+◌, ◌<◌, true, List, [], ◌∷◌, ◌++◌, ℕ, length, take, get_or, sym, subst, Option, Result, Ok, Err}
+use Rattle.std.proofs.Common.{◌≡◌, ◌+◌, ◌<◌, true, List, [], ◌∷◌, ◌++◌, ℕ, length, take, get_or, sym, subst, Option, Some, Result, Ok, Err}
 use Rattle.std.proofs.lemmas.List.{take_more}
 use Rattle.std.specs.Borrow.{Bor}
 use Rattle.std.specs.Prelude.{IfOk, OnOk}
@@ -10,7 +10,7 @@ use Rattle.oci_program.specs.declared.answer.Form.TheVariants as form
 use Rattle.oci_program.specs.declared.outcome.Outcome.{Outcome}
 use Rattle.oci_query_commands.specs.Answered.{is_of_all, IsReadable}
 use Rattle.oci_query_commands.specs.Printed.{PrintsAnswerOf}
-use Rattle.oci_query_commands.specs.Verified.{IsFaulty, IsFaultyVerify, IsGoodVerify, IsVerified}
+use Rattle.oci_query_commands.specs.Verified.{verified_reference, IsFaulty, IsFaultyVerify, IsGoodVerify, IsVerified, IsVerifiedBelow}
 use Rattle.oci_query_commands.specs.Written.{is_cat}
 use Rattle.oci_repair.specs.declared.source.RepairSource.{RepairSource}
 use Rattle.ocicp.specs.Run.{AreSourcesAt, IsAnswered, IsSourceAt}
@@ -41,7 +41,8 @@ sources_taken {A} paths i d sources more s lt opened at is =
 
 -- a query that succeeds was answered
 pub answered_on_ok : {E : Type 0} (r : Result Outcome E) (dir : Device) (query : Query) (printed : Form) (old new : Option (List ℕ)) → IfOk r (λ (o : Outcome). IsGoodVerify query o → dir.is_honest → IsVerified dir)
-    → IfOk r (λ (o : Outcome). IsFaultyVerify query o → dir.is_honest → IsFaulty dir) → OnOk r (is_of_all query ≡ true → dir.is_honest → IsReadable dir) → (printed ≡ form.Lines → OnOk r (dir.is_honest → PrintsAnswerOf dir query old new))
+    → IfOk r (λ (o : Outcome). IsFaultyVerify query o → dir.is_honest → IsFaulty dir)
+    → IfOk r (λ (o : Outcome). (reference : List ℕ) → verified_reference query ≡ Some reference → dir.is_honest → IsVerifiedBelow dir reference o) → OnOk r (is_of_all query ≡ true → dir.is_honest → IsReadable dir) → (printed ≡ form.Lines → OnOk r (dir.is_honest → PrintsAnswerOf dir query old new))
     → OnOk r (is_cat query ≡ true → dir.is_honest → PrintsAnswerOf dir query old new) → IfOk r (λ (o : Outcome). IsAnswered dir query printed old new o)
-answered_on_ok (Ok o) dir query printed old new verified faulty whole shown written = record { verified = verified; faulty = faulty; whole = whole; shown = shown; written = written }
-answered_on_ok (Err e) dir query printed old new verified faulty whole shown written = tt
+answered_on_ok (Ok o) dir query printed old new verified faulty below whole shown written = record { verified = verified; faulty = faulty; below = below; whole = whole; shown = shown; written = written }
+answered_on_ok (Err e) dir query printed old new verified faulty below whole shown written = tt

@@ -1,5 +1,5 @@
 -- What a run does with its command line, and the status that it ends with.
-use Rattle.std.specs.Prelude.{◌≡◌, ◌⊎◌, ℕ, Bool, true, false, List, [], ◌∷◌, ◌++◌, codes, ⊤, string_bytes, Option}
+use Rattle.std.specs.Prelude.{◌≡◌, ◌⊎◌, ℕ, Bool, true, false, List, [], ◌∷◌, ◌++◌, codes, ⊤, string_bytes, Option, Some}
 use Rattle.std.specs.Borrow.{Bor}
 use Rattle.std.specs.Io.KnownBytes.{Appends}
 use Rattle.oci_command_line.specs.declared.changing.CopyWords.{CopyWords}
@@ -27,7 +27,7 @@ use Rattle.oci_program.specs.declared.answer.Form.TheVariants as form
 use Rattle.oci_program.specs.declared.outcome.Outcome.{Outcome}
 use Rattle.oci_prune_answer.specs.declared.prune_answer.PruneAnswer.{PruneAnswer}
 use Rattle.oci_prune_commands.specs.PrunedLayout.{IsDryPrune, IsPruneRun}
-use Rattle.oci_prune_commands.specs.Untagged.{untagged_lines, IsUntagRun}
+use Rattle.oci_prune_commands.specs.Untagged.{belonged_lines, untagged_lines, IsUntagRun}
 use Rattle.oci_repair.specs.declared.source.RepairSource.{RepairSource}
 use Rattle.oci_repair.specs.declared.source.RepairSource.TheVariants as source
 use Rattle.oci_repair_commands.specs.Answered.{repair_text, IsOutcome}
@@ -37,7 +37,7 @@ use Rattle.ocicp.specs.declared.place.Place.{Place}
 use Rattle.ocicp.specs.declared.place.Place.TheVariants as place
 use Rattle.oci_query_commands.specs.Answered.{is_of_all, IsReadable}
 use Rattle.oci_query_commands.specs.Printed.{PrintsAnswerOf}
-use Rattle.oci_query_commands.specs.Verified.{IsFaulty, IsFaultyVerify, IsGoodVerify, IsVerified}
+use Rattle.oci_query_commands.specs.Verified.{verified_reference, IsFaulty, IsFaultyVerify, IsGoodVerify, IsVerified, IsVerifiedBelow}
 use Rattle.oci_query_commands.specs.Written.{is_cat}
 
 -- ---- where a command works
@@ -81,10 +81,10 @@ abbrev pub IsTagDone : TagWords → Form → Option (List ℕ) → Option (List 
 IsTagDone words printed old new = (key : Descriptor) × IsTagRun folder (words.folder.now, 0) words.reference.now words.tag.now key
     × (printed ≡ form.Lines → Appends old new (tagged_line key))
 
--- the layout in the folder of these words was opened, and left without their tag
+-- the layout in the folder of these words was opened, and left without their tag and what belonged to it alone
 abbrev pub IsUntagDone : UntagWords → Form → Option (List ℕ) → Option (List ℕ) → Type 0
-IsUntagDone words printed old new = (key : Option Descriptor) × (keys : List (Option Descriptor)) × IsUntagRun folder (words.folder.now, 0) words.tag.now key keys
-    × (printed ≡ form.Lines → Appends old new (untagged_lines keys))
+IsUntagDone words printed old new = (key : Option Descriptor) × (keys : List (Option Descriptor)) × (belonged : List Descriptor) × IsUntagRun folder (words.folder.now, 0) words.tag.now key keys belonged
+    × (printed ≡ form.Lines → Appends old new (untagged_lines keys ++ belonged_lines belonged))
 
 -- the layout in the folder of these words was opened, and pruned as they ask for, or with `--dry-run`
 -- that prune was planned
@@ -125,12 +125,14 @@ pub record IsArchiveDone {A M : Type 0} (archive : A → Device) (memory : M →
   pub output : words.destination.now ≡ codes "-" → IsOutputDone archive memory words printed old new
   pub file : (words.destination.now ≡ codes "-" → ⊥) → IsFileDone archive memory words printed old new
 
--- A query of the layout in a directory ended so. A good `verify` found nothing wrong with it, and a
--- faulty one something. `tags`, `predecessors`, and `tree` with referrers left nothing out. As lines,
--- all but `tree` printed exactly their answer, and `cat` wrote its bytes in each form.
+-- A query of the layout in a directory ended so. A good `verify` found nothing wrong with it, or with
+-- what its reference reaches, and a faulty one something. `tags`, `predecessors`, and `tree` with
+-- referrers left nothing out. As lines, all but `tree` printed exactly their answer, and `cat` wrote its
+-- bytes in each form.
 pub record IsAnswered (dir : Device) (query : Query) (printed : Form) (old new : Option (List ℕ)) (outcome : Outcome) : Type 0 where
   pub verified : IsGoodVerify query outcome → dir.is_honest → IsVerified dir
   pub faulty : IsFaultyVerify query outcome → dir.is_honest → IsFaulty dir
+  pub below : (reference : List ℕ) → verified_reference query ≡ Some reference → dir.is_honest → IsVerifiedBelow dir reference outcome
   pub whole : is_of_all query ≡ true → dir.is_honest → IsReadable dir
   pub shown : printed ≡ form.Lines → dir.is_honest → PrintsAnswerOf dir query old new
   pub written : is_cat query ≡ true → dir.is_honest → PrintsAnswerOf dir query old new

@@ -35,7 +35,7 @@ pub(crate) fn print_meaning<R: Files, X: Write>(
         },
     ) = &refusal.subject
     {
-        let _ = write!(err, ": {reason}");
+        let _ = write!(err, ": {}", reason.text);
     }
     let _ = writeln!(err, ". Run `ocicp explain {number}` for what to do.");
 }
@@ -96,6 +96,6 @@ fn reference_in<'w>(query: &Query<'w>) -> &'w str {
         Query::Tree { reference, .. } => reference,
         Query::Cat { reference, .. } => reference,
         Query::Tags { .. } => "",
-        Query::Verify { .. } => "",
+        Query::Verify { reference, .. } => reference.unwrap_or(""),
     }
 }

@@ -22,7 +22,8 @@ pub(crate) const COPY: CommandText = CommandText {
          Each copied blob is checked. Layers that DST has are not read: only `verify` and `repair` see \
          changed bytes.\n\n\
          Prints `copied` for each tag, and counts blobs: missing (`planned`), arrived (`pushed`), requested \
-         but there (`skipped`).\n\n\
+         but there (`skipped`). Notes on stderr say what stays in SRC: how much is attached, and with --all \
+         how many images without a tag.\n\n\
          A refused copy sets no tag and loses no blob. But after 79 and 94 the tags are set, and after 74 \
          perhaps. Only --prune deletes blobs. A power cut leaves the old layout or the new one.",
     ),
@@ -33,11 +34,12 @@ pub(crate) const COPY: CommandText = CommandText {
 
 /// The arguments of `copy`; `most_workers` bounds `--workers`. With `--all` the second word is the
 /// destination's folder, and there is no third one.
-pub(crate) fn copy_arguments(most_workers: u32) -> [Argument; 20] {
+pub(crate) fn copy_arguments(most_workers: u32) -> [Argument; 21] {
     [
         archive(),
         all(),
         matching(),
+        untagged(),
         platform(),
         referrers(),
         depth(),
@@ -120,8 +122,8 @@ fn archive() -> Argument {
 /// `--all`
 fn all() -> Argument {
     let help =
-        "Copies every tag of SRC, and overwrites those that DST has. Images without a tag stay behind. \
-         Refused if SRC has no tag (97), or a tag's entry is unreadable (73), or its blob missing or \
+        "Copies every tag of SRC, and overwrites those that DST has. Images without a tag come only with \
+         --untagged. Refused if SRC has no tag (97), or a tag's entry is unreadable (73), or its blob missing or \
          damaged (96). Not with --platform";
     Argument {
         conflicts: &["destination", "destination-reference"],
@@ -138,6 +140,18 @@ fn matching() -> Argument {
         conflicts: &["destination"],
         needs: &["all"],
         ..Argument::new("match", Kind::Texts("GLOB"), help)
+    }
+}
+
+/// `--untagged` of `copy`. It conflicts with the destination's own word, as `--all` does.
+fn untagged() -> Argument {
+    Argument {
+        conflicts: &["destination", "prune"],
+        needs: &["all"],
+        ..flag(
+            "untagged",
+            "With --all, but not --prune: also copies the images that no tag names",
+        )
     }
 }
 

@@ -76,33 +76,34 @@ pub(crate) const CAT: CommandText = CommandText {
     examples: "Examples:\n  ocicp cat mirror v1\n  ocicp cat mirror sha256:44136fa355b3678a1146ad16f7e8649e94fb4fc21fe77e8310c060f61caaff8a",
 };
 
-/// `verify [--workers N] [--json] FOLDER`
+/// `verify [--workers N] [--json] FOLDER [REF]`
 pub(crate) const VERIFY: CommandText = CommandText {
     name: "verify",
     aliases: &[],
-    about: "Checks each blob of a layout against its digest, and that no listed blob is missing",
+    about: "Checks each blob of a layout or a tag against its digest, and that no listed blob is missing",
     details: Some(
         "Checks each blob that `index.json` reaches against its digest, and that no listed blob is missing. \
+         With REF only the blobs that REF reaches are read, and all below is said of these alone. \
          What only a damaged manifest lists is not known, and not checked. A layout without `index.json` \
          counts as empty. Without --workers one worker runs for each processor.\n\n\
          Prints `absent` for each entry of `index.json` whose blob has no file. `corrupt` is for each blob \
          whose file does not match, and each manifest that cannot be read. `open` has the first manifest \
          that lists a blob without a file, and that blob. `shadowed` has an entry whose tag a later entry \
-         has too, which is no problem. `held` counts the blobs that have a file. Then reports each \
-         unreadable entry of `index.json` (73). The status is 1 if it finds a problem.",
+         has too, which is no problem. `held` counts the blobs that have a file. Then, without REF, reports \
+         each unreadable entry of `index.json` (73). The status is 1 if it finds a problem.",
     ),
-    usage: "ocicp verify [OPTIONS] <FOLDER>",
-    examples: "Example:\n  ocicp verify mirror",
+    usage: "ocicp verify [OPTIONS] <FOLDER> [REF]",
+    examples: "Examples:\n  ocicp verify mirror\n  ocicp verify mirror v1",
 };
 
-/// `explain [--json] NUMBER`
+/// `explain [--json] ERROR`
 pub(crate) const EXPLAIN: CommandText = CommandText {
     name: "explain",
     aliases: &[],
-    about: "Explains the number of an error: what it means, and what to do",
+    about: "Explains the number or the name of an error: what it means, and what to do",
     details: None,
-    usage: "ocicp explain [OPTIONS] <NUMBER>",
-    examples: "Example:\n  ocicp explain 53",
+    usage: "ocicp explain [OPTIONS] <ERROR>",
+    examples: "Examples:\n  ocicp explain 53\n  ocicp explain DestinationOpen",
 };
 
 /// `--all` of `tags`
@@ -122,8 +123,14 @@ pub(crate) fn tree_referrers() -> Argument {
 }
 
 /// The arguments of `verify`; `most_workers` bounds `--workers`.
-pub(crate) fn verify_arguments(most_workers: u32) -> [Argument; 4] {
-    [workers_that_read(most_workers), hint(), json(), folder()]
+pub(crate) fn verify_arguments(most_workers: u32) -> [Argument; 5] {
+    [
+        workers_that_read(most_workers),
+        hint(),
+        json(),
+        folder(),
+        checked_reference(),
+    ]
 }
 
 /// `--artifact-type` of `predecessors`
@@ -155,9 +162,17 @@ pub(crate) fn reference() -> Argument {
     Argument::new("reference", Kind::Word("REF"), help)
 }
 
-/// `NUMBER`
-pub(crate) fn error_number() -> Argument {
+/// `REF` of `verify`
+fn checked_reference() -> Argument {
     let help =
-        "A number of an error line, such as 53 in `ocicp: 81 Plan 53 NotFound ..`; the last one is the most specific";
-    Argument::new("number", Kind::Word("NUMBER"), help)
+        "A tag of the layout, or the digest of one of its blobs. Only what it reaches is checked";
+    Argument::new("reference", Kind::OptionalWord("REF"), help)
+}
+
+/// `ERROR`
+pub(crate) fn explained_error() -> Argument {
+    let help =
+        "A number or a name of an error line, such as 53 or NotFound in `ocicp: 81 Plan 53 NotFound ..`; the last \
+         one is the most specific. If several numbers have the name, all are explained";
+    Argument::new("error", Kind::Word("ERROR"), help)
 }

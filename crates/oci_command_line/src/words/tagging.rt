@@ -39,16 +39,21 @@ pub(crate) fn tag_arguments() -> [Argument; 7] {
 pub(crate) const UNTAG: CommandText = CommandText {
     name: "untag",
     aliases: &["rm"],
-    about: "Removes a tag from a layout, and keeps the blob that it names",
+    about: "Removes a tag from a layout, with all that belongs to it alone",
     details: Some(
-        "Removes a tag from a layout. The blob that it names stays, with everything that it reaches; \
-         `prune --untagged` removes blobs that no tag needs.\n\n\
+        "Removes a tag from a layout, with all that belongs to it alone: its image, or its index with the \
+         images, and what is attached to these, such as signatures, also under tags made of their digests. \
+         Their files stay until a `prune`.\n\n\
+         What belongs to another tag stays, and so does what an earlier entry of a tag or an image without a \
+         tag needs. A tag that is made of the digest of another manifest is no such tag. While an entry of \
+         `index.json`, or a manifest that a blob lists, is missing or damaged, or an entry is no \
+         descriptor, only the tag itself goes.\n\n\
          Prints `untagged` with the digest, the size and the media type of the blob of each entry of \
          `index.json` that had the tag. The last one is what the tag named. An entry that is no descriptor \
-         has `-` in their place.\n\n\
+         has `-` in their place. The other entries that go follow.\n\n\
          A tag whose blob is missing or damaged is removed too. An empty tag (35) and a tag that no entry \
          has (36) are refused, and nothing is changed. FOLDER is not created, and cannot be an archive (95).\n\n\
-         `index.json` is written anew, without the entries of the tag. The other entries keep all that \
+         `index.json` is written anew, without these entries. The other entries keep all that \
          other tools wrote into them, such as `platform` and annotations. The command ends once it is on \
          the disk, so that a power cut leaves the old one or the new one, unless --no-sync is given.\n\n\
          Locks FOLDER. While another process on the same machine has the lock, it waits.",

@@ -7,15 +7,16 @@ returns-in-Ok g c =
     let ok = c.in-Ok.is in
     record {
       left = c.copy_between-left.result.0;
-      workers = rw ok at made.workers;
+      workers = rw (ok, c.options_of.ensures) at made.workers;
       tagged = rw ok at made.tagged;
       brought = rw ok at made.brought;
       held = rw ok at made.held;
       met = made.met;
-      reported = rw ok at made.report;
+      reported = rw (ok, c.options_of.ensures) at made.report;
       reached = rw ok at made.reached;
       copied = rw ok at made.copied;
       files = rw ok at made.files;
       lasts = rw ok at made.lasts;
       kept = refl;
+      behind = c.in_ok-behind-in-Ok.ensures;
     }

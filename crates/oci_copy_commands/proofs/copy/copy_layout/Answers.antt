@@ -6,7 +6,7 @@ returns g c none =
     let opened = c.in_ok-source.ensures in
     record {
       selected = c.in_ok-selected.selected;
-      done = c.in_ok-copied.copied;
+      done = (c.in_ok-copied.copied, c.in_ok-copied.behind);
       run = record {
         source = c.in_ok-source.source;
         chosen = record {

@@ -4,4 +4,4 @@ use Rattle.oci_prune.proofs.files.needed_keys.Given as goal
 
 -- as far as the loop has come
 abbrev pub invariant-loop-key : goal.invariant-loop-key
-invariant-loop-key g l = AreNeeded (g.S.Store.state l.source).nodes (take l.key-index l.keys) l.needed.items
+invariant-loop-key g l = (g.S.Store.state l.source).is_honest → AreNeeded (g.S.Store.state l.source).nodes (g.S.Store.state l.source).entries (take l.key-index l.keys) l.needed.items

@@ -94,7 +94,7 @@ returns-in-Ok-clause-unheld g c = λ none honest.
     stay_among false true d e left.graph files (second.honest.0 later) (λ is. cc is) apart third.spared (λ (o : Option (List ℕ)). o ≡ None) unheld
 
 pub returns-in-Ok-clause-files : goal.returns-in-Ok-clause-files
-unfolding returns-in-Ok-clause-unheld
+unfolding returns-in-Ok-clause-unheld returns-in-Ok-clause-contents
 returns-in-Ok-clause-files g c = λ saved none honest.
     let device = g.D.Dir.device in
     let old = c.args.layout.now in
@@ -111,7 +111,7 @@ returns-in-Ok-clause-files g c = λ saved none honest.
     let third = subst (λ (fs : List PrunedFile). Removal device left new (IsPathAmong true fs) (IsPathAmong true fs) c.remove_unheld-fault.result c.remove_files.new.fault) c.deref.ensures.value c.remove_files.ensures.removal in
     let held = subst (λ (fs : List PrunedFile). AllAmong true (IsGone e.file) fs) c.deref.ensures.value (c.remove_files.ensures.removed none (second.honest.0 (first.spared.honest.0 honest))) in
     only_needed a e old.graph new.graph (roots_of old) kept files c.requires.safe (c.requires.files honest) (third.memory.graph ∙ c.in-Ok.ensures.saved.kept ∙ ap (λ (graph : List Node). kept_of kept graph) first.memory.graph)
-    (changed_only a b d e old.graph left.graph files honest first.spared second third.spared) (all_among (IsGone e.file) files (returns-in-Ok-clause-unheld g c none honest) held)
+    (returns-in-Ok-clause-contents g c honest) (changed_only a b d e old.graph left.graph files honest first.spared second third.spared) (all_among (IsGone e.file) files (returns-in-Ok-clause-unheld g c none honest) held)
 
 pub returns-in-Ok-clause-drafts : goal.returns-in-Ok-clause-drafts
 returns-in-Ok-clause-drafts g c = λ saved none honest place d lt.

@@ -2,8 +2,9 @@ use Rattle.std.proofs.Common.{sym, subst, ◌∙◌}
 use Rattle.oci_query_commands.specs.Answered.{LeavesNothingOut}
 use Rattle.oci_verify.specs.Intact.{HasFiles}
 use Rattle.oci_query_commands.specs.Printed.{PrintsAnswer}
-use Rattle.oci_query_commands.specs.Verified.{IsWhole}
+use Rattle.oci_query_commands.specs.Verified.{IsVerdict, IsWhole}
 use Rattle.oci_query_commands.proofs.Answered.{IsReadable-opened}
+use Rattle.oci_query_commands.proofs.Below.{IsVerifiedBelow-opened}
 use Rattle.oci_query_commands.proofs.Verified.{HasFiles-opened, IsVerified-whole}
 use Rattle.oci_query_commands.proofs.query.run_query.Goals as goal
 
@@ -27,6 +28,9 @@ returns g c =
             let good = (answer.verified bad.0 (there honest)).1 (subst (λ d. IsWhole (device d) layout.graph layout.opened) (sym opened.same) whole) in
             cc (sym good ∙ bad.1);
       };
+      below = λ reference is honest.
+          IsVerifiedBelow-opened (device c.args.dir) layout.graph layout.tags layout.opened reference c.in_ok-answer_from.field-0 honest (opened.opened honest)
+          (subst (λ d. IsVerdict (device d) layout.graph layout.tags layout.opened reference c.in_ok-answer_from.field-0) opened.same (answer.below reference is (there honest)));
       answered = λ asks honest.
           IsReadable-opened (device c.args.dir) layout.graph layout.tags layout.opened honest (opened.opened honest)
           (subst (λ d. LeavesNothingOut (device d) layout.opened) opened.same (answer.answered asks));

@@ -6,4 +6,4 @@ use Rattle.ocicp.proofs.run.ask.Goals as goal
 pub returns-in-Archive : goal.returns-in-Archive
 returns-in-Archive g c =
     let ran = c.run_query-in-Archive in
-    IfOk-weaker ran.result _ _ (λ outcome answered. inr (c.in-Archive.dir, answered)) (answered_on_ok ran.result _ _ _ _ _ ran.ensures.verified ran.ensures.faulty ran.ensures.answered ran.ensures.printed ran.ensures.written)
+    IfOk-weaker ran.result _ _ (λ outcome answered. inr (c.in-Archive.dir, answered)) (answered_on_ok ran.result _ _ _ _ _ ran.ensures.verified ran.ensures.faulty ran.ensures.below ran.ensures.answered ran.ensures.printed ran.ensures.written)

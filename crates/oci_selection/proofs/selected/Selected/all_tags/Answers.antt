@@ -31,9 +31,10 @@ with_tags-requires-clause-tagged g c =
     let keys = c.in_ok-keys.keys.items in
     let roots = c.in_ok-roots.roots.keys.items in
     let others = by_bytes c.in_ok-roots.roots.tags.items in
-    let same : (k : Descriptor) → Contains keys k ↔ Contains (named_keys tags named) k = rw (c.deref.ensures.value, c.deref-2.ensures.value) at c.in_ok-keys.ensures in
-    let are : AreAllRoots store patterns c.args.referrers keys roots others = rw c.deref-3.ensures.value at c.in_ok-roots.ensures.exact in
-    let rooted = all_there store patterns c.args.referrers (values_of tags) keys roots others (λ k there. (same k).1 (Contains-append_left (values_of tags) (entry_keys named) k there)) are in
+    let untagged = c.in_ok-untagged.untagged.items in
+    let same : (k : Descriptor) → Contains keys k ↔ Contains (named_keys tags named ++ untagged) k = rw (c.deref.ensures.value, c.deref-2.ensures.value, c.deref-3.ensures.value) at c.in_ok-keys.ensures in
+    let are : AreAllRoots store patterns c.args.referrers keys roots others = rw c.deref-4.ensures.value at c.in_ok-roots.ensures.exact in
+    let rooted = all_there store patterns c.args.referrers (values_of tags) keys roots others (λ k there. (same k).1 (Contains-append_left (named_keys tags named) untagged k (Contains-append_left (values_of tags) (entry_keys named) k there))) are in
     let is_tags = c.in_ok-tags.ensures.tags in
     subst (AreOfRoots roots) (sym is_tags)
     (some_of_roots roots (λ (t : List ℕ × Descriptor). matches_one patterns t.0) c.args.source.now.tags c.tags_to_copy.ensures.named.named (subst (λ (ts : Tags). All (λ (k : Descriptor). Contains roots k) (values_of ts)) is_tags rooted))
@@ -47,9 +48,10 @@ with_tags-requires-clause-named g c =
     let keys = c.in_ok-keys.keys.items in
     let roots = c.in_ok-roots.roots.keys.items in
     let others = by_bytes c.in_ok-roots.roots.tags.items in
-    let same : (k : Descriptor) → Contains keys k ↔ Contains (named_keys tags named) k = rw (c.deref.ensures.value, c.deref-2.ensures.value) at c.in_ok-keys.ensures in
-    let are : AreAllRoots store patterns c.args.referrers keys roots others = rw c.deref-3.ensures.value at c.in_ok-roots.ensures.exact in
-    keys_named roots named (all_there store patterns c.args.referrers (entry_keys named) keys roots others (λ k there. (same k).1 (Contains-append_right (values_of tags) (entry_keys named) k there)) are)
+    let untagged = c.in_ok-untagged.untagged.items in
+    let same : (k : Descriptor) → Contains keys k ↔ Contains (named_keys tags named ++ untagged) k = rw (c.deref.ensures.value, c.deref-2.ensures.value, c.deref-3.ensures.value) at c.in_ok-keys.ensures in
+    let are : AreAllRoots store patterns c.args.referrers keys roots others = rw c.deref-4.ensures.value at c.in_ok-roots.ensures.exact in
+    keys_named roots named (all_there store patterns c.args.referrers (entry_keys named) keys roots others (λ k there. (same k).1 (Contains-append_left (named_keys tags named) untagged k (Contains-append_right (values_of tags) (entry_keys named) k there))) are)
 
 pub with_tags-requires-clause-shallow : goal.with_tags-requires-clause-shallow
 with_tags-requires-clause-shallow g c =
@@ -70,12 +72,15 @@ returns-clause-selects g c =
     let others = by_bytes c.in_ok-roots.roots.tags.items in
     let is_tags : tags ≡ matching_tags patterns c.args.source.now.tags = c.in_ok-tags.ensures.tags in
     let is_named : named ≡ matching_entries patterns entries = c.in_ok-named.ensures ∙ ap (λ es. matching_entries patterns (map entry_of es)) c.entries-2.ensures.entries in
-    let same : (k : Descriptor) → Contains keys k ↔ Contains (named_keys (matching_tags patterns c.args.source.now.tags) (matching_entries patterns entries)) k = rw (c.deref.ensures.value, c.deref-2.ensures.value, is_tags, is_named) at c.in_ok-keys.ensures in
-    let are : AreAllRoots store patterns c.args.referrers keys roots others = rw c.deref-3.ensures.value at c.in_ok-roots.ensures.exact in
-    let exact = all_roots_by store patterns c.args.referrers keys (named_keys (matching_tags patterns c.args.source.now.tags) (matching_entries patterns entries)) roots others same are in
+    let untagged = c.in_ok-untagged.untagged.items in
+    let same : (k : Descriptor) → Contains keys k ↔ Contains (named_keys (matching_tags patterns c.args.source.now.tags) (matching_entries patterns entries) ++ untagged) k = rw (c.deref.ensures.value, c.deref-2.ensures.value, c.deref-3.ensures.value, is_tags, is_named) at c.in_ok-keys.ensures in
+    let are : AreAllRoots store patterns c.args.referrers keys roots others = rw c.deref-4.ensures.value at c.in_ok-roots.ensures.exact in
+    let exact = all_roots_by store patterns c.args.referrers keys (named_keys (matching_tags patterns c.args.source.now.tags) (matching_entries patterns entries) ++ untagged) roots others same are in
     all_ok c.with_tags.result
     (λ selected is_roots all of. record {
       others = others;
+      untagged = untagged;
+      are_untagged = c.in_ok-untagged.ensures.exact;
       named = subst (AreNamedHeld c.args.source.now.graph patterns) c.entries.ensures.entries c.in_ok-check_entries.ensures.held;
       tagged = c.in_ok-tags.ensures.tagged;
       tags = all ∙ ap (λ (ts : Tags). ts ++ others) is_tags;
@@ -88,6 +93,11 @@ pub returns-in_err-check_entries-clause-refused : goal.returns-in_err-check_entr
 returns-in_err-check_entries-clause-refused g c =
     let p = err_from_is_err_and c.from_residual.result c.from_residual.ensures.1 in
     rw (p.1, p.2) (other_fault (texts_of c.args.patterns.now) c.args.source.now.tags c.in_err-check_entries.field-0.0 c.in_err-check_entries.ensures.refused)
+
+pub returns-in_err-untagged-clause-refused : goal.returns-in_err-untagged-clause-refused
+returns-in_err-untagged-clause-refused g c =
+    let p = err_from_is_err_and c.from_residual-in_err-untagged.result c.from_residual-in_err-untagged.ensures.1 in
+    rw (p.1, p.2) (other_fault (texts_of c.args.patterns.now) c.args.source.now.tags c.in_err-untagged.field-0.0 c.in_err-untagged.ensures.refused)
 
 pub returns-in_err-roots-clause-refused : goal.returns-in_err-roots-clause-refused
 returns-in_err-roots-clause-refused g c =

@@ -14,7 +14,7 @@ returns-in-Reference-clause-selects g c =
     let words = c.in-Reference in
     let referrers = c.referrers_of-referrers in
     IfOk-weaker c.named.result (SelectsNamed device source words.from.now words.to.now (option_copied words.platform) referrers.result) (Selects device source c.args.words.now)
-    (λ s selects. (referrers.result, referrers.ensures, subst (λ (it : Selection). SelectsBy device source referrers.result it s) (sym words.is) selects)) c.named.ensures
+    (λ s selects. (referrers.result, referrers.ensures, subst (λ (it : Selection). SelectsBy device source c.args.words.now.brings_untagged referrers.result it s) (sym words.is) selects)) c.named.ensures
 
 pub returns-in-AllTags-clause-selects : goal.returns-in-AllTags-clause-selects
 returns-in-AllTags-clause-selects g c =
@@ -22,6 +22,6 @@ returns-in-AllTags-clause-selects g c =
     let source = c.args.source.now in
     let referrers = c.referrers_of-referrers in
     let patterns = texts_of c.in-AllTags.patterns.items in
-    let found : IfOk c.all_tags.result (SelectsAllTags device source patterns referrers.result) = rw c.deref.ensures.value at c.all_tags.ensures.selects in
-    IfOk-weaker c.all_tags.result (SelectsAllTags device source patterns referrers.result) (Selects device source c.args.words.now)
-    (λ s selects. (referrers.result, referrers.ensures, subst (λ (it : Selection). SelectsBy device source referrers.result it s) (sym c.in-AllTags.is) selects)) found
+    let found : IfOk c.all_tags.result (SelectsAllTags device source patterns c.args.words.now.brings_untagged referrers.result) = rw c.deref.ensures.value at c.all_tags.ensures.selects in
+    IfOk-weaker c.all_tags.result (SelectsAllTags device source patterns c.args.words.now.brings_untagged referrers.result) (Selects device source c.args.words.now)
+    (λ s selects. (referrers.result, referrers.ensures, subst (λ (it : Selection). SelectsBy device source c.args.words.now.brings_untagged referrers.result it s) (sym c.in-AllTags.is) selects)) found

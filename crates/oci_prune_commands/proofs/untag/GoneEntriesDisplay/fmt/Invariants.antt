@@ -1,8 +1,8 @@
 use Rattle.std.proofs.Common.{take}
 use Rattle.std.specs.Fmt.{HasWritten, IsPlainFormatter}
 use Rattle.oci_prune_commands.specs.Untagged.{untagged_lines}
-use Rattle.oci_prune_commands.proofs.untag.UntaggedDisplay.fmt.Given as goal
+use Rattle.oci_prune_commands.proofs.untag.GoneEntriesDisplay.fmt.Given as goal
 
 -- the lines of the entries so far
 abbrev pub invariant-loop-key : goal.invariant-loop-key
-invariant-loop-key g l = IsPlainFormatter l.fn.f → HasWritten g.W.Write.write_str_gives l.fn.f (untagged_lines (take l.key-index l.self.descriptors.items)) l.f
+invariant-loop-key g l = IsPlainFormatter l.fn.f → HasWritten g.W.Write.write_str_gives l.fn.f (untagged_lines (take l.key-index l.self.0.now)) l.f

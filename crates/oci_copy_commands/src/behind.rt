@@ -1,0 +1,204 @@
+//! What a copy leaves in its source, and its destination lacks.
+ghost use Rattle.std.specs.Prelude.{◌≡◌, ◌≢◌, ◌↔◌, [], not, None, filter, IfOk, IsTrue};
+ghost use Rattle.oci_layout_store.specs.Meaning.{meaning};
+ghost use Rattle.oci_prune.specs.Plan.{roots_of};
+ghost use Rattle.oci_store.specs.Keyed.{has_key};
+ghost use Rattle.oci_copy_commands.specs.Behind.{
+  AreAttachedLeft,
+  AreUntaggedLeft,
+  IsLeftBehind,
+  SelectsAll,
+};
+
+use oci_command_line::{CopyWords, Selection};
+use oci_digest::NoMemory;
+use oci_dir::Dir;
+use oci_layout_store::Layout;
+use oci_manifest::Key;
+use oci_program::{Form, ProgramFault};
+use oci_prune::belonging_of;
+use oci_selection::{Selected, untagged_keys};
+use oci_store::Source;
+use serde::Serialize;
+use std::alloc::Global;
+use std::fmt;
+use std::fmt::Display;
+use std::io::Write;
+
+/// What a copy leaves in its source, and its destination lacks. `Display` prints a line for stderr of
+/// each that is not empty.
+#[derive(Drop, Serialize)]
+pub struct LeftBehind {
+    /// The keys that are attached to what was copied, directly or not. None with `--referrers`.
+    #[serde(rename = "attachedLeft", skip_serializing_if = "Vec::is_empty")]
+    pub attached: Vec<Key>,
+    /// The images that no tag names. None unless each tag is selected.
+    #[serde(rename = "untaggedLeft", skip_serializing_if = "Vec::is_empty")]
+    pub untagged: Vec<Key>,
+}
+
+impl LeftBehind {
+    /// Returns what a copy by these words leaves in a source, if it leaves this destination.
+    ///
+    /// # Errors
+    ///
+    /// - 77 `BadManifest` and 88 `Fetch` if a manifest of the source cannot be read; only if the
+    ///   source does not [remember](Layout::subjects) the subjects.
+    /// - 89 `Memory` if memory runs out.
+    pub(crate) fn of<S: Dir, D: Dir>(
+        alloc: Global,
+        source: &Layout<S>,
+        destination: &Layout<D>,
+        selected: &Selected,
+        words: &CopyWords<'_>,
+    ) -> Result<LeftBehind, ProgramFault>
+        ensures { IfOk result (IsLeftBehind S.device words.now source.now selected.now.0
+            destination.now.graph) }
+    {
+        let attached = attached_unless_asked(alloc, source, destination, selected, words)?;
+        let untagged = untagged_if_all(alloc, source, destination, words)?;
+        Ok(LeftBehind { attached, untagged })
+    }
+
+    /// Prints as lines what was left behind. As JSON the answer has it. A line that cannot be written is
+    /// dropped: the copy is done.
+    pub(crate) fn tell<X: Write>(&self, form: Form, err: &mut X) {
+        match form {
+            Form::Lines => {
+                let _ = write!(err, "{self}");
+            }
+            Form::Json => {}
+        }
+    }
+}
+
+/// Returns what is attached to the selected keys and left in a source, or nothing with `--referrers`.
+fn attached_unless_asked<S: Dir, D: Dir>(
+    alloc: Global,
+    source: &Layout<S>,
+    destination: &Layout<D>,
+    selected: &Selected,
+    words: &CopyWords<'_>,
+) -> Result<Vec<Key>, ProgramFault>
+    ensures attached { words.now.referrers ≡ None → IfOk result (λ keys.
+        (S.device source.now.dir).is_honest → AreAttachedLeft (meaning (S.device source.now.dir)
+        source.now.graph source.now.tags) selected.now.0 destination.now.graph keys.items) }
+    ensures asked { words.now.referrers ≢ None → IfOk result (λ keys. keys.items ≡ []) }
+{
+    match words.referrers {
+        Some(_) => Ok(Vec::new(alloc)),
+        None => attached_left(alloc, source, destination, selected.roots()),
+    }
+}
+
+/// Returns the keys that are attached in a source to what these keys reach, directly or not, and that
+/// a destination does not hold.
+fn attached_left<S: Dir, D: Dir>(
+    alloc: Global,
+    source: &Layout<S>,
+    destination: &Layout<D>,
+    roots: &[Key],
+) -> Result<Vec<Key>, ProgramFault>
+    ensures { IfOk result (λ keys. (S.device source.now.dir).is_honest → AreAttachedLeft
+        (meaning (S.device source.now.dir) source.now.graph source.now.tags) roots.now
+        destination.now.graph keys.items) }
+{
+    let tags = source.tags()?;
+    let belonging = belonging_of(alloc, source, roots, &tags)?;
+    let left = keys_unheld(alloc, destination, &belonging.attached)?;
+    Ok(left)
+}
+
+/// Returns the images of a source that no tag names and a destination does not hold, or nothing unless
+/// each tag is selected.
+fn untagged_if_all<S: Dir, D: Dir>(
+    alloc: Global,
+    source: &Layout<S>,
+    destination: &Layout<D>,
+    words: &CopyWords<'_>,
+) -> Result<Vec<Key>, ProgramFault>
+    ensures untagged { SelectsAll words.now.selection → IfOk result (λ keys.
+        (S.device source.now.dir).is_honest → AreUntaggedLeft (meaning (S.device source.now.dir)
+        source.now.graph source.now.tags) (roots_of source.now) destination.now.graph keys.items) }
+    ensures picked { (SelectsAll words.now.selection → ⊥)
+        → IfOk result (λ keys. keys.items ≡ []) }
+{
+    if !selects_all(&words.selection) {
+        return Ok(Vec::new(alloc));
+    }
+    untagged_left(alloc, source, destination)
+}
+
+/// Returns the images of a source that no tag names and a destination does not hold.
+fn untagged_left<S: Dir, D: Dir>(
+    alloc: Global,
+    source: &Layout<S>,
+    destination: &Layout<D>,
+) -> Result<Vec<Key>, ProgramFault>
+    ensures { IfOk result (λ keys. (S.device source.now.dir).is_honest → AreUntaggedLeft
+        (meaning (S.device source.now.dir) source.now.graph source.now.tags) (roots_of source.now)
+        destination.now.graph keys.items) }
+{
+    let untagged = untagged_keys(alloc, source, true)?;
+    let left = keys_unheld(alloc, destination, &untagged)?;
+    Ok(left)
+}
+
+/// Returns whether each tag is selected, whatever its name is.
+fn selects_all(selection: &Selection<'_>) -> bool
+    ensures { IsTrue result ↔ SelectsAll selection.now }
+{
+    match selection {
+        Selection::Reference { .. } => false,
+        Selection::AllTags { patterns } => patterns.is_empty(),
+    }
+}
+
+/// Returns those of these keys that a store does not hold.
+fn keys_unheld<S: Source>(alloc: Global, store: &S, keys: &[Key]) -> Result<Vec<Key>, NoMemory>
+    ensures { IfOk result (λ unheld. unheld.items
+        ≡ filter (λ k. not (has_key (S.state store.now).nodes k)) keys.now) }
+{
+    let mut unheld = Vec::new(alloc);
+    for key in keys {
+        if holds(store, key) {
+            continue;
+        }
+        unheld.push(key.try_clone()?)?;
+    }
+    Ok(unheld)
+}
+
+/// Returns whether a store holds a key.
+fn holds<S: Source>(store: &S, key: &Key) -> bool
+    ensures { result ≡ has_key (S.state store.now).nodes key.now }
+{
+    store.exists(key)
+}
+
+impl Display for LeftBehind {
+    fn fmt<W: fmt::Write>(&self, f: &mut fmt::Formatter<W>) -> fmt::Result {
+        match self.attached.len() {
+            0 => {}
+            1 => writeln!(
+                f,
+                "ocicp: note: 1 manifest that is attached to it stays in SRC (--referrers brings it)"
+            )?,
+            count => writeln!(
+                f,
+                "ocicp: note: {count} manifests that are attached to it stay in SRC (--referrers brings them)"
+            )?,
+        }
+        match self.untagged.len() {
+            0 => Ok(()),
+            1 => writeln!(
+                f,
+                "ocicp: note: 1 image without a tag stays in SRC (see --untagged)"
+            ),
+            count => writeln!(
+                f,
+                "ocicp: note: {count} images without a tag stay in SRC (see --untagged)"
+            ),
+        }
+    }
+}

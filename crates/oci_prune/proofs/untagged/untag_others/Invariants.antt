@@ -1,0 +1,12 @@
+use Rattle.std.proofs.Common.{◌≡◌}
+use Rattle.oci_prune.proofs.Parting.{left_at}
+use Rattle.oci_prune.proofs.untagged.untag_others.Given as goal
+
+-- the tags before the place are left out whose keys are not kept
+abbrev pub invariant-loop-name : goal.invariant-loop-name
+invariant-loop-name g l = record {
+  tags : l.layout.tags ≡ left_at l.kept l.name-index l.name-items;
+  graph : l.layout.graph ≡ l.fn.layout.graph;
+  dir : l.layout.dir ≡ l.fn.layout.dir;
+  opened : l.layout.opened ≡ l.fn.layout.opened;
+}

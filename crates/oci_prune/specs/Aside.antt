@@ -1,0 +1,36 @@
+-- The layers that manifests list and that are not distributed (OCI image-spec 1.1, layer.md,
+-- "Non-Distributable Layers"). No key lists them in the graph, and nothing copies them.
+use Rattle.std.specs.Prelude.{◌≡◌, ◌⊎◌, ℕ, true, List, Some, Err, Contains}
+use Rattle.oci_manifest.specs.Descriptor.{Descriptor}
+use Rattle.oci_manifest.specs.Fault.{Fault, IsFault}
+use Rattle.oci_manifest.specs.MediaTypes.{kind_of}
+use Rattle.oci_manifest.specs.Undistributed.{ReadsAside, undistributed_of}
+use Rattle.oci_manifest.specs.declared.fault.ManifestFault.{ManifestFault}
+use Rattle.oci_store.specs.Content.{Entry, Matches}
+use Rattle.oci_store.specs.Graph.{Node, IsEdge}
+use Rattle.oci_store.specs.Keyed.{value_at}
+use Rattle.oci_store.specs.State.{State}
+use Rattle.oci_layout_store.specs.Layout.{is_manifest}
+use Rattle.oci_layout_store.specs.declared.fault.LayoutFault.TheVariants as layout
+use Rattle.oci_prune.specs.Subjects.{IsRefusedFetch}
+use Rattle.oci_prune_fault.specs.declared.fault.PruneFault.{PruneFault}
+use Rattle.oci_prune_fault.specs.declared.fault.PruneFault.TheVariants as fault
+
+-- the bytes of the first key, which is held, list the second, and it is not distributed
+abbrev pub ListsAside : List Entry → Descriptor → Descriptor → Type 0
+ListsAside entries from k = (bytes : List ℕ) × (keys : List Descriptor) × (value_at entries from ≡ Some bytes) × ReadsAside (kind_of from.media_type) bytes keys × Contains keys k
+
+-- the first key lists the second, be it distributed or not
+abbrev pub Lists : List Node → List Entry → Descriptor → Descriptor → Type 0
+Lists graph entries from k = IsEdge graph from k ⊎ ListsAside entries from k
+
+-- bytes that match the key break the rule that the fault names
+abbrev pub IsUnreadAside : State → Descriptor → ManifestFault → Type 0
+IsUnreadAside store k e = (bytes : List ℕ) × (cause : Fault) × Matches k bytes × (store.is_honest → value_at store.entries k ≡ Some bytes) × (undistributed_of (kind_of k.media_type) bytes ≡ Err cause) × IsFault e cause
+
+-- why the layers of one of these keys, which is of a manifest kind, were not read
+abbrev pub IsAsideFault : State → (Descriptor → Type 0) → PruneFault → Type 0
+IsAsideFault store is_one (fault.Fetch k e) = is_one k × (is_manifest (kind_of k.media_type) ≡ true) × IsRefusedFetch store k e
+IsAsideFault store is_one (fault.Layout (layout.BadManifest k e)) = is_one k × IsUnreadAside store k e
+IsAsideFault store is_one fault.Memory = Unit {0}
+IsAsideFault store is_one other = ⊥
