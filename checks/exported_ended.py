@@ -10,7 +10,7 @@ import signal
 
 from support import shim
 from support.disk import Disk, in_any_order, in_order, loaded
-from support.exports import archive_of, beside, run_bytes, told_bytes
+from support.exports import archive_of, beside, run_bytes, told_bytes, write
 from support.files import read
 from support.layouts import E, FOO, LAYER, M2, Content, image, write_layout
 from support.program import first, run, told
@@ -21,6 +21,8 @@ LONG = Content(LAYER, b"%7d\n" % 0 * (3 * PART // 8) + b"end")
 LAYERED = image([LONG, FOO])
 SOURCES = {"small": ([E, FOO, M2], {"one": M2}), "long": ([E, FOO, LONG, LAYERED], {"one": LAYERED})}
 FILE = "made.tar"
+# The random digits in the name of a file that is still written.
+DIGITS = "0123456789abcdef"
 # Notes `r` before FILE gets its name, and before an empty folder in its place would be removed, and `x` before each other change. The process is
 # killed before one of them, or it is refused.
 ON_CHANGE = r"""
@@ -70,11 +72,11 @@ class Copy:
         ])
 
     def wrong_again(self):
-        """Repeat the copy, and return the problem with it, or None. It is refused if FILE is there."""
+        """Repeat the copy, and return the problem with it, or None. It is refused if FILE is there. It removes what the first one left."""
         if os.path.exists("%s/%s" % (self.room, FILE)):
             return None
         ended = run(self.words, self.room)
-        return "the same copy again: " + told(ended) if ended[:3] != self.ended[:3] else self.wrong_left(True, 1)
+        return "the same copy again: " + told(ended) if ended[:3] != self.ended[:3] else self.wrong_left(True)
 
 
 def at_each_change(copy, library, what, environment, wrong):
@@ -208,8 +210,31 @@ def unlocked(room):
         os.close(lock)
 
 
+def left_by_others(room):
+    """Check which files beside FILE a copy removes: those that a copy into FILE left, and no process holds."""
+    made = Copy(room + "/in", "small")
+    draft = "%s.%s.new" % (FILE, DIGITS)
+    held = ["%s.%s.new" % (FILE, DIGITS[::-1])]
+    kept = [*held, "other.tar.%s.new" % DIGITS, "%s.%s.new" % (FILE, DIGITS[1:]), "%s.%s.new" % (FILE, DIGITS.upper()), "%s.new" % FILE,
+            "%s.%s" % (FILE, DIGITS), "a%s.%s.new" % (FILE, DIGITS)]
+    for name in [draft, *kept]:
+        write("%s/%s" % (made.room, name), b"a draft")
+    os.mkdir("%s/%s.%s.new" % (made.room, FILE, "0" * 16))
+    os.symlink("small", "%s/%s.%s.new" % (made.room, FILE, "1" * 16))
+    there = {*os.listdir(made.room)}
+    with open("%s/%s" % (made.room, held[0])) as opened:
+        fcntl.flock(opened, fcntl.LOCK_EX)
+        for words, status, gone in ([*made.words, "--dry-run"], 0, set()), ([*made.words[:3], "nope", FILE], 1, set()), (made.words, 0, {draft}):
+            ended = run(words, made.room)
+            left = {*os.listdir(made.room)} - {FILE}
+            yield "%s beside other drafts" % " ".join(words), first([
+                None if ended.status == status else told(ended),
+                None if left == there - gone else "%s" % sorted(left ^ there),
+            ])
+
+
 def checks(room):
-    for number, group in enumerate([at_changes, stopped, limited, powers, unlocked]):
+    for number, group in enumerate([at_changes, stopped, limited, powers, unlocked, left_by_others]):
         folder = "%s/%d" % (room, number)
         os.mkdir(folder)
         yield from group(folder)

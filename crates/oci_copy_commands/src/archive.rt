@@ -22,6 +22,7 @@ ghost use Rattle.oci_store.specs.Keyed.{HasAll};
 use crate::answer::CopyAnswer;
 use crate::behind::LeftBehind;
 use crate::copy::{check_source_if, is_exact, options_of};
+use crate::destination::remove_leftovers_of_file;
 use crate::dry_run::{empty_layout, show_plan};
 use oci_command_line::CopyWords;
 use oci_copy::{CopyFault, Report};
@@ -149,6 +150,7 @@ fn archive_into<R: Host, S: Dir + Drop, T: Dir + Drop, X: Write>(
     let (source, selected) = open_selected(rt.alloc(), source, words)?;
     let (plan, outline) = outline_of(rt.alloc(), &source, &selected, words)?;
     let behind = LeftBehind::of(rt.alloc(), &source, &outline, &selected, words)?;
+    remove_leftovers_of_file(rt, words.destination)?;
     let progress = Progress::new(rt, err, words.shown, &plan);
     let mut folder = folder;
     let saved = save_archive(rt.alloc(), &source, &outline, &progress, &mut folder, name);

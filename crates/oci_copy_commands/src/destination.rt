@@ -2,7 +2,7 @@ ghost use Rattle.std.specs.Prelude.{IfOk};
 ghost use Rattle.oci_copy_commands.specs.Run.{IsCreatedIn, IsFound, IsReady, IsSettledFrom};
 
 use oci_dir::{Dir, FirstFailure};
-use oci_folder::{FolderLock, Lockable};
+use oci_folder::{FolderLock, Lockable, remove_leftovers_of};
 use oci_layout_store::{Layout, LayoutFault};
 use oci_program::{ProgramFault, SeenIndex};
 use std::alloc::Global;
@@ -20,6 +20,22 @@ pub(crate) fn remove_leftovers<R: Files<File: Lockable> + AllocGlobal>(
     lock: &FolderLock<R>,
 ) -> Result<(), ProgramFault> {
     match lock.remove_leftovers(rt) {
+        Err(error) if error.kind() == io::ErrorKind::OutOfMemory => Err(ProgramFault::Memory),
+        _ => Ok(()),
+    }
+}
+
+/// Removes the files that killed copies left beside a new file. One that cannot be removed stays, and
+/// does not stop the copy.
+///
+/// # Errors
+///
+/// Out of memory.
+pub(crate) fn remove_leftovers_of_file<R: Files<File: Lockable> + AllocGlobal>(
+    rt: &R,
+    path: &str,
+) -> Result<(), ProgramFault> {
+    match remove_leftovers_of(rt, path) {
         Err(error) if error.kind() == io::ErrorKind::OutOfMemory => Err(ProgramFault::Memory),
         _ => Ok(()),
     }

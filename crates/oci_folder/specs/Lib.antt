@@ -1,1 +1,2 @@
 pub mod Folder
+pub mod Place

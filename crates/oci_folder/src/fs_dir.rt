@@ -24,7 +24,9 @@ mod settling;
 pub use draft::FsDraft;
 use draft::finish;
 use files::{failed, file_of_length, has_contents, is_absence, own_file, part_of_file};
+pub use leftovers::remove_leftovers_of;
 pub use lock::{FolderLock, Lockable};
+pub use paths::folder_and_name;
 use settling::{Syncs, note_paths};
 
 /// A folder of the file system.

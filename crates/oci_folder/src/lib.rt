@@ -11,4 +11,4 @@
 
 mod fs_dir;
 
-pub use fs_dir::{FolderLock, FsDir, FsDraft, Lockable};
+pub use fs_dir::{FolderLock, FsDir, FsDraft, Lockable, folder_and_name, remove_leftovers_of};

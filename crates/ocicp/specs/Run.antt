@@ -20,6 +20,7 @@ use Rattle.oci_copy_commands.specs.Run.{IsRunOf}
 use Rattle.oci_tag_commands.specs.Tagged.{tagged_line, IsTagRun}
 use Rattle.oci_dir.specs.Device.{Device}
 use Rattle.oci_folder.specs.Folder.{folder}
+use Rattle.oci_folder.specs.Place.{IsFileAt}
 use Rattle.oci_manifest.specs.Descriptor.{Descriptor}
 use Rattle.oci_prune_answer.specs.Pruned.{prune_text}
 use Rattle.oci_program.specs.declared.answer.Form.{Form}
@@ -51,10 +52,6 @@ IsPlaceAt path (place.Archive dir) = ⊤
 abbrev pub IsSourceAt : {A : Type 0} → List ℕ → RepairSource (List ℕ × ℕ) A → Type 0
 IsSourceAt path (source.Folder dir) = dir ≡ (path, 0)
 IsSourceAt path (source.Archive dir) = ⊤
-
--- a path is that of a file with this name in a folder
-abbrev pub IsFileAt : List ℕ → List ℕ → List ℕ → Type 0
-IsFileAt path folder name = (path ≡ folder ++ 47 ∷ name) ⊎ (((path ≡ 47 ∷ name) × (folder ≡ codes "/")) ⊎ ((path ≡ name) × (folder ≡ codes ".")))
 
 -- one was opened at each of these paths, in their order
 abbrev pub AreSourcesAt : {A : Type 0} → List (Bor (List ℕ)) → List (RepairSource (List ℕ × ℕ) A) → Type 0

@@ -1,11 +1,12 @@
 ghost use Rattle.std.specs.Prelude.{◌≡◌, IfOk};
-ghost use Rattle.ocicp.specs.Run.{AreSourcesAt, IsFileAt, IsPlaceAt, IsSourceAt};
+ghost use Rattle.oci_folder.specs.Place.{IsFileAt};
+ghost use Rattle.ocicp.specs.Run.{AreSourcesAt, IsPlaceAt, IsSourceAt};
 
 use crate::sides::Failures;
 use oci_archive::{ReadAt, TarDir};
 use oci_command_line::{CopyWords, RepairWords};
 use oci_dir::FirstFailure;
-use oci_folder::FsDir;
+use oci_folder::{FsDir, folder_and_name};
 use oci_program::ProgramFault;
 use oci_repair::RepairSource;
 use std::fs;
@@ -104,17 +105,6 @@ pub(crate) fn open_new_file<'r, 'w, R: Files + AllocGlobal>(
     }
     let folder = open_folder(rt, folder, first, words.syncs)?;
     Ok((folder, name))
-}
-
-/// Returns the folder of a file, and its name there.
-fn folder_and_name(path: &str) -> (&str, &str)
-    ensures { IsFileAt path.now result.0.now result.1.now }
-{
-    match path.rsplit_once('/') {
-        Some(("", name)) => ("/", name),
-        Some((folder, name)) => (folder, name),
-        None => (".", path),
-    }
 }
 
 /// Opens the sources of a repair, in their order, as [`Place::open`] does.

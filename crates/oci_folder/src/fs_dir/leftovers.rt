@@ -1,5 +1,6 @@
 use crate::fs_dir::files::is_absence;
 use crate::fs_dir::lock::Lockable;
+use crate::fs_dir::paths::folder_and_name;
 use std::fs::OpenFile;
 use std::io::ErrorKind;
 use std::rt::Files;
@@ -34,11 +35,8 @@ impl Room {
 
     /// Returns whether this is the name of a file that was written beside such a file.
     pub(crate) fn is_leftover(self, name: &str) -> bool {
-        let Some(numbered) = name.strip_suffix(".new") else {
-            return false;
-        };
-        match numbered.rsplit_once('.') {
-            Some((file, number)) => self.is_name(file) && is_hexadecimal(number, 16),
+        match replaced_by(name) {
+            Some(file) => self.is_name(file),
             None => false,
         }
     }
@@ -66,6 +64,14 @@ impl Room {
     }
 }
 
+/// Returns the name of the file beside which a file with this name was written.
+fn replaced_by(name: &str) -> Option<&str> {
+    match name.strip_suffix(".new")?.rsplit_once('.') {
+        Some((file, number)) if is_hexadecimal(number, 16) => Some(file),
+        _ => None,
+    }
+}
+
 /// Returns whether a text has `digits` hexadecimal digits and nothing else, none of them in upper
 /// case.
 fn is_hexadecimal(text: &str, digits: usize) -> bool {
@@ -90,6 +96,45 @@ where
         }
     }
     answer
+}
+
+/// Removes the regular files that were written beside a place and never renamed: the place's name, 16
+/// random hexadecimal digits in lower case, and `.new`. One that a process is still writing, or that
+/// cannot be removed, stays. The folder of the place need not be locked.
+///
+/// # Errors
+///
+/// - The error of the system if the folder cannot be listed or a file cannot be removed. The other
+///   files are removed all the same. Of several errors it is the last.
+/// - `OutOfMemory` if memory runs out. Some of the files may be removed.
+pub fn remove_leftovers_of<R: Files + AllocGlobal>(rt: &R, place: &str) -> io::Result<()>
+where
+    R::File: Lockable,
+{
+    let (folder, name) = folder_and_name(place);
+    let names = names_beside(rt, folder, name)?;
+    remove(rt, folder, &names)
+}
+
+/// Returns the names of the files in a folder that were written beside the file of this name.
+fn names_beside<R: Files + AllocGlobal>(
+    rt: &R,
+    folder: &str,
+    name: &str,
+) -> io::Result<Vec<String>> {
+    let mut names = Vec::new(rt.alloc());
+    for entry in fs::read_dir(&rt, folder)? {
+        match entry {
+            Ok(entry) if replaced_by(entry.file_name()) == Some(name) => {
+                names.push(String::from_str(rt.alloc(), entry.file_name())?)?;
+            }
+            Ok(_) => {}
+            // Files that are written beside others have names in UTF-8.
+            Err(error) if error.kind() == ErrorKind::InvalidFilename => {}
+            Err(error) => return Err(error),
+        }
+    }
+    Ok(names)
 }
 
 fn remove_from<R: Files + AllocGlobal>(rt: &R, folder: &str, room: Room) -> io::Result<()>

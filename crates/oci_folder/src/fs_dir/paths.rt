@@ -1,3 +1,5 @@
+ghost use Rattle.oci_folder.specs.Place.{IsFileAt};
+
 use crate::fs_dir::FsDir;
 use crate::fs_dir::leftovers::Room;
 use oci_digest::NoMemory;
@@ -55,6 +57,17 @@ pub(crate) fn path_of_folder(folder: &str) -> &str {
     match folder {
         "" => ".",
         folder => folder,
+    }
+}
+
+/// Returns the folder of a file, and its name there.
+pub fn folder_and_name(path: &str) -> (&str, &str)
+    ensures { IsFileAt path.now result.0.now result.1.now }
+{
+    match path.rsplit_once('/') {
+        Some(("", name)) => ("/", name),
+        Some((folder, name)) => (folder, name),
+        None => (".", path),
     }
 }
 
