@@ -305,8 +305,8 @@ The layout has no tag, so no blob would be kept or copied. Nothing was copied or
 Check the path. `ocicp tag FOLDER DIGEST NAME` keeps a blob. `ocicp prune` without `--untagged` needs no tag. If nothing is to be kept, delete the folder.
 
 98 LinkedBlobs
-The named folder of the layout is a symbolic link, so another layout may need the blobs behind it. Nothing was removed.
-Replace the link by a folder with copies of these blobs, and run the same command again.
+The named folder of the layout is a symbolic link, or has a blob that is a link to another one. More than this layout or blob may need the files behind it. Nothing was removed.
+Replace the link by a copy of what it leads to, and run the same command again.
 
 99 Locked
 Another process has the lock of the named folder, and `--no-wait` was given. Nothing was changed.

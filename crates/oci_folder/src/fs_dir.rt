@@ -16,6 +16,7 @@ mod beside;
 mod draft;
 mod files;
 mod leftovers;
+mod links;
 mod lock;
 mod paths;
 mod prunable;

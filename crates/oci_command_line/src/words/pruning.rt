@@ -19,9 +19,8 @@ pub(crate) const PRUNE: CommandText = CommandText {
          the layers of an image, the images of an index, a signature with its subject. A file in \
          `blobs/sha256` or `blobs/sha512` whose name is a digest is removed if no kept blob has that \
          digest, and none lists a blob that has it. Files that a killed copy left are removed too, and all \
-         other files stay. Layers that are not to be distributed are not kept, as `copy` does not copy \
-         them. A manifest of a type that `copy` does not read, such as Docker's schema 1, counts as a blob \
-         that lists nothing.\n\n\
+         other files stay. So a layer that is not to be distributed stays with its image. A manifest of a \
+         type that `copy` does not read, such as Docker's schema 1, counts as a blob that lists nothing.\n\n\
          With --untagged, what no tag needs is removed too, with its entries in `index.json`. Every tagged \
          blob is kept, and that of each earlier entry of a tag, with everything that it reaches. With each \
          kept blob its referrers are kept, such as signatures and SBOMs, with everything that these reach: \
@@ -36,9 +35,9 @@ pub(crate) const PRUNE: CommandText = CommandText {
          Refused, before anything is changed, but not with --leftovers: a damaged manifest, or a missing \
          blob that is an entry of `index.json` or a manifest that a kept manifest lists (96), since it is \
          not known what it needs; an entry of `index.json` that is no descriptor (73); a folder `blobs`, \
-         `blobs/sha256` or `blobs/sha512` that is a symbolic link (98), since another layout may need the \
-         blobs there; a folder with blobs and no `index.json`, or one without entries (109); with \
-         --untagged a layout without tags (97). FOLDER is not created, and cannot be an archive (95).\n\n\
+         `blobs/sha256` or `blobs/sha512` that is a symbolic link, or has a blob that is a link to another \
+         one (98), since more may need the files there; a folder with blobs and no `index.json`, or one \
+         without entries (109); with --untagged a layout without tags (97). FOLDER is not created, and cannot be an archive (95).\n\n\
          Files that no blob of the layout has go first, since `index.json` does not need them; on a full disk \
          they make room. Then `index.json` is saved, if a blob is removed, and is on the disk before a file \
          of such a blob goes, unless --no-sync is given. If the prune is killed, or a file cannot be \

@@ -25,7 +25,7 @@ impl Room {
     }
 
     /// Returns whether a file of the layout in this folder may have this name.
-    fn is_name(self, name: &str) -> bool {
+    pub(crate) fn is_name(self, name: &str) -> bool {
         match self {
             Room::Top => matches!(name, "oci-layout" | "index.json"),
             Room::Sha256 => is_hexadecimal(name, 64),
@@ -185,11 +185,15 @@ fn path_in<R: AllocGlobal>(rt: &R, room: Room, name: &str) -> io::Result<String>
     }
 }
 
-fn is_link<R: Files + AllocGlobal>(rt: &R, folder: &str, path: &str) -> io::Result<bool> {
+pub(crate) fn is_link<R: Files + AllocGlobal>(
+    rt: &R,
+    folder: &str,
+    path: &str,
+) -> io::Result<bool> {
     Ok(fs::symlink_metadata(rt, path_below(rt, folder, path)?.as_str())?.is_symlink())
 }
 
-fn path_below<R: AllocGlobal>(rt: &R, folder: &str, path: &str) -> io::Result<String> {
+pub(crate) fn path_below<R: AllocGlobal>(rt: &R, folder: &str, path: &str) -> io::Result<String> {
     Ok(format!(in rt.alloc(); "{folder}/{path}")?)
 }
 
@@ -315,20 +319,4 @@ where
         Err(error) if is_absence(&error) || error.kind() == ErrorKind::PermissionDenied => Ok(None),
         Err(error) => Err(error),
     }
-}
-
-/// Returns the first of the folders of blobs that is a link.
-pub(crate) fn first_link<R: Files + AllocGlobal>(
-    rt: &R,
-    folder: &str,
-) -> io::Result<Option<&'static str>> {
-    for path in ["blobs", "blobs/sha256", "blobs/sha512"] {
-        match is_link(rt, folder, path) {
-            Ok(true) => return Ok(Some(path)),
-            Ok(false) => {}
-            Err(error) if is_absence(&error) => {}
-            Err(error) => return Err(error),
-        }
-    }
-    Ok(None)
 }

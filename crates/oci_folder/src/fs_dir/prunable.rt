@@ -1,6 +1,7 @@
 use crate::fs_dir::FsDir;
 use crate::fs_dir::files::{failed, is_absence};
-use crate::fs_dir::leftovers::{Room, first_link, free_leftovers, remove_leftover};
+use crate::fs_dir::leftovers::{Room, free_leftovers, remove_leftover};
+use crate::fs_dir::links::first_link;
 use crate::fs_dir::lock::Lockable;
 use crate::fs_dir::paths::path_of_folder;
 use oci_dir::{DirFault, PrunableDir};
@@ -37,6 +38,8 @@ where
         }
     }
 
+    /// A folder of blobs counts as a link too if a blob in it is a link to a file with the name of
+    /// another blob: to remove that file would empty both.
     #[tactic(auto, unfolding(crate::specs::Folder::IsWatched))]
     fn linked(&self) -> Result<Option<&'static str>, DirFault> {
         let folder = path_of_folder(self.folder.as_str());
