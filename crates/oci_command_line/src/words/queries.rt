@@ -83,7 +83,8 @@ pub(crate) const VERIFY: CommandText = CommandText {
     about: "Checks each blob of a layout or a tag against its digest, and that no listed blob is missing",
     details: Some(
         "Checks each blob that `index.json` reaches against its digest, and that no listed blob is missing. \
-         With REF only the blobs that REF reaches are read, and all below is said of these alone. \
+         With REF only the blobs that REF reaches are read, and all below is said of these alone; if REF's \
+         own blob is missing or damaged, it is refused (36, 75, 77). \
          What only a damaged manifest lists is not known, and not checked. A layout without `index.json` \
          counts as empty. Without --workers one worker runs for each processor.\n\n\
          Prints `absent` for each entry of `index.json` whose blob has no file. `corrupt` is for each blob \
