@@ -150,7 +150,8 @@ fn untagged() -> Argument {
         needs: &["all"],
         ..flag(
             "untagged",
-            "With --all, but not --prune: also copies the images that no tag names",
+            "With --all, but not --prune: also copies the images that no tag names. Refused if any entry of SRC is \
+             unreadable (73), or its blob missing or damaged (96)",
         )
     }
 }
