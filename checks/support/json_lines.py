@@ -42,7 +42,7 @@ DAMAGED = ["ocicp: 75 Corrupt ", "ocicp: 77 BadManifest "]
 MEMORY = '{"error":[{"name":"Memory"}],"kind":"memory"}\n'
 # The last numbers of the refusals of each kind. The others are of the kind `refused`.
 KINDS = {
-    "notFound": {20, 36, 37, 45, 70, 97, 100, 107, 108},
+    "notFound": {20, 36, 37, 45, 70, 97, 107, 108},
     "damaged": {*range(10, 15), 21, 31, 32, 40, 42, 53, 55, 71, 73, 75, 77, 80, 83, 96, 102, 103, 109},
     "locked": {99, 110},
     "device": {22, 43, 74, 79, 90, 93, 94, 105},

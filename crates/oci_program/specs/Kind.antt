@@ -13,7 +13,7 @@ use Rattle.oci_program.specs.declared.refused_path.Reason.{Reason}
 
 -- the command line names something that is not there
 unfoldable pub not_found : List ℕ
-not_found = 20 ∷ 36 ∷ 37 ∷ 45 ∷ 70 ∷ 97 ∷ 100 ∷ 107 ∷ 108 ∷ []
+not_found = 20 ∷ 36 ∷ 37 ∷ 45 ∷ 70 ∷ 97 ∷ 107 ∷ 108 ∷ []
 
 -- a layout or an archive lacks something that it needs, or has other content than it should
 unfoldable pub damaged : List ℕ

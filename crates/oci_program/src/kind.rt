@@ -35,7 +35,7 @@ impl Kind {
         ensures { result ≡ kind_of_number number }
     {
         match number {
-            20 | 36 | 37 | 45 | 70 | 97 | 100 | 107 | 108 => Kind::NotFound,
+            20 | 36 | 37 | 45 | 70 | 97 | 107 | 108 => Kind::NotFound,
             10..=14 | 21 | 31 | 32 | 40 | 42 | 53 | 55 | 71 | 73 | 75 | 77 => Kind::Damaged,
             80 | 83 | 96 | 102 | 103 | 109 => Kind::Damaged,
             99 | 110 => Kind::Locked,
