@@ -1,13 +1,16 @@
 -- The kinds of refusals.
-use Rattle.std.specs.Prelude.{◌≡◌, ℕ, List, [], ◌∷◌, eqb, if◌then◌else◌, Option, None, Some, String}
+use Rattle.std.specs.Prelude.{◌≡◌, ◌⊎◌, ℕ, List, [], ◌∷◌, eqb, if◌then◌else◌, Option, None, Some, IfSome, IsSomeAnd, String}
+use Rattle.std.specs.IoError.{error_kind}
 use Rattle.std.specs.List.{list_any}
-use Rattle.std.specs.Option.{option_map}
+use Rattle.std.specs.Option.{option_copied, option_map}
 use Rattle.std.specs.declared.alloc.Global.{Global}
 use Rattle.std.specs.declared.io.ErrorKind.{ErrorKind}
 use Rattle.std.specs.declared.io.ErrorKind.TheVariants.{NotFound, PermissionDenied, ReadOnlyFilesystem, StorageFull, QuotaExceeded}
 use Rattle.oci_program.specs.declared.kind.Kind.{Kind}
 use Rattle.oci_program.specs.declared.kind.Kind.TheVariants as kind
 use Rattle.oci_program.specs.declared.refused_path.Reason.{Reason}
+use Rattle.oci_program.specs.declared.refused_path.Side.{Side}
+use Rattle.oci_program.specs.declared.refused_path.Sides.{Sides}
 
 -- ---- the last numbers of the refusals of each kind
 
@@ -66,7 +69,18 @@ abbrev pub kind_at : Option ℕ → Option Reason → Kind
 kind_at last None = kind_of_last last
 kind_at last (Some reason) = kind_by (kind_of_last last) (Some reason.kind)
 
--- a refusal with this last number, which has the text of the system's reason if there is one, is of this kind
-abbrev pub IsKind : Option ℕ → Option (String Global) → Kind → Type 0
-IsKind last os k = (reason : Option Reason) × (os ≡ option_map (λ (r : Reason). r.text) reason)
-    × (k ≡ kind_at last reason)
+-- ---- the system's reason
+
+-- a reason is of the kind of the first error of the system at a place
+abbrev pub IsReasonAt : Reason → Side → Type 0
+IsReasonAt reason side = IsSomeAnd (option_copied side.failure) (λ failure. reason.kind ≡ error_kind failure.error)
+
+-- a reason is of the kind of the first error of the system at one of the places of a command line
+abbrev pub IsReasonOf : Sides → Reason → Type 0
+IsReasonOf sides reason = IsSomeAnd sides.read (IsReasonAt reason) ⊎ IsSomeAnd sides.written (IsReasonAt reason)
+
+-- a refusal of a command with these places and this last number, which has the text of the system's
+-- reason if there is one, is of this kind
+abbrev pub IsKind : Sides → Option ℕ → Option (String Global) → Kind → Type 0
+IsKind sides last os k = (reason : Option Reason) × IfSome reason (IsReasonOf sides)
+    × (os ≡ option_map (λ (r : Reason). r.text) reason) × (k ≡ kind_at last reason)

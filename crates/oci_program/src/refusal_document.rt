@@ -41,7 +41,7 @@ impl<'f> RefusalDocument<'f> {
         ensures numbers { IfOk result (λ document.
             entry_numbers document.error.items ≡ numbers fault.now) }
         ensures kind { IfOk result (λ document.
-            IsKind (last_number fault.now) document.os document.kind) }
+            IsKind sides.now (last_number fault.now) document.os document.kind) }
     {
         let mut error = Vec::new(alloc);
         fault.add_to(alloc, &mut error)?;

@@ -1,5 +1,7 @@
-ghost use Rattle.std.specs.Prelude.{◌≡◌, IfOk, IfSome};
+ghost use Rattle.std.specs.Prelude.{◌≡◌, IfOk, IfSome, IsSomeAnd};
 ghost use Rattle.std.specs.IoError.{error_kind};
+ghost use Rattle.std.specs.Option.{option_copied};
+ghost use Rattle.oci_program.specs.Kind.{IsReasonAt, IsReasonOf};
 
 use crate::fault::ProgramFault;
 use oci_archive::ArchiveFault;
@@ -98,7 +100,10 @@ impl ProgramFault {
         &self,
         alloc: Global,
         sides: &Sides<'w>,
-    ) -> Result<Option<RefusedPath<'w>>, NoMemory> {
+    ) -> Result<Option<RefusedPath<'w>>, NoMemory>
+        ensures { IfOk result (λ found.
+            IfSome found (λ it. IfSome it.reason (IsReasonOf sides.now))) }
+    {
         let Some((role, part)) = self.cause() else {
             return Ok(None);
         };
@@ -196,7 +201,10 @@ fn refused_path_in<'w>(
     alloc: Global,
     side: Side<'w>,
     part: Part<'_>,
-) -> Result<Option<RefusedPath<'w>>, NoMemory> {
+) -> Result<Option<RefusedPath<'w>>, NoMemory>
+    ensures { IfOk result (λ found.
+        IfSome found (λ it. IfSome it.reason (λ reason. IsReasonAt reason side.entry))) }
+{
     if side.word.is_none() && !matches!(part, Part::Named(_)) {
         return Ok(None);
     }
@@ -258,7 +266,10 @@ fn reason_at(
     alloc: Global,
     failure: Option<&Failure>,
     path: &str,
-) -> Result<Option<Reason>, NoMemory> {
+) -> Result<Option<Reason>, NoMemory>
+    ensures { IfOk result (λ found. IfSome found (λ reason.
+        IsSomeAnd (option_copied failure.entry) (λ first. reason.kind ≡ error_kind first.error))) }
+{
     match failure {
         Some(failure) if failure.path.as_str() == path => reason_of(alloc, failure.error),
         _ => Ok(None),
