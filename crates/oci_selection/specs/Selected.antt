@@ -164,6 +164,12 @@ pub record HasAllReadable {D : Type 0} (layout : LayoutState D) : Type 0 where
   pub manifests : manifests_of layout.opened.damaged ≡ []
   pub entries : unreadable_places (said layout.opened.content).entries ≡ []
 
+-- each entry of a layout's index is there: it is a descriptor, and its key was held when the layout was
+-- opened
+pub record HasEachEntry {D : Type 0} (layout : LayoutState D) : Type 0 where
+  pub known : layout.opened.absent ≡ []
+  pub readable : unreadable_places (said layout.opened.content).entries ≡ []
+
 -- the roots of a copy, the tags that it sets, and the entries that it brings
 abbrev pub Selected : Type 0
 Selected = List Descriptor × Tags × List CodeEntry
@@ -212,12 +218,14 @@ SelectsPlatform device source platform from to referrers s =
 
 -- A copy of the tags that match one of the patterns selects what each entry of their names names, the
 -- images without a tag if these are asked for, and the tags that come with these. With no patterns each
--- tag matches, and no other one comes.
+-- tag matches, and no other one comes. If images without a tag are asked for, each entry of the source is
+-- there.
 pub record SelectsAllTags {D : Type 0} (device : D → Device) (source : LayoutState D) (patterns : List (List ℕ)) (brings_untagged : Bool) (referrers : Referrers) (s : Selected) : Type 0 where
   pub others : Tags
   pub untagged : List Descriptor
   pub are_untagged : AreUntagged device source brings_untagged untagged
   pub named : AreNamedHeld source.graph patterns source.opened.content.entries
+  pub whole : brings_untagged ≡ true → HasEachEntry source
   pub tagged : matching_tags patterns source.tags ≢ []
   pub tags : s.1 ≡ matching_tags patterns source.tags ++ others
   pub roots : AreAllRoots (meaning (device source.dir) source.graph source.tags) patterns referrers (named_keys (matching_tags patterns source.tags) (matching_entries patterns (said source.opened.content).entries) ++ untagged) s.0 others

@@ -4,7 +4,7 @@ ghost use Rattle.oci_copy.specs.Tagged.{name_of};
 ghost use Rattle.oci_store.specs.Tags.{by_bytes, AreNames};
 ghost use Rattle.oci_store.specs.Keyed.{has_key};
 ghost use Rattle.oci_layout_store.specs.Brought.{IsShallowEntry};
-ghost use Rattle.oci_layout_store.specs.Entries.{entry_of, said};
+ghost use Rattle.oci_layout_store.specs.Entries.{entry_of, said, unreadable_places};
 ghost use Rattle.oci_layout_store.specs.Layout.{manifests_of};
 ghost use Rattle.oci_entries.specs.Brought.{tag_entries, with_roots};
 ghost use Rattle.oci_entries.specs.Pattern.{matching_tags, texts_of};
@@ -13,6 +13,7 @@ ghost use Rattle.oci_selection.specs.Selected.{
   AreNamedHeld,
   AreOfRoots,
   HasAllReadable,
+  HasEachEntry,
   IsNamedHeld,
   IsOfRoot,
   Selects,
@@ -259,6 +260,8 @@ impl Selected {
     /// - 73 `BadIndex` if an entry of the index that has such a name is no descriptor, and 96 `Unknown`
     ///   if the blob of one is missing or damaged: for the first such entry. A copy would leave it
     ///   out.
+    /// - If `brings_untagged`, 96 `Unknown` if the blob of any entry is missing or damaged, or else 73
+    ///   `BadIndex` if any entry is no descriptor: for the first one.
     /// - 97 `NoTags` if there is no tag.
     /// - 108 `NoMatch` if there are tags, and none matches.
     /// - 77 `BadManifest` and 88 `Fetch` with referrers, or if `brings_untagged`, if a manifest of the
@@ -276,6 +279,7 @@ impl Selected {
         ensures refused { IfErr result (IsNoTagsFault (texts_of patterns.now) source.now.tags) }
     {
         check_entries(alloc, source, source.entries(), patterns)?;
+        check_each_if(brings_untagged, source)?;
         let tags = tags_to_copy(alloc, source, patterns)?;
         let named = matching_entries(alloc, source.entries(), patterns)?;
         let untagged = untagged_keys(alloc, source, brings_untagged)?;
@@ -390,6 +394,40 @@ fn check_entry<D: Dir>(
     }
 }
 
+/// If the images without a tag are asked for, refuses a source that lacks the blob of an entry, or
+/// has an entry that is no descriptor.
+fn check_each_if<D: Dir>(brings_untagged: bool, source: &Layout<D>) -> Result<(), ProgramFault>
+    ensures each { OnOk result (brings_untagged ≡ true → HasEachEntry source.now) }
+    ensures refused { IfErr result IsOtherFault }
+{
+    if brings_untagged {
+        check_each(source)
+    } else {
+        Ok(())
+    }
+}
+
+/// Refuses a source for the first entry whose blob is missing or damaged, or else for the first that
+/// is no descriptor.
+fn check_each<D: Dir>(source: &Layout<D>) -> Result<(), ProgramFault>
+    ensures each { OnOk result (HasEachEntry source.now) }
+    ensures refused { IfErr result IsOtherFault }
+{
+    check_none_absent(source.absent())?;
+    check_descriptors(source)
+}
+
+/// Refuses the first of these keys, which are not held, if there is one.
+fn check_none_absent(absent: &[Key]) -> Result<(), ProgramFault>
+    ensures empty { OnOk result (absent.now ≡ []) }
+    ensures refused { IfErr result IsOtherFault }
+{
+    match absent.first() {
+        Some(key) => Err(ProgramFault::Source(PruneFault::Unknown(key.try_clone()?))),
+        None => Ok(()),
+    }
+}
+
 /// Returns the tags of a layout whose names match one of the patterns. There is at least one.
 ///
 /// # Errors
@@ -425,6 +463,15 @@ fn check_readable<D: Dir>(layout: &Layout<D>) -> Result<(), ProgramFault>
     ensures { OnOk result (HasAllReadable layout.now) }
 {
     check_undamaged(layout)?;
+    check_descriptors(layout)
+}
+
+/// Refuses a layout for its first entry that is no descriptor.
+fn check_descriptors<D: Dir>(layout: &Layout<D>) -> Result<(), ProgramFault>
+    ensures readable { OnOk result
+        (unreadable_places (said layout.now.opened.content).entries ≡ []) }
+    ensures refused { IfErr result IsOtherFault }
+{
     match layout.check_entries() {
         Ok(()) => Ok(()),
         Err(fault) => Err(ProgramFault::Layout(fault)),

@@ -82,6 +82,7 @@ returns-clause-selects g c =
       untagged = untagged;
       are_untagged = c.in_ok-untagged.ensures.exact;
       named = subst (AreNamedHeld c.args.source.now.graph patterns) c.entries.ensures.entries c.in_ok-check_entries.ensures.held;
+      whole = c.in_ok-check_each_if.ensures.each;
       tagged = c.in_ok-tags.ensures.tagged;
       tags = all ∙ ap (λ (ts : Tags). ts ++ others) is_tags;
       roots = rw is_roots exact;
@@ -93,6 +94,11 @@ pub returns-in_err-check_entries-clause-refused : goal.returns-in_err-check_entr
 returns-in_err-check_entries-clause-refused g c =
     let p = err_from_is_err_and c.from_residual.result c.from_residual.ensures.1 in
     rw (p.1, p.2) (other_fault (texts_of c.args.patterns.now) c.args.source.now.tags c.in_err-check_entries.field-0.0 c.in_err-check_entries.ensures.refused)
+
+pub returns-in_err-check_each_if-clause-refused : goal.returns-in_err-check_each_if-clause-refused
+returns-in_err-check_each_if-clause-refused g c =
+    let p = err_from_is_err_and c.from_residual-in_err-check_each_if.result c.from_residual-in_err-check_each_if.ensures.1 in
+    rw (p.1, p.2) (other_fault (texts_of c.args.patterns.now) c.args.source.now.tags c.in_err-check_each_if.field-0.0 c.in_err-check_each_if.ensures.refused)
 
 pub returns-in_err-untagged-clause-refused : goal.returns-in_err-untagged-clause-refused
 returns-in_err-untagged-clause-refused g c =
