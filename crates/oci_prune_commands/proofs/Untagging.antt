@@ -12,30 +12,31 @@ use Rattle.std.proofs.lemmas.List.{append-nil, length-map}
 use Rattle.std.proofs.lemmas.Option.{slice_get-map}
 use Rattle.std.proofs.lemmas.Slice.Eq.{bytes_eq-Decides}
 use Rattle.oci_manifest.specs.Descriptor.{Descriptor, key_cmp}
-use Rattle.oci_layout_store.specs.Blobs.{stored}
+use Rattle.oci_layout_store.specs.Blobs.{stored, IsSound}
 use Rattle.oci_layout_store.specs.Brought.{Forgets}
 use Rattle.oci_dir.specs.Device.{Device, Touches}
 use Rattle.oci_layout_store.specs.Entries.{IndexEntry, entry_of, said}
 use Rattle.oci_layout_store.specs.Index.{HasIndex, index_file}
 use Rattle.oci_layout_store.specs.Lasts.{Lasts}
-use Rattle.oci_layout_store.specs.Layout.{LayoutState, OnlyTags, OpenedIndex}
+use Rattle.oci_layout_store.specs.Layout.{LayoutState, OnlyTags, OpenedIndex, SameMemory}
 use Rattle.oci_layout_store.proofs.Opened.{next_entry}
+use Rattle.oci_layout_store.specs.declared.fault.LayoutFault.{LayoutFault}
+use Rattle.oci_layout_store.specs.declared.fault.LayoutFault.TheVariants as layout
 use Rattle.oci_layout_store.specs.declared.index.IndexEntry.{IndexEntry as CodeEntry}
 use Rattle.oci_program.specs.Opened.{IsOpenedSettled}
 use Rattle.oci_program.specs.declared.fault.ProgramFault.{ProgramFault}
-use Rattle.oci_prune.specs.Plan.{IsSafe}
-use Rattle.oci_prune.specs.Pruned.{OnlyIndex, kept_of}
+use Rattle.oci_program.specs.declared.fault.ProgramFault.TheVariants as program
+use Rattle.oci_prune.specs.Pruned.{kept_of}
 use Rattle.oci_prune.specs.Settled.{CanSettle}
-use Rattle.oci_prune.specs.Untagged.{tags_of_kept}
+use Rattle.oci_prune.specs.Untagged.{IsKnown, KeepsOthers, tags_of_kept}
 use Rattle.oci_store.specs.Content.{Entry}
-use Rattle.oci_prune.proofs.Leaving.{closed_left}
-use Rattle.oci_prune.proofs.Settling.{can_settle_same}
+use Rattle.oci_prune.proofs.Settling.{can_settle_kept}
 use Rattle.oci_store.specs.Closed.{IsClosed}
 use Rattle.oci_store.specs.Graph.{Node}
-use Rattle.oci_store.specs.Keyed.{HasDistinctKeys}
 use Rattle.oci_store.specs.Tags.{Tags, tag_at, without_tag}
 use Rattle.oci_prune_commands.specs.Named.{entries_named, keys_named}
-use Rattle.oci_prune_commands.specs.Untagged.{GoesAlong, IsSavedAnew, IsUntagged, IsUntagRun, LosesName, LosesTag, keys_going, untagged}
+use Rattle.oci_prune_commands.specs.Refusal.{IsRefusedRest, IsRefusedUntag}
+use Rattle.oci_prune_commands.specs.Untagged.{GoesAlong, HasOnlyKept, IsDroppedUnsaved, IsLeftUnsaved, IsSavedAnew, IsUntagged, IsUntagRun, LosesName, LosesTag, belonged_keys, keys_going, untagged}
 use Rattle.oci_prune_commands.specs.declared.untag.Untagged.{Untagged}
 
 -- ---- a name that is no tag
@@ -142,22 +143,53 @@ tags_are_kept kept (t ∷ tags) =
 
 -- ---- what is left is saved
 
--- what is saved of a layout is saved of one with the same directory and graph
-pub saved_same : {D : Type 0} (device : D → Device) (old mid new : LayoutState D) → mid.dir ≡ old.dir → mid.graph ≡ old.graph → IsSavedAnew device mid new → IsSavedAnew device old new
-saved_same {D} device old mid new dir graph saved = record {
+-- a layout whose directory and graph are the same is sound as before
+pub sound_same : {D : Type 0} (device : D → Device) (old new : LayoutState D) → new.dir ≡ old.dir → new.graph ≡ old.graph → IsSound (device old.dir).is_honest (device old.dir).file old.graph → IsSound (device new.dir).is_honest (device new.dir).file new.graph
+sound_same {D} device old new dir graph sound =
+    subst (λ (ns : List Node). IsSound (device new.dir).is_honest (device new.dir).file ns) (sym graph)
+    (subst (λ (d : D). IsSound (device d).is_honest (device d).file old.graph) (sym dir) sound)
+
+-- a layout with the same in memory has only the kept keys too
+pub only_kept_same : {D : Type 0} (kept : BTreeSet Descriptor) (old mid new : LayoutState D) → HasOnlyKept kept old mid → SameMemory mid new → HasOnlyKept kept old new
+only_kept_same kept old mid new only memory = record { graph = memory.graph ∙ only.graph; tags = memory.tags ∙ only.tags; opened = memory.opened ∙ only.opened }
+
+-- what is saved of a layout with the kept keys is saved of the one with all
+pub saved_kept : {D : Type 0} (device : D → Device) (old mid new : LayoutState D) (kept : BTreeSet Descriptor) → mid.dir ≡ old.dir → HasOnlyKept kept old mid
+    → (IsSound (device old.dir).is_honest (device old.dir).file old.graph → IsSound (device mid.dir).is_honest (device mid.dir).file mid.graph) → (IsClosed old.graph → IsClosed (kept_of kept old.graph))
+    → IsSavedAnew device mid new → IsSavedAnew device old new
+saved_kept {D} device old mid new kept dir only sound closed saved = record {
   index = subst (λ (d : D). (device d).is_honest → HasIndex (device new.dir).file new.graph new.tags new.opened) dir saved.index;
   other = subst (λ (d : D). (device d).is_honest → Touches (device d).file (device new.dir).file index_file) dir saved.other;
-  lasts = λ entries tags can. saved.lasts entries tags (can_settle_same device old mid (length old.graph) (length mid.graph) entries tags dir graph (ap length graph) can);
+  lasts = λ entries tags can. saved.lasts entries tags (can_settle_kept device old mid kept (length mid.graph) entries tags dir only.graph refl sound (closed can.closed) can);
 }
 
--- the kept keys are closed
-pub kept_closed : (graph now : List Node) (roots : List Descriptor) (kept : BTreeSet Descriptor) → now ≡ graph → HasDistinctKeys now → IsSafe graph roots kept → IsClosed graph → IsClosed (kept_of kept now)
-kept_closed graph now roots kept same distinct safe closed =
-    closed_left now roots kept distinct (subst (λ (ns : List Node). IsSafe ns roots kept) (sym same) safe) (subst (λ (ns : List Node). IsClosed ns) (sym same) closed)
+-- ---- what is left is not saved
 
--- a change of the index alone
-pub touches_index : {D : Type 0} (device : D → Device) (old new : LayoutState D) → OnlyIndex device old new → (device old.dir).is_honest → Touches (device old.dir).file (device new.dir).file index_file
-touches_index device old new only honest = λ q apart. only.spared.other honest q (λ is. cc (sym apart ∙ (bytes_eq-Decides index_file q).1 is))
+-- a layout with only the kept keys was not saved
+pub only_unsaved : {D : Type 0} (kept : BTreeSet Descriptor) (old new : LayoutState D) (e : LayoutFault) → HasOnlyKept kept old new → IsDroppedUnsaved kept old new e
+only_unsaved kept old new layout.Memory only = inr (record { either = inr only.graph; tags = only.tags; opened = only.opened })
+only_unsaved kept old new e only = only
+
+-- nothing went along with a tag
+pub alone_unsaved : {D : Type 0} (device : D → Device) (tag : List ℕ) (going : List Descriptor) (old new : LayoutState D) (e : LayoutFault) → (IsKnown old.graph old.opened → ⊥) → SameMemory old new → IsLeftUnsaved device tag going old new e
+alone_unsaved device tag going old new layout.Memory unknown memory = inl memory
+alone_unsaved device tag going old new e unknown memory = ([], inl (record { unknown = unknown; memory = memory; none = refl }))
+
+-- what is not kept went along
+pub along_unsaved : {D : Type 0} (device : D → Device) (tag : List ℕ) (going : List Descriptor) (old new : LayoutState D) (kept : BTreeSet Descriptor) (e : LayoutFault) → IsKnown old.graph old.opened → KeepsOthers (device old.dir) old going kept
+    → IsDroppedUnsaved kept old new e → IsLeftUnsaved device tag going old new e
+along_unsaved device tag going old new kept layout.Memory known others (inl same) = inl same
+along_unsaved device tag going old new kept layout.Memory known others (inr tags) = inr (record { known = known; kept = kept; others = others; tags = tags })
+along_unsaved device tag going old new kept e known others only =
+    (belonged_keys tag kept old.graph (said old.opened.content).entries, inr (record { known = known; kept = kept; others = others; drops = record { only = only; gone = refl } }))
+
+-- a layout that has lost a tag alone is refused
+pub refused_untag : {D : Type 0} (device : D → Device) (tag : List ℕ) (old mid new : LayoutState D) (going : List Descriptor) (e : ProgramFault) → mid ≡ untagged tag old → going ≡ keys_going tag old
+    → IsRefusedRest device tag going mid new e → IsRefusedUntag device tag old new e
+refused_untag device tag old mid new going (program.Reference f) same keys refused = absurd refused
+refused_untag device tag old mid new going program.Memory same keys refused = absurd refused
+refused_untag {D} device tag old mid new going e same keys refused =
+    subst (λ (ks : List Descriptor). IsRefusedRest device tag ks (untagged tag old) new e) keys (subst (λ (s : LayoutState D). IsRefusedRest device tag going s new e) same refused)
 
 -- ---- the command
 

@@ -1,20 +1,27 @@
--- Why a tag is not removed.
-use Rattle.std.specs.Prelude.{ℕ, List}
-use Rattle.oci_store.specs.Tags.{Tags, IsUntagFault}
-use Rattle.oci_layout_store.specs.declared.fault.LayoutFault.{LayoutFault}
+-- Why a tag is not removed, and what memory then has of the layout.
+use Rattle.std.specs.Prelude.{◌≡◌, ℕ, true, List}
+use Rattle.oci_manifest.specs.Descriptor.{Descriptor}
+use Rattle.oci_store.specs.Keyed.{has_key}
+use Rattle.oci_store.specs.Tags.{IsUntagFault}
+use Rattle.oci_dir.specs.Device.{Device}
+use Rattle.oci_layout_store.specs.Layout.{LayoutState}
+use Rattle.oci_layout_store.specs.Meaning.{meaning}
+use Rattle.oci_layout_store.specs.Refusal.{IsSettledFault}
 use Rattle.oci_program.specs.declared.fault.ProgramFault.{ProgramFault}
 use Rattle.oci_program.specs.declared.fault.ProgramFault.TheVariants as program
-use Rattle.oci_prune_fault.specs.declared.fault.PruneFault.{PruneFault}
+use Rattle.oci_prune.specs.Subjects.{IsSubjectFault}
+use Rattle.oci_prune_commands.specs.Untagged.{IsLeftUnsaved, keys_going, untagged}
 
--- what is left of a layout is not saved: a manifest could not be read, or memory ran out, before the save;
--- or that failed
-abbrev pub IsRefusedRest : Type 0 → (PruneFault → Type 0) → (LayoutFault → Type 0) → ProgramFault → Type 0
-IsRefusedRest unsaved unread save (program.Prune e) = unread e × unsaved
-IsRefusedRest unsaved unread save program.Memory = unsaved
-IsRefusedRest unsaved unread save (program.Layout e) = save e
-IsRefusedRest unsaved unread save e = ⊥
+-- A layout that has lost a tag, which had the keys `going`, is not saved without what goes along: a
+-- manifest could not be read, and then nothing changed, or the save failed.
+abbrev pub IsRefusedRest : {D : Type 0} → (D → Device) → List ℕ → List Descriptor → LayoutState D → LayoutState D → ProgramFault → Type 0
+IsRefusedRest device tag going old new (program.Prune e) = IsSubjectFault (meaning (device old.dir) old.graph old.tags) (λ k. has_key old.graph k ≡ true) e × (new ≡ old)
+IsRefusedRest device tag going old new (program.Layout e) = IsSettledFault (device old.dir) (device new.dir) e × IsLeftUnsaved device tag going old new e
+IsRefusedRest device tag going old new e = ⊥
 
--- a tag is not removed, and then nothing changed; or what is left is not saved
-abbrev pub IsRefusedUntag : Tags → List ℕ → Type 0 → (ProgramFault → Type 0) → ProgramFault → Type 0
-IsRefusedUntag tags name unchanged rest (program.Reference e) = IsUntagFault tags name e × unchanged
-IsRefusedUntag tags name unchanged rest e = rest e
+-- A tag is not removed, or memory ran out before, and then nothing changed. Or it is gone from memory, and
+-- the layout is not saved.
+abbrev pub IsRefusedUntag : {D : Type 0} → (D → Device) → List ℕ → LayoutState D → LayoutState D → ProgramFault → Type 0
+IsRefusedUntag device tag old new (program.Reference e) = IsUntagFault old.tags tag e × (new ≡ old)
+IsRefusedUntag device tag old new program.Memory = new ≡ old
+IsRefusedUntag device tag old new e = IsRefusedRest device tag (keys_going tag old) (untagged tag old) new e

@@ -10,6 +10,8 @@ use Rattle.oci_layout_store.specs.Index.{HasIndex, index_file}
 use Rattle.oci_layout_store.specs.Lasts.{Lasts}
 use Rattle.oci_layout_store.specs.Layout.{LayoutState, SameMemory}
 use Rattle.oci_layout_store.specs.Saved.{is_name}
+use Rattle.oci_layout_store.specs.declared.fault.LayoutFault.{LayoutFault}
+use Rattle.oci_layout_store.specs.declared.fault.LayoutFault.TheVariants as layout
 use Rattle.oci_program.specs.Opened.{IsOpenedSettled}
 use Rattle.oci_prune.specs.Pruned.{kept_of}
 use Rattle.oci_prune.specs.Settled.{CanSettle}
@@ -57,12 +59,15 @@ pub record GoesAlone {D : Type 0} (old new : LayoutState D) (belonged : List Des
   pub memory : SameMemory old new
   pub none : belonged ≡ []
 
--- a layout has only the kept keys, and their tags; these are the keys of the entries that went so, and
--- have not the name
-pub record DropsOthers {D : Type 0} (name : List ℕ) (kept : BTreeSet Descriptor) (old new : LayoutState D) (belonged : List Descriptor) : Type 0 where
+-- a layout has only the kept keys, and their tags
+pub record HasOnlyKept {D : Type 0} (kept : BTreeSet Descriptor) (old new : LayoutState D) : Type 0 where
   pub graph : new.graph ≡ kept_of kept old.graph
   pub tags : new.tags ≡ tags_of_kept kept old.tags
   pub opened : new.opened ≡ old.opened
+
+-- such a layout; these are the keys of the entries that went so, and have not the name
+pub record DropsOthers {D : Type 0} (name : List ℕ) (kept : BTreeSet Descriptor) (old new : LayoutState D) (belonged : List Descriptor) : Type 0 where
+  pub only : HasOnlyKept kept old new
   pub gone : belonged ≡ belonged_keys name kept old.graph (said old.opened.content).entries
 
 -- with a tag that a layout has lost, which had the keys `going`, goes what belonged to these alone
@@ -75,6 +80,35 @@ pub record TakesAlong {D : Type 0} (device : D → Device) (tag : List ℕ) (goi
 -- what goes along with a tag that a layout has lost
 abbrev pub GoesAlong : {D : Type 0} → (D → Device) → List ℕ → List Descriptor → LayoutState D → LayoutState D → List Descriptor → Type 0
 GoesAlong device tag going old new belonged = GoesAlone old new belonged ⊎ TakesAlong device tag going old new belonged
+
+-- ---- what memory has of a layout that is not saved
+
+-- a layout has only the tags of the kept keys, and all keys or only these
+pub record HasTagsOfKept {D : Type 0} (kept : BTreeSet Descriptor) (old new : LayoutState D) : Type 0 where
+  pub either : (new.graph ≡ old.graph) ⊎ (new.graph ≡ kept_of kept old.graph)
+  pub tags : new.tags ≡ tags_of_kept kept old.tags
+  pub opened : new.opened ≡ old.opened
+
+-- What is not kept was dropped from a layout, and it is not saved. Only if memory ran out, all may be there
+-- yet, or only tags be gone.
+abbrev pub IsDroppedUnsaved : {D : Type 0} → BTreeSet Descriptor → LayoutState D → LayoutState D → LayoutFault → Type 0
+IsDroppedUnsaved kept old new layout.Memory = SameMemory old new ⊎ HasTagsOfKept kept old new
+IsDroppedUnsaved kept old new e = HasOnlyKept kept old new
+
+-- the tags of what belonged to the keys `going` alone are gone, and perhaps its keys
+pub record TakesTags {D : Type 0} (device : D → Device) (going : List Descriptor) (old new : LayoutState D) : Type 0 where
+  pub known : IsKnown old.graph old.opened
+  pub kept : BTreeSet Descriptor
+  pub others : KeepsOthers (device old.dir) old going kept
+  pub tags : HasTagsOfKept kept old new
+
+-- A layout that has lost a tag, which had the keys `going`, is not saved. Memory has of it what a saved one
+-- would have. Only if memory ran out, what goes along may be there yet, or only its tags be gone.
+abbrev pub IsLeftUnsaved : {D : Type 0} → (D → Device) → List ℕ → List Descriptor → LayoutState D → LayoutState D → LayoutFault → Type 0
+IsLeftUnsaved device tag going old new layout.Memory = SameMemory old new ⊎ TakesTags device going old new
+IsLeftUnsaved device tag going old new e = (belonged : List Descriptor) × GoesAlong device tag going old new belonged
+
+-- ---- a name goes
 
 -- a tag, which named this key, is gone, alone or with what belonged to it
 pub record LosesTag {D : Type 0} (device : D → Device) (tag : List ℕ) (old new : LayoutState D) (key : Option Descriptor) (belonged : List Descriptor) : Type 0 where

@@ -1,18 +1,29 @@
 //! What goes along with a tag.
-ghost use Rattle.std.specs.Prelude.{◌≡◌, ◌++◌, ◌∷◌, [], true, List, length, map, Some, IfErr, IfOk, OnOk};
+ghost use Rattle.std.specs.Prelude.{
+  ◌≡◌,
+  ◌⊎◌,
+  ◌++◌,
+  ◌∷◌,
+  [],
+  List,
+  length,
+  map,
+  Some,
+  IfErr,
+  IfOk,
+  OnErr,
+  OnOk,
+};
 ghost use Rattle.oci_manifest.specs.Descriptor.{Descriptor};
 ghost use Rattle.oci_dir.specs.Device.{Touches};
-ghost use Rattle.oci_layout_store.specs.Blobs.{stored};
+ghost use Rattle.oci_layout_store.specs.Blobs.{stored, IsSound};
 ghost use Rattle.oci_layout_store.specs.Entries.{entry_keys, entry_of, said};
 ghost use Rattle.oci_layout_store.specs.Index.{index_file};
 ghost use Rattle.oci_layout_store.specs.Layout.{SameMemory};
-ghost use Rattle.oci_layout_store.specs.Meaning.{meaning};
 ghost use Rattle.oci_layout_store.specs.Refusal.{IsSettledFault};
 ghost use Rattle.oci_prune.specs.Plan.{IsSafe};
 ghost use Rattle.oci_prune.specs.Settled.{CanSettle, LeavesOneOf};
-ghost use Rattle.oci_prune.specs.Subjects.{IsSubjectFault};
 ghost use Rattle.oci_store.specs.Content.{Entry};
-ghost use Rattle.oci_store.specs.Keyed.{has_key};
 ghost use Rattle.oci_store.specs.Tags.{Tags};
 ghost use Rattle.oci_prune_commands.specs.Refusal.{IsRefusedRest};
 ghost use Rattle.oci_prune_commands.specs.Untagged.{
@@ -21,6 +32,9 @@ ghost use Rattle.oci_prune_commands.specs.Untagged.{
   dropped_key,
   DropsOthers,
   GoesAlong,
+  HasOnlyKept,
+  HasTagsOfKept,
+  IsDroppedUnsaved,
   IsSavedAnew,
 };
 
@@ -30,7 +44,7 @@ use oci_dir::Dir;
 use oci_layout_store::{IndexEntry, Layout, LayoutFault};
 use oci_manifest::Key;
 use oci_program::ProgramFault;
-use oci_prune::{plan_untag, save_only, untag_others};
+use oci_prune::{plan_untag, untag_others};
 use oci_store::Dest;
 use std::alloc::Global;
 use std::collections::BTreeSet;
@@ -48,10 +62,8 @@ pub(crate) fn save_without<D: Dir>(
     ensures saved { OnOk result (IsSavedAnew D.device layout.old layout.new) }
     ensures other { (D.device layout.old.dir).is_honest
         → Touches (D.device layout.old.dir).file (D.device layout.new.dir).file index_file }
-    ensures refused { IfErr result (IsRefusedRest (layout.new.dir ≡ layout.old.dir)
-        (IsSubjectFault (meaning (D.device layout.old.dir) layout.old.graph layout.old.tags)
-        (λ k. has_key layout.old.graph k ≡ true))
-        (IsSettledFault (D.device layout.old.dir) (D.device layout.new.dir))) }
+    ensures refused { IfErr result (IsRefusedRest D.device tag.now going.now layout.old
+        layout.new) }
     ensures left { (entries : List Entry) (tags : Tags) → CanSettle (D.device layout.old.dir)
         (length layout.old.graph) layout.old.graph entries tags
         → LeavesOneOf (D.device layout.new.dir) entries tags
@@ -70,7 +82,7 @@ pub(crate) fn save_without<D: Dir>(
     }
 }
 
-/// Saves a layout that has as many keys as when it was opened.
+/// Saves a layout that got no key since it was opened.
 fn save_alone<D: Dir>(layout: &mut Layout<D>) -> Result<(), LayoutFault>
     ensures memory { SameMemory layout.old layout.new }
     ensures saved { OnOk result (IsSavedAnew D.device layout.old layout.new) }
@@ -104,18 +116,34 @@ fn save_others<D: Dir>(
         → Touches (D.device layout.old.dir).file (D.device layout.new.dir).file index_file }
     ensures cause { IfErr result (IsSettledFault (D.device layout.old.dir)
         (D.device layout.new.dir)) }
+    ensures unsaved { IfErr result (IsDroppedUnsaved kept.now layout.old layout.new) }
     ensures left { (entries : List Entry) (tags : Tags) → CanSettle (D.device layout.old.dir)
         (length layout.old.graph) layout.old.graph entries tags
         → LeavesOneOf (D.device layout.new.dir) entries tags
         (stored (D.device layout.new.dir).file layout.new.graph) layout.new.tags }
 {
     let belonged = belonged_keys(alloc, layout, name, kept)?;
-    untag_others(layout, kept)?;
     // The contract of `count` states that no key occurs twice, from which it follows that what is left
     // is closed.
     let _ = layout.count();
-    save_only(layout, kept)?;
+    drop_others(layout, kept)?;
+    save_alone(layout)?;
     Ok(belonged)
+}
+
+/// Drops the keys of a layout that are not kept, with their tags.
+fn drop_others<D: Dir>(layout: &mut Layout<D>, kept: &BTreeSet<Key>) -> Result<(), NoMemory>
+    ensures dropped { OnOk result (HasOnlyKept kept.now layout.old layout.new) }
+    ensures refused { OnErr result (SameMemory layout.old layout.new
+        ⊎ HasTagsOfKept kept.now layout.old layout.new) }
+    ensures dir { layout.new.dir ≡ layout.old.dir }
+    ensures sound { IsSound (D.device layout.old.dir).is_honest (D.device layout.old.dir).file
+        layout.old.graph → IsSound (D.device layout.new.dir).is_honest
+        (D.device layout.new.dir).file layout.new.graph }
+{
+    untag_others(layout, kept)?;
+    layout.retain(kept)?;
+    Ok(())
 }
 
 /// Returns the keys of the entries that have not this name, and whose keys are held and not kept.

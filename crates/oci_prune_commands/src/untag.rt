@@ -2,7 +2,6 @@ ghost use Rattle.std.specs.Prelude.{
   ◌≡◌,
   ◌-◌,
   ◌++◌,
-  true,
   List,
   length,
   map,
@@ -22,16 +21,12 @@ ghost use Rattle.oci_dir.specs.Device.{Touches};
 ghost use Rattle.oci_layout_store.specs.Entries.{entry_of, said, text_of, IndexEntry as EntryOfIndex};
 ghost use Rattle.oci_layout_store.specs.Index.{index_file, HasIndex};
 ghost use Rattle.oci_layout_store.specs.Lasts.{Lasts};
-ghost use Rattle.oci_layout_store.specs.Refusal.{IsSettledFault};
 ghost use Rattle.oci_layout_store.specs.Saved.{is_name};
-ghost use Rattle.oci_layout_store.specs.Meaning.{meaning};
 ghost use Rattle.oci_prune.specs.Settled.{CanSettle, LeavesOneOf};
-ghost use Rattle.oci_prune.specs.Subjects.{IsSubjectFault};
 ghost use Rattle.oci_store.specs.Content.{Entry};
-ghost use Rattle.oci_store.specs.Keyed.{has_key};
-ghost use Rattle.oci_store.specs.Tags.{Tags, without_tag};
+ghost use Rattle.oci_store.specs.Tags.{Tags};
 ghost use Rattle.oci_prune_commands.specs.Named.{entries_named};
-ghost use Rattle.oci_prune_commands.specs.Refusal.{IsRefusedRest, IsRefusedUntag};
+ghost use Rattle.oci_prune_commands.specs.Refusal.{IsRefusedUntag};
 ghost use Rattle.oci_prune_commands.specs.Untagged.{
   belonged_lines,
   untagged_lines,
@@ -335,10 +330,11 @@ pub(crate) fn has_name(entry: &IndexEntry, name: &str) -> bool
 /// - 35 `EmptyReference` if the tag is empty, and 36 `UnknownReference` if there is no such tag.
 /// - 77 `BadManifest` if a held manifest that may have a subject cannot be read, and 88 `Fetch` if its
 ///   bytes cannot be fetched; not if the layout [remembers](Layout::subjects) the subjects. The tag is
-///   removed from the layout in memory.
+///   removed from the layout in memory, and nothing is saved.
 /// - 74 `Device` if `index.json` could not be written, or if it is not known whether it is on the
 ///   disk. The tag is removed from the layout in memory, with what belonged to it.
-/// - Out of memory, at any point.
+/// - Out of memory, at any point. The layout in memory may have lost the tag, and then also the tags of
+///   what belonged to it, or all of that.
 pub fn untag_and_save<D: Dir>(
     alloc: Global,
     layout: &mut Layout<D>,
@@ -351,11 +347,7 @@ pub fn untag_and_save<D: Dir>(
         (Some gone.0) gone.1.items) }
     ensures other { (D.device layout.old.dir).is_honest
         → Touches (D.device layout.old.dir).file (D.device layout.new.dir).file index_file }
-    ensures refused { IfErr result (IsRefusedUntag layout.old.tags tag.now
-        (layout.new ≡ layout.old) (IsRefusedRest (layout.new.dir ≡ layout.old.dir)
-        (IsSubjectFault (meaning (D.device layout.old.dir) layout.old.graph
-        (without_tag layout.old.tags tag.now)) (λ k. has_key layout.old.graph k ≡ true))
-        (IsSettledFault (D.device layout.old.dir) (D.device layout.new.dir)))) }
+    ensures refused { IfErr result (IsRefusedUntag D.device tag.now layout.old layout.new) }
 
     // A power cut at any moment leaves the layout with the tag and all that it had, or without it.
     ensures left { (entries : List Entry) (tags : Tags) → CanSettle (D.device layout.old.dir)
