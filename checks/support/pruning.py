@@ -229,7 +229,7 @@ def notes(attached, untagged=0):
         lines.append("ocicp: note: %s in SRC (--referrers brings %s)\n" % (many, "it" if attached == 1 else "them"))
     if untagged:
         many = "1 image without a tag stays" if untagged == 1 else "%d images without a tag stay" % untagged
-        lines.append("ocicp: note: %s in SRC (see --untagged)\n" % many)
+        lines.append("ocicp: note: %s in SRC (copy --all --untagged brings %s)\n" % (many, "it" if untagged == 1 else "them"))
     return "".join(lines)
 
 

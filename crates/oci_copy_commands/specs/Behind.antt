@@ -1,5 +1,5 @@
 -- What a copy leaves in its source, and its destination lacks.
-use Rattle.std.specs.Prelude.{◌≡◌, ◌≢◌, ◌↔◌, false, List, [], None, Contains}
+use Rattle.std.specs.Prelude.{◌≡◌, ◌≢◌, ◌↔◌, ⊤, true, false, List, [], None, Contains}
 use Rattle.oci_command_line.specs.declared.changing.CopyWords.{CopyWords}
 use Rattle.oci_command_line.specs.declared.changing.Selection.{Selection}
 use Rattle.oci_command_line.specs.declared.changing.Selection.TheVariants as selection
@@ -11,6 +11,9 @@ use Rattle.oci_prune.specs.Attached.{AttachedBy}
 use Rattle.oci_prune.specs.Belonging.{IsAttachedMember}
 use Rattle.oci_prune.specs.Free.{IsFree}
 use Rattle.oci_prune.specs.Plan.{roots_of}
+use Rattle.oci_prune.specs.Subjects.{IsSubjectFault}
+use Rattle.oci_program.specs.declared.fault.ProgramFault.{ProgramFault}
+use Rattle.oci_program.specs.declared.fault.ProgramFault.TheVariants as program
 use Rattle.oci_store.specs.Graph.{Node}
 use Rattle.oci_store.specs.Keyed.{has_key}
 use Rattle.oci_store.specs.State.{State}
@@ -43,3 +46,10 @@ pub record IsLeftBehind {S : Type 0} (device : S → Device) (words : CopyWords)
   pub asked : words.referrers ≢ None → behind.attached.items ≡ []
   pub untagged : SelectsAll words.selection → (device source.dir).is_honest → AreUntaggedLeft (meaning (device source.dir) source.graph source.tags) (roots_of source) held behind.untagged.items
   pub picked : (SelectsAll words.selection → ⊥) → behind.untagged.items ≡ []
+
+-- why it is not known what a copy left in a source: a held manifest that may have a subject was not read,
+-- or memory ran out
+abbrev pub IsUnreadSource : {S : Type 0} → (S → Device) → LayoutState S → ProgramFault → Type 0
+IsUnreadSource device source (program.Source e) = IsSubjectFault (meaning (device source.dir) source.graph source.tags) (λ k. has_key source.graph k ≡ true) e
+IsUnreadSource device source program.Memory = ⊤
+IsUnreadSource device source e = ⊥

@@ -1,5 +1,5 @@
 //! What a copy leaves in its source, and its destination lacks.
-ghost use Rattle.std.specs.Prelude.{◌≡◌, ◌≢◌, ◌↔◌, [], not, None, filter, IfOk, IsTrue};
+ghost use Rattle.std.specs.Prelude.{◌≡◌, ◌≢◌, ◌↔◌, [], not, None, filter, IfOk, IfErr, IsTrue};
 ghost use Rattle.oci_layout_store.specs.Meaning.{meaning};
 ghost use Rattle.oci_prune.specs.Plan.{roots_of};
 ghost use Rattle.oci_store.specs.Keyed.{has_key};
@@ -7,6 +7,7 @@ ghost use Rattle.oci_copy_commands.specs.Behind.{
   AreAttachedLeft,
   AreUntaggedLeft,
   IsLeftBehind,
+  IsUnreadSource,
   SelectsAll,
 };
 
@@ -16,9 +17,9 @@ use oci_dir::Dir;
 use oci_layout_store::Layout;
 use oci_manifest::Key;
 use oci_program::{Form, ProgramFault};
-use oci_prune::belonging_of;
-use oci_selection::{Selected, untagged_keys};
-use oci_store::Source;
+use oci_prune::{belonging_of, free_keys};
+use oci_selection::Selected;
+use oci_store::{Source, keys_of_set};
 use serde::Serialize;
 use std::alloc::Global;
 use std::fmt;
@@ -52,8 +53,9 @@ impl LeftBehind {
         selected: &Selected,
         words: &CopyWords<'_>,
     ) -> Result<LeftBehind, ProgramFault>
-        ensures { IfOk result (IsLeftBehind S.device words.now source.now selected.now.0
+        ensures left { IfOk result (IsLeftBehind S.device words.now source.now selected.now.0
             destination.now.graph) }
+        ensures cause { IfErr result (IsUnreadSource S.device source.now) }
     {
         let attached = attached_unless_asked(alloc, source, destination, selected, words)?;
         let untagged = untagged_if_all(alloc, source, destination, words)?;
@@ -84,6 +86,7 @@ fn attached_unless_asked<S: Dir, D: Dir>(
         (S.device source.now.dir).is_honest → AreAttachedLeft (meaning (S.device source.now.dir)
         source.now.graph source.now.tags) selected.now.0 destination.now.graph keys.items) }
     ensures asked { words.now.referrers ≢ None → IfOk result (λ keys. keys.items ≡ []) }
+    ensures cause { IfErr result (IsUnreadSource S.device source.now) }
 {
     match words.referrers {
         Some(_) => Ok(Vec::new(alloc)),
@@ -99,14 +102,16 @@ fn attached_left<S: Dir, D: Dir>(
     destination: &Layout<D>,
     roots: &[Key],
 ) -> Result<Vec<Key>, ProgramFault>
-    ensures { IfOk result (λ keys. (S.device source.now.dir).is_honest → AreAttachedLeft
+    ensures left { IfOk result (λ keys. (S.device source.now.dir).is_honest → AreAttachedLeft
         (meaning (S.device source.now.dir) source.now.graph source.now.tags) roots.now
         destination.now.graph keys.items) }
+    ensures cause { IfErr result (IsUnreadSource S.device source.now) }
 {
     let tags = source.tags()?;
-    let belonging = belonging_of(alloc, source, roots, &tags)?;
-    let left = keys_unheld(alloc, destination, &belonging.attached)?;
-    Ok(left)
+    match belonging_of(alloc, source, roots, &tags) {
+        Ok(belonging) => Ok(keys_unheld(alloc, destination, &belonging.attached)?),
+        Err(fault) => Err(ProgramFault::Source(fault)),
+    }
 }
 
 /// Returns the images of a source that no tag names and a destination does not hold, or nothing unless
@@ -122,6 +127,7 @@ fn untagged_if_all<S: Dir, D: Dir>(
         source.now.graph source.now.tags) (roots_of source.now) destination.now.graph keys.items) }
     ensures picked { (SelectsAll words.now.selection → ⊥)
         → IfOk result (λ keys. keys.items ≡ []) }
+    ensures cause { IfErr result (IsUnreadSource S.device source.now) }
 {
     if !selects_all(&words.selection) {
         return Ok(Vec::new(alloc));
@@ -135,13 +141,18 @@ fn untagged_left<S: Dir, D: Dir>(
     source: &Layout<S>,
     destination: &Layout<D>,
 ) -> Result<Vec<Key>, ProgramFault>
-    ensures { IfOk result (λ keys. (S.device source.now.dir).is_honest → AreUntaggedLeft
+    ensures left { IfOk result (λ keys. (S.device source.now.dir).is_honest → AreUntaggedLeft
         (meaning (S.device source.now.dir) source.now.graph source.now.tags) (roots_of source.now)
         destination.now.graph keys.items) }
+    ensures cause { IfErr result (IsUnreadSource S.device source.now) }
 {
-    let untagged = untagged_keys(alloc, source, true)?;
-    let left = keys_unheld(alloc, destination, &untagged)?;
-    Ok(left)
+    match free_keys(alloc, source) {
+        Ok(free) => {
+            let free = keys_of_set(alloc, &free)?;
+            Ok(keys_unheld(alloc, destination, &free)?)
+        }
+        Err(fault) => Err(ProgramFault::Source(fault)),
+    }
 }
 
 /// Returns whether each tag is selected, whatever its name is.
@@ -193,11 +204,11 @@ impl Display for LeftBehind {
             0 => Ok(()),
             1 => writeln!(
                 f,
-                "ocicp: note: 1 image without a tag stays in SRC (see --untagged)"
+                "ocicp: note: 1 image without a tag stays in SRC (copy --all --untagged brings it)"
             ),
             count => writeln!(
                 f,
-                "ocicp: note: {count} images without a tag stay in SRC (see --untagged)"
+                "ocicp: note: {count} images without a tag stay in SRC (copy --all --untagged brings them)"
             ),
         }
     }

@@ -18,5 +18,5 @@ returns-in-Ok g c =
       files = rw ok at made.files;
       lasts = rw ok at made.lasts;
       kept = refl;
-      behind = c.in_ok-behind-in-Ok.ensures;
+      behind = c.in_ok-behind-in-Ok.ensures.left;
     }

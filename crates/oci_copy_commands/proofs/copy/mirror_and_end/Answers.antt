@@ -15,5 +15,5 @@ returns-in-Ok g c =
       held = rw ok at made.held;
       only = rw (ok, c.is_exact.ensures) at made.only;
       lasts = rw ok at made.lasts;
-      behind = c.in_ok-behind-in-Ok.ensures;
+      behind = c.in_ok-behind-in-Ok.ensures.left;
     }
