@@ -1,17 +1,20 @@
-"""Tar archives in the place of folders: each command prints the same as for the folder, and damaged archives are refused."""
+"""Tar archives in the place of folders: each command prints the same as for the folder, and damaged archives are refused. Wants `cc`."""
+import errno
 import functools
 import hashlib
 import os
 import shutil
 import subprocess
 import tarfile
+import time
 
 from support.files import read
 from support.harms import CONTENTS, FROM, PLAIN, PLAIN_TAGS, answers_to, fresh, wrong_copy
 from support.layouts import BAR, E, FOO, I1, LAYER, M2, M3, S, Content, blob, digits, image, index, key, write_layout
 from support.odd_archives import PLACES, allowed, damaged, each, headers_for_long_names
-from support.program import NOBODY, first, leftovers, run, told, wrong_layout
+from support.program import NOBODY, PROGRAM, SECONDS, first, leftovers, piped, run, told, wrong_layout
 from support.pruning import notes
+from support.session_commands import Commands, build
 from support.tar_files import BLOCK, END, base256, extended, header, member, pack
 
 # `SRC` is the folder or the archive, and `DST` the folder to copy into.
@@ -60,6 +63,23 @@ LONG = image([LONG_LAYER])._replace(algorithm="sha512")
 NOTHING = Content("application/octet-stream", b"")
 OTHER_FILE = b'[{"Config":"of no matter here"}]'
 HUGE = 1 << 40
+# Bytes of a pipe, and how they are refused.
+PIPED = [
+    ("no bytes", b"", "70 NoLayoutFile"),
+    ("a text", b"no archive", "100 NotArchive"),
+    ("a compressed archive", b"\x1f\x8b\x08" + bytes(BLOCK), "101 Compressed gzip"),
+    ("half a member", header(b"other", 2 * BLOCK) + bytes(BLOCK), "103 Truncated 0"),
+]
+# Commands for an input that cannot be kept: the environment's TMPDIR, or None if the disk is full, and the folder that each names.
+UNKEPT = [
+    ("tags -", "missing", "FOLDER `missing`"),
+    ("copy --dry-run --all - new", "missing", "SRC `missing`"),
+    ("tags -", None, "FOLDER `temporary`"),
+    ("copy --all - deep/new", None, "SRC `.`"),
+    ("copy --all - old", None, "SRC `old`"),
+    ("copy --archive --all - old/file.tar", None, "SRC `old`"),
+    ("repair old -", None, "FROM `old`"),
+]
 
 
 def write(path, written):
@@ -301,6 +321,118 @@ def wrong_onto(room, path, command):
         return "%s: a file is not as it was" % command
 
 
+def from_pipe(room):
+    """Check an archive that comes from a pipe. It is kept in a file without a name, so nothing is left of it."""
+    archive = each(files_of(room + "/short")) + END
+    os.mkdir(room + "/temporary")
+    for command in ALL:
+        yield "a pipe, " + command, wrong_piped(room, archive, command)
+    for target in "made.tar", "-":
+        yield "a pipe, copy --archive to " + target, wrong_export(room, archive, target)
+    yield "a pipe, repair", wrong_repair(room, archive, ["-"], "held 9 repaired 1 bytes 3 missing 0")
+    yield "a pipe, repair from it twice", wrong_repair(room, archive, ["-", "-"], None)
+    for label, written, line in PIPED:
+        ended = piped(["tags", "-"], room, written)
+        yield "a pipe with %s" % label, None if ended[:3] == (1, "", "ocicp: %s\n" % line) else told(ended)
+    write_short(room + "/-")
+    ended, wanted = piped(["tags", "./-"], room, b""), answer_of_folder(room, "short", "tags SRC")[0]
+    yield "a folder with the name -", None if ended[:3] == wanted[:3] else told(ended)
+    yield from unkept(room, archive)
+    yield "a killed copy from a pipe", wrong_killed(room, archive)
+
+
+def temporary(folder):
+    return dict(os.environ, TMPDIR=folder)
+
+
+def wrong_piped(room, archive, command):
+    """Return the problem with a command for an archive from a pipe, or None."""
+    shutil.rmtree(room + "/copied", ignore_errors=True)
+    before = sorted(os.listdir(room))
+    named = {"SRC": "-", "DST": "copied"}
+    ended = piped([named.get(it, it) for it in command.split()], room, archive, env=temporary("temporary"))
+    copied, (wanted, files) = sums(room + "/copied"), answer_of_folder(room, "short", command)
+    shutil.rmtree(room + "/copied", ignore_errors=True)
+    return first([
+        None if ended[:3] == wanted[:3] and copied == files else "%s; and of the folder: %s" % (told(ended), told(wanted)),
+        None if sorted(os.listdir(room)) == before and not os.listdir(room + "/temporary") else "something is left over",
+    ])
+
+
+def wrong_export(room, archive, target):
+    """Return the problem with an archive of an archive from a pipe, or None. It is to be that of the folder."""
+    made = []
+    for source in "short", "-":
+        words = ["copy", "--archive", "--all", source, target]
+        ended = subprocess.run([PROGRAM, *words], cwd=room, input=archive, capture_output=True, timeout=SECONDS)
+        if ended.returncode:
+            return "%s: status %d, %r" % (source, ended.returncode, ended.stderr)
+        made.append(ended.stdout if target == "-" else read("%s/%s" % (room, target)))
+        if target != "-":
+            os.remove("%s/%s" % (room, target))
+    return None if made[0] == made[1] else "it is another one than that of the folder"
+
+
+def wrong_repair(room, archive, sources, line):
+    """Return the problem with a repair from a pipe, or None. It is to print this last line, or to be refused."""
+    shutil.rmtree(room + "/broken", ignore_errors=True)
+    write_short(room + "/broken")
+    os.remove("%s/broken/%s" % (room, blob(FOO)))
+    before = sums(room + "/broken")
+    ended = piped(["repair", "broken", *sources], room, archive, env=temporary("missing"))
+    if line is None:
+        return None if ended[:3] == (1, "", "ocicp: 70 NoLayoutFile\n") and sums(room + "/broken") == before else told(ended)
+    return None if ended.out.endswith(line + "\n") and sums(room + "/broken") == sums(room + "/short") else told(ended)
+
+
+def unkept(room, archive):
+    """Check inputs that cannot be read or kept. They are kept in the folder that a command writes into, or else in that for temporary files."""
+    write_short(room + "/old")
+    full = Commands(room, build(room)).failing("fill", "ocicp-stdin", errno.ENOSPC)
+    for words, folder, named in UNKEPT:
+        env = temporary(folder) if folder else {**full, "TMPDIR": "temporary"}
+        ended = piped([*words.split(), "--hint"], room, archive, env=env)
+        reason = "No such file or directory" if folder else "No space left on device"
+        yield "%s, %s" % (words, reason), wrong_failure(ended, named, reason)
+    yield "what they leave", None if sums(room + "/old") == sums(room + "/short") else "a file of `old` has changed"
+    folder = os.open(room, os.O_RDONLY)
+    ended = run(["tags", "--hint", "-"], room, stdin=folder)
+    os.close(folder)
+    yield "a folder as the input", wrong_failure(ended, "FOLDER `-`", "Is a directory")
+
+
+def wrong_failure(ended, named, reason):
+    """Return the problem with the end of a command that cannot read or keep its input, or None."""
+    line = "%s: The archive could not be read: %s. Run `ocicp explain 105` for what to do.\n" % (named, reason)
+    return None if ended[:3] == (1, "", "ocicp: 105 Device\n" + line) else told(ended)
+
+
+def wrong_killed(room, archive):
+    """Return the problem with what a copy from a pipe leaves if it is killed while it reads, or None."""
+    os.mkdir(room + "/killed")
+    pipes = {"stdin": subprocess.PIPE, "stdout": subprocess.DEVNULL, "stderr": subprocess.DEVNULL}
+    with subprocess.Popen([PROGRAM, "copy", "--all", "-", "killed"], cwd=room, **pipes) as process:
+        process.stdin.write(archive[:len(archive) // 2])
+        process.stdin.flush()
+        end = time.monotonic() + SECONDS
+        while time.monotonic() < end and process.poll() is None and not keeps_input(process.pid):
+            time.sleep(0.01)
+        kept = process.poll() is None and keeps_input(process.pid)
+        process.kill()
+    return first([None if kept else "it keeps no input", None if not os.listdir(room + "/killed") else "something is left over"])
+
+
+def keeps_input(process):
+    """Return whether a process has a file without a name that has bytes."""
+    files = "/proc/%d/fd/" % process
+    try:
+        opened = [(os.readlink(files + it), os.stat(files + it)) for it in os.listdir(files)]
+    except FileNotFoundError:
+        # (one is closed meanwhile)
+        return False
+    return any("ocicp-stdin" in path and state.st_nlink == 0 and state.st_size > 0 for path, state in opened)
+
+
 def by_workers(room):
     """Check an archive of many layers that are read at once."""
     layers = [Content(LAYER, os.urandom(300 << 10)) for _ in range(50)]
@@ -317,5 +449,5 @@ def checks(room):
     for folder in "short", "long":
         yield "the folder %s itself" % folder, wrong_folder(room, folder)
     # (`places` first, before this process becomes large, since the memory of a run includes the memory of its parent)
-    for group in places, no_empty_blob, by_archivers, by_hand, huge, refused, onto_files, by_workers:
+    for group in places, no_empty_blob, by_archivers, by_hand, huge, refused, onto_files, from_pipe, by_workers:
         yield from group(room)

@@ -23,8 +23,8 @@ CASES = [
 # A tag, and how a terminal gets it. (the last two characters have a byte that begins control characters, too)
 ODD = "a \x1b[31m\a\x7f\u0085\u009b \u00a0\u00e9\u4e16"
 ESCAPED = "a \\u{1b}[31m\\u{7}\\u{7f}\\u{85}\\u{9b} \u00a0\u00e9\u4e16"
-PIPE = ("The folder or archive is not an image layout: it does not exist, or has no file `oci-layout`. An archive cannot be read from a "
-        "pipe or a device: save it as a file first")
+PIPE = ("The folder or archive is not an image layout: it does not exist, or has no file `oci-layout`. An archive from a pipe or a device "
+        "is read from the standard input, as `-`")
 
 
 def answers(room):

@@ -1,4 +1,5 @@
 """Runs the built program within limits, and looks at the layouts that it leaves."""
+import contextlib
 import os
 import signal
 import subprocess
@@ -24,7 +25,7 @@ def run(words, folder, seconds=SECONDS, program=PROGRAM, **how):
     """Run a program in a folder. `how` goes to `subprocess.Popen`. The output has to fit into a pipe."""
     began = time.monotonic()
     pipes = {"stdin": subprocess.DEVNULL, "stdout": subprocess.PIPE, "stderr": subprocess.PIPE}
-    with subprocess.Popen([program, *words], cwd=folder, **pipes, **how) as process:
+    with subprocess.Popen([program, *words], cwd=folder, **{**pipes, **how}) as process:
         # (not `process.kill`, which would reap a run that has ended)
         timer = threading.Timer(seconds, os.kill, [process.pid, signal.SIGKILL])
         timer.start()
@@ -33,6 +34,26 @@ def run(words, folder, seconds=SECONDS, program=PROGRAM, **how):
         process.returncode = os.WEXITSTATUS(status) if os.WIFEXITED(status) else -os.WTERMSIG(status)
         out, err = process.stdout.read().decode(), process.stderr.read().decode()
     return Ended(process.returncode, out, err, time.monotonic() - began, usage.ru_maxrss)
+
+
+def piped(words, folder, written, **how):
+    """Run the program with these bytes as its standard input, which is a pipe."""
+    reader, writer = os.pipe()
+
+    def feed():
+        # (the program may end before it has read all)
+        with contextlib.suppress(BrokenPipeError), os.fdopen(writer, "wb", buffering=0) as pipe:
+            rest = memoryview(written)
+            while rest:
+                rest = rest[pipe.write(rest):]
+
+    feeding = threading.Thread(target=feed)
+    feeding.start()
+    try:
+        return run(words, folder, stdin=reader, **how)
+    finally:
+        os.close(reader)
+        feeding.join()
 
 
 def told(ended):

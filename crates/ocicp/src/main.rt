@@ -11,6 +11,7 @@ mod place;
 mod process;
 mod run;
 mod sides;
+mod spooled;
 
 use process::run_process;
 use std::process::ExitCode;

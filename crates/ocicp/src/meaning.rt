@@ -25,7 +25,7 @@ pub(crate) fn print_meaning<R: Files, X: Write>(
     if number == NO_LAYOUT_FILE && is_stream(rt, &refusal.subject) {
         let _ = write!(
             err,
-            ". An archive cannot be read from a pipe or a device: save it as a file first"
+            ". An archive from a pipe or a device is read from the standard input, as `-`"
         );
     }
     if let Subject::Path(

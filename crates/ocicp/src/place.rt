@@ -3,6 +3,7 @@ ghost use Rattle.oci_folder.specs.Place.{IsFileAt};
 ghost use Rattle.ocicp.specs.Run.{AreSourcesAt, IsPlaceAt, IsSourceAt};
 
 use crate::sides::Failures;
+use crate::spooled::{INPUT, refused, spool};
 use oci_archive::{ReadAt, TarDir};
 use oci_command_line::{CopyWords, RepairWords};
 use oci_dir::FirstFailure;
@@ -10,44 +11,53 @@ use oci_folder::{FsDir, folder_and_name};
 use oci_program::ProgramFault;
 use oci_repair::RepairSource;
 use std::fs;
-use std::rt::Files;
+use std::random::RandomSource;
+use std::rt::{Env, Files};
 
 /// The place of a layout that is read.
 #[derive(Drop)]
 pub(crate) enum Place<'r, R: Files + AllocGlobal> {
     /// A folder, which need not exist.
     Folder(FsDir<'r, R>),
-    /// A file, which is a tar archive.
+    /// A file, or what came from the standard input, which is a tar archive.
     Archive(TarDir<R::File>),
 }
 
-impl<'r, R: Files<File: ReadAt> + AllocGlobal> Place<'r, R> {
-    /// Opens the place at a path. A regular file, or a link to one, is opened as an archive.
-    /// Anything else is taken as a folder, and is not touched. The first call of the system that
-    /// fails there is noted in `first`, but for reads of an archive.
+impl<'r, R: Files<File: ReadAt> + AllocGlobal + RandomSource + Input + Env> Place<'r, R> {
+    /// Opens the place at a path. A regular file, or a link to one, is opened as an archive. `-` is
+    /// the standard input, which is read to its end, and kept as [`spool`] says until the place is
+    /// dropped. Anything else is taken as a folder, and is not touched. The first call of the system
+    /// that fails there is noted in `first`, but for reads of an archive.
     ///
     /// # Errors
     ///
-    /// - 100 to 105 if the file is not an archive or cannot be read.
+    /// - 100 to 105 if the file is not an archive or cannot be read, or the input not be kept.
     /// - Out of memory, at any point.
     pub(crate) fn open(
         rt: &'r R,
         path: &str,
+        into: Option<&str>,
         first: &'r FirstFailure,
     ) -> Result<Place<'r, R>, ProgramFault>
         ensures { IfOk result (IsPlaceAt path.now) }
     {
+        if path == INPUT {
+            let file = spool(rt, into, first)?;
+            return Ok(Place::Archive(TarDir::open(rt.alloc(), file)?));
+        }
         if !is_file(rt, path) {
             return Ok(Place::Folder(FsDir::noting(rt, path, first)?));
         }
         match fs::File::open(rt, path) {
             Ok(file) => Ok(Place::Archive(TarDir::open(rt.alloc(), file)?)),
-            Err(error) => {
-                first.note(path, error);
-                Err(ProgramFault::of_archive(error))
-            }
+            Err(error) => Err(refused(first, path, error)),
         }
     }
+}
+
+/// Returns the folder that a command writes into, unless it only plans.
+pub(crate) fn written(is_dry: bool, folder: &str) -> Option<&str> {
+    if is_dry { None } else { Some(folder) }
 }
 
 /// Opens the places of a copy: where it reads, and the folder into which it writes. Each notes its
@@ -57,9 +67,9 @@ impl<'r, R: Files<File: ReadAt> + AllocGlobal> Place<'r, R> {
 ///
 /// - 95 `NotWritable` if the destination is a regular file, or a link to one, or does not exist and
 ///   ends in `.tar` or begins with `oci:` or `oci-archive:`. The source is not touched then.
-/// - 100 to 105 if the source is a file, and is not an archive or cannot be read.
+/// - 100 to 105 as of [`Place::open`].
 /// - Out of memory, at any point.
-pub(crate) fn open_copy<'r, R: Files<File: ReadAt> + AllocGlobal>(
+pub(crate) fn open_copy<'r, R: Files<File: ReadAt> + AllocGlobal + RandomSource + Input + Env>(
     rt: &'r R,
     words: &CopyWords<'_>,
     failures: &'r Failures,
@@ -73,7 +83,11 @@ pub(crate) fn open_copy<'r, R: Files<File: ReadAt> + AllocGlobal>(
         return Err(ProgramFault::NotWritable(path));
     }
     let destination = open_folder(rt, path, &failures.written, words.syncs)?;
-    Ok((Place::open(rt, words.source, &failures.read)?, destination))
+    let into = written(words.is_dry, path);
+    Ok((
+        Place::open(rt, words.source, into, &failures.read)?,
+        destination,
+    ))
 }
 
 /// Opens the folder of the new file into which a copy is written as an archive, and returns its name
@@ -111,31 +125,33 @@ pub(crate) fn open_new_file<'r, 'w, R: Files + AllocGlobal>(
 ///
 /// # Errors
 ///
-/// - 100 to 105 if a path is that of a file, and it is not an archive or cannot be read.
+/// - 100 to 105 as of [`Place::open`].
 /// - Out of memory, at any point.
-pub(crate) fn open_sources<'r, R: Files<File: ReadAt> + AllocGlobal>(
+pub(crate) fn open_sources<'r, R: Files<File: ReadAt> + AllocGlobal + RandomSource + Input + Env>(
     rt: &'r R,
     words: &RepairWords<'_>,
     first: &'r FirstFailure,
 ) -> Result<Vec<RepairSource<FsDir<'r, R>, TarDir<R::File>>>, ProgramFault>
     ensures { IfOk result (λ sources. AreSourcesAt words.now.sources.items sources.items) }
 {
+    let into = written(words.is_dry, words.folder);
     let mut sources = Vec::new(rt.alloc());
     for path in &words.sources {
-        sources.push(open_source(rt, path, first)?)?;
+        sources.push(open_source(rt, path, into, first)?)?;
     }
     Ok(sources)
 }
 
 /// Opens the place of a path, as a source.
-fn open_source<'r, R: Files<File: ReadAt> + AllocGlobal>(
+fn open_source<'r, R: Files<File: ReadAt> + AllocGlobal + RandomSource + Input + Env>(
     rt: &'r R,
     path: &str,
+    into: Option<&str>,
     first: &'r FirstFailure,
 ) -> Result<RepairSource<FsDir<'r, R>, TarDir<R::File>>, ProgramFault>
     ensures { IfOk result (IsSourceAt path.now) }
 {
-    match Place::open(rt, path, first)? {
+    match Place::open(rt, path, into, first)? {
         Place::Folder(dir) => Ok(RepairSource::Folder(dir)),
         Place::Archive(dir) => Ok(RepairSource::Archive(dir)),
     }

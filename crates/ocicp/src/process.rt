@@ -10,11 +10,11 @@ use std::{env, io};
 /// Runs the program on the words of the process, and returns its exit status, as [`run_words_on`]
 /// does. `out` is written through a buffer. If it is a terminal, control characters are escaped. A
 /// word that is not UTF-8 makes the command line invalid: status 2.
-pub fn run_process<R: Env + Host, W: Write + IsTerminal + Drop, X: Write + IsTerminal + Send>(
-    rt: &R,
-    out: W,
-    err: &mut X,
-) -> u8 {
+pub fn run_process<
+    R: Env + Host + Input,
+    W: Write + IsTerminal + Drop,
+    X: Write + IsTerminal + Send,
+>(rt: &R, out: W, err: &mut X) -> u8 {
     let words = match words(rt) {
         Ok(words) => words,
         Err(ending) => return end(rt, ending, err),

@@ -18,7 +18,7 @@ ghost use Rattle.ocicp.specs.Run.{
 
 use crate::escaped::Escaped;
 use crate::meaning::print_meaning;
-use crate::place::{Place, open_copy, open_folder, open_new_file, open_sources};
+use crate::place::{Place, open_copy, open_folder, open_new_file, open_sources, written};
 use crate::sides::{Failures, sides_of};
 use oci_archive::TarDir;
 use oci_command_line::{
@@ -36,6 +36,7 @@ use oci_repair_commands::run_repair;
 use oci_tag_commands::{run_mem, run_tag};
 use std::alloc::Global;
 use std::io::Write;
+use std::rt::Env;
 
 /// Runs the program on the words after its name, and returns its exit status.
 ///
@@ -51,9 +52,11 @@ use std::io::Write;
 /// With `--progress`, `copy` also prints a line for each blob on `err`. With `--archive` and `-` for
 /// its file, it writes the archive to `out`, and its result to `err`.
 ///
+/// `-` for a layout that is only read is an archive, which comes from the standard input of `rt`.
+///
 /// With `--json` the result is a JSON document on one line of `out`, and a refusal is a JSON
 /// document on the last line of `err`, also if memory ran out. The usage stays plain.
-pub fn run_words<R: Host, W: Write, X: Write + Send>(
+pub fn run_words<R: Host + Input + Env, W: Write, X: Write + Send>(
     rt: &R,
     words: &[String],
     out: &mut W,
@@ -68,7 +71,7 @@ pub fn run_words<R: Host, W: Write, X: Write + Send>(
 /// `--progress`, draw a line on it that shows how much has been checked or has arrived, and erase
 /// that line at the end. A refusal is then explained as with `--hint`, unless the command has
 /// `--json`.
-pub fn run_words_on<R: Host, W: Write, X: Write + Send>(
+pub fn run_words_on<R: Host + Input + Env, W: Write, X: Write + Send>(
     rt: &R,
     words: &[String],
     on_terminal: bool,
@@ -83,7 +86,7 @@ pub fn run_words_on<R: Host, W: Write, X: Write + Send>(
 
 /// Runs the program as [`run_words_on`] does. What fails in the folders of the command is noted in
 /// `failures`.
-fn run_noting<'w, R: Host, W: Write, X: Write + Send>(
+fn run_noting<'w, R: Host + Input + Env, W: Write, X: Write + Send>(
     rt: &R,
     words: &'w [String],
     failures: &'w Failures,
@@ -102,7 +105,7 @@ fn run_noting<'w, R: Host, W: Write, X: Write + Send>(
 
 /// Runs the command of a valid command line, and ends the run. What fails in its folders is noted
 /// in `failures`. On a terminal, control characters of a refusal are escaped.
-fn run_line<'w, R: Host, W: Write, X: Write + Send>(
+fn run_line<'w, R: Host + Input + Env, W: Write, X: Write + Send>(
     rt: &R,
     line: &CommandLine<'w>,
     failures: &'w Failures,
@@ -139,7 +142,7 @@ pub(crate) fn form_of(as_json: bool) -> Form
 }
 
 /// Runs the command of a valid command line. What fails in its folders is noted in `failures`.
-fn run_request<R: Host, W: Write, X: Write + Send>(
+fn run_request<R: Host + Input + Env, W: Write, X: Write + Send>(
     rt: &R,
     request: &Request<'_>,
     failures: &Failures,
@@ -176,7 +179,7 @@ fn print_text<W: Write>(text: &str, out: &mut W) -> Result<Outcome, ProgramFault
 }
 
 /// Runs `copy` on the places of its words.
-fn copy<R: Host, W: Write, X: Write + Send>(
+fn copy<R: Host + Input + Env, W: Write, X: Write + Send>(
     rt: &R,
     words: &CopyWords<'_>,
     failures: &Failures,
@@ -198,7 +201,7 @@ fn copy<R: Host, W: Write, X: Write + Send>(
 const OUTPUT: &str = "-";
 
 /// Runs `copy --archive` on the places of its words.
-fn archive<R: Host, W: Write, X: Write>(
+fn archive<R: Host + Input + Env, W: Write, X: Write>(
     rt: &R,
     words: &CopyWords<'_>,
     failures: &Failures,
@@ -217,7 +220,7 @@ fn archive<R: Host, W: Write, X: Write>(
 }
 
 /// Runs `copy --archive` with a new file.
-fn archive_into_file<R: Host, W: Write, X: Write>(
+fn archive_into_file<R: Host + Input + Env, W: Write, X: Write>(
     rt: &R,
     words: &CopyWords<'_>,
     failures: &Failures,
@@ -229,7 +232,8 @@ fn archive_into_file<R: Host, W: Write, X: Write>(
         ⟦<MemDir as Dir>⟧.device words.now form (W.contents out.old) (W.contents out.new)) }
 {
     let (folder, name) = open_new_file(rt, words, &failures.written)?;
-    let source = Place::open(rt, words.source, &failures.read)?;
+    let into = written(words.is_dry, words.destination);
+    let source = Place::open(rt, words.source, into, &failures.read)?;
     match source {
         Place::Folder(source) => run_archive(rt, source, folder, name, words, form, out, err),
         Place::Archive(source) => run_archive(rt, source, folder, name, words, form, out, err),
@@ -237,7 +241,7 @@ fn archive_into_file<R: Host, W: Write, X: Write>(
 }
 
 /// Runs `copy --archive` with the standard output.
-fn archive_to_output<R: Host, W: Write, X: Write>(
+fn archive_to_output<R: Host + Input + Env, W: Write, X: Write>(
     rt: &R,
     words: &CopyWords<'_>,
     failures: &Failures,
@@ -248,7 +252,7 @@ fn archive_to_output<R: Host, W: Write, X: Write>(
     ensures { OnOk result (IsOutputDone ⟦<TarDir<R::File> as Dir>⟧.device
         ⟦<MemDir as Dir>⟧.device words.now form (W.contents out.old) (W.contents out.new)) }
 {
-    let source = Place::open(rt, words.source, &failures.read)?;
+    let source = Place::open(rt, words.source, None, &failures.read)?;
     match source {
         Place::Folder(source) => run_archive_to_output(rt, source, words, form, out, err),
         Place::Archive(source) => run_archive_to_output(rt, source, words, form, out, err),
@@ -301,7 +305,7 @@ fn prune<R: Host, W: Write, X: Write>(
 }
 
 /// Runs `repair` on the folder and the sources of its words.
-fn repair<R: Host, W: Write, X: Write + Send>(
+fn repair<R: Host + Input + Env, W: Write, X: Write + Send>(
     rt: &R,
     words: &RepairWords<'_>,
     failures: &Failures,
@@ -318,7 +322,7 @@ fn repair<R: Host, W: Write, X: Write + Send>(
 }
 
 /// Answers a query from the layout at a path.
-fn ask<R: Host, W: Write, X: Write + Send>(
+fn ask<R: Host + Input + Env, W: Write, X: Write + Send>(
     rt: &R,
     path: &str,
     query: &Query<'_>,
@@ -330,7 +334,7 @@ fn ask<R: Host, W: Write, X: Write + Send>(
     ensures { IfOk result (IsQueryDone ⟦<TarDir<R::File> as Dir>⟧.device path.now query.now form
         (W.contents out.old) (W.contents out.new)) }
 {
-    match Place::open(rt, path, first)? {
+    match Place::open(rt, path, None, first)? {
         Place::Folder(dir) => run_query(rt, dir, query, form, out, err),
         Place::Archive(dir) => run_query(rt, dir, query, form, out, err),
     }

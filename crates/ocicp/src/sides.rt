@@ -1,4 +1,5 @@
 use crate::place::is_file;
+use crate::spooled::INPUT;
 use oci_command_line::{RepairWords, Request};
 use oci_dir::FirstFailure;
 use oci_program::{Side, Sides};
@@ -33,11 +34,11 @@ pub(crate) fn sides_of<'w, R: Files + AllocGlobal>(
 ) -> Sides<'w> {
     match request {
         Request::Copy(words) => Sides {
-            read: Some(side(rt, "SRC", words.source, &failures.read)),
+            read: Some(read_side(rt, "SRC", words.source, &failures.read)),
             written: Some(side(rt, "DST", words.destination, &failures.written)),
         },
         Request::Archive(words) => Sides {
-            read: Some(side(rt, "SRC", words.source, &failures.read)),
+            read: Some(read_side(rt, "SRC", words.source, &failures.read)),
             written: Some(Side {
                 word: Some("DST"),
                 path: words.destination,
@@ -49,10 +50,10 @@ pub(crate) fn sides_of<'w, R: Files + AllocGlobal>(
         Request::Untag(words) => both(side(rt, "FOLDER", words.folder, &failures.written)),
         Request::Prune(words) => both(side(rt, "FOLDER", words.folder, &failures.written)),
         Request::Repair(words) => Sides {
-            read: Some(side(rt, "FROM", named_source(rt, words), &failures.read)),
+            read: Some(read_side(rt, "FROM", named_source(rt, words), &failures.read)),
             written: Some(side(rt, "FOLDER", words.folder, &failures.written)),
         },
-        Request::Query(path, _) => both(side(rt, "FOLDER", path, &failures.read)),
+        Request::Query(path, _) => both(read_side(rt, "FOLDER", path, &failures.read)),
         Request::Mem(_) => Sides {
             read: Some(Side {
                 word: None,
@@ -64,6 +65,25 @@ pub(crate) fn sides_of<'w, R: Files + AllocGlobal>(
         },
         _ => Sides::none(),
     }
+}
+
+/// Returns the place with this word and path, which a command reads. The standard input is an
+/// archive too.
+fn read_side<'w, R: Files>(
+    rt: &R,
+    word: &'w str,
+    path: &'w str,
+    first: &'w FirstFailure,
+) -> Side<'w> {
+    Side {
+        is_archive: is_archive(rt, path),
+        ..side(rt, word, path, first)
+    }
+}
+
+/// Returns whether a path that a command reads is that of an archive.
+fn is_archive<R: Files>(rt: &R, path: &str) -> bool {
+    path == INPUT || is_file(rt, path)
 }
 
 /// Returns the place with this word and path. A file is an archive.
@@ -80,7 +100,7 @@ fn side<'w, R: Files>(rt: &R, word: &'w str, path: &'w str, first: &'w FirstFail
 /// `oci-layout`, or else the first source.
 fn named_source<'w, R: Files + AllocGlobal>(rt: &R, words: &RepairWords<'w>) -> &'w str {
     for path in &words.sources {
-        if !is_file(rt, path) && !has_layout_file(rt, path) {
+        if !is_archive(rt, path) && !has_layout_file(rt, path) {
             return path;
         }
     }
