@@ -43,14 +43,18 @@ use Rattle.oci_query_commands.specs.Written.{is_cat}
 
 -- ---- where a command works
 
--- a place was opened at a path: a folder is the one at the path
+-- a path is not `-`, at which a command reads an archive from the standard input
+abbrev pub IsNoInput : List ℕ → Type 0
+IsNoInput path = path ≡ codes "-" → ⊥
+
+-- a place was opened at a path: a folder is the one at the path, which is not `-`
 abbrev pub IsPlaceAt : {R F D : Type 0} → List ℕ → Place R F D → Type 0
-IsPlaceAt path (place.Folder dir) = dir ≡ (path, 0)
+IsPlaceAt path (place.Folder dir) = (dir ≡ (path, 0)) × IsNoInput path
 IsPlaceAt path (place.Archive dir) = ⊤
 
--- a source of a repair was opened at a path: a folder is the one at the path
+-- a source of a repair was opened at a path: a folder is the one at the path, which is not `-`
 abbrev pub IsSourceAt : {A : Type 0} → List ℕ → RepairSource (List ℕ × ℕ) A → Type 0
-IsSourceAt path (source.Folder dir) = dir ≡ (path, 0)
+IsSourceAt path (source.Folder dir) = (dir ≡ (path, 0)) × IsNoInput path
 IsSourceAt path (source.Archive dir) = ⊤
 
 -- one was opened at each of these paths, in their order
@@ -99,22 +103,22 @@ pub record IsRepairDone {A : Type 0} (archive : A → Device) (words : RepairWor
   pub planned : words.is_dry ≡ true → (answer : RepairAnswer) × IsDryRepair folder folder archive (words.folder.now, 0) sources answer × IsOutcome answer outcome × (printed ≡ form.Lines → Appends old new (repair_text answer))
 
 -- The copy that these words ask for was made, or with `--dry-run` planned, into the folder at their
--- destination, from the folder at their source or from an archive. `archive` and `memory` give the
--- meaning of an archive, and of an empty layout in memory.
+-- destination, from the folder at their source, which is not `-`, or from an archive. `archive` and
+-- `memory` give the meaning of an archive, and of an empty layout in memory.
 abbrev pub IsCopyDone : {A M : Type 0} → (A → Device) → (M → Device) → CopyWords → Form → Option (List ℕ) → Option (List ℕ) → Type 0
-IsCopyDone {A} archive memory words printed old new = IsRunOf folder folder memory words (words.source.now, 0) (words.destination.now, 0) printed old new
+IsCopyDone {A} archive memory words printed old new = (IsNoInput words.source.now × IsRunOf folder folder memory words (words.source.now, 0) (words.destination.now, 0) printed old new)
     ⊎ ((dir : A) × IsRunOf archive folder memory words dir (words.destination.now, 0) printed old new)
 
 -- The archive that these words ask for was written into the file at their destination, from the folder at
--- their source or from an archive, or with `--dry-run` that copy was planned.
+-- their source, which is not `-`, or from an archive, or with `--dry-run` that copy was planned.
 abbrev pub IsFileDone : {A M : Type 0} → (A → Device) → (M → Device) → CopyWords → Form → Option (List ℕ) → Option (List ℕ) → Type 0
 IsFileDone {A} archive memory words printed old new = (dir : List ℕ) × (name : List ℕ) × IsFileAt words.destination.now dir name
-    × (IsFileRunOf folder memory folder words (words.source.now, 0) (dir, 0) name printed old new
+    × ((IsNoInput words.source.now × IsFileRunOf folder memory folder words (words.source.now, 0) (dir, 0) name printed old new)
     ⊎ ((source : A) × IsFileRunOf archive memory folder words source (dir, 0) name printed old new))
 
 -- the same, where the archive was appended to the output in each form
 abbrev pub IsOutputDone : {A M : Type 0} → (A → Device) → (M → Device) → CopyWords → Form → Option (List ℕ) → Option (List ℕ) → Type 0
-IsOutputDone {A} archive memory words printed old new = IsOutputRunOf folder memory words (words.source.now, 0) printed old new
+IsOutputDone {A} archive memory words printed old new = (IsNoInput words.source.now × IsOutputRunOf folder memory words (words.source.now, 0) printed old new)
     ⊎ ((source : A) × IsOutputRunOf archive memory words source printed old new)
 
 -- the file `-` is the output
@@ -134,9 +138,9 @@ pub record IsAnswered (dir : Device) (query : Query) (printed : Form) (old new :
   pub shown : printed ≡ form.Lines → dir.is_honest → PrintsAnswerOf dir query old new
   pub written : is_cat query ≡ true → dir.is_honest → PrintsAnswerOf dir query old new
 
--- it ended so for the folder at a path, or for an archive
+-- it ended so for the folder at a path, which is not `-`, or for an archive
 abbrev pub IsQueryDone : {A : Type 0} → (A → Device) → List ℕ → Query → Form → Option (List ℕ) → Option (List ℕ) → Outcome → Type 0
-IsQueryDone {A} archive path query printed old new outcome = IsAnswered (folder (path, 0)) query printed old new outcome ⊎ ((dir : A) × IsAnswered (archive dir) query printed old new outcome)
+IsQueryDone {A} archive path query printed old new outcome = (IsNoInput path × IsAnswered (folder (path, 0)) query printed old new outcome) ⊎ ((dir : A) × IsAnswered (archive dir) query printed old new outcome)
 
 -- ---- by the request
 

@@ -4,9 +4,10 @@ use Rattle.ocicp.proofs.run.archive_to_output.Goals as goal
 
 pub returns-in-Folder : goal.returns-in-Folder
 returns-in-Folder g c =
-    let from = rw c.in-Folder.is at c.in_ok-source.ensures in
+    let opened = rw c.in-Folder.is at c.in_ok-source.ensures in
+    let from = opened.0 in
     both_on_ok c.run_archive_to_output.result _ _ _ _ _ (rw from at c.run_archive_to_output.ensures.archived) (rw from at c.run_archive_to_output.ensures.planned)
-    (λ archived planned. inl (record { archived = archived; planned = planned }))
+    (λ archived planned. inl (opened.1, record { archived = archived; planned = planned }))
 
 pub returns-in-Archive : goal.returns-in-Archive
 returns-in-Archive g c =

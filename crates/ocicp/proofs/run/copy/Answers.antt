@@ -4,11 +4,12 @@ use Rattle.ocicp.proofs.run.copy.Goals as goal
 
 pub returns-in-Folder : goal.returns-in-Folder
 returns-in-Folder g c =
-    let from = rw c.in-Folder.is at c.in_ok-source.ensures.source in
+    let opened = rw c.in-Folder.is at c.in_ok-source.ensures.source in
+    let from = opened.0 in
     let to = c.in_ok-source.ensures.destination in
     let copied_to = rw to at c.run_copy.ensures.copied in
     let planned_to = rw to at c.run_copy.ensures.planned in
-    both_on_ok c.run_copy.result _ _ _ _ _ (rw from at copied_to) (rw from at planned_to) (λ copied planned. inl (record { copied = copied; planned = planned }))
+    both_on_ok c.run_copy.result _ _ _ _ _ (rw from at copied_to) (rw from at planned_to) (λ copied planned. inl (opened.1, record { copied = copied; planned = planned }))
 
 pub returns-in-Archive : goal.returns-in-Archive
 returns-in-Archive g c =
