@@ -194,7 +194,7 @@ Give the process more memory, or use fewer workers.
 
 70 NoLayoutFile
 The folder or archive is not an image layout: it does not exist, or has no file `oci-layout`.
-Check the path. Only `ocicp copy` creates a layout, as DST. `docker save` writes one since Docker 25. If DST has lost its `oci-layout`, write `{\"imageLayoutVersion\":\"1.0.0\"}` into it again. Save an archive as a file first if it comes from a pipe.
+Check the path. Only `ocicp copy` creates a layout, as DST. `docker save` writes one since Docker 25. If DST has lost its `oci-layout`, write `{\"imageLayoutVersion\":\"1.0.0\"}` into it again. `-` is an archive from stdin.
 
 71 BadLayoutFile
 The file `oci-layout` is not a JSON object with a text `imageLayoutVersion`.

@@ -69,7 +69,7 @@ pub(crate) fn copy_arguments(most_workers: u32) -> [Argument; 21] {
         Argument::new(
             "source",
             Kind::Word("SRC"),
-            "A layout: a folder, or a tar archive",
+            "A layout: a folder, or a tar archive; `-` is an archive from stdin",
         ),
         Argument::new(
             "source-reference",

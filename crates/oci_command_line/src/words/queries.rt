@@ -153,7 +153,7 @@ pub(crate) fn platform() -> Argument {
 
 /// `FOLDER`
 pub(crate) fn folder() -> Argument {
-    let help = "A layout: a folder, or a tar archive";
+    let help = "A layout: a folder, or a tar archive; `-` is an archive from stdin";
     Argument::new("folder", Kind::Word("FOLDER"), help)
 }
 

@@ -56,6 +56,6 @@ pub(crate) fn repair_arguments(most_workers: u32) -> [Argument; 8] {
 /// `FROM`
 fn source() -> Argument {
     let help =
-        "The layouts to take blobs from, folders or tar archives, in the order in which they are asked";
+        "The layouts to take blobs from, folders or tar archives, in the order in which they are asked; `-` is an archive from stdin";
     Argument::new("source", Kind::Words("FROM"), help)
 }
