@@ -1,5 +1,5 @@
-use oci_folder::folder_and_name;
 use oci_dir::FirstFailure;
+use oci_folder::folder_and_name;
 use oci_program::ProgramFault;
 use std::fs::OpenOptions;
 use std::io::{ErrorKind, Read};
