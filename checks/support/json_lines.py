@@ -15,6 +15,8 @@ UNCOUNTED = {"--untagged", "--leftovers"}
 CLEANED = {"untagged": list, **PRUNED}
 COPIED = {"copied": list, "planned": int, "pushed": int, "skipped": int}
 LEAST_DIGITS = 12
+# The members that a blob of a tree, or a referrer, need not have.
+OF_BLOBS, OF_REFERRERS = {"distributed": bool}, {"artifactType": str}
 # The values of a fault beside its number and its name.
 CARRIED = {
     13: {"member": str},
@@ -254,7 +256,7 @@ class Labels:
 
     def __init__(self, folder):
         held = Held(folder)
-        self.keys = held.keys.union(*map(held.listed, held.keys))
+        self.keys = held.keys.union(*map(held.all_listed, held.keys))
         digests = sorted({it.digest for it in held.keys})
         needed = [len(os.path.commonprefix(pair)) + 1 - len("sha256:") for pair in zip(digests, digests[1:])]
         self.digits = max([LEAST_DIGITS, *needed])
@@ -270,11 +272,15 @@ class Labels:
 def node(value, labels, is_referrer):
     """Return the line of a blob of a tree."""
     kinds = {"depth": int, "descriptor": dict, "tags": list, "repeated": bool, "absent": bool}
-    if is_referrer and "artifactType" in value:
-        kinds["artifactType"] = str
-    depth, descriptor, tags, repeated, absent, *stated = taken(value, kinds)
-    notes = [*(" (%s)" % it for it in stated), *(" [%s]" % it for it in tags), " (shown above)" * repeated, " (absent)" * absent]
-    return "".join(["  " * depth, labels.of(descriptor), *notes])
+    kinds.update({name: kind for name, kind in (OF_REFERRERS if is_referrer else OF_BLOBS).items() if name in value})
+    depth, descriptor, tags, repeated, absent, *_ = taken(value, kinds)
+    types = [" (%s)" % value["artifactType"]] if "artifactType" in value else []
+    marks = [" (shown above)" * repeated, " (absent)" * absent]
+    if "distributed" in value:
+        if value["distributed"] or absent:
+            raise ValueError("%s is distributed or absent" % descriptor)
+        marks = [" (not distributed)"]
+    return "".join(["  " * depth, labels.of(descriptor), *types, *(" [%s]" % it for it in tags), *marks])
 
 
 def of_tree(value, words, labels):

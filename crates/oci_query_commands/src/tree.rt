@@ -7,6 +7,7 @@ use oci_progress::Readable;
 use oci_prune::belonging_of;
 use platforms::Platforms;
 use serde::Serialize;
+use stated::Stated;
 use std::alloc::Global;
 use std::collections::BTreeSet;
 use std::fmt;
@@ -14,11 +15,13 @@ use walk::Walk;
 
 mod labels;
 mod platforms;
+mod stated;
 mod walk;
 
 pub(crate) use labels::Labels;
 
-/// The blobs that a key reaches and its referrers, each as a list of nodes with depths. Of the
+/// The blobs that a key reaches and its referrers, each as a list of nodes with depths. Below a
+/// manifest are the blobs that it lists, and then its layers that are not to be distributed. Of the
 /// referrers, those that list the blob come first, and then each blob to which something more is
 /// attached, with that below it. `Display` prints a node a line, and a title above the referrers if
 /// they were asked for.
@@ -34,7 +37,8 @@ impl<'l> Tree<'l> {
     /// Returns the blobs that a key reaches, and its referrers if they are asked for.
     ///
     /// The time and the memory grow with the nodes, and with the digests and tags of the layout.
-    /// Each index is read for the platforms that it states. With referrers each manifest of the layout
+    /// Each manifest that the key reaches is read once, for its layers that are not to be distributed,
+    /// and an index also for the platforms that it states. With referrers each manifest of the layout
     /// is read for its subject, one at a time, and those in their nodes once more for their type. No
     /// other content is read. A deep graph needs no stack, since the blobs to visit are in a list.
     pub(crate) fn of<D: Dir>(
@@ -98,6 +102,10 @@ struct Node<'l> {
     repeated: bool,
     /// Whether the layout does not have the blob.
     absent: bool,
+    /// `false` for a layer that is not to be distributed, whose file is not looked for, and `None` for
+    /// any other blob.
+    #[serde(skip_serializing_if = "Option::is_none")]
+    distributed: Option<bool>,
     /// The type that a referrer states.
     #[serde(rename = "artifactType", skip_serializing_if = "Option::is_none")]
     artifact_type: Option<String>,
@@ -128,7 +136,9 @@ impl fmt::Display for Node<'_> {
 impl Node<'_> {
     /// Returns the mark at the end of the line.
     fn mark(&self) -> &'static str {
-        if self.absent {
+        if self.distributed == Some(false) {
+            " (not distributed)"
+        } else if self.absent {
             " (absent)"
         } else if self.repeated {
             " (shown above)"

@@ -1,10 +1,9 @@
-use crate::tree::{Labels, Node, Platforms};
+use crate::tree::{Labels, Node, Platforms, Stated};
 use oci_digest::NoMemory;
 use oci_manifest::{Key, Kind, artifact_type};
 use oci_program::ProgramFault;
 use oci_prune::Belonging;
-use oci_reference::listed_platforms;
-use oci_store::{GraphSource, keys_of_set};
+use oci_store::{FetchFault, GraphSource, keys_of_set};
 use std::alloc::Global;
 use std::collections::BTreeSet;
 
@@ -15,6 +14,8 @@ struct Visit {
     depth: usize,
     /// The platforms that the index above it states of it.
     platforms: BTreeSet<String>,
+    /// Whether it is no layer that the manifest above it lists and that is not to be distributed.
+    is_distributed: bool,
 }
 
 /// Where a walk goes from a blob.
@@ -56,6 +57,7 @@ impl<'w, 'l, A: GraphSource> Walk<'w, 'l, A> {
             key: root.try_clone()?,
             depth: 0,
             platforms: BTreeSet::new(self.alloc),
+            is_distributed: true,
         })?;
         let mut nodes = Vec::new(self.alloc);
         self.add_nodes(pending, Way::Down, &mut nodes)?;
@@ -112,6 +114,7 @@ impl<'w, 'l, A: GraphSource> Walk<'w, 'l, A> {
             key: key.try_clone()?,
             depth: 1,
             platforms: BTreeSet::new(self.alloc),
+            is_distributed: true,
         };
         nodes.push(self.node(visit)?)?;
         self.add_attached(key, 2, belonging, nodes)
@@ -173,6 +176,9 @@ impl<'w, 'l, A: GraphSource> Walk<'w, 'l, A> {
         visit: Visit,
         pending: &mut Vec<Visit>,
     ) -> Result<Node<'l>, ProgramFault> {
+        if !visit.is_distributed {
+            return Ok(self.visit_undistributed(visit)?);
+        }
         let depth = visit.depth;
         let mut node = self.node(visit)?;
         let Some(listed) = self.source.successors(&node.descriptor)? else {
@@ -180,12 +186,38 @@ impl<'w, 'l, A: GraphSource> Walk<'w, 'l, A> {
             return Ok(node);
         };
         if self.shown.insert(node.descriptor.try_clone()?)? {
-            let platforms = self.platforms_below(&node.descriptor)?;
-            self.add_listed(pending, listed, depth.saturating_add(1), platforms)?;
+            self.add_below(&node.descriptor, listed, depth.saturating_add(1), pending)?;
         } else {
             node.repeated = true;
         }
         Ok(node)
+    }
+
+    /// Returns the node of a layer that is not to be distributed. Its file is not looked for.
+    fn visit_undistributed(&mut self, visit: Visit) -> Result<Node<'l>, NoMemory> {
+        let mut node = self.node(visit)?;
+        node.distributed = Some(false);
+        node.repeated = !self.shown.insert(node.descriptor.try_clone()?)?;
+        Ok(node)
+    }
+
+    /// Adds what a blob lists to the blobs to visit, at this depth: first these keys, and then the
+    /// layers that it lists and that are not to be distributed.
+    fn add_below(
+        &self,
+        key: &Key,
+        listed: Vec<Key>,
+        depth: usize,
+        pending: &mut Vec<Visit>,
+    ) -> Result<(), ProgramFault> {
+        let Stated {
+            platforms,
+            undistributed,
+        } = self.stated_below(key)?;
+        let mut platforms = platforms;
+        self.add_listed(pending, undistributed, depth, false, &mut platforms)?;
+        self.add_listed(pending, listed, depth, true, &mut platforms)?;
+        Ok(())
     }
 
     /// Adds the blobs that a blob lists to those to visit, each with its platforms. They are visited
@@ -195,29 +227,32 @@ impl<'w, 'l, A: GraphSource> Walk<'w, 'l, A> {
         pending: &mut Vec<Visit>,
         listed: Vec<Key>,
         depth: usize,
-        platforms: Platforms,
+        is_distributed: bool,
+        platforms: &mut Platforms,
     ) -> Result<(), NoMemory> {
-        let mut platforms = platforms;
         for key in listed.into_iter().rev() {
             let platforms = platforms.take(self.alloc, &key);
             pending.push(Visit {
                 key,
                 depth,
                 platforms,
+                is_distributed,
             })?;
         }
         Ok(())
     }
 
-    /// Reads the platforms that an index states of what it lists. A blob that is no index is not read.
-    fn platforms_below(&self, key: &Key) -> Result<Platforms, ProgramFault> {
-        match Kind::of(key.media_type()) {
-            Kind::Index | Kind::DockerList => {
-                let bytes = self.source.fetch(key)?;
-                let listed = listed_platforms(self.alloc, key, bytes.as_slice())?;
-                Ok(Platforms::of(self.alloc, listed)?)
-            }
-            _ => Ok(Platforms::none(self.alloc)),
+    /// Reads what a manifest states of what it lists. A blob that is no manifest is not read, and an
+    /// image that cannot be read states nothing.
+    fn stated_below(&self, key: &Key) -> Result<Stated, ProgramFault> {
+        let kind = Kind::of(key.media_type());
+        if kind == Kind::Leaf {
+            return Ok(Stated::nothing(self.alloc));
+        }
+        match self.source.fetch(key) {
+            Ok(bytes) => Stated::read(self.alloc, key, bytes.as_slice()),
+            Err(fault) if is_passed_over(kind, fault) => Ok(Stated::nothing(self.alloc)),
+            Err(fault) => Err(ProgramFault::from(fault)),
         }
     }
 
@@ -251,7 +286,8 @@ impl<'w, 'l, A: GraphSource> Walk<'w, 'l, A> {
         keys: Vec<Key>,
         depth: usize,
     ) -> Result<(), NoMemory> {
-        self.add_listed(pending, keys, depth, Platforms::none(self.alloc))
+        let mut none = Platforms::none(self.alloc);
+        self.add_listed(pending, keys, depth, true, &mut none)
     }
 
     /// Returns the node of a blob without an artifact type and a mark.
@@ -260,6 +296,7 @@ impl<'w, 'l, A: GraphSource> Walk<'w, 'l, A> {
             key,
             depth,
             platforms,
+            is_distributed: _,
         } = visit;
         Ok(Node {
             depth,
@@ -267,6 +304,7 @@ impl<'w, 'l, A: GraphSource> Walk<'w, 'l, A> {
             tags: self.labels.tags(&key),
             repeated: false,
             absent: false,
+            distributed: None,
             artifact_type: None,
             short_digest: self.labels.short_digest(self.alloc, &key)?,
             descriptor: key,
@@ -282,6 +320,12 @@ impl<'w, 'l, A: GraphSource> Walk<'w, 'l, A> {
         let bytes = self.source.fetch(key)?;
         Ok(artifact_type(self.alloc, kind, bytes.as_slice())?)
     }
+}
+
+/// Returns whether a manifest of this kind that could not be fetched is taken as one that states
+/// nothing. An index is not, since its lines would lack the platforms.
+fn is_passed_over(kind: Kind, fault: FetchFault) -> bool {
+    fault != FetchFault::Memory && !matches!(kind, Kind::Index | Kind::DockerList)
 }
 
 /// Returns a set of keys.
