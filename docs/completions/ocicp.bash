@@ -39,7 +39,7 @@ _ocicp() {
       flags='--platform --hint --json --help' valued='--platform' kinds=(folder tag)
       ;;
     verify)
-      flags='--workers --hint --json --help' valued='--workers' kinds=(folder tag)
+      flags='--tags --workers --hint --json --help' valued='--workers' kinds=(folder tag)
       ;;
     mem)
       flags='--workers --sha512 --hint --json --help' valued='--workers' last=file

@@ -87,6 +87,9 @@ pub enum Query<'w> {
     Verify {
         /// The reference whose blob is checked with all that it reaches. `None`: the whole layout is.
         reference: Option<&'w str>,
+        /// Whether the tags of which a blob is missing or damaged are listed too. It is false with a
+        /// reference.
+        lists_broken: bool,
         /// The number of workers; 0 means the default number. `None`: one for each processor.
         workers: Option<u32>,
         /// Whether a line on the terminal shows how much was checked so far.
@@ -254,6 +257,7 @@ fn cat_of<'w>(matches: &ArgMatches<'w>) -> Query<'w> {
 fn verify_of<'w>(matches: &ArgMatches<'w>, on_terminal: bool) -> Query<'w> {
     Query::Verify {
         reference: matches.get_str("reference"),
+        lists_broken: matches.get_flag("tags"),
         workers: matches.get_one("workers"),
         shows_progress: on_terminal,
     }

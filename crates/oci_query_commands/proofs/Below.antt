@@ -228,9 +228,9 @@ IsVerifiedBelow-opened dir graph tags index reference found honest opened verdic
 }
 
 -- a `verify` of a whole layout has no reference
-pub no_reference : (q : Query) (reference : Option (Bor (List ℕ))) (workers : Option ℕ) (shows_progress : Bool) → q ≡ query.Verify reference workers shows_progress → is_verify q ≡ true → option_copied reference ≡ None
-no_reference q None workers shows_progress e is = refl
-no_reference q (Some reference) workers shows_progress e is = cc (sym (ap is_verify e) ∙ is)
+pub no_reference : (q : Query) (reference : Option (Bor (List ℕ))) (lists_broken : Bool) (workers : Option ℕ) (shows_progress : Bool) → q ≡ query.Verify reference lists_broken workers shows_progress → is_verify q ≡ true → option_copied reference ≡ None
+no_reference q None lists_broken workers shows_progress e is = refl
+no_reference q (Some reference) lists_broken workers shows_progress e is = cc (sym (ap is_verify e) ∙ is)
 
 -- what is said of a command without a reference
 pub IfOk-other : {T E : Type 0} (P : T → List ℕ → Type 0) (r : Result T E) (o : Option (List ℕ)) → o ≡ None → IfOk r (λ x. (name : List ℕ) → o ≡ Some name → P x name)

@@ -121,7 +121,7 @@ later_some None true = refl
 later_some None false = refl
 
 -- a name has a last place if an entry has it
-has_place : (name : List ℕ) (es : List IndexEntry) → is_some (last_place name es) ≡ has_name es name
+pub has_place : (name : List ℕ) (es : List IndexEntry) → is_some (last_place name es) ≡ has_name es name
 has_place name [] = refl
 has_place name (e ∷ es) = later_some (last_place name es) (is_name name e.name) ∙ ap (λ (b : Bool). is_name name e.name || b) (has_place name es)
 

@@ -5,3 +5,4 @@ pub mod AllTags
 pub mod Found
 pub mod Written
 pub mod Below
+pub mod BrokenTags

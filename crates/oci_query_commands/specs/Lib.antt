@@ -5,4 +5,5 @@ pub mod Listed
 pub mod Written
 pub mod Found
 pub mod Lines
+pub mod Broken
 pub mod Printed

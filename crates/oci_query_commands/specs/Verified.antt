@@ -22,7 +22,7 @@ use Rattle.oci_query_commands.specs.declared.verify.Findings.{Findings}
 
 -- whether the command is `verify` of a whole layout
 abbrev pub is_verify : Query → Bool
-is_verify (query.Verify None workers shows_progress) = true
+is_verify (query.Verify None lists_broken workers shows_progress) = true
 is_verify other = false
 
 -- the outcome of a command is that of a `verify` which finds nothing
@@ -74,7 +74,7 @@ pub record IsFaulty (dir : Device) : Type 0 where
 
 -- the reference of a `verify` of what a reference reaches
 abbrev pub verified_reference : Query → Option (List ℕ)
-verified_reference (query.Verify reference workers shows_progress) = option_copied reference
+verified_reference (query.Verify reference lists_broken workers shows_progress) = option_copied reference
 verified_reference other = None
 
 -- nothing is wrong with what a key reaches: none of it is absent or damaged, and each key of it is held

@@ -12,12 +12,14 @@
 //! [`print_findings_of_all`].
 #![tactic(auto)]
 
+mod broken;
 mod cat;
 mod checking;
 mod left_out;
 mod listing;
 mod named;
 mod query;
+mod set;
 mod tree;
 mod verify;
 

@@ -1,15 +1,17 @@
 ghost use Rattle.std.specs.Prelude.{◌≡◌, ◌↔◌, ℕ, true, List, None, Some, map, option_copied, IfOk, OnOk};
 ghost use Rattle.oci_layout_store.specs.Meaning.{meaning};
 ghost use Rattle.oci_query_commands.specs.Answered.{is_of_all, IsReadable, LeavesNothingOut};
+ghost use Rattle.oci_query_commands.specs.Broken.{by_tag_text, AreFindingsByTag};
 ghost use Rattle.oci_query_commands.specs.Found.{AreFindings};
 ghost use Rattle.oci_verify.specs.Intact.{HasFiles};
 ghost use Rattle.oci_query_commands.specs.Lines.{findings_text, key_line, key_lines, listing_lines};
 ghost use Rattle.oci_query_commands.specs.Listed.{ArePredecessorsOf, AreTags};
 ghost use Rattle.oci_query_commands.specs.Named.{IsNamed};
-ghost use Rattle.oci_query_commands.specs.Printed.{Prints, PrintsAnswer, PrintsAnswerOf, PrintsFindings};
+ghost use Rattle.oci_query_commands.specs.Printed.{Prints, PrintsAnswer, PrintsAnswerOf, PrintsBelow, PrintsFindings, PrintsWhole};
 ghost use Rattle.oci_query_commands.specs.Verified.{is_verify, verified_reference, IsFaulty, IsFaultyVerify, IsGoodVerify, IsVerdict, IsVerified, IsVerifiedBelow, IsWhole};
 ghost use Rattle.oci_query_commands.specs.Written.{is_cat};
 
+use crate::broken::{FindingsByTag, broken_tags};
 use crate::cat::print_blob;
 use crate::left_out::{print_answer_of_all, print_findings_of_all};
 use crate::listing::{Predecessors, Resolved, Tags};
@@ -162,12 +164,14 @@ where
         } => print_blob(layout, reference, *platform, out),
         Query::Verify {
             reference,
+            lists_broken,
             workers,
             shows_progress,
         } => print_verified(
             rt,
             layout,
             *reference,
+            *lists_broken,
             *workers,
             *shows_progress,
             form,
@@ -254,7 +258,8 @@ fn print_tree<D: Dir, W: Write, X: Write>(
     }
 }
 
-/// Prints what is wrong with a layout, or with what a reference of it reaches.
+/// Prints what is wrong with a layout, and if it `lists_broken`, with its tags, or what is wrong with
+/// what a reference of it reaches.
 fn print_verified<
     R: AllocGlobal + Clock + Threads + Wait + Sync,
     D: Dir + Sync,
@@ -264,6 +269,7 @@ fn print_verified<
     rt: &R,
     layout: &Layout<D>,
     reference: Option<&str>,
+    lists_broken: bool,
     workers: Option<u32>,
     shows_progress: bool,
     form: Form,
@@ -282,13 +288,55 @@ where
         name outcome) }
     ensures printed { form ≡ Form.Lines → OnOk result (PrintsFindings (D.device layout.now.dir)
         layout.now.graph layout.now.tags layout.now.opened (option_copied reference.entry)
-        (W.contents out.old) (W.contents out.new)) }
+        lists_broken (W.contents out.old) (W.contents out.new)) }
 {
     match reference {
         Some(name) => {
             print_findings_below(rt, layout, name, workers, shows_progress, form, out, err)
         }
-        None => print_findings(rt, layout, workers, shows_progress, form, out, err),
+        None => print_whole(
+            rt,
+            layout,
+            lists_broken,
+            workers,
+            shows_progress,
+            form,
+            out,
+            err,
+        ),
+    }
+}
+
+/// Prints what is wrong with a layout, and if it `lists_broken`, with its tags. Returns `Good` exactly
+/// if nothing is wrong.
+fn print_whole<
+    R: AllocGlobal + Clock + Threads + Wait + Sync,
+    D: Dir + Sync,
+    W: Write,
+    X: Write + Send,
+>(
+    rt: &R,
+    layout: &Layout<D>,
+    lists_broken: bool,
+    workers: Option<u32>,
+    shows_progress: bool,
+    form: Form,
+    out: &mut W,
+    err: &mut X,
+) -> Result<Outcome, ProgramFault>
+where
+    D::Draft: Send,
+    ensures outcome { IfOk result (λ outcome. HasFiles (D.device layout.now.dir) layout.now.graph
+        → (outcome ≡ Outcome.Good)
+        ↔ IsWhole (D.device layout.now.dir) layout.now.graph layout.now.opened) }
+    ensures printed { form ≡ Form.Lines → OnOk result (PrintsWhole (D.device layout.now.dir)
+        layout.now.graph layout.now.opened lists_broken (W.contents out.old)
+        (W.contents out.new)) }
+{
+    if lists_broken {
+        print_by_tag(rt, layout, workers, shows_progress, form, out, err)
+    } else {
+        print_findings(rt, layout, workers, shows_progress, form, out, err)
     }
 }
 
@@ -323,6 +371,38 @@ where
     Ok(outcome)
 }
 
+/// As [`print_findings`], with the broken tags.
+fn print_by_tag<
+    R: AllocGlobal + Clock + Threads + Wait + Sync,
+    D: Dir + Sync,
+    W: Write,
+    X: Write + Send,
+>(
+    rt: &R,
+    layout: &Layout<D>,
+    workers: Option<u32>,
+    shows_progress: bool,
+    form: Form,
+    out: &mut W,
+    err: &mut X,
+) -> Result<Outcome, ProgramFault>
+where
+    D::Draft: Send,
+    ensures outcome { IfOk result (λ outcome. HasFiles (D.device layout.now.dir) layout.now.graph
+        → (outcome ≡ Outcome.Good)
+        ↔ IsWhole (D.device layout.now.dir) layout.now.graph layout.now.opened) }
+    ensures printed { form ≡ Form.Lines → OnOk result (Prints
+        (AreFindingsByTag (D.device layout.now.dir) layout.now.graph layout.now.opened)
+        by_tag_text (W.contents out.old) (W.contents out.new)) }
+{
+    let findings = verify(rt, layout, workers, shows_progress, err)?;
+    let outcome = findings.outcome();
+    let broken = broken_tags(rt.alloc(), layout, &findings.corrupt)?;
+    let by_tag = FindingsByTag { findings, broken };
+    print_findings_of_all(rt.alloc(), layout, by_tag, form, out, err)?;
+    Ok(outcome)
+}
+
 /// Prints what is wrong with what a reference of a layout reaches. Returns `Good` exactly if nothing
 /// is wrong.
 fn print_findings_below<
@@ -346,9 +426,9 @@ where
         HasFiles (D.device layout.now.dir) layout.now.graph
         → IsVerdict (D.device layout.now.dir) layout.now.graph layout.now.tags layout.now.opened
         reference.now outcome) }
-    ensures printed { form ≡ Form.Lines → OnOk result (PrintsFindings (D.device layout.now.dir)
-        layout.now.graph layout.now.tags layout.now.opened (Some reference.now)
-        (W.contents out.old) (W.contents out.new)) }
+    ensures printed { form ≡ Form.Lines → OnOk result (PrintsBelow (D.device layout.now.dir)
+        layout.now.graph layout.now.tags layout.now.opened reference.now (W.contents out.old)
+        (W.contents out.new)) }
 {
     let root = resolve(layout, reference)?;
     let findings = verify_below(rt, layout, &root, workers, shows_progress, err)?;

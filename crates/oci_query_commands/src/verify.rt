@@ -35,7 +35,7 @@ pub(crate) struct Findings<'l> {
     /// The key of each entry of `index.json` without a file, in the order of the entries.
     absent: Vec<&'l Key>,
     /// The keys whose files are damaged or do not match them, in key order.
-    corrupt: Vec<Key>,
+    pub(crate) corrupt: Vec<Key>,
     /// The first key that lists a key without a file, with that key.
     open: Option<Open>,
     /// The tag and the key of each entry that has both and whose tag a later entry has, in the order

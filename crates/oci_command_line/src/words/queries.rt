@@ -76,7 +76,7 @@ pub(crate) const CAT: CommandText = CommandText {
     examples: "Examples:\n  ocicp cat mirror v1\n  ocicp cat mirror sha256:44136fa355b3678a1146ad16f7e8649e94fb4fc21fe77e8310c060f61caaff8a",
 };
 
-/// `verify [--workers N] [--json] FOLDER [REF]`
+/// `verify [--tags] [--workers N] [--json] FOLDER [REF]`
 pub(crate) const VERIFY: CommandText = CommandText {
     name: "verify",
     aliases: &[],
@@ -94,7 +94,7 @@ pub(crate) const VERIFY: CommandText = CommandText {
          each unreadable entry of `index.json` (73). The status is 1 if it finds a problem.",
     ),
     usage: "ocicp verify [OPTIONS] <FOLDER> [REF]",
-    examples: "Examples:\n  ocicp verify mirror\n  ocicp verify mirror v1",
+    examples: "Examples:\n  ocicp verify mirror\n  ocicp verify --tags mirror\n  ocicp verify mirror v1",
 };
 
 /// `explain [--json] ERROR`
@@ -124,14 +124,26 @@ pub(crate) fn tree_referrers() -> Argument {
 }
 
 /// The arguments of `verify`; `most_workers` bounds `--workers`.
-pub(crate) fn verify_arguments(most_workers: u32) -> [Argument; 5] {
+pub(crate) fn verify_arguments(most_workers: u32) -> [Argument; 6] {
     [
+        verify_tags(),
         workers_that_read(most_workers),
         hint(),
         json(),
         folder(),
         checked_reference(),
     ]
+}
+
+/// `--tags` of `verify`
+fn verify_tags() -> Argument {
+    let help =
+        "Then prints `broken` for each tag that reaches a missing or damaged blob, in byte order, with the \
+         first such blob by media type and digest. Not with REF";
+    Argument {
+        conflicts: &["reference"],
+        ..flag("tags", help)
+    }
 }
 
 /// `--artifact-type` of `predecessors`

@@ -1,3 +1,4 @@
+use crate::set::set_of;
 use crate::tree::{Labels, Node, Platforms, Stated};
 use oci_digest::NoMemory;
 use oci_manifest::{Key, Kind, artifact_type};
@@ -326,13 +327,4 @@ impl<'w, 'l, A: GraphSource> Walk<'w, 'l, A> {
 /// nothing. An index is not, since its lines would lack the platforms.
 fn is_passed_over(kind: Kind, fault: FetchFault) -> bool {
     fault != FetchFault::Memory && !matches!(kind, Kind::Index | Kind::DockerList)
-}
-
-/// Returns a set of keys.
-fn set_of(alloc: Global, keys: &[Key]) -> Result<BTreeSet<Key>, NoMemory> {
-    let mut set = BTreeSet::new(alloc);
-    for key in keys {
-        set.insert(key.try_clone()?)?;
-    }
-    Ok(set)
 }

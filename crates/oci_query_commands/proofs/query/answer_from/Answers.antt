@@ -55,7 +55,7 @@ returns-in-Verify-clause-written g c = OnOk-other _ c.print_verified.result (is_
 -- a `verify` of a whole layout, or of what a reference reaches
 pub returns-in-Verify-clause-verified : goal.returns-in-Verify-clause-verified
 returns-in-Verify-clause-verified g c =
-    IfOk-weaker c.print_verified.result _ _ (λ outcome whole is. whole (no_reference _ _ _ _ c.in-Verify.is is)) c.print_verified.ensures.whole
+    IfOk-weaker c.print_verified.result _ _ (λ outcome whole is. whole (no_reference _ _ _ _ _ c.in-Verify.is is)) c.print_verified.ensures.whole
 
 pub returns-in-Verify-clause-below : goal.returns-in-Verify-clause-below
 returns-in-Verify-clause-below g c =

@@ -25,18 +25,18 @@ pub returns-in-Some-clause-printed : goal.returns-in-Some-clause-printed
 returns-in-Some-clause-printed g c = λ lines.
     let layout = c.args.layout.now in
     let named : option_copied c.args.reference ≡ Some c.in-Some.name.now = ap option_copied c.in-Some.is in
-    subst (λ (o : Option (List ℕ)). OnOk c.print_findings_below.result (PrintsFindings (g.D.Dir.device layout.dir) layout.graph layout.tags layout.opened o (g.W.Write.contents c.args.out.now) (g.W.Write.contents c.print_findings_below.new.out))) (sym named)
+    subst (λ (o : Option (List ℕ)). OnOk c.print_findings_below.result (PrintsFindings (g.D.Dir.device layout.dir) layout.graph layout.tags layout.opened o c.args.lists_broken (g.W.Write.contents c.args.out.now) (g.W.Write.contents c.print_findings_below.new.out))) (sym named)
     (c.print_findings_below.ensures.printed lines)
 
 pub returns-in-None-clause-whole : goal.returns-in-None-clause-whole
-returns-in-None-clause-whole g c = IfOk-weaker c.print_findings.result _ _ (λ outcome exact none. exact) c.print_findings.ensures.outcome
+returns-in-None-clause-whole g c = IfOk-weaker c.print_whole.result _ _ (λ outcome exact none. exact) c.print_whole.ensures.outcome
 
 pub returns-in-None-clause-below : goal.returns-in-None-clause-below
-returns-in-None-clause-below g c = IfOk-other _ c.print_findings.result (option_copied c.args.reference) (ap option_copied c.in-None.is)
+returns-in-None-clause-below g c = IfOk-other _ c.print_whole.result (option_copied c.args.reference) (ap option_copied c.in-None.is)
 
 pub returns-in-None-clause-printed : goal.returns-in-None-clause-printed
 returns-in-None-clause-printed g c = λ lines.
     let layout = c.args.layout.now in
     let none : option_copied c.args.reference ≡ None = ap option_copied c.in-None.is in
-    subst (λ (o : Option (List ℕ)). OnOk c.print_findings.result (PrintsFindings (g.D.Dir.device layout.dir) layout.graph layout.tags layout.opened o (g.W.Write.contents c.args.out.now) (g.W.Write.contents c.print_findings.new.out))) (sym none)
-    (c.print_findings.ensures.printed lines)
+    subst (λ (o : Option (List ℕ)). OnOk c.print_whole.result (PrintsFindings (g.D.Dir.device layout.dir) layout.graph layout.tags layout.opened o c.args.lists_broken (g.W.Write.contents c.args.out.now) (g.W.Write.contents c.print_whole.new.out))) (sym none)
+    (c.print_whole.ensures.printed lines)
