@@ -327,7 +327,7 @@ def from_pipe(room):
     os.mkdir(room + "/temporary")
     for command in ALL:
         yield "a pipe, " + command, wrong_piped(room, archive, command)
-    for target in "made.tar", "-":
+    for target in "piped.tar", "-":
         yield "a pipe, copy --archive to " + target, wrong_export(room, archive, target)
     yield "a pipe, repair", wrong_repair(room, archive, ["-"], "held 9 repaired 1 bytes 3 missing 0")
     yield "a pipe, repair from it twice", wrong_repair(room, archive, ["-", "-"], None)

@@ -127,7 +127,7 @@ def by_hand(room):
 def links(room):
     """Check links in the places of blobs. Each is removed itself, and its target stays."""
     write_case(room + "/layout", Case([E, FOO, M2, M3], {"new": M2}, [M3]))
-    targets = {"to a file": "secret", "to a folder": "room", "to nothing": "nothing", "to a blob": "layout/" + blob(FOO)}
+    targets = {"to a file": "secret", "to a folder": "room", "to nothing": "nothing"}
     with open(room + "/secret", "wb") as file:
         file.write(BAR.bytes)
     os.makedirs(room + "/room")
@@ -138,7 +138,7 @@ def links(room):
     shutil.copy("%s/layout/%s" % (room, blob(E)), room + "/config")
     os.remove("%s/layout/%s" % (room, blob(E)))
     os.symlink(room + "/config", "%s/layout/%s" % (room, blob(E)))
-    for flags, counts in zip(FORMS, [(4, 0), (2, 2)]):
+    for flags, counts in zip(FORMS, [(3, 0), (2, 2)]):
         prune = Prune(room + "/layout", bool(flags))
         right = (len(prune.gone), len(prune.removed)) == counts
         yield " ".join(["links in the places of blobs, by the rules", *flags]), None if right else "%s" % prune.gone

@@ -26,6 +26,7 @@ DIGEST = re.compile(r"sha256:[0-9a-f]{64}|sha512:[0-9a-f]{128}")
 BLOB = re.compile(r"blobs/(sha256/[0-9a-f]{64}|sha512/[0-9a-f]{128})")
 DRAFT = re.compile(r"(%s|index\.json|oci-layout)\.[0-9a-f]{16}\.new" % BLOB.pattern)
 LINKS = ["blobs", "blobs/sha256", "blobs/sha512"]
+BLOB_NAME = re.compile(r"[0-9a-f]{64}|[0-9a-f]{128}")
 
 # Keys are in this order.
 Key = namedtuple("Key", "media_type digest size")
@@ -169,6 +170,16 @@ def texts_of(key):
     return {whole, whole[: len("sha512-") + 64]}
 
 
+def is_linked(folder, path):
+    """Return whether a folder of blobs is a link, or has a blob that is a link to a file with the name of another blob."""
+    place = "%s/%s" % (folder, path)
+    if os.path.islink(place) or not os.path.isdir(place):
+        return os.path.islink(place)
+    links = [it for it in os.listdir(place) if BLOB.fullmatch("%s/%s" % (path, it)) and os.path.islink("%s/%s" % (place, it))]
+    targets = {it: os.path.basename(os.readlink("%s/%s" % (place, it))) for it in links}
+    return any(target != it and BLOB_NAME.fullmatch(target) for it, target in targets.items())
+
+
 class Prune:
     """A prune of a layout, with `--untagged` or without. Drafts at these paths are still written."""
 
@@ -204,7 +215,7 @@ class Prune:
             *("96 Unknown " + text(it) for it in held.absent),
             *("73 BadIndex 14 BadDescriptor manifests %d" % it for it in held.unreadable[:1]),
             *("96 Unknown " + text(it) for it in self.lacking()),
-            *["98 LinkedBlobs " + it for it in LINKS if os.path.islink("%s/%s" % (folder, it))][:1],
+            *["98 LinkedBlobs " + it for it in LINKS if is_linked(folder, it)][:1],
             *(["97 NoTags"] if untagged and not held.tags else []),
         ]
         self.out = "".join(it + "\n" for it in self.lines)
