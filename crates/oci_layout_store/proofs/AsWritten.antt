@@ -1,5 +1,5 @@
 -- What a layout remembers that is opened, as it is written, from the files that a save wrote.
-use Rattle.std.proofs.Common.{◌≡◌, ℕ, true, false, is_some, inl, inr, List, [], ◌∷◌, Option, Some, None, Result, Ok, Err, refl, sym, ap, subst, ◌∙◌}
+use Rattle.std.proofs.Common.{◌≡◌, ℕ, true, false, is_some, inl, inr, List, [], ◌∷◌, map, Option, Some, None, Result, Ok, Err, refl, sym, ap, subst, ◌∙◌}
 use Rattle.std.specs.Prelude.{Contains, IsOk, IsSome}
 use Rattle.std.specs.List.{All}
 use Rattle.std.specs.Map.{keys_of, values_of}
@@ -17,15 +17,17 @@ use Rattle.oci_store.proofs.Lookups.{found, All-value_at, Contains-from_has_key}
 use Rattle.oci_layout_store.specs.Blobs.{IsSound, blob_at, blob_path, stored}
 use Rattle.oci_dir.specs.Device.{File}
 use Rattle.oci_layout_store.specs.Entries.{absent_in, IndexContent, IndexEntry, IsIndex, IsIndexFile, entry_keys, owned, said}
-use Rattle.oci_layout_store.specs.Law.{IsWhole, OpensAsWritten}
+use Rattle.oci_layout_store.specs.Law.{IsMeant, OpensAsWritten}
+use Rattle.oci_layout_store.specs.Meant.{meant, meant_entry}
 use Rattle.oci_layout_store.specs.Opened.{IsWalk, held_in, holds, is_there, is_whole, listed_in, lists}
 use Rattle.oci_layout_store.specs.Saved.{AreLoose, IsTop, saved_entries, is_left}
 use Rattle.oci_layout_store.proofs.Law.{Contains_among, Lists, all_from, both_true, covered, each_lists, has_held, listed_held, same_values, some_listed, visited_all}
+use Rattle.oci_layout_store.proofs.MeantEntries.{meant-new, stated, stated_compact, stated_meant, stated_whole}
 use Rattle.oci_layout_store.proofs.Read.{one_index}
 use Rattle.oci_layout_store.proofs.SavedAll.{all_saved}
 use Rattle.oci_layout_store.proofs.Stored.{value_at-stored}
 use Rattle.oci_layout_store.proofs.Walk.{all_held, leaf_or, leaf_whole, manifest_whole, unheld_lists}
-use Rattle.oci_layout_store.proofs.Written.{reads_as_written, whole-new}
+use Rattle.oci_layout_store.proofs.Written.{reads_as_written}
 use Rattle.oci_layout_store.proofs.SavedTags.{saved_tags, saved_top, starts_left}
 use Rattle.oci_layout_store.proofs.SavedTwice.{saved_twice}
 
@@ -76,7 +78,7 @@ same_edge file graph again are lists_again same p k edge =
     (edge.0, it.1 ∙ ap Some is, edge.2)
 
 pub opens_as_written : OpensAsWritten
-opens_as_written file graph again tags tags_again opened memory are names_ok sorted closed sound whole unheld gone files is_opened =
+opens_as_written file graph again tags tags_again opened memory are names_ok sorted closed sound remembered same unheld gone files is_opened =
     let idx = files.index in
     let loose : List Descriptor = idx.loose in
     let entries : List IndexEntry = (said opened.content).entries in
@@ -84,14 +86,23 @@ opens_as_written file graph again tags tags_again opened memory are names_ok sor
     let visited = is_opened.read.walked.visited in
     let G : Descriptor → Type 0 = λ (k : Descriptor). has_key graph k ≡ true in
     let Q : Descriptor → Type 0 = λ (k : Descriptor). has_key graph k ≡ false → is_whole file k ≡ false in
-    let key_ok : (k : Descriptor) → G k → IsKey k = λ k h. All-contains IsKey (keys_of graph) k are (Contains-from_has_key graph k h) in
+    let Own : Descriptor → Type 0 = λ (k : Descriptor). IsKey k × (meant file k ≡ k) in
+    let key_ok : (k : Descriptor) → G k → Own k = λ k h. (
+        All-contains IsKey (keys_of graph) k are (Contains-from_has_key graph k h),
+        All-contains (λ (j : Descriptor). meant file j ≡ j) (keys_of graph) k same (Contains-from_has_key graph k h),
+    ) in
     let held_ok : (k : Descriptor) → G k → Q k = λ k h g. cc (h, g) in
     let loose_held : All G loose = all_from G loose (λ k c. ((idx.are_loose.each k).0 c).0.is_there) in
-    let all_whole : All IsWhole written =
-    all_saved IsWhole IsKey whole-new opened.absent entries graph tags loose whole (All-weaker G IsKey key_ok (values_of tags) names_ok.held) (All-weaker G IsKey key_ok loose loose_held) in
-    let back = reads_as_written idx.bytes (record { entries = written; members = (said opened.content).members }) all_whole idx.is_index in
-    let read : IsIndex true idx.bytes (said memory.content) = subst (λ (o : Option (List ℕ)). IsIndexFile true o (said memory.content)) idx.is_there is_opened.read.index in
-    let entries_are : (said memory.content).entries ≡ written = ap (λ (i : IndexContent). i.entries) (one_index true idx.bytes (said memory.content) back.0 read back.1) ∙ back.2 in
+    let all : All (IsMeant file) written =
+    all_saved (IsMeant file) Own (meant-new file) opened.absent entries graph tags loose remembered (All-weaker G Own key_ok (values_of tags) names_ok.held) (All-weaker G Own key_ok loose loose_held) in
+    let index = is_opened.read.index in
+    let compact = stated_compact idx.bytes written (said opened.content).members idx.is_index in
+    let back = reads_as_written idx.bytes (record { entries = map stated written; members = (said opened.content).members }) (stated_whole file written all) compact in
+    let read : IsIndex true idx.bytes index.stated = subst (λ (o : Option (List ℕ)). IsIndexFile true o index.stated) idx.is_there index.is_stated in
+    let entries_are : (said memory.content).entries ≡ written =
+    ap (λ (i : IndexContent). i.entries) index.is_meant
+    ∙ ap (map (meant_entry file)) (ap (λ (i : IndexContent). i.entries) (one_index true idx.bytes index.stated back.0 read back.1) ∙ back.2)
+    ∙ stated_meant file written all in
     let starts : List Descriptor = entry_keys written in
     let are_listed = each_lists file graph graph refl sound.listed in
     let walk : IsWalk true file starts visited = subst (λ (es : List IndexEntry). IsWalk true file (entry_keys es) visited) entries_are is_opened.read.walked.walk in
@@ -106,24 +117,24 @@ opens_as_written file graph again tags tags_again opened memory are names_ok sor
       | inr lost ↦ subst (λ (ks : List Descriptor). All Q ks) (sym (unheld_lists true file k (q lost))) (All-nil Q)
     ] in
     let seen : All Q visited = visited_all Q true file starts visited starts_ok listed_ok walk.is_visiting in
-    let all : All (λ (n : Node). G n.0) again = subst (λ (g : List Node). All (λ (n : Node). G n.0) g) (sym is_opened.read.walked.held) (all_kept graph file visited seen) in
+    let all_held_again : All (λ (n : Node). G n.0) again = subst (λ (g : List Node). All (λ (n : Node). G n.0) g) (sym is_opened.read.walked.held) (all_kept graph file visited seen) in
     let there : (k : Descriptor) → G k → holds true file k ≡ true = sound_whole file graph sound in
     let tops : (h : Descriptor) → has_key graph h ≡ true → IsTop graph h → Contains starts h = saved_top opened.absent entries graph tags loose idx.are_loose in
     let same_keys : (k : Descriptor) → has_key again k ≡ has_key graph k =
     λ k. both_true (has_key again k) (has_key graph k)
-    (λ h. (let it = found again k h in All-value_at (λ (n : Node). G n.0) again k it.0 all it.1))
+    (λ h. (let it = found again k h in All-value_at (λ (n : Node). G n.0) again k it.0 all_held_again it.1))
     (λ h. subst (λ (g : List Node). has_key g k ≡ true) (sym is_opened.read.walked.held) (has_held true file visited k (covered true file graph starts visited tops are_listed there walk k h) (there k h))) in
     let lists_again : All (Lists file) again = subst (λ (g : List Node). All (Lists file) g) (sym is_opened.read.walked.held) (held_list file visited) in
     let tags_are : tags_again ≡ tags =
     is_opened.tagged ∙ ap (λ (es : List IndexEntry). owned again es []) entries_are ∙ saved_tags opened.absent entries graph tags loose idx.are_loose again same_keys unheld names_ok sorted in
-    let remembered : List IndexEntry = (said memory.content).entries in (
+    let found_entries : List IndexEntry = (said memory.content).entries in (
       λ k. same_values file again graph k (same_keys k),
       tags_are,
       entries_are,
       λ found_loose are_found.
           let of_written : AreLoose again tags written found_loose =
-          subst (λ (es : List IndexEntry). AreLoose again tags es found_loose) entries_are (subst (λ (ts : Tags). AreLoose again ts remembered found_loose) tags_are are_found) in
-          ap (λ (a : List Descriptor). saved_entries a remembered again tags_again found_loose) is_opened.read.absent_is
+          subst (λ (es : List IndexEntry). AreLoose again tags es found_loose) entries_are (subst (λ (ts : Tags). AreLoose again ts found_entries found_loose) tags_are are_found) in
+          ap (λ (a : List Descriptor). saved_entries a found_entries again tags_again found_loose) is_opened.read.absent_is
           ∙ ap (λ (es : List IndexEntry). saved_entries (absent_in again (entry_keys es)) es again tags_again found_loose) entries_are
           ∙ ap (λ (ts : Tags). saved_entries (absent_in again (entry_keys written)) written again ts found_loose) tags_are
           ∙ saved_twice opened.absent entries graph tags loose idx.are_loose again same_keys unheld names_ok sorted (same_edge file graph again are_listed lists_again same_keys) found_loose of_written

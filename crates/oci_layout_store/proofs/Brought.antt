@@ -1,27 +1,29 @@
 -- Entries with another name, and the entries that stay and come when some are brought.
-use Rattle.std.proofs.Common.{◌≡◌, ◌≤◌, ℕ, Bool, true, false, cond, not, inl, inr, List, [], ◌∷◌, ◌++◌, ◌||◌, length, drop, map, filter, codes, Option, Some, None, Ordering, Less, Equal, Greater, nat_cmp, refl, sym, ap, subst, ◌∙◌, arith}
+use Rattle.std.proofs.Common.{◌≡◌, ◌≤◌, ℕ, Bool, true, false, cond, not, inl, inr, List, [], ◌∷◌, ◌++◌, ◌||◌, length, drop, map, filter, codes, Option, Some, None, option_map, Ordering, Less, Equal, Greater, nat_cmp, refl, sym, ap, subst, ◌∙◌, arith}
 use Rattle.std.specs.Prelude.{◌↔◌, Contains, option_and_then}
 use Rattle.std.specs.BTreeSet.{BTreeSet, contains}
 use Rattle.std.specs.Cmp.Lexicographic.{slice_cmp}
 use Rattle.std.specs.List.{All}
-use Rattle.std.specs.Option.{unwrap_or}
+use Rattle.std.specs.Option.{option_map_or, unwrap_or}
 use Rattle.std.specs.Ordering.{is_eq, match_ordering}
 use Rattle.std.specs.Str.{bytes_eq}
 use Rattle.std.proofs.lemmas.Bool.{cases_Bool}
 use Rattle.std.proofs.lemmas.List.{append-nil, drop_all, map-append}
-use Rattle.std.proofs.lemmas.List.Elements.{All-append, All-filter, filter-append}
+use Rattle.std.proofs.lemmas.List.Elements.{All-head, All-tail, All-nil, All-cons, All-append, All-filter, filter-append}
 use Rattle.std.proofs.lemmas.Map.Text.{is_eq-slice_cmp}
 use Rattle.std.proofs.lemmas.Slice.Eq.{bytes_eq-Decides}
-use Rattle.serde_json.specs.Data.{Data, null, boolean, number, string, array, object, Members, no_members, member, put, depth, members_depth}
+use Rattle.serde_json.specs.Data.{Data, null, boolean, number, string, array, object, unsigned, Members, no_members, member, put, depth, members_depth}
 use Rattle.serde_json.specs.Find.{get, get_member, as_str}
 use Rattle.serde_json.specs.declared.value.Value.{Value}
 use Rattle.serde_json.proofs.Views.{get_member-put, get_member-put_other}
+use Rattle.oci_dir.specs.Device.{File}
 use Rattle.oci_manifest.specs.Descriptor.{Descriptor, is_among, key_cmp}
 use Rattle.oci_manifest.specs.Reading.{descriptor_of}
 use Rattle.oci_store.proofs.Membership.{Contains-from_among, among_from_Contains}
-use Rattle.oci_layout_store.specs.Brought.{annotations_of, comes, coming, is_free, with_annotations, with_name, IsShallowEntry}
+use Rattle.oci_layout_store.specs.Brought.{annotations_of, comes, coming, is_free, stating, value_stating, with_annotations, with_name, IsShallowEntry}
 use Rattle.oci_layout_store.specs.Entries.{IndexEntry, content_of, entry_of, name_of, object_members, without_member, IsShallow}
-use Rattle.oci_layout_store.specs.Law.{IsWhole}
+use Rattle.oci_layout_store.specs.Law.{IsMeant}
+use Rattle.oci_layout_store.specs.Meant.{meant}
 use Rattle.oci_layout_store.specs.Saved.{no_name, unnamed_keys}
 use Rattle.oci_layout_store.specs.declared.index.IndexEntry.{IndexEntry as CodeEntry}
 use Rattle.oci_layout_store.proofs.Members.{AtMost, get-depth, members_depth-put, members_depth-without, object_members-depth}
@@ -42,6 +44,23 @@ unfolding with_annotations annotations_of
 shallow_with name d h =
     let annotations = with_name-depth name (annotations_of d) (members-at_most (get (codes "annotations") d) (get-depth (codes "annotations") d 124 h)) in
     omega (arith, members_depth-put (codes "annotations") (object (with_name name (annotations_of d))) (object_members d) 124 (omega (arith, annotations)) (object_members-depth d 124 h))
+
+-- ---- nor is one that states its key
+
+value_stating-depth : (k : Descriptor) (d : Data) → depth d ≤ 125 → depth (value_stating k d) ≤ 125
+unfolding value_stating
+value_stating-depth k d h =
+    let size = members_depth-put (codes "size") (number (unsigned k.size)) (object_members d) 124 (omega arith) (object_members-depth d 124 h) in
+    omega (arith, members_depth-put (codes "mediaType") (string k.media_type) (put (codes "size") (number (unsigned k.size)) (object_members d)) 124 (omega arith) size)
+
+stating-depth : (key : Option Descriptor) (d : Data) → depth d ≤ 125 → depth (option_map_or (λ k. value_stating k d) key d) ≤ 125
+stating-depth None d h = h
+stating-depth (Some k) d h = value_stating-depth k d h
+
+pub all_stating : (es : List IndexEntry) → All IsShallowEntry es → All IsShallowEntry (map stating es)
+all_stating [] are = All-nil IsShallowEntry
+all_stating (e ∷ es) are =
+    All-cons IsShallowEntry (stating e) (map stating es) (stating-depth e.key e.value (All-head IsShallowEntry e es are)) (all_stating es (All-tail IsShallowEntry e es are))
 
 -- ---- an entry with another name says what it is
 
@@ -92,9 +111,9 @@ name_set : (name : Option (List ℕ)) (d : Data) (annotations : Members) → nam
 unfolding name_of
 name_set name d annotations = rw (annotations_there d (with_name name annotations)) (name_found name annotations)
 
-pub whole_with : (name : Option (List ℕ)) (e : IndexEntry) → IsWhole e → IsWhole (record { key = e.key; name = name; value = with_annotations e.value (with_name name (annotations_of e.value)) })
-whole_with name e h = record {
-  key_is = descriptor_stays e.value (with_name name (annotations_of e.value)) ∙ h.key_is;
+pub meant_with : (file : File) (name : Option (List ℕ)) (e : IndexEntry) → IsMeant file e → IsMeant file (record { key = e.key; name = name; value = with_annotations e.value (with_name name (annotations_of e.value)) })
+meant_with file name e h = record {
+  key_is = ap (option_map (meant file)) (descriptor_stays e.value (with_name name (annotations_of e.value))) ∙ h.key_is;
   name_is = name_set name e.value (annotations_of e.value);
 }
 
@@ -124,15 +143,15 @@ free_by tagged unnamed keys old is_tagged is_unnamed None = refl
 free_by tagged unnamed keys old is_tagged is_unnamed (Some k) = rw (is_tagged k, is_unnamed k) refl
 
 pub coming_by : (tagged unnamed : BTreeSet Descriptor) (keys : List Descriptor) (old entries : List IndexEntry) → ((k : Descriptor) → (contains key_cmp tagged k ≡ true) ↔ Contains keys k)
-    → ((k : Descriptor) → (contains key_cmp unnamed k ≡ true) ↔ Contains (unnamed_keys old) k) → filter (comes (contains key_cmp tagged) (contains key_cmp unnamed)) entries ≡ coming keys old entries
+    → ((k : Descriptor) → (contains key_cmp unnamed k ≡ true) ↔ Contains (unnamed_keys old) k) → map stating (filter (comes (contains key_cmp tagged) (contains key_cmp unnamed)) entries) ≡ coming keys old entries
 coming_by tagged unnamed keys old entries is_tagged is_unnamed =
-    filter_as (comes (contains key_cmp tagged) (contains key_cmp unnamed)) (comes (is_among keys) (is_among (unnamed_keys old)))
-    (λ e. ap (λ (b : Bool). not (no_name e.name) || b) (free_by tagged unnamed keys (unnamed_keys old) (set_is tagged keys is_tagged) (set_is unnamed (unnamed_keys old) is_unnamed) e.key)) entries
+    ap (map stating) (filter_as (comes (contains key_cmp tagged) (contains key_cmp unnamed)) (comes (is_among keys) (is_among (unnamed_keys old)))
+    (λ e. ap (λ (b : Bool). not (no_name e.name) || b) (free_by tagged unnamed keys (unnamed_keys old) (set_is tagged keys is_tagged) (set_is unnamed (unnamed_keys old) is_unnamed) e.key)) entries)
 
 -- at the end of a loop nothing is left
-pub all_found : (test : IndexEntry → Bool) (es : List CodeEntry) (i : ℕ) (found all : List IndexEntry) → length es ≤ i → found ++ filter test (map entry_of (drop i es)) ≡ all → found ≡ all
+pub all_found : (test : IndexEntry → Bool) (es : List CodeEntry) (i : ℕ) (found all : List IndexEntry) → length es ≤ i → found ++ map stating (filter test (map entry_of (drop i es))) ≡ all → found ≡ all
 all_found test es i found all past h =
-    let none : found ++ [] ≡ all = subst (λ (rest : List CodeEntry). found ++ filter test (map entry_of rest) ≡ all) (drop_all i es past) h in
+    let none : found ++ [] ≡ all = subst (λ (rest : List CodeEntry). found ++ map stating (filter test (map entry_of rest)) ≡ all) (drop_all i es past) h in
     sym (append-nil found) ∙ none
 
 -- the absent keys that stay absent, by sets of the keys

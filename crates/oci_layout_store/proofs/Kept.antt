@@ -1,10 +1,11 @@
 -- What is opened where the files of a layout were left.
-use Rattle.std.proofs.Common.{◌≡◌, ◌&&◌, ℕ, Bool, true, false, cond, not, inl, inr, List, [], ◌∷◌, ◌++◌, map, Option, Some, is_some, option_map, refl, sym, ap, subst, ◌∙◌}
+use Rattle.std.proofs.Common.{◌≡◌, ◌&&◌, ℕ, Bool, true, false, cond, not, inl, inr, List, [], ◌∷◌, ◌++◌, map, Option, Some, None, is_some, option_map, refl, sym, ap, subst, ◌∙◌}
 use Rattle.std.specs.Prelude.{find}
 use Rattle.std.specs.List.{All, filter, flat_map}
 use Rattle.std.specs.Option.{unwrap_or}
 use Rattle.std.proofs.lemmas.Bool.{cases_Bool}
 use Rattle.std.proofs.lemmas.List.Elements.{All-head, All-tail, All-nil, All-cons, All-filter, All-weaker}
+use Rattle.oci_digest.specs.Digest.{verifies}
 use Rattle.oci_manifest.specs.Descriptor.{Descriptor, is_among}
 use Rattle.oci_manifest.specs.MediaTypes.{kind_of}
 use Rattle.oci_store.specs.Closed.{IsClosed}
@@ -16,11 +17,13 @@ use Rattle.oci_store.specs.Visiting.{next_visit, IsVisiting, start, next}
 use Rattle.oci_store.proofs.Lookups.{found, All-value_at}
 use Rattle.oci_layout_store.specs.Blobs.{blob_path, blob_at, stored}
 use Rattle.oci_dir.specs.Device.{File}
-use Rattle.oci_layout_store.specs.Entries.{IndexContent, IsIndexFile, absent_in, entry_keys, said}
+use Rattle.oci_layout_store.specs.Entries.{IndexContent, IndexEntry, IsIndexFile, absent_in, entry_keys, said}
 use Rattle.oci_layout_store.specs.Files.{HasFiles, HasKept}
 use Rattle.oci_layout_store.specs.Law.{OpensAsKept}
 use Rattle.oci_layout_store.specs.Layout.{OpenedIndex}
+use Rattle.oci_layout_store.specs.Meant.{meant, meant_content, meant_entry, meant_in, meant_key, odd_in}
 use Rattle.oci_layout_store.specs.Opened.{any, holds, is_damaged, is_right, listed_in, lists, held_in, IsGood, IsRead}
+use Rattle.oci_layout_store.proofs.EntryKeys.{first_key, key_or_none, no_first_key}
 use Rattle.oci_layout_store.proofs.Lasting.{AgreeAt, stored_same}
 use Rattle.oci_layout_store.proofs.Law.{Lists, listed_held, some_listed, visited_all}
 
@@ -121,6 +124,42 @@ all_agree file left graph same (k ∷ ks) h =
     let it = found graph k (All-head (IsHeld graph) k ks h) in
     All-cons (Agree file left) k ks (All-value_at (AgreeAt file left) graph k it.0 same it.1) (all_agree file left graph same ks (All-tail (IsHeld graph) k ks h))
 
+-- ---- what entries mean
+
+digest_in : (k : Descriptor) (found : Option (List ℕ)) → (meant_in k found).digest ≡ k.digest
+digest_in k None = refl
+digest_in k (Some bytes) = elim (verifies k.digest bytes) as (λ b. (cond b (meant_key k bytes) k).digest ≡ k.digest) [ true ↦ refl | false ↦ refl ]
+
+meant_as : (file left : File) (k : Descriptor) → Agree file left (meant file k) → meant left k ≡ meant file k
+meant_as file left k agree =
+    let same : Agree file left k = subst (λ (digest : List ℕ). left (blob_path digest) ≡ file (blob_path digest)) (digest_in k (odd_in k (file (blob_path k.digest)))) agree in
+    ap (λ (found : Option (List ℕ)). meant_in k (odd_in k found)) same
+
+-- an entry means the same if the file of the key that it means is the same
+abbrev KeyAgrees : File → File → Option Descriptor → Type 0
+KeyAgrees file left key = (k : Descriptor) → key ≡ Some k → Agree file left k
+
+key_as : (file left : File) (key : Option Descriptor) → KeyAgrees file left (option_map (meant file) key) → option_map (meant left) key ≡ option_map (meant file) key
+key_as file left None agree = refl
+key_as file left (Some k) agree = ap Some (meant_as file left k (agree (meant file k) refl))
+
+entries_as : (file left : File) (es : List IndexEntry) → All (Agree file left) (entry_keys (map (meant_entry file) es)) → map (meant_entry left) es ≡ map (meant_entry file) es
+entries_as file left [] h = refl
+entries_as file left (e ∷ es) h =
+    let first : IndexEntry = meant_entry file e in
+    let rest : List IndexEntry = map (meant_entry file) es in
+    let agree : KeyAgrees file left first.key = λ k is. All-head (Agree file left) k (entry_keys rest) (subst (All (Agree file left)) (first_key first rest k is) h) in
+    let more : All (Agree file left) (entry_keys rest) = elim (key_or_none first.key) [
+      | inl it ↦ All-tail (Agree file left) it.0 (entry_keys rest) (subst (All (Agree file left)) (first_key first rest it.0 it.1) h)
+      | inr none ↦ subst (All (Agree file left)) (no_first_key first rest none) h
+    ] in
+    ap (λ (key : Option Descriptor). record { key = key; name = e.name; value = e.value } ∷ map (meant_entry left) es) (key_as file left e.key agree)
+    ∙ ap (λ (others : List IndexEntry). first ∷ others) (entries_as file left es more)
+
+meant_same : (as_is : Bool) (file left : File) (stated : IndexContent) → All (Agree file left) (entry_keys (meant_content as_is file stated).entries) → meant_content as_is left stated ≡ meant_content as_is file stated
+meant_same true file left stated h = ap (λ (es : List IndexEntry). record { entries = es; members = stated.members }) (entries_as file left stated.entries h)
+meant_same false file left stated h = refl
+
 -- ---- what is opened
 
 read_kept : (as_is : Bool) (file left : File) (graph : List Node) (absent damaged : List Descriptor) (content : IndexContent) → IsClosed graph → HasKept file left graph → absent ≡ []
@@ -139,7 +178,11 @@ read_kept as_is file left graph absent damaged content closed kept none read =
     (All-weaker (Agree file left) (λ (k : Descriptor). is_damaged as_is left k ≡ is_damaged as_is file k) (λ k same. damaged_same as_is file left k same) visited here) in
     record {
       layout = record { bytes = read.layout.bytes; is_there = kept.layout ∙ read.layout.is_there; version = read.layout.version };
-      index = subst (λ (o : Option (List ℕ)). IsIndexFile as_is o content) (sym kept.index) read.index;
+      index = record {
+        stated = read.index.stated;
+        is_stated = subst (λ (o : Option (List ℕ)). IsIndexFile as_is o read.index.stated) (sym kept.index) read.index.is_stated;
+        is_meant = read.index.is_meant ∙ sym (meant_same as_is file left read.index.stated (subst (λ (c : IndexContent). All (Agree file left) (entry_keys c.entries)) read.index.is_meant (agree keys starts)));
+      };
       walked = record {
         visited = visited;
         walk = record {

@@ -20,7 +20,7 @@ use Rattle.oci_store.specs.Tags.{set_tag}
 use Rattle.oci_layout_store.specs.Blobs.{blob_path}
 use Rattle.oci_layout_store.specs.Entries.{IndexContent, IndexEntry, IsIndex, IsIndexFile, ReadIndex, absent_in, entry_keys, named, said}
 use Rattle.oci_layout_store.proofs.Opened.{tag_named-set, absent_in-held}
-use Rattle.oci_layout_store.proofs.Read.{index_as_is, one_index}
+use Rattle.oci_layout_store.proofs.Read.{index_as_is, one_index, strictly_stated}
 use Rattle.oci_layout_store.proofs.SavedAll.{all_saved}
 use Rattle.oci_layout_store.proofs.Written.{reads_as_written, whole-new}
 use Rattle.oci_manifest.proofs.Keys.{Decides-same_key}
@@ -271,7 +271,7 @@ opens_as_saved file graph again tags tags_again remembered memory are names_ok s
     let whole : All IsWhole entries =
     all_saved IsWhole IsKey whole-new remembered.absent [] graph tags loose (All-nil IsWhole) (All-weaker G IsKey key_ok (values_of tags) names_ok.held) (All-weaker G IsKey key_ok loose loose_held) in
     let saved = reads_as_written idx.bytes (record { entries = entries; members = members }) whole compact in
-    let strict : IsIndex false idx.bytes opened.content = subst (λ (o : Option (List ℕ)). IsIndexFile false o opened.content) idx.is_there opened.read.index in
+    let strict : IsIndex false idx.bytes opened.content = subst (λ (o : Option (List ℕ)). IsIndexFile false o opened.content) idx.is_there (strictly_stated file opened.content opened.read.index) in
     let read : IsIndex true idx.bytes opened.content = index_as_is false idx.bytes opened.content strict in
     let entries_are : opened.content.entries ≡ entries = ap (λ (i : IndexContent). i.entries) (one_index true idx.bytes opened.content saved.0 read saved.1) ∙ saved.2 in
     let keys_is : entry_keys opened.content.entries ≡ starts = ap entry_keys entries_are ∙ saved_keys tags loose in

@@ -13,6 +13,7 @@ pub mod LastNames
 pub mod Lasting
 pub mod Law
 pub mod Loose
+pub mod MeantEntries
 pub mod Members
 pub mod Noted
 pub mod Opened

@@ -9,7 +9,10 @@ use Rattle.oci_manifest.specs.Descriptor.{Descriptor}
 use Rattle.oci_manifest.specs.Fault.{Fault}
 use Rattle.oci_manifest.specs.Reading.{◌>>=◌, index_keys}
 use Rattle.oci_layout_store.specs.Entries.{IndexContent, IndexEntry, IsIndex, IsIndexFile, entries_as_is, entries_in, entry_of_value, index_elements, index_entries, name_of, object_members, without_member}
+use Rattle.oci_dir.specs.Device.{File}
+use Rattle.oci_layout_store.specs.Index.{index_file}
 use Rattle.oci_layout_store.specs.Law.{IsWhole}
+use Rattle.oci_layout_store.specs.Opened.{IsMeantFile}
 
 of_elements : (r : Result Items Fault) (entries : List IndexEntry) → (r >>= λ ds. Ok (entries_in ds)) ≡ Ok entries → (ds : Items) × (r ≡ Ok ds) × (entries ≡ entries_in ds)
 of_elements (Ok ds) entries h = (ds, refl, cc h)
@@ -53,6 +56,12 @@ whole_read as_is None content h = subst (λ (c : IndexContent). All IsWhole c.en
 whole_read as_is (Some bytes) content h =
     let read = read_elements as_is h.0 h.1 h.3 in
     subst (λ (c : IndexContent). All IsWhole c.entries) (sym h.4) (subst (All IsWhole) (sym read.2) (whole_in read.0))
+
+-- ---- an index file
+
+-- what an index file says that is read strictly is what it states
+pub strictly_stated : (file : File) (content : IndexContent) → IsMeantFile false file content → IsIndexFile false (file index_file) content
+strictly_stated file content read = subst (IsIndexFile false (file index_file)) (sym read.is_meant) read.is_stated
 
 -- ---- whole entries are those of their values
 

@@ -16,9 +16,11 @@ use Rattle.oci_dir.specs.Device.{Device, File, IsSizedRead}
 use Rattle.oci_layout_store.specs.Entries.{IndexContent, IsIndexFile, elements_of, entries_as_is, entries_in, entry_keys, index_elements, index_entries}
 use Rattle.oci_layout_store.specs.Faults.{of_index}
 use Rattle.oci_layout_store.specs.Index.{index_file, HasLayoutFile}
+use Rattle.oci_layout_store.specs.Opened.{IsMeantFile}
 use Rattle.oci_layout_store.specs.Refusal.{HasBadIndex, IsCorrupt, IsUnread, IsBytesFault, IsDamage, IsManifestFault, IsNextVisited, IsOpenAsIsFault, IsOpenFault, IsOpenFaultBy, IsWalkFault, index_in}
 use Rattle.oci_layout_store.specs.declared.fault.LayoutFault.{LayoutFault}
 use Rattle.oci_layout_store.specs.declared.fault.LayoutFault.TheVariants as fault
+use Rattle.oci_layout_store.proofs.Read.{strictly_stated}
 
 -- a bad index, or no memory, is why a directory is not opened, as it is or not
 by_index : (as_is : Bool) (dir : Device) (e : ManifestFault) → (dir.is_honest → HasLayoutFile dir.file × HasBadIndex as_is dir.file e) → IsOpenFaultBy as_is dir (fault.BadIndex e)
@@ -145,7 +147,7 @@ calm_opening dir is_next fault.Memory calm h = tt
 calm_opening dir is_next (fault.BadManifest k e) calm h = absurd (calm tt)
 calm_opening dir is_next rest calm h = absurd h
 
-pub opening_fault : (as_is : Bool) (dir : Device) (content : IndexContent) (e : LayoutFault) → (dir.is_honest → HasLayoutFile dir.file) → (dir.is_honest → IsIndexFile as_is (dir.file index_file) content)
+pub opening_fault : (as_is : Bool) (dir : Device) (content : IndexContent) (e : LayoutFault) → (dir.is_honest → HasLayoutFile dir.file) → (dir.is_honest → IsMeantFile as_is dir.file content)
     → IsWalkFault as_is dir (IsNextVisited dir.file (entry_keys content.entries)) e → IsOpenFaultBy as_is dir e
 opening_fault true dir content e stated index h = calm_opening dir (IsNextVisited dir.file (entry_keys content.entries)) e (λ damage. cc (h.strict damage)) h.cause
-opening_fault false dir content e stated index h = strict_fault dir content e stated index h.cause
+opening_fault false dir content e stated index h = strict_fault dir content e stated (λ is. strictly_stated dir.file content (index is)) h.cause

@@ -1,8 +1,8 @@
 -- What a layout remembers of its index after entries of another index are brought into it.
-use Rattle.std.specs.Prelude.{◌≡◌, ◌≤◌, ℕ, Bool, true, false, ◌||◌, not, List, [], ◌∷◌, ◌++◌, filter, codes, Option, Some, None, is_none, is_some, if◌then◌else◌}
+use Rattle.std.specs.Prelude.{◌≡◌, ◌≤◌, ℕ, Bool, true, false, ◌||◌, not, List, [], ◌∷◌, ◌++◌, filter, map, codes, Option, Some, None, is_none, is_some, if◌then◌else◌}
 use Rattle.std.specs.Map.{values_of}
-use Rattle.std.specs.Option.{unwrap_or}
-use Rattle.serde_json.specs.Data.{Data, null, object, string, put, Members, depth}
+use Rattle.std.specs.Option.{option_map_or, unwrap_or}
+use Rattle.serde_json.specs.Data.{Data, null, object, string, number, unsigned, put, Members, depth}
 use Rattle.serde_json.specs.Find.{get}
 use Rattle.oci_manifest.specs.Descriptor.{Descriptor, is_among}
 use Rattle.oci_store.specs.Tags.{Tags}
@@ -62,9 +62,17 @@ is_free tagged unnamed (Some k) = not (tagged k || unnamed k)
 abbrev pub comes : (Descriptor → Bool) → (Descriptor → Bool) → IndexEntry → Bool
 comes tagged unnamed e = not (no_name e.name) || is_free tagged unnamed e.key
 
--- those of these entries that come
+-- a descriptor with the media type and the size of a key
+unfoldable pub value_stating : Descriptor → Data → Data
+value_stating k d = object (put (codes "mediaType") (string k.media_type) (put (codes "size") (number (unsigned k.size)) (object_members d)))
+
+-- an entry whose value states its key, which it may only mean
+abbrev pub stating : IndexEntry → IndexEntry
+stating e = record { key = e.key; name = e.name; value = option_map_or (λ k. value_stating k e.value) e.key e.value }
+
+-- those of these entries that come; the value of each states its key
 abbrev pub coming : List Descriptor → List IndexEntry → List IndexEntry → List IndexEntry
-coming tagged old entries = filter (comes (is_among tagged) (is_among (unnamed_keys old))) entries
+coming tagged old entries = map stating (filter (comes (is_among tagged) (is_among (unnamed_keys old))) entries)
 
 -- those of the absent or damaged keys that stay so: an entry that stays has the key, or none had it
 abbrev pub still_absent : List IndexEntry → List IndexEntry → List Descriptor → List Descriptor

@@ -1,6 +1,6 @@
 -- The laws of an index that is read as it was written, of opening after a save, and of keys with
 -- one digest.
-use Rattle.std.specs.Prelude.{◌≡◌, ℕ, false, true, List, [], Some}
+use Rattle.std.specs.Prelude.{◌≡◌, ℕ, false, true, List, [], Some, option_map}
 use Rattle.std.specs.Cmp.Lexicographic.{slice_cmp}
 use Rattle.std.specs.List.{All}
 use Rattle.std.specs.List.Sorted.{IsStrictlySortedBy}
@@ -18,12 +18,19 @@ use Rattle.oci_layout_store.specs.Entries.{IndexContent, IndexEntry, IsIndex, na
 use Rattle.oci_layout_store.specs.Files.{HasFiles, HasKept}
 use Rattle.oci_layout_store.specs.Index.{IsCompact, index_value}
 use Rattle.oci_layout_store.specs.Layout.{OpenedIndex}
+use Rattle.oci_layout_store.specs.Meant.{meant}
 use Rattle.oci_layout_store.specs.Opened.{IsOpened, IsOpenedAsIs, is_whole}
 use Rattle.oci_layout_store.specs.Saved.{AreLoose, saved_entries}
 
 -- an entry says what it is: its value is the descriptor of its key, or none, and has its name
 pub record IsWhole (e : IndexEntry) : Type 0 where
   pub key_is : descriptor_of e.value ≡ e.key
+  pub name_is : name_of e.value ≡ e.name
+
+-- an entry says in these files what it means: its value is a descriptor that means its key, or none,
+-- and has its name
+pub record IsMeant (file : File) (e : IndexEntry) : Type 0 where
+  pub key_is : option_map (meant file) (descriptor_of e.value) ≡ e.key
   pub name_is : name_of e.value ≡ e.name
 
 -- an index that is written of these entries has them when it is read
@@ -40,19 +47,20 @@ OpensAsSaved = (file : File) (graph again : List Node) (tags tags_again : Tags) 
 
 -- a layout opened as it is from the files of a closed sound layout has the same bytes under
 -- each key and the same tags, remembers the entries that were written, and writes them when it is
--- saved, if none of the keys that were absent is held or has a whole file
+-- saved, if none of the keys that were absent is held or has a whole file, and each entry and each
+-- held key still means what it meant
 abbrev pub OpensAsWritten : Type 0
 OpensAsWritten = (file : File) (graph again : List Node) (tags tags_again : Tags) (opened memory : OpenedIndex) → All IsKey (keys_of graph) → AreNames graph tags
-    → IsStrictlySortedBy (slice_cmp nat_cmp) (keys_of tags) → IsClosed graph → IsSound (Unit {0}) file graph → All IsWhole (said opened.content).entries
-    → All (λ (k : Descriptor). has_key graph k ≡ false) opened.absent → All (λ (k : Descriptor). is_whole file k ≡ false) opened.absent
+    → IsStrictlySortedBy (slice_cmp nat_cmp) (keys_of tags) → IsClosed graph → IsSound (Unit {0}) file graph → All (IsMeant file) (said opened.content).entries
+    → All (λ (k : Descriptor). meant file k ≡ k) (keys_of graph) → All (λ (k : Descriptor). has_key graph k ≡ false) opened.absent → All (λ (k : Descriptor). is_whole file k ≡ false) opened.absent
     → (files : HasFiles file (stored file graph) graph tags opened) → IsOpenedAsIs file again tags_again memory → ((k : Descriptor) → value_at (stored file again) k ≡ value_at (stored file graph) k)
     × (tags_again ≡ tags) × ((said memory.content).entries ≡ saved_entries opened.absent (said opened.content).entries graph tags files.index.loose)
     × ((loose : List Descriptor) → AreLoose again tags_again (said memory.content).entries loose → saved_entries memory.absent (said memory.content).entries again tags_again loose ≡ (said memory.content).entries)
 
--- what a layout remembers that was opened as it is: whole entries, and absent keys that are not
--- held and have no whole file
+-- what a layout remembers that was opened as it is: entries with the keys that they mean, and absent
+-- keys that are not held and have no whole file
 abbrev pub Remembers : Type 0
-Remembers = (file : File) (graph : List Node) (tags : Tags) (opened : OpenedIndex) → IsOpenedAsIs file graph tags opened → All IsWhole (said opened.content).entries
+Remembers = (file : File) (graph : List Node) (tags : Tags) (opened : OpenedIndex) → IsOpenedAsIs file graph tags opened → All (IsMeant file) (said opened.content).entries
     × All (λ (k : Descriptor). has_key graph k ≡ false) opened.absent × All (λ (k : Descriptor). is_whole file k ≡ false) opened.absent
 
 -- keys of one digest have the same bytes in a layout

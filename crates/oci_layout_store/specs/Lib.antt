@@ -11,6 +11,7 @@ pub mod Lasts
 pub mod Law
 pub mod Layout
 pub mod Meaning
+pub mod Meant
 pub mod Numbers
 pub mod Opened
 pub mod Push

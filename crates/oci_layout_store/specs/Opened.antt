@@ -17,6 +17,7 @@ use Rattle.oci_dir.specs.Device.{File}
 use Rattle.oci_layout_store.specs.Entries.{IndexContent, IsIndexFile, absent_in, entry_keys, named, nothing_read, owned, said}
 use Rattle.oci_layout_store.specs.Index.{index_file, HasLayoutFile}
 use Rattle.oci_layout_store.specs.Layout.{OpenedIndex}
+use Rattle.oci_layout_store.specs.Meant.{meant_content}
 
 -- ---- the walk
 
@@ -75,11 +76,17 @@ pub record HasWalked (as_is : Bool) (file : File) (starts : List Descriptor) (gr
   pub good : All (λ k. holds as_is file k ≡ true → IsGood file k) visited
   pub held : graph ≡ held_in as_is file visited
 
+-- an index file says this; each entry has the key that it means, if the index is read as it is
+pub record IsMeantFile (as_is : Bool) (file : File) (content : IndexContent) : Type 0 where
+  pub stated : IndexContent
+  pub is_stated : IsIndexFile as_is (file index_file) stated
+  pub is_meant : content ≡ meant_content as_is file stated
+
 -- the files of a layout were read: its graph has each key that is reached from its index and is
 -- held, in the order of the walk, and the others of the index are absent
 pub record IsRead (as_is : Bool) (file : File) (graph : List Node) (absent damaged : List Descriptor) (content : IndexContent) : Type 0 where
   pub layout : HasLayoutFile file
-  pub index : IsIndexFile as_is (file index_file) content
+  pub index : IsMeantFile as_is file content
   pub walked : HasWalked as_is file (entry_keys content.entries) graph
   pub absent_is : absent ≡ absent_in graph (entry_keys content.entries)
   pub damaged_is : damaged ≡ filter (is_damaged as_is file) walked.visited
@@ -91,8 +98,8 @@ pub record IsOpened (file : File) (graph : List Node) (tags : Tags) (opened : Op
   pub tagged : tags ≡ named graph content.entries []
   pub content_is : opened.content ≡ nothing_read
 
--- a layout was opened as it is: it passes over files that are damaged, keeps what its index says,
--- also of elements that are no descriptors, and a name belongs to its last entry, held or not
+-- a layout was opened as it is: it passes over files that are damaged, keeps what its index says, also
+-- of elements that are no descriptors, and a name belongs to its last entry, held or not
 pub record IsOpenedAsIs (file : File) (graph : List Node) (tags : Tags) (opened : OpenedIndex) : Type 0 where
   pub read : IsRead true file graph opened.absent opened.damaged (said opened.content)
   pub tagged : tags ≡ owned graph (said opened.content).entries []

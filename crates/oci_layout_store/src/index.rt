@@ -1,6 +1,7 @@
 //! The file `index.json`: what it says is read here, and its text is made here.
 ghost use Rattle.std.specs.Prelude.{◌≡◌, not, List, [], map, IfOk};
 ghost use Rattle.std.specs.List.{All};
+ghost use Rattle.serde_json.specs.View.{view};
 ghost use Rattle.oci_manifest.specs.Descriptor.{Descriptor};
 ghost use Rattle.oci_layout_store.specs.Brought.{IsShallowEntry};
 ghost use Rattle.oci_layout_store.specs.Entries.{content_of, entry_of, is_held, is_this_key, no_content, nothing_read, said, text_of, IsShallow};
@@ -11,6 +12,7 @@ mod names;
 mod read;
 mod renamed;
 mod saved;
+mod stating;
 mod tags;
 mod write;
 
@@ -87,6 +89,22 @@ impl IndexEntry {
             Some(other) => other == key,
             None => false,
         }
+    }
+
+    /// Returns the entry with this key. Its name and its value stay.
+    pub(crate) fn with_key(self, key: Option<Key>) -> IndexEntry
+        ensures { entry_of result ≡ record {
+          key = key;
+          name = text_of self.name;
+          value = view self.value;
+        } }
+    {
+        let IndexEntry {
+            key: _key,
+            name,
+            value,
+        } = self;
+        IndexEntry { key, name, value }
     }
 
     /// Returns the descriptor, and drops the rest of the entry.

@@ -56,6 +56,7 @@
 mod fault;
 mod index;
 mod layout;
+mod meant;
 mod opened_index;
 
 pub use fault::LayoutFault;

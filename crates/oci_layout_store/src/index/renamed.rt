@@ -1,9 +1,10 @@
 //! An entry with another name.
 ghost use Rattle.std.specs.Prelude.{◌≡◌, None, Some, IfOk};
 ghost use Rattle.serde_json.specs.View.{view, members_view};
+ghost use Rattle.oci_dir.specs.Device.{File};
 ghost use Rattle.oci_layout_store.specs.Brought.{annotations_of, renamed, with_annotations, with_name, IsShallowEntry};
 ghost use Rattle.oci_layout_store.specs.Entries.{entry_of, text_of};
-ghost use Rattle.oci_layout_store.specs.Law.{IsWhole};
+ghost use Rattle.oci_layout_store.specs.Law.{IsMeant};
 ghost use Rattle.oci_layout_store.specs.Saved.{is_name};
 
 use crate::index::write::{owned_members, put};
@@ -24,7 +25,8 @@ impl IndexEntry {
             ≡ renamed (Some name.now) (entry_of self.now)) }
         ensures shallow { IsShallowEntry (entry_of self.now)
             → IfOk result (λ e. IsShallowEntry (entry_of e)) }
-        ensures whole { IsWhole (entry_of self.now) → IfOk result (λ e. IsWhole (entry_of e)) }
+        ensures meant { (file : File) → IsMeant file (entry_of self.now)
+            → IfOk result (λ e. IsMeant file (entry_of e)) }
     {
         if is_name(name, &self.name) {
             return self.try_clone();
@@ -45,7 +47,8 @@ impl IndexEntry {
         ensures renamed { IfOk result (λ e. entry_of e ≡ renamed None (entry_of self.now)) }
         ensures shallow { IsShallowEntry (entry_of self.now)
             → IfOk result (λ e. IsShallowEntry (entry_of e)) }
-        ensures whole { IsWhole (entry_of self.now) → IfOk result (λ e. IsWhole (entry_of e)) }
+        ensures meant { (file : File) → IsMeant file (entry_of self.now)
+            → IfOk result (λ e. IsMeant file (entry_of e)) }
     {
         if self.name.is_none() {
             return self.try_clone();

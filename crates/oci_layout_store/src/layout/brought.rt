@@ -38,7 +38,7 @@ impl<D: Dir> Layout<D> {
     }
 
     /// Remembers these entries, so that [`save`](Layout::save) writes them for the tags and the
-    /// held keys that they name. They replace the remembered entries of their names. One without a
+    /// held keys that they name, each with the media type and the size of its key. They replace the remembered entries of their names. One without a
     /// name is remembered only if it has a key, the key has no tag, and no entry without a name is
     /// remembered of it. An absent key is no longer absent if each entry that had it was replaced.
     ///
@@ -112,7 +112,7 @@ impl<D: Dir> Layout<D> {
 }
 
 /// Returns copies of those of these entries that come: the ones with a name, and the ones with a
-/// key that has no tag and no entry without a name among the old ones.
+/// key that has no tag and no entry without a name among the old ones. Each states its key.
 fn coming(
     alloc: Global,
     tags: &[(String, Key)],
@@ -128,7 +128,7 @@ fn coming(
     let mut more = Vec::new(alloc);
     for entry in entries {
         if comes(&tagged, &unnamed, entry) {
-            more.push(entry.try_clone()?)?;
+            more.push(entry.stating(alloc)?)?;
         }
     }
     Ok(more)

@@ -2,7 +2,8 @@ ghost use Rattle.std.specs.Prelude.{◌≡◌, ◌++◌, ◌∷◌, [], false, I
 ghost use Rattle.std.specs.List.{All};
 ghost use Rattle.oci_layout_store.specs.Blobs.{HasMatchingFiles, IsSound};
 ghost use Rattle.oci_layout_store.specs.Entries.{absent_in, said};
-ghost use Rattle.oci_layout_store.specs.Opened.{IsOpened, IsOpenedAsIs, IsRead};
+ghost use Rattle.oci_layout_store.specs.Index.{HasLayoutFile};
+ghost use Rattle.oci_layout_store.specs.Opened.{IsMeantFile, IsOpened, IsOpenedAsIs, IsRead};
 ghost use Rattle.oci_layout_store.specs.Refusal.{IsOpenAsIsFault, IsOpenFault, IsOpenFaultBy};
 ghost use Rattle.oci_layout_store.specs.Subjects.{AreSubjects};
 ghost use Rattle.oci_store.specs.Keyed.{HasDistinctKeys, has_key};
@@ -14,6 +15,7 @@ use crate::layout::Layout;
 use crate::layout::held::Held;
 use crate::layout::version::check_version;
 use crate::layout::walk::walk;
+use crate::meant::meant_content;
 use crate::opened_index::OpenedIndex;
 use oci_digest::NoMemory;
 use oci_dir::Dir;
@@ -78,6 +80,13 @@ impl<D: Dir> Layout<D> {
     /// is passed over: it is not held, lists nothing, and is among the
     /// [`damaged`](Layout::damaged) keys, and if it has an entry, among the `absent` ones.
     ///
+    /// An entry whose media type is that of no manifest, or whose size is not that of its file, may
+    /// mean another key: oras writes `application/octet-stream` when it tags a manifest that the
+    /// index does not list. If the file matches the digest and has at most 4 MiB, the key has its
+    /// size, and the manifest type that it states as `mediaType`. One that states none is known by
+    /// its members, if the entry's type is `application/octet-stream` or that of a manifest with
+    /// parameters. The layout goes by that key, and a save writes the entry as it was.
+    ///
     /// An element of `manifests` that is no descriptor is no error either. It is an entry without
     /// a key, which is remembered whole and counts like one whose key is absent, and can never be
     /// held. [`unreadable`](Layout::unreadable) returns the places of these entries, and
@@ -126,11 +135,26 @@ fn read_layout<D: Dir>(
     ensures cause { IfErr result (IsOpenFaultBy as_is (D.device dir.now)) }
 {
     check_version(alloc, dir)?;
-    let content = read_index(alloc, dir, as_is)?;
+    let content = read_meant(alloc, dir, as_is)?;
     let keys = keys_of(alloc, content.entries())?;
     let (held, damaged) = walk(alloc, dir, as_is, &keys)?;
     let absent = absent_of(alloc, &held.graph, &keys)?;
     Ok((held, absent, damaged, content))
+}
+
+/// Reads what `index.json` says. If it is read `as_is`, each entry has the key that it means.
+fn read_meant<D: Dir>(alloc: Global, dir: &D, as_is: bool) -> Result<IndexContent, LayoutFault>
+    ensures read { IfOk result (λ content. (D.device dir.now).is_honest
+        → IsMeantFile as_is (D.device dir.now).file (said content)) }
+    ensures cause { IfErr result (λ fault.
+        ((D.device dir.now).is_honest → HasLayoutFile (D.device dir.now).file)
+        → IsOpenFaultBy as_is (D.device dir.now) fault) }
+{
+    let content = read_index(alloc, dir, as_is)?;
+    if as_is {
+        return Ok(meant_content(alloc, dir, content)?);
+    }
+    Ok(content)
 }
 
 /// Reads the held keys and the tags of a layout that is opened, and what it remembers of its index.

@@ -6,10 +6,11 @@ use Rattle.oci_store.specs.Tags.{Tags, by_bytes}
 use Rattle.oci_layout_store.specs.Brought.{coming, IsShallowEntry}
 use Rattle.oci_layout_store.specs.Entries.{entry_of}
 use Rattle.oci_layout_store.specs.declared.index.IndexEntry.{IndexEntry as CodeEntry}
+use Rattle.oci_layout_store.proofs.Brought.{all_stating}
 use Rattle.oci_layout_store.proofs.layout.Layout.bring.Goals as goal
 
 pub replaced-requires : goal.replaced-requires
-replaced-requires g c = subst (All IsShallowEntry) (sym c.in_ok-more.ensures) (All-filter _ IsShallowEntry (map entry_of c.args.entries.now) c.requires)
+replaced-requires g c = subst (All IsShallowEntry) (sym c.in_ok-more.ensures) (all_stating _ (All-filter _ IsShallowEntry (map entry_of c.args.entries.now) c.requires))
 
 pub returns-clause-brought : goal.returns-clause-brought
 returns-clause-brought g c =

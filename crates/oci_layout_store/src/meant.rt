@@ -1,0 +1,195 @@
+//! The manifests that the entries of an index mean.
+ghost use Rattle.std.specs.Prelude.{◌≡◌, ◌++◌, ◌∷◌, [], true, Some, map, string_bytes, IfOk, OnOk};
+ghost use Rattle.serde_json.specs.View.{view};
+ghost use Rattle.oci_dir.specs.Device.{IsRead};
+ghost use Rattle.oci_layout_store.specs.Blobs.{blob_path};
+ghost use Rattle.oci_layout_store.specs.Entries.{entry_of, said};
+ghost use Rattle.oci_layout_store.specs.Meant.{
+  is_odd,
+  is_open,
+  meant,
+  meant_by,
+  meant_content,
+  meant_entry,
+  names_manifest,
+  odd_in,
+  type_by_shape,
+  type_in,
+};
+ghost use Rattle.oci_manifest.specs.Reading.{reading};
+
+use crate::index::{IndexContent, IndexEntry};
+use crate::layout::blob_path;
+use bytes::Bytes;
+use oci_digest::NoMemory;
+use oci_dir::{Dir, DirFault};
+use oci_manifest::{Key, Kind, ManifestFault, read_json};
+use serde_json::Value;
+use std::alloc::Global;
+
+/// The most bytes of a file that is read for what it is.
+const MOST_READ: u64 = 4_194_304;
+
+/// Returns what an index says, where each entry has the key that it means.
+pub(crate) fn meant_content<D: Dir>(
+    alloc: Global,
+    dir: &D,
+    content: IndexContent,
+) -> Result<IndexContent, DirFault>
+    ensures { IsRead (D.device dir.now)
+        (λ c. said c ≡ meant_content true (D.device dir.now).file (said content)) result }
+{
+    let (stated, members) = content.into_parts();
+    let entries = meant_entries(alloc, dir, stated)?;
+    Ok(IndexContent::new(entries, members))
+}
+
+/// Returns these entries, each with the key that it means.
+#[tactic(auto, using(
+    crate::proofs::MeantEntries::next_meant,
+    crate::proofs::MeantEntries::none_meant
+))]
+fn meant_entries<D: Dir>(
+    alloc: Global,
+    dir: &D,
+    stated: Vec<IndexEntry>,
+) -> Result<Vec<IndexEntry>, DirFault>
+    ensures meant { IsRead (D.device dir.now) (λ entries. map entry_of entries.items
+        ≡ map (meant_entry (D.device dir.now).file) (map entry_of stated.items)) result }
+    ensures values { IfOk result (λ entries. map (λ e. view e.value) entries.items
+        ≡ map (λ e. view e.value) stated.items) }
+{
+    let mut entries = Vec::new(alloc);
+    for entry in stated {
+        add(meant_entry(alloc, dir, entry)?, &mut entries)?;
+    }
+    Ok(entries)
+}
+
+/// Adds an entry to these.
+fn add(entry: IndexEntry, entries: &mut Vec<IndexEntry>) -> Result<(), NoMemory>
+    ensures { OnOk result (entries.new.items ≡ entries.old.items ++ entry ∷ []) }
+{
+    entries.push(entry)?;
+    Ok(())
+}
+
+/// Returns an entry with the key that it means.
+fn meant_entry<D: Dir>(alloc: Global, dir: &D, entry: IndexEntry) -> Result<IndexEntry, DirFault>
+    ensures meant { IsRead (D.device dir.now)
+        (λ e. entry_of e ≡ meant_entry (D.device dir.now).file (entry_of entry)) result }
+    ensures value { IfOk result (λ e. view e.value ≡ view entry.value) }
+{
+    let key = match &entry.key {
+        Some(key) => Some(meant(alloc, dir, key)?),
+        None => None,
+    };
+    Ok(entry.with_key(key))
+}
+
+/// Returns the key that an entry with this key means.
+fn meant<D: Dir>(alloc: Global, dir: &D, key: &Key) -> Result<Key, DirFault>
+    ensures { IsRead (D.device dir.now) (λ k. k ≡ meant (D.device dir.now).file key.now) result }
+{
+    match odd_bytes(alloc, dir, key)? {
+        Some(bytes) => Ok(meant_by(alloc, key, &bytes)?),
+        None => Ok(key.try_clone()?),
+    }
+}
+
+/// Returns the bytes of a key's file that have to be read for what the key means.
+fn odd_bytes<D: Dir>(alloc: Global, dir: &D, key: &Key) -> Result<Option<Bytes>, DirFault>
+    ensures { IsRead (D.device dir.now) (λ found. found
+        ≡ odd_in key.now ((D.device dir.now).file (blob_path key.now.digest))) result }
+{
+    let path = blob_path(alloc, key.digest())?;
+    match dir.size(&path)? {
+        Some(size) if is_odd(key, size) && size <= MOST_READ => dir.read_of_length(&path, size),
+        _ => Ok(None),
+    }
+}
+
+/// Returns whether a key may mean another one, by the length of its file.
+fn is_odd(key: &Key, length: u64) -> bool
+    ensures { result ≡ is_odd key.now length }
+{
+    !(names_manifest(key.media_type()) && key.size() == length)
+}
+
+/// Returns whether a media type is that of a manifest.
+fn names_manifest(media_type: &str) -> bool
+    ensures { result ≡ names_manifest media_type.now }
+{
+    match Kind::of(media_type) {
+        Kind::Leaf => false,
+        _ => true,
+    }
+}
+
+/// Returns the key that an entry with this key means whose file has these bytes.
+fn meant_by(alloc: Global, key: &Key, bytes: &Bytes) -> Result<Key, NoMemory>
+    ensures { IfOk result (λ k. k ≡ meant_by key.now bytes.now) }
+{
+    if !key.digest().matches(bytes.as_slice()) {
+        return key.try_clone();
+    }
+    let media_type = if names_manifest(key.media_type()) {
+        String::from_str(alloc, key.media_type())?
+    } else {
+        type_in(alloc, key.media_type(), bytes.as_slice())?
+    };
+    match Key::new(media_type, *key.digest(), bytes.len() as u64) {
+        Ok(meant) => Ok(meant),
+        Err(_) => unreachable!(),
+    }
+}
+
+/// Returns the media type that bytes have by what they say, if they are JSON, or else this one.
+fn type_in(alloc: Global, media_type: &str, bytes: &[u8]) -> Result<String, NoMemory>
+    ensures { IfOk result (λ text. string_bytes text ≡ type_in media_type.now (reading bytes.now)) }
+{
+    match read_json(alloc, bytes) {
+        Ok(value) => Ok(String::from_str(alloc, type_of_value(media_type, &value))?),
+        Err(ManifestFault::Memory) => Err(NoMemory),
+        Err(_) => Ok(String::from_str(alloc, media_type)?),
+    }
+}
+
+/// Returns the manifest type that a JSON value has by what it says, or else this media type.
+fn type_of_value<'t>(media_type: &'t str, value: &'t Value) -> &'t str
+    ensures { result.now ≡ type_in media_type.now (Some (view value.now)) }
+{
+    match value.get("mediaType").and_then(Value::as_str) {
+        Some(stated) if names_manifest(stated) => stated,
+        None if is_open(media_type) => type_by_shape(media_type, value),
+        _ => media_type,
+    }
+}
+
+/// Returns whether a media type leaves open what a content is.
+#[tactic(auto, unfolding(crate::specs::Meant::is_open))]
+fn is_open(media_type: &str) -> bool
+    ensures { result ≡ is_open media_type.now }
+{
+    if media_type == "application/octet-stream" {
+        return true;
+    }
+    match media_type.split_once(';') {
+        Some((stated, _)) => names_manifest(stated),
+        None => names_manifest(media_type),
+    }
+}
+
+/// Returns the media type of a JSON value that looks like a manifest, or else this one.
+#[tactic(auto, unfolding(crate::specs::Meant::type_by_shape))]
+fn type_by_shape<'t>(media_type: &'t str, value: &Value) -> &'t str
+    ensures { result.now ≡ type_by_shape media_type.now (view value.now) }
+{
+    if value.get("manifests").and_then(Value::as_array).is_some() {
+        "application/vnd.oci.image.index.v1+json"
+    } else if value.get("config").is_some() && value.get("layers").is_some() {
+        "application/vnd.oci.image.manifest.v1+json"
+    } else {
+        media_type
+    }
+}
