@@ -24,7 +24,7 @@ mod settling;
 
 pub use draft::FsDraft;
 use draft::finish;
-use files::{failed, file_of_length, has_contents, is_absence, own_file, part_of_file};
+use files::{failed, file_of_length, has_contents, is_absence, part_of_file, whole_file};
 pub use leftovers::remove_leftovers_of;
 pub use lock::{FolderLock, Lockable};
 pub use paths::folder_and_name;
@@ -47,10 +47,9 @@ use settling::{Syncs, note_paths};
 ///
 /// A path that leaves the folder, by a part `..` or as an absolute one, fails with `Failed`. So
 /// does a read of anything but a regular file or a link to one; only `read_of_length` then returns
-/// `None`. `read` also refuses a link in the place of `oci-layout` or `index.json`: no digest
-/// checks these files, and the link could lead out of the folder. `read_part` and
-/// `read_of_length`, which layouts use only for blobs, allow it. If the system is out of memory, a
-/// call fails with `Memory`, and for any other error of the system with `Failed`.
+/// `None`. A put or `settle` at `oci-layout` or `index.json` refuses a link in its place: the link
+/// may lead out of the folder, and a put would leave what it leads to as it is. If the system is
+/// out of memory, a call fails with `Memory`, and for any other error of the system with `Failed`.
 ///
 /// # What is on the disk, and when
 ///
@@ -67,7 +66,7 @@ use settling::{Syncs, note_paths};
 ///   may have made them. It goes up as far as the path of the folder says, and ends at the root, at
 ///   the current folder, where another file system begins, and at a folder that may not be read:
 ///   what is above is taken to be on the disk.
-/// - `settle` follows links, and syncs what they lead to. It passes over what is no regular file.
+/// - `settle` follows links to blobs, and syncs what they lead to. It passes over what is no regular file.
 /// - A file system that cannot sync folders, and says so (`EINVAL` or `EOPNOTSUPP`), is taken to
 ///   keep their names without.
 ///
@@ -214,7 +213,7 @@ where
         let Some(place) = self.read_place(path)? else {
             return Ok(None);
         };
-        match own_file(self.rt, path, &place) {
+        match whole_file(self.rt, &place) {
             Ok(bytes) => match Bytes::from_vec(bytes) {
                 Ok(bytes) => Ok(Some(bytes)),
                 Err(_) => Err(DirFault::Memory),
@@ -296,6 +295,7 @@ where
 
     #[tactic(auto, unfolding(crate::specs::Folder::IsWatched))]
     fn settle(&mut self, paths: &[String]) -> Result<(), DirFault> {
+        self.refuse_links(paths)?;
         if self.syncs.is_off() {
             return Ok(());
         }

@@ -253,6 +253,7 @@ where
     /// group and its owner, as far as the system lets.
     pub(crate) fn write(&self, path: &str, bytes: &[u8]) -> Result<(), DirFault> {
         let place = self.file_place(path)?;
+        self.refuse_link(path)?;
         let beside = match path {
             "index.json" => Beside::like(self.rt, self.first, &place, bytes)?,
             _ => Beside::with(self.rt, self.first, &place, bytes)?,

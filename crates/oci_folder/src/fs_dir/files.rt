@@ -14,34 +14,13 @@ pub(crate) fn length_of<R: Files>(rt: &R, place: &str) -> io::Result<u64> {
     }
 }
 
-/// Refuses a link, with the error for anything that is not a regular file.
-fn refuse_link<R: Files>(rt: &R, place: &str) -> io::Result<()> {
-    if fs::symlink_metadata(rt, place)?.is_symlink() {
-        return Err(io::Error::from(ErrorKind::InvalidInput));
-    }
-    Ok(())
-}
-
-/// Reads a regular file. Allocates the memory first, so that nothing is read of a file that is too
-/// long for it.
-fn whole_file<R: Files + AllocGlobal>(rt: &R, place: &str) -> io::Result<Vec<u8>> {
+/// Reads a regular file, or the one that a link leads to. Allocates the memory first, so that
+/// nothing is read of a file that is too long for it.
+pub(crate) fn whole_file<R: Files + AllocGlobal>(rt: &R, place: &str) -> io::Result<Vec<u8>> {
     let length = length_of(rt, place)?;
     let mut bytes = room(rt, length)?;
     fs::File::open(rt, place)?.read_to_end(&mut bytes)?;
     Ok(bytes)
-}
-
-/// Reads the file with this path in the layout, which is at `place`. If no digest checks its bytes,
-/// it must not be a link.
-pub(crate) fn own_file<R: Files + AllocGlobal>(
-    rt: &R,
-    path: &str,
-    place: &str,
-) -> io::Result<Vec<u8>> {
-    if matches!(path, "oci-layout" | "index.json") {
-        refuse_link(rt, place)?;
-    }
-    whole_file(rt, place)
 }
 
 /// Reads at most `most` bytes of a regular file, from position `from` on, and fewer only at its

@@ -1,9 +1,39 @@
-//! Links through which a removal could reach a blob that is needed.
-use crate::fs_dir::files::is_absence;
+//! Links through which a removal could reach a blob that is needed, and links that a write would
+//! replace.
+use crate::fs_dir::FsDir;
+use crate::fs_dir::files::{failed, is_absence};
 use crate::fs_dir::leftovers::{Room, is_link, path_below};
+use oci_dir::DirFault;
 use std::io::ErrorKind;
 use std::rt::Files;
 use std::{fs, io};
+
+impl<'r, R: Files + AllocGlobal> FsDir<'r, R> {
+    /// Refuses a link at each of these paths at which [`refuse_link`](FsDir::refuse_link) does.
+    pub(crate) fn refuse_links(&self, paths: &[String]) -> Result<(), DirFault> {
+        for path in paths {
+            self.refuse_link(path.as_str())?;
+        }
+        Ok(())
+    }
+
+    /// Refuses a link in the place of `oci-layout` or `index.json`, with the error for anything that
+    /// is no regular file. A write would replace the link, and leave what it leads to as it is.
+    pub(crate) fn refuse_link(&self, path: &str) -> Result<(), DirFault> {
+        if !matches!(path, "oci-layout" | "index.json") {
+            return Ok(());
+        }
+        let place = self.place(path)?;
+        match fs::symlink_metadata(self.rt, &place) {
+            Ok(found) if found.is_symlink() => {
+                let error = io::Error::from(ErrorKind::InvalidInput);
+                Err(failed(self.first, &place, error))
+            }
+            Err(error) if !is_absence(&error) => Err(failed(self.first, &place, error)),
+            _ => Ok(()),
+        }
+    }
+}
 
 /// Returns the first of the folders of blobs that is a link, or that has a blob which is a link to a
 /// file with the name of another blob.
