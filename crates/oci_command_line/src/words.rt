@@ -22,7 +22,7 @@ use clap::Command;
 use std::alloc::{AllocError, Global};
 
 /// The version that `--version` prints.
-const VERSION: &str = "0.27.0";
+const VERSION: &str = "0.28.0";
 
 /// The `clap` command; `most_workers` bounds `--workers`.
 pub(crate) fn command<'w>(alloc: Global, most_workers: u32) -> Result<Command<'w>, AllocError> {
