@@ -1,16 +1,16 @@
 -- The keys of the entries with a name that a copy brings are roots.
-use Rattle.std.proofs.Common.{◌≡◌, ℕ, suc, Bool, true, false, cond, not, ◌&&◌, ◌||◌, inl, inr, List, [], ◌∷◌, ◌++◌, filter, slice_get, option_map, Option, Some, None, is_none, is_some, refl, sym, ap, subst, ◌∙◌}
+use Rattle.std.proofs.Common.{◌≡◌, ℕ, suc, Bool, true, false, cond, not, ◌&&◌, ◌||◌, inl, inr, List, [], ◌∷◌, ◌++◌, filter, map, slice_get, option_map, Option, Some, None, is_none, is_some, refl, sym, ap, subst, ◌∙◌}
 use Rattle.std.specs.Prelude.{◌⊎◌, Contains}
 use Rattle.std.specs.List.{All, flat_map}
 use Rattle.std.specs.Map.{values_of}
 use Rattle.std.proofs.lemmas.Bool.{cases_Bool}
-use Rattle.std.proofs.lemmas.List.Elements.{All-append, All-contains, All-contains_itself, All-cons, All-filter, All-head, All-nil, All-tail, All-weaker, filter_passes}
+use Rattle.std.proofs.lemmas.List.Elements.{All-append, All-contains, All-contains_itself, All-cons, All-filter, All-head, All-map, All-nil, All-tail, All-weaker, filter_passes}
 use Rattle.std.proofs.lemmas.Option.{same_Some}
 use Rattle.oci_manifest.specs.Descriptor.{Descriptor, is_among}
 use Rattle.oci_store.specs.Graph.{Node}
 use Rattle.oci_store.specs.Tags.{Tags}
 use Rattle.oci_store.proofs.Membership.{Keys}
-use Rattle.oci_layout_store.specs.Brought.{annotations_of, comes, gives_way, renamed, same_name, with_annotations, with_name, Brings}
+use Rattle.oci_layout_store.specs.Brought.{annotations_of, comes, gives_way, renamed, same_name, stating, with_annotations, with_name, Brings}
 use Rattle.oci_layout_store.specs.Entries.{IndexEntry, entry_keys, is_held, is_this_key, said}
 use Rattle.oci_layout_store.specs.Layout.{OpenedIndex}
 use Rattle.oci_layout_store.specs.Saved.{first_entries, first_from, is_first, is_name, later_place, no_name, shadowed_keys, unnamed_keys}
@@ -149,7 +149,8 @@ module _ (roots : Keys) where
       let was = (said old.content).entries in
       let stays : IndexEntry → Bool = λ e. not (gives_way false entries e.name) in
       let came : IndexEntry → Bool = comes (is_among (values_of tags)) (is_among (unnamed_keys was)) in
-      subst (All (IsOfRoot roots)) (sym brings.entries) (All-append (IsOfRoot roots) (filter stays was) (filter came entries) (All-filter stays (IsOfRoot roots) was before) (All-filter came (IsOfRoot roots) entries all))
+      subst (All (IsOfRoot roots)) (sym brings.entries) (All-append (IsOfRoot roots) (filter stays was) (map stating (filter came entries)) (All-filter stays (IsOfRoot roots) was before)
+      (All-map (IsOfRoot roots) stating (filter came entries) (All-filter came (IsOfRoot roots) entries all)))
 
   first_named : (absent : Descriptor → Bool) (graph : List Node) (tags : Tags) (all : List IndexEntry) (place : ℕ) (es : List IndexEntry) → All (IsOfRoot roots) es → All (IsOfRoot roots) (first_from absent graph tags all place es)
   first_named absent graph tags all place [] h = All-nil (IsOfRoot roots)

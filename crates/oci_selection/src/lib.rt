@@ -12,6 +12,7 @@
 mod referrers;
 mod roots;
 mod selected;
+mod whole;
 
 pub use referrers::Referrers;
 pub use roots::{both, named_keys, untagged_keys};

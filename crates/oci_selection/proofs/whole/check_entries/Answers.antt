@@ -4,7 +4,7 @@ use Rattle.std.proofs.lemmas.List.{take_all}
 use Rattle.oci_entries.specs.Pattern.{texts_of}
 use Rattle.oci_selection.specs.Selected.{IsNamedHeld}
 use Rattle.oci_selection.proofs.Selections.{all_more}
-use Rattle.oci_selection.proofs.selected.check_entries.Goals as goal
+use Rattle.oci_selection.proofs.whole.check_entries.Goals as goal
 
 pub loop-place-preserved : goal.loop-place-preserved
 loop-place-preserved g c =

@@ -1,7 +1,7 @@
 use Rattle.std.proofs.Common.{take}
 use Rattle.oci_entries.specs.Pattern.{texts_of}
 use Rattle.oci_selection.specs.Selected.{AreNamedHeld}
-use Rattle.oci_selection.proofs.selected.check_entries.Given as goal
+use Rattle.oci_selection.proofs.whole.check_entries.Given as goal
 
 -- as far as the loop has come
 abbrev pub invariant-loop-place : goal.invariant-loop-place
