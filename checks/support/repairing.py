@@ -5,8 +5,11 @@ import os
 import re
 
 from support.files import read
+from support.layouts import DOCKER_IMAGE, IMAGE
 from support.pruning import FOREIGN, MEMBERS, is_readable, key_of, path, text
 
+# The kinds of manifests that have to have a config, and the members that are lists.
+WITH_CONFIG, LISTS = [IMAGE, DOCKER_IMAGE], ["layers", "manifests", "blobs"]
 # A file that is still written beside the place of a blob.
 BESIDE = re.compile(r"blobs/(sha256/[0-9a-f]{64}|sha512/[0-9a-f]{128})\.[0-9a-f]{16}\.new")
 
@@ -30,12 +33,30 @@ def is_blocked(folder, key):
     return os.path.isdir(place) and bool(os.listdir(place))
 
 
-def listed(key, content):
-    """Return the keys that the bytes of a manifest list; those of another blob list none."""
-    value = json.loads(content) if key.media_type in MEMBERS else {}
-    members = [value.get(name) or [] for name in MEMBERS.get(key.media_type, [])]
-    found = [key_of(it) for member in members for it in (member if isinstance(member, list) else [member])]
-    return {it for it in found if not FOREIGN.fullmatch(it.media_type)}
+def value_of(content):
+    """Return the value of a JSON text, or None."""
+    try:
+        return json.loads(content)
+    except ValueError:
+        return None
+
+
+def listed(media_type, content):
+    """Return the keys that the bytes of a manifest list and that are distributed, in their order, or None if they are no manifest. A blob of
+    another media type lists none."""
+    if media_type not in MEMBERS:
+        return []
+    value, found = value_of(content), []
+    if type(value) is not dict or media_type in WITH_CONFIG and value.get("config") is None:
+        return None
+    for name in MEMBERS[media_type]:
+        member = value.get(name)
+        if name in LISTS and member is not None and type(member) is not list:
+            return None
+        found += [] if member is None else member if name in LISTS else [member]
+    if not all(map(is_readable, found)):
+        return None
+    return [it for it in map(key_of, found) if not FOREIGN.fullmatch(it.media_type)]
 
 
 class Repair:
@@ -66,7 +87,7 @@ class Repair:
         found, known = set(), set(more)
         while more:
             found |= more
-            lists = {it: listed(it, content) for it in more if (content := self.bring(it)) is not None}
+            lists = {it: set(listed(it.media_type, content)) for it in more if (content := self.bring(it)) is not None}
             known = known.union(*(keys for it, keys in lists.items() if it in self.held - self.repaired))
             more = set().union(*lists.values()) - found
         self.below = self.repaired - known
