@@ -8,7 +8,7 @@ import shutil
 
 from support.dry_runs import wrong_dry_run
 from support.files import read
-from support.indexes import entry, named
+from support.indexes import add_odd, entry, named
 from support.layouts import BAR, E, FOO, I1, M2, M3, S, digits, image, index, write_layout
 from support.program import first, run, told
 from support.pruning import MEMBERS, Held, files_of, key_of, name_of, notes, path, text, texts_of
@@ -149,9 +149,17 @@ class Source(Held):
         entries = json.loads(read(self.folder + "/index.json"))["manifests"]
         return {name: [it for it in entries if name_of(it) == name] for name in names}
 
+    def brought(self, names):
+        """Return the entries of each of these names as a copy writes them into DST: with the media type and the size of the meant key."""
+        return {name: [{**it, **self.of_key(it)} for it in entries] for name, entries in self.said(names).items()}
+
+    def of_key(self, value):
+        key = self.meant(value)
+        return {"mediaType": key.media_type, "size": key.size}
+
     def keys_of(self, names):
-        """Return the keys of the entries of these names."""
-        return {key_of(it) for entries in self.said(names).values() for it in entries}
+        """Return the keys that the entries of these names mean."""
+        return {self.meant(it) for entries in self.said(names).values() for it in entries}
 
     def type_of(self, key):
         """Return the type of a manifest: its `artifactType`, or else the media type of its config."""
@@ -199,8 +207,11 @@ def wrong_all(room, source):
             ended = run(["copy", "--all", *form, *flags, "source", "new"], room)
             if ended.status != 0 or ended.err != ("" if form else notes(len(attached), len(untagged))):
                 return "%s: %s" % (flags, told(ended))
-            if Held(room + "/new").keys != members:
-                return "%s: it brings %s, not %s" % (flags, sorted(map(text, Held(room + "/new").keys)), sorted(map(text, members)))
+            new = Held(room + "/new")
+            # (an image that is only known as a subject of octets has an entry of octets in DST, which means the image there)
+            is_right = {it for it in files_of(room + "/new") if it.startswith("blobs/")} == set(map(path, members)) and (new.odd or new.keys == members)
+            if not is_right:
+                return "%s: it brings %s, not %s" % (flags, sorted(map(text, new.keys)), sorted(map(text, members)))
         value = json.loads(ended.out)
         left = {name: {key_of(it) for it in value.get(name, [])} for name in ("attachedLeft", "untaggedLeft")}
         if left != {"attachedLeft": attached, "untaggedLeft": untagged} or [] in (value.get("attachedLeft"), value.get("untaggedLeft")):
@@ -232,10 +243,12 @@ def wrong_types(room, source, tag):
             return problem or "predecessors of %s: %s" % (types, told(ended))
 
 
-def wrong_layout(room, layout):
-    """Return the problem with the copies of each tag of a layout, or None."""
+def wrong_layout(room, layout, chance=None):
+    """Return the problem with the copies of each tag of a layout, or None. With `chance` some of its entries may mean other keys."""
     shutil.rmtree(room + "/source", ignore_errors=True)
     write_layout(room + "/source", *layout)
+    if chance:
+        add_odd(room + "/source", chance, chance.choice([0, 0, 0.4]))
     source = Source(room + "/source")
     for tag, key in sorted(source.tags.items()):
         problem = wrong_copy(room, [], source, tag, source.members([key], lambda keys: set()), {tag: key})
@@ -293,7 +306,7 @@ class Mirror:
     def wrong(self):
         """Return the problem with the mirror, after a dry run of it, or None."""
         out, files = self.out(), self.files()
-        said = {**self.before.said(self.stay), **self.source.said(self.tags)}
+        said = {**self.before.said(self.stay), **self.source.brought(self.tags)}
         planned = wrong_dry_run(self.room, self.words, out)
         if planned:
             return planned
@@ -368,8 +381,10 @@ def wrong_part_mirror(room, chance):
     entries = [*random_entries(chance, manifests, names, False), (chance.choice(manifests), "v1")]
     write_entries(room + "/source", contents, entries)
     others, strays = random_entries(chance, manifests, names, True), chance.sample(contents, chance.randrange(3))
+    add_odd(room + "/source", chance, chance.choice([0, 0, 0.4]))
     for is_exact in False, True:
         write_entries(room + "/mirror", contents, others, strays)
+        add_odd(room + "/mirror", chance, chance.choice([0, 0, 0.4]))
         problem = PartMirror(room, is_exact).wrong() or PartMirror(room, is_exact).wrong()
         if problem:
             return "%s referrers: %s" % ("with" if is_exact else "without", problem)
@@ -380,7 +395,7 @@ def checks(room):
         yield name, wrong_layout(room, layout)
     chance = random.Random(1)
     for number in range(LAYOUTS):
-        yield "random layout %d" % number, wrong_layout(room, random_layout(chance))
+        yield "random layout %d" % number, wrong_layout(room, random_layout(chance), chance)
     for name, layout in CASES.items():
         yield "a mirror of %s" % name, wrong_mirror(room, layout, random_layout(chance))
     for number in range(LAYOUTS):

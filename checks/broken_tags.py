@@ -10,7 +10,7 @@ import tarfile
 
 from repair import damage
 from support.files import stamps
-from support.indexes import LOST, entry, named, unreadable
+from support.indexes import LOST, add_odd, entry, named, unreadable
 from support.json_lines import of_error
 from support.layouts import (
     BAR, DOCKER_IMAGE, DOCKER_LIST, E, FOO, I1, I3, I4, IMAGE, INDEX, LAYER, M2, M3, S, Content, blob, image, index, key, write_layout,
@@ -150,6 +150,7 @@ def entry_of(chance, contents):
 def write_random(folder, chance):
     contents = contents_of(chance)
     write_entries(folder, contents, [entry_of(chance, contents) for _ in range(chance.randrange(1, 9))])
+    add_odd(folder, chance, chance.choice([0, 0, 0.3]))
     damage(folder, chance, chance.choice([0, 0.1, 0.2, 0.3, 0.5]))
 
 

@@ -7,7 +7,7 @@ import shutil
 from support.indexes import entry, last_places, named, random_entries, saved_entries, saved_text
 from support.layouts import BAR, E, FOO, I1, INDEX, M2, M3, NAME, S, image, key, write_layout
 from support.program import first, run, told
-from support.pruning import Held, is_readable, key_of, name_of, notes, text
+from support.pruning import OCTETS, Held, is_readable, key_of, name_of, notes, text
 
 CONTENTS = [E, FOO, BAR, M2, M3, I1, S]
 NEW = image([BAR])
@@ -45,6 +45,7 @@ TOOLS = {
         entry(S, artifactType="application/vnd.example.signature")),
     "skopeo copy": of_index(named(M2, "v1"), named(M3, "v2", platform=LINUX), entry(I1, platform=LINUX)),
     "umoci": of_index(named(M2, "v1", platform={**LINUX, "os.version": "1", "variant": "v8"})),
+    "oras tag": of_index(named(I1, "v1"), {**named(M2, "v1-amd64"), "mediaType": OCTETS}),
     "a tool with members of its own": of_index(
         named(M2, "v1", {"a": "b"}, urls=["https://example.com/a"], data="e30=", other={"x": [1, None, True]}),
         artifactType="application/vnd.example", annotations={"k": "v"}, other=["y"]),
@@ -52,7 +53,7 @@ TOOLS = {
 
 
 # The manifests without a tag that have no entry: each save gives them one.
-UNLISTED = {"docker save": [M2], "docker buildx build": [M2, M3], "ctr images export": [M3]}
+UNLISTED = {"docker save": [M2], "docker buildx build": [M2, M3], "ctr images export": [M3], "oras tag": [M3]}
 
 
 def fresh(room, index):
@@ -168,7 +169,7 @@ class Index:
         """Return the entries that a save writes for these. These contents are new."""
         keys = self.held.keys.union(key_of(entry(it)) for it in new)
         listed = set().union(*map(Held(self.room + "/layout").listed, keys))
-        return saved_entries(entries, keys, listed)
+        return saved_entries(entries, keys, listed, self.held.meant)
 
     def wrong_index(self, entries, *new):
         """Return the problem with the saved index, or None. These contents are new."""
@@ -196,10 +197,10 @@ class Index:
         """Return the problem with the removal of a name, or None. With a tag goes what belongs to it alone."""
         held, entries = Held(self.room + "/layout"), json.loads(index_bytes(self.room))["manifests"]
         left, own = held.left_without(name), [it for it in entries if name_of(it) == name]
-        lines = ["untagged %s\n" % (text(key_of(it)) if is_readable(it) else "-") for it in own]
+        lines = ["untagged %s\n" % (text(held.meant(it)) if is_readable(it) else "-") for it in own]
         lines += ["untagged %s\n" % text(it) for it in held.belonged(name)]
-        rest = [it for it in entries if name_of(it) != name and not (is_readable(it) and key_of(it) in held.keys - left)]
-        wanted = saved_text(saved_entries(rest, left, set().union(*map(held.listed, left))))
+        rest = [it for it in entries if name_of(it) != name and not (is_readable(it) and held.meant(it) in held.keys - left)]
+        wanted = saved_text(saved_entries(rest, left, set().union(*map(held.listed, left)), held.meant))
         complaint = self.wrong(["untag", "layout", name], 0, "".join(lines))
         found = index_bytes(self.room).decode()
         return complaint or (None if found == wanted else "the index is %.500s, and not %.500s" % (found, wanted))
@@ -227,7 +228,7 @@ class Index:
         lists = ["%s %s\n" % (name, text(it)) for name, it in sorted(held.tags.items())]
         findings = [
             *("absent %s\n" % text(it) for it in held.absent),
-            *("shadowed %s %s\n" % (name_of(it), text(key_of(it))) for it in shadowed),
+            *("shadowed %s %s\n" % (name_of(it), text(held.meant(it))) for it in shadowed),
             "held %d\n" % len(held.keys),
         ]
         return first([
@@ -253,7 +254,7 @@ class Index:
         """Return the line for an entry that a copy would leave out, in a list, or an empty one."""
         if not is_readable(entry):
             return [refusal(place)]
-        key = key_of(entry)
+        key = self.held.meant(entry)
         return ["ocicp: 96 Unknown %s\n" % text(key)] if key in self.held.absent else []
 
     def wrong_answer(self, words, lines):

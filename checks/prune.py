@@ -194,6 +194,10 @@ def traits(prunes):
         "two keys with one digest": len(digests) < len(held.keys),
         "an entry that a tag hides": bool(held.named_keys - tagged),
         "a key that is counted and that a tag needs": bool(held.tags and free & removes.kept),
+        "an entry that means a manifest": any(own.media_type not in MEMBERS and it.media_type in MEMBERS for own, it in held.odd),
+        "an entry that means another size": any(own.size != it.size for own, it in held.odd),
+        "an entry that means what has no tag": any(it in free for _, it in held.odd),
+        "a tag whose entry means a manifest": any(own.media_type not in MEMBERS and it in tagged for own, it in held.odd),
     }
 
 

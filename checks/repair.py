@@ -12,12 +12,13 @@ import tarfile
 from support import indexes, prune_cases
 from support.files import MOST, files, read, stamps, wrong_refusal
 from support.json_rooms import Rooms
-from support.layouts import BAR, E, FOO, I1, I4, M2, S, blob, descriptor, image, key, write_layout
+from support.layouts import BAR, E, FOO, I1, I4, M2, S, blob, image, key, write_layout
 from support.program import NOBODY, first, run, told
 from support.pruning import MEMBERS
 from support.repair_layout import ALL, LARGE, fresh, write
 from support.repairing import Repair
 from support.tar_files import pack
+from support.verifying import Verify
 
 LAYOUTS, DOCUMENTS = 120, 20
 FLAGS = [[], ["--workers", "1"], ["--workers", "0"], ["--workers", "7"], ["--no-sync"]]
@@ -121,20 +122,24 @@ def wrong_repair(room, words, folders, flags=()):
     return complaint or first([
         None if others.items() <= stamps(room).items() else "a source was changed",
         wrong_verify(room, repair),
-        wrong_again(room, words, Repair(layout, folders)),
+        wrong_again(room, words, repair, Repair(layout, folders)),
     ])
 
 
 def wrong_verify(room, repair):
     """Return the problem with what `verify` finds after a repair, or None."""
-    ended = run(["verify", "layout"], room)
+    ended, found = run(["verify", "layout"], room), Verify(room + "/layout")
     is_whole = ended.status == 0 and ended.out.endswith("held %d\n" % len(repair.held))
-    if is_whole != (repair.status == 0):
+    is_right = (ended.status, ended.out.splitlines()) == (found.status(), found.lines())
+    # (a file that was not whole may now show that an entry means another key)
+    if not is_right or is_whole != (repair.status == 0) and found.roots() == repair.roots:
         return "verify: " + told(ended)
 
 
-def wrong_again(room, words, repair):
-    """Return the problem with a repair of what was repaired, or None. It is to write nothing."""
+def wrong_again(room, words, before, repair):
+    """Return the problem with a repair of what was repaired before, or None. It is to write nothing."""
+    if repair.roots != before.roots:
+        return wrong_end(room, words, repair)
     if repair.written:
         return "there is more to repair: " + " ".join(repair.written)
     when = stamps(room)
@@ -165,14 +170,6 @@ def write_source(room, name, contents, chance):
     return name + ".tar", folder
 
 
-def add_wrong_size(folder, contents, chance):
-    """Put an entry into the index of a layout that states another size of one of these contents."""
-    index = json.loads(read(folder + "/index.json"))
-    entry = json.loads(descriptor(chance.choice(contents)))
-    index["manifests"].append({**entry, "size": entry["size"] + 1})
-    write(folder, "index.json", json.dumps(index).encode())
-
-
 def write_random(room, chance):
     """Write a layout with damage and up to three sources, and return the words that name the sources, and their folders."""
     contents, layout = prune_cases.random_contents(chance), room + "/layout"
@@ -181,8 +178,7 @@ def write_random(room, chance):
     write_layout(layout, contents, tagged, [it for it in contents if chance.random() < 0.2])
     if chance.random() < 0.15:
         indexes.add_unreadable(layout, chance)
-    if chance.random() < 0.15:
-        add_wrong_size(layout, contents, chance)
+    indexes.add_odd(layout, chance, chance.choice([0, 0, 0, 0.3]))
     damage(layout, chance, chance.choice([0.2, 0.5, 0.9, 1]))
     sources = [write_source(room, "source-%d" % number, contents, chance) for number in range(chance.randrange(1, 4))]
     if chance.random() < 0.2:

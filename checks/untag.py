@@ -7,6 +7,7 @@ import signal
 from attached import random_layout
 from support import shim
 from support.files import files, wrong_refusal
+from support.indexes import add_odd
 from support.layouts import BAR, E, FOO, I1, LAYER, M2, M3, S, Content, blob, digits, key, write_layout
 from support.program import first, run, told
 from support.pruning import Held, Prune, text
@@ -62,7 +63,7 @@ def one_by_one(room):
 
 def at_random(room):
     """Remove each tag of random layouts, which have signatures and tags by digest, one by one and in turn."""
-    gone = 0
+    gone = odd = 0
     for seed in range(LAYOUTS):
         chance = random.Random(seed)
         contents, names, manifests = random_layout(chance)
@@ -73,12 +74,15 @@ def at_random(room):
                 if is_fresh or not number:
                     shutil.rmtree(room + "/layout", ignore_errors=True)
                     write_layout(room + "/layout", contents, names, untagged)
+                    add_odd(room + "/layout", chance, chance.choice([0, 0.4]))
                 held = Held(room + "/layout")
                 if name in held.tags:
                     gone += len(held.keys - held.left_without(name))
+                    odd += bool(held.odd)
                     found.append(wrong_untag(room, name))
             yield "random layout %d, %s" % (seed, "tag by tag" if is_fresh else "each tag in turn"), first(found)
     yield "what goes with the tags of random layouts", None if gone > LAYOUTS else "only %d keys" % gone
+    yield "random layouts with entries that mean other keys", None if odd > LAYOUTS else "only %d" % odd
 
 
 def refused(room):

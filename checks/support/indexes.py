@@ -1,10 +1,10 @@
-"""Indexes of layouts with entries that are no descriptors, made at random, and the indexes that a save makes of them by the rules of
-docs/damage.md and docs/howto.md."""
+"""Indexes of layouts with entries that are no descriptors, or that mean other keys than their own, made at random, and the indexes that a save
+makes of them by the rules of docs/damage.md and docs/howto.md."""
 import json
 
 from support.files import read
-from support.layouts import INDEX, NAME, descriptor, image
-from support.pruning import MEMBERS, Held, is_readable, key_of, name_of
+from support.layouts import IMAGE, INDEX, LAYER, NAME, descriptor, image
+from support.pruning import MEMBERS, OCTETS, Held, is_readable, key_of, name_of
 
 # Values that are no objects, or have nothing that a descriptor has.
 OTHERS = [None, True, -7, 1.5, "a \"text\"\n", [], [{"z": 1, "a": [{"y": None, "b": "\u00e9"}]}], {}, {"x": [1, None, {"z": 1, "y": 2}]}]
@@ -15,6 +15,8 @@ BROKEN = [
     {"digest": "../../x"}, {"digest": ""},
 ]
 LOST = image([], number=9)
+# Media types that are no manifest's, and what follows one that has parameters.
+OTHER_TYPES, PARAMETERS = [OCTETS, OCTETS, OCTETS, "application/json", LAYER, ""], ["; charset=utf-8", ";", ";a=b;c=d"]
 
 
 def entry(content, **members):
@@ -44,6 +46,27 @@ def add_unreadable(folder, chance):
         json.dump(index, file)
 
 
+def odd(chance, value):
+    """Return an entry of the same file with another media type or another size."""
+    media_type, size = value["mediaType"], value["size"]
+    kind = media_type.split(";")[0] if media_type.split(";")[0] in MEMBERS else IMAGE
+    types = [chance.choice(OTHER_TYPES), kind + chance.choice(PARAMETERS), chance.choice([*MEMBERS]) + chance.choice(PARAMETERS), media_type]
+    sizes = [size, size, size + 1, max(size - 1, 0), 0, (1 << 63) - 1]
+    return {**value, "mediaType": chance.choice(types), "size": chance.choice(sizes)}
+
+
+def add_odd(folder, chance, share):
+    """Give this share of the entries of a layout another media type or another size. Beside some of them the right one stays, without a name."""
+    index, entries = json.loads(read(folder + "/index.json")), []
+    for value in index["manifests"]:
+        is_odd = is_readable(value) and chance.random() < share
+        entries.append(odd(chance, value) if is_odd else value)
+        if is_odd and chance.random() < 0.2:
+            entries.append({name: it for name, it in value.items() if name != "annotations"})
+    with open(folder + "/index.json", "w") as file:
+        json.dump({**index, "manifests": entries}, file)
+
+
 def random_entries(chance, contents, names):
     """Return entries with one of these names or none: of these contents, of a blob without a file, and values that are no descriptors."""
     entries = []
@@ -52,6 +75,7 @@ def random_entries(chance, contents, names):
         content = chance.choice([*contents, LOST])
         members = {} if name is None else {"annotations": {"k": "v", NAME: name}}
         readable = entry(content, number=chance.randrange(9), **members)
+        readable = odd(chance, readable) if chance.random() < 0.3 else readable
         entries.append(readable if chance.random() < 0.5 else unreadable(chance, name))
     return entries
 
@@ -61,7 +85,7 @@ def without_names(folder, names):
     held, entries = Held(folder), json.loads(read(folder + "/index.json"))["manifests"]
     rest, listed = [it for it in entries if name_of(it) not in names], set().union(*map(held.listed, held.keys))
     with open(folder + "/index.json", "w") as file:
-        file.write(saved_text(saved_entries(rest, held.keys, listed)))
+        file.write(saved_text(saved_entries(rest, held.keys, listed, held.meant)))
 
 
 def last_places(entries):
@@ -69,16 +93,17 @@ def last_places(entries):
     return {name_of(it): place for place, it in enumerate(entries) if name_of(it)}
 
 
-def saved_entries(entries, keys, listed):
+def saved_entries(entries, keys, listed, meant=key_of):
     """Return the entries that a save writes: first those that are not held, and those whose name a later entry has; then those of the tags;
-    then those without a name, and new ones in key order. These keys are held, and the manifests among them list others.
+    then those without a name, and new ones in key order. These keys are held, and the manifests among them list others. `meant` returns the
+    key that an entry means.
     """
     last = last_places(entries)
-    is_held = [is_readable(it) and key_of(it) in keys for it in entries]
+    is_held = [is_readable(it) and meant(it) in keys for it in entries]
     before = [it for place, it in enumerate(entries) if not is_held[place] or name_of(it) and last[name_of(it)] != place]
     tagged = [entries[last[name]] for name in sorted(last, key=str.encode) if is_held[last[name]]]
     loose = [it for place, it in enumerate(entries) if is_held[place] and not name_of(it)]
-    has = set(map(key_of, [*tagged, *loose]))
+    has = set(map(meant, [*tagged, *loose]))
     new = sorted(it for it in keys - has if it.media_type in MEMBERS or it not in listed)
     return [*before, *tagged, *loose, *({"mediaType": it.media_type, "digest": it.digest, "size": it.size} for it in new)]
 

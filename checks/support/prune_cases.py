@@ -3,6 +3,7 @@ import os
 import shutil
 from collections import namedtuple
 
+from support.indexes import add_odd
 from support.layouts import (
     ARTIFACT, BAR, DOCKER_IMAGE, DOCKER_LIST, E, FOO, I1, IMAGE, INDEX, LAYER, M2, M3, S, Content, blob, descriptor, image, index,
     write_layout,
@@ -18,6 +19,7 @@ A_ZIPPED, LONG = A._replace(media_type=GZIP), A._replace(algorithm="sha512")
 FAR = A._replace(media_type=FOREIGN)
 OLD_IMAGE, FAR_IMAGE = image([A, OLD]), image([FAR])
 LONG_IMAGE, OLD_LONG = image([LONG]), image([B], subject=M3)._replace(algorithm="sha512")
+OVER = image([M2._replace(media_type=LAYER)])
 SIGNED = image([B], subject=S)
 BILL = index([SIGNED], subject=S)
 OCTETS = M2._replace(media_type="application/octet-stream")
@@ -51,7 +53,8 @@ CASES = {
     "no entry": Case([], {}, [], {STRAY: b"stray", blob(FOO): FOO.bytes}, goes=[STRAY, blob(FOO)]),
     "one digest by two media types": Case([E, A, image([A]), image([A_ZIPPED])], {"new": image([A])}, [image([A_ZIPPED])],
                                           goes=[A_ZIPPED, image([A_ZIPPED])], free=[image([A_ZIPPED])], shared=[A]),
-    "an image also as a layer": Case([E, FOO, M2], {"layer": M2._replace(media_type=LAYER)}, [M2], goes=[E, FOO, M2], shared=[M2]),
+    "an image also as a layer": Case([E, FOO, M2, OVER], {"new": OVER}, [M2], goes=[FOO, M2], free=[M2], shared=[M2]),
+    "an entry that means an image": Case([E, FOO, M2, BAR, M3], {"layer": M2._replace(media_type=LAYER)}, [M3], goes=[BAR, M3], free=[M3]),
     "one digest by two media types, without a tag": Case([E, FOO, M2, A], {"new": M2}, [A, A_ZIPPED], goes=[A, A_ZIPPED], free=[A, A_ZIPPED]),
     "referrers of referrers": Case([*ALL, S, SIGNED, BILL], {"new": M2}, [S, BILL]),
     "a subject with another media type": Case([*ALL, OF_OCTETS], {"new": M2}, [OF_OCTETS]),
@@ -118,9 +121,17 @@ SHAPES = {
 }
 
 
+def stated_type(chance, kind):
+    """Return the JSON of a type that a manifest of a kind may state of itself, such that it is also a manifest of that type, or an empty text."""
+    others = [DOCKER_IMAGE, IMAGE] if kind in (DOCKER_IMAGE, IMAGE) else [INDEX, DOCKER_LIST, ARTIFACT]
+    return chance.choice(["", "", *['"%s"' % kind] * 4, '"%s"' % chance.choice(others), '"text/plain"', "5", "null"])
+
+
 def random_manifest(chance, contents, number):
     kind = chance.choice([*SHAPES])
     members = ['"number":%d' % chance.choice([number, 0])]
+    stated = stated_type(chance, kind)
+    members += ['"mediaType":' + stated] if stated else []
     # (a kind without a subject may have a member of this name, which counts for nothing)
     for name, shape, is_optional in SHAPES[kind] + [("subject", "one", True)] * (kind in (DOCKER_IMAGE, DOCKER_LIST)):
         if is_optional and chance.random() < 0.2:
@@ -155,3 +166,4 @@ def write_random(folder, chance):
         stray = "%s/blobs/sha256/%064x" % (folder, chance.randrange(1 << 256))
         with open(stray + chance.choice(["", "", DRAFT, ".old"]), "wb") as file:
             file.write(b"x" * number)
+    add_odd(folder, chance, chance.choice([0, 0, 0.3, 0.7]))

@@ -1,4 +1,6 @@
-"""The contents that a prune of a layout keeps, removes and prints, worked out from its files by the rules of `ocicp prune --help`."""
+"""The contents that a prune of a layout keeps, removes and prints, worked out from its files by the rules of `ocicp prune --help`; and the keys
+that the entries of `index.json` mean."""
+import hashlib
 import json
 import os
 import re
@@ -16,6 +18,10 @@ MEMBERS = {
     DOCKER_LIST: ["manifests"],
     ARTIFACT: ["subject", "blobs"],
 }
+# The type that says nothing of a content. Some tools write it into the entry of a manifest that they tag.
+OCTETS = "application/octet-stream"
+# A larger file is not read for what an entry means.
+MOST_READ = 4 << 20
 # Layers of these types are not distributed: no copy brings them.
 FOREIGN = re.compile(
     r"application/vnd\.oci\.image\.layer\.nondistributable\.v1\.tar(\+gzip|\+zstd)?"
@@ -60,6 +66,45 @@ def name_of(value):
     return name if type(name) is str and name else None
 
 
+def has_digest(content, digest):
+    algorithm, digits = digest.split(":")
+    return hashlib.new(algorithm, content).hexdigest() == digits
+
+
+def value_of(content):
+    """Return the value of a JSON text, or None."""
+    try:
+        return json.loads(content)
+    except ValueError:
+        return None
+
+
+def meant_type(media_type, content):
+    """Return the media type that an entry with this one means, if its file has these bytes."""
+    value = value_of(content)
+    members = value if type(value) is dict else {}
+    stated = members.get("mediaType")
+    if media_type in MEMBERS or stated in list(MEMBERS):
+        return media_type if media_type in MEMBERS else stated
+    is_open = media_type == OCTETS or media_type.split(";")[0] in MEMBERS
+    if type(stated) is str or not is_open:
+        return media_type
+    if type(members.get("manifests")) is list:
+        return INDEX
+    return IMAGE if {"config", "layers"} <= members.keys() else media_type
+
+
+def meant_key(folder, key):
+    """Return the key that an entry of `index.json` with this key means: what the file of its digest is, if that is small and whole."""
+    file = "%s/%s" % (folder, path(key))
+    if not os.path.isfile(file) or os.path.getsize(file) > MOST_READ:
+        return key
+    content = read(file)
+    if not has_digest(content, key.digest):
+        return key
+    return Key(meant_type(key.media_type, content), key.digest, len(content))
+
+
 class Held:
     """The keys that a layout holds, and the references between them."""
 
@@ -68,19 +113,25 @@ class Held:
         entries = json.loads(read(folder + "/index.json"))["manifests"]
         self.has_entries = bool(entries)
         self.unreadable = [place for place, it in enumerate(entries) if not is_readable(it)]
-        self.entries = [key_of(it) for it in entries if is_readable(it)]
+        # The keys of the entries that mean another one, each with that one.
+        self.odd = [(key_of(it), self.meant(it)) for it in entries if is_readable(it) and self.meant(it) != key_of(it)]
+        self.entries = [self.meant(it) for it in entries if is_readable(it)]
         self.absent = [it for it in self.entries if not self.has(it)]
         self.keys = set(self.entries) - set(self.absent)
         while more := {it for key in self.keys for it in self.listed(key) if self.has(it)} - self.keys:
             self.keys |= more
         # (of two entries with one name the last counts, held or not)
-        last = {name_of(it): is_readable(it) and key_of(it) for it in entries}
+        last = {name_of(it): is_readable(it) and self.meant(it) for it in entries}
         self.tags = {name: key for name, key in last.items() if name and key in self.keys}
         # The name and the key of each entry, and the keys of the entries of each name.
-        self.listing = [(name_of(it), key_of(it)) for it in entries if is_readable(it)]
+        self.listing = [(name_of(it), self.meant(it)) for it in entries if is_readable(it)]
         self.by_name = {name: [key for other, key in self.listing if other == name] for name, _ in self.listing if name}
         # The keys of the entries with a name, also of those that a tag hides.
-        self.named_keys = {key_of(it) for it in entries if name_of(it) and is_readable(it)} & self.keys
+        self.named_keys = {self.meant(it) for it in entries if name_of(it) and is_readable(it)} & self.keys
+
+    def meant(self, value):
+        """Return the key that an entry of `index.json` means, by the files that the layout has now."""
+        return meant_key(self.folder, key_of(value))
 
     def has(self, key):
         """Return whether there is a file of a key, which for a layer or a config has the right size."""

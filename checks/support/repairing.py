@@ -1,12 +1,11 @@
 """The blobs that a repair of a layout writes, and the lines that it prints, worked out from the files by the rules of `ocicp repair --help`."""
-import hashlib
 import json
 import os
 import re
 
 from support.files import read
 from support.layouts import DOCKER_IMAGE, IMAGE
-from support.pruning import FOREIGN, MEMBERS, is_readable, key_of, path, text
+from support.pruning import FOREIGN, MEMBERS, has_digest, is_readable, key_of, meant_key, path, text, value_of
 
 # The kinds of manifests that have to have a config, and the members that are lists.
 WITH_CONFIG, LISTS = [IMAGE, DOCKER_IMAGE], ["layers", "manifests", "blobs"]
@@ -16,8 +15,7 @@ BESIDE = re.compile(r"blobs/(sha256/[0-9a-f]{64}|sha512/[0-9a-f]{128})\.[0-9a-f]
 
 def is_match(key, content):
     """Return whether bytes have the size and the digest of a key."""
-    algorithm, digits = key.digest.split(":")
-    return len(content) == key.size and hashlib.new(algorithm, content).hexdigest() == digits
+    return len(content) == key.size and has_digest(content, key.digest)
 
 
 def found_in(folder, key):
@@ -31,14 +29,6 @@ def is_blocked(folder, key):
     """Return whether a folder with contents is in the place of a key's file."""
     place = "%s/%s" % (folder, path(key))
     return os.path.isdir(place) and bool(os.listdir(place))
-
-
-def value_of(content):
-    """Return the value of a JSON text, or None."""
-    try:
-        return json.loads(content)
-    except ValueError:
-        return None
 
 
 def listed(media_type, content):
@@ -70,7 +60,9 @@ class Repair:
         self.held, self.repaired, self.missing = set(), set(), set()
         # The repaired blobs that are known only from repaired manifests.
         self.below = set()
-        self.visit({key_of(it) for it in entries if is_readable(it)})
+        # The keys that the entries mean, by the files that the layout has before the repair.
+        self.roots = {meant_key(folder, key_of(it)) for it in entries if is_readable(it)}
+        self.visit(self.roots)
         unreadable = [place for place, it in enumerate(entries) if not is_readable(it)]
         self.err = "".join("ocicp: 73 BadIndex 14 BadDescriptor manifests %d\n" % it for it in unreadable)
         self.lines = [

@@ -3,7 +3,7 @@ import json
 import os
 
 from support.files import read
-from support.pruning import is_readable, key_of, name_of, path, text
+from support.pruning import is_readable, key_of, meant_key, name_of, path, text
 from support.repairing import is_match, listed
 
 
@@ -18,8 +18,8 @@ class Verify:
         self.folder = folder
         self.entries = json.loads(read(folder + "/index.json"))["manifests"]
         self.unreadable = [place for place, it in enumerate(self.entries) if not is_readable(it)]
-        # The name and the key of each entry, which is None for one that is no descriptor.
-        self.named = [(name_of(it), key_of(it) if is_readable(it) else None) for it in self.entries]
+        # The name of each entry and the key that it means, which is None for one that is no descriptor.
+        self.named = [(name_of(it), meant_key(folder, key_of(it)) if is_readable(it) else None) for it in self.entries]
         keys = [key for _, key in self.named if key]
         # The keys that are reached, in the order in which they are met, each with those that it lists.
         self.lists = self.reached(keys)
@@ -32,6 +32,10 @@ class Verify:
         self.tags = {name: key for name, key in dict(self.named).items() if name and key}
         bad = {name: sorted((self.missing | self.corrupt) & set(self.reached([key]))) for name, key in self.tags.items()}
         self.broken = [(name, bad[name]) for name in sorted(bad, key=str.encode) if bad[name]]
+
+    def roots(self):
+        """Return the keys that the entries mean."""
+        return {key for _, key in self.named if key}
 
     def place(self, key):
         return "%s/%s" % (self.folder, path(key))
