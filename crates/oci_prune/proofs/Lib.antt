@@ -3,6 +3,7 @@ pub mod Remembered
 pub mod Stating
 pub mod Elements
 pub mod Asides
+pub mod Passing
 pub mod Filing
 pub mod Sparing
 pub mod Noting

@@ -1,14 +1,15 @@
 -- The layers that manifests list and that are not distributed (OCI image-spec 1.1, layer.md,
 -- "Non-Distributable Layers"). No key lists them in the graph, and nothing copies them.
-use Rattle.std.specs.Prelude.{◌≡◌, ◌⊎◌, ℕ, true, List, Some, Err, Contains}
-use Rattle.oci_manifest.specs.Descriptor.{Descriptor}
+use Rattle.std.specs.Prelude.{◌≡◌, ◌⊎◌, ◌↔◌, ℕ, true, List, Some, Err, Contains}
+use Rattle.std.specs.List.Sorted.{IsStrictlySortedBy}
+use Rattle.oci_manifest.specs.Descriptor.{Descriptor, key_cmp}
 use Rattle.oci_manifest.specs.Fault.{Fault, IsFault}
 use Rattle.oci_manifest.specs.MediaTypes.{kind_of}
 use Rattle.oci_manifest.specs.Undistributed.{ReadsAside, undistributed_of}
 use Rattle.oci_manifest.specs.declared.fault.ManifestFault.{ManifestFault}
 use Rattle.oci_store.specs.Content.{Entry, Matches}
-use Rattle.oci_store.specs.Graph.{Node, IsEdge}
-use Rattle.oci_store.specs.Keyed.{value_at}
+use Rattle.oci_store.specs.Graph.{Node, IsEdge, Reaches}
+use Rattle.oci_store.specs.Keyed.{value_at, has_key}
 use Rattle.oci_store.specs.State.{State}
 use Rattle.oci_layout_store.specs.Layout.{is_manifest}
 use Rattle.oci_layout_store.specs.declared.fault.LayoutFault.TheVariants as layout
@@ -23,6 +24,23 @@ ListsAside entries from k = (bytes : List ℕ) × (keys : List Descriptor) × (v
 -- the first key lists the second, be it distributed or not
 abbrev pub Lists : List Node → List Entry → Descriptor → Descriptor → Type 0
 Lists graph entries from k = IsEdge graph from k ⊎ ListsAside entries from k
+
+-- a held key that the given keys reach lists the key, which is not distributed: a copy passes over it
+abbrev pub IsPassedOver : List Node → List Entry → List Descriptor → Descriptor → Type 0
+IsPassedOver graph entries keys k = (from : Descriptor) × Reaches graph keys from × ListsAside entries from k
+
+-- these are all the keys that a copy of the given ones passes over, in key order
+pub record ArePassedOver (graph : List Node) (entries : List Entry) (keys passed : List Descriptor) : Type 0 where
+  pub each : (k : Descriptor) → Contains passed k ↔ IsPassedOver graph entries keys k
+  pub order : IsStrictlySortedBy key_cmp passed
+
+-- these are the held keys that the given keys reach
+abbrev pub AreReached : List Node → List Descriptor → List Descriptor → Type 0
+AreReached graph keys reached = (k : Descriptor) → Contains reached k ↔ (Reaches graph keys k × (has_key graph k ≡ true))
+
+-- these are the keys that one of the given keys lists and that are not distributed
+abbrev pub AreListedAside : List Entry → List Descriptor → List Descriptor → Type 0
+AreListedAside entries keys listed = (k : Descriptor) → Contains listed k ↔ ((from : Descriptor) × Contains keys from × ListsAside entries from k)
 
 -- bytes that match the key break the rule that the fault names
 abbrev pub IsUnreadAside : State → Descriptor → ManifestFault → Type 0

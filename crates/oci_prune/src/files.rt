@@ -103,7 +103,7 @@ fn add_listed<S: GraphSource>(source: &S, key: &Key, needed: &mut Vec<Key>) -> R
 }
 
 /// Adds keys.
-fn add_all(keys: Vec<Key>, needed: &mut Vec<Key>) -> Result<(), NoMemory>
+pub(crate) fn add_all(keys: Vec<Key>, needed: &mut Vec<Key>) -> Result<(), NoMemory>
     ensures { OnOk result (needed.new.items ≡ needed.old.items ++ keys.items) }
 {
     let mut keys = keys;

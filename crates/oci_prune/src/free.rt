@@ -129,7 +129,7 @@ fn add_attached(
 }
 
 /// Returns the set of these keys.
-fn set_of(alloc: Global, keys: &[Key]) -> Result<BTreeSet<Key>, NoMemory>
+pub(crate) fn set_of(alloc: Global, keys: &[Key]) -> Result<BTreeSet<Key>, NoMemory>
     ensures { IfOk result (λ set. (k : Descriptor) → contains key_cmp set k
         ≡ is_among keys.now k) }
 {

@@ -10,6 +10,7 @@
 //! returns the tags that are attached to no other key.
 //!
 //! [`free_keys`] returns the keys that no tag names, and that are wanted for themselves.
+//! [`keys_passed_over`] returns the layers that a copy of keys passes over, as they are not distributed.
 //!
 //! [`plan_prune`] plans a prune that keeps each held key, so all that an entry of the index reaches,
 //! and changes nothing. Of the files under `blobs` that are named by a digest it removes those of
@@ -54,6 +55,7 @@ mod kept;
 mod laws;
 mod leftovers;
 mod members;
+mod passed;
 mod plan;
 mod referrers;
 mod removal;
@@ -71,6 +73,7 @@ pub use free::free_keys;
 pub use laws::{belonging_is_reached, kept_is_reached};
 pub use leftovers::{plan_leftovers, prune_leftovers};
 pub use oci_prune_fault::PruneFault;
+pub use passed::keys_passed_over;
 pub use plan::{PrunePlan, PrunedFile, plan_prune, plan_prune_after, plan_prune_keeping};
 pub use run::{Pruned, prune};
 pub use save::save_only;
