@@ -9,9 +9,9 @@ import shutil
 from support.dry_runs import wrong_dry_run
 from support.files import read
 from support.indexes import add_odd, entry, named
-from support.layouts import BAR, E, FOO, I1, M2, M3, S, digits, image, index, write_layout
+from support.layouts import BAR, E, FOO, I1, M2, M3, S, Content, digits, image, index, write_layout
 from support.program import first, run, told
-from support.pruning import MEMBERS, Held, files_of, key_of, name_of, notes, path, text, texts_of
+from support.pruning import FOREIGN, MEMBERS, Held, files_of, key_of, name_of, notes, path, text, texts_of
 
 OCTETS = "application/octet-stream"
 SBOM, SIGNATURE = "application/spdx+json", "application/vnd.example.signature"
@@ -32,6 +32,10 @@ OTHER = image([BAR], number=1)
 OF_S, OF_OCTETS = image([BAR], subject=S), image([BAR], subject=M2._replace(media_type=OCTETS))
 OF_BOTH, OF_OTHER = index([OTHER], subject=I1), image([], subject=OTHER)
 LONG = M2._replace(algorithm="sha512")
+FAR = Content("application/vnd.oci.image.layer.nondistributable.v1.tar", b"far")
+FAR_IMAGE = image([FAR, FOO, FAR._replace(media_type=FAR.media_type + "+gzip"), FAR])
+NEAR = image([BAR._replace(media_type="application/vnd.docker.image.rootfs.foreign.diff.tar.gzip")])
+PAIR = index([FAR_IMAGE, M2])
 ALL = [E, FOO, BAR, M2, M3, I1]
 # The contents of a layout, its tags, and the other entries of its index.
 CASES = {
@@ -47,6 +51,8 @@ CASES = {
         [*ALL, S], {"b": M3, tag_of(FOO, ".sig"): M2, tag_of(M3)[:-1]: S, tag_of(M3) + "0": S, tag_of(M3).upper(): S, "x" + tag_of(M3): S}, []),
     "a tag by half of a sha512 digest": ([E, FOO, LONG, M3, BAR], {"long": LONG, tag_of(LONG, ".sig", 64): M3}, []),
     "a tag by a whole sha512 digest": ([E, FOO, LONG, M3, BAR], {"long": LONG, tag_of(LONG, ".sig"): M3}, []),
+    "layers that are not to be distributed": ([E, FOO, FAR, FAR_IMAGE, M2, PAIR], {"far": FAR_IMAGE, "pair": PAIR}, []),
+    "a layer that is not to be distributed, and comes with another image": ([E, FOO, BAR, M3, NEAR], {"b": M3, "near": NEAR}, []),
     "a tag by a part of a sha512 digest": ([E, FOO, LONG, M3, BAR], {"long": LONG, tag_of(LONG, ".sig", 63): M3, tag_of(LONG, "", 65): M3}, []),
 }
 
@@ -144,6 +150,12 @@ class Source(Held):
         members = self.belonging(roots)
         return (self.attached(members) & members) - held
 
+    def passed(self, members):
+        """Return the layers that a copy of these keys passes over, since they are not to be distributed. None has a file that comes."""
+        digests = {it.digest for it in members}
+        listed = {it for key in members for it in self.all_listed(key)}
+        return {it for it in listed if FOREIGN.fullmatch(it.media_type) and it.digest not in digests}
+
     def said(self, names):
         """Return the entries of each of these names."""
         entries = json.loads(read(self.folder + "/index.json"))["manifests"]
@@ -184,7 +196,7 @@ def wrong_copy(room, words, source, tag, members, tags):
     copied = ["copied %s\n" % text(source.tags[it]) for it in [tag, *sorted(set(tags) - {tag})]]
     out = "".join(copied) + "planned %d pushed %d skipped 0\n" % (len(members), len(members))
     left = set() if words else source.left({source.tags[tag]}, members)
-    if ended[:3] != (0, out, notes(len(left))):
+    if ended[:3] != (0, out, notes(len(left), 0, len(source.passed(members)))):
         return "%s: %s" % (" ".join(words), told(ended))
     new = Held(room + "/new")
     return first([
@@ -201,11 +213,11 @@ def wrong_all(room, source):
         if "--referrers" in flags:
             members = source.belonging({above for key in roots for above in source.climbed(key, 0)})
         attached = set() if "--referrers" in flags else source.left(roots, members)
-        untagged = source.free() - members
+        untagged, passed = source.free() - members, source.passed(members)
         for form in [], ["--json"]:
             shutil.rmtree(room + "/new", ignore_errors=True)
             ended = run(["copy", "--all", *form, *flags, "source", "new"], room)
-            if ended.status != 0 or ended.err != ("" if form else notes(len(attached), len(untagged))):
+            if ended.status != 0 or ended.err != ("" if form else notes(len(attached), len(untagged), len(passed))):
                 return "%s: %s" % (flags, told(ended))
             new = Held(room + "/new")
             # (an image that is only known as a subject of octets has an entry of octets in DST, which means the image there)
@@ -213,8 +225,9 @@ def wrong_all(room, source):
             if not is_right:
                 return "%s: it brings %s, not %s" % (flags, sorted(map(text, new.keys)), sorted(map(text, members)))
         value = json.loads(ended.out)
-        left = {name: {key_of(it) for it in value.get(name, [])} for name in ("attachedLeft", "untaggedLeft")}
-        if left != {"attachedLeft": attached, "untaggedLeft": untagged} or [] in (value.get("attachedLeft"), value.get("untaggedLeft")):
+        wanted = {"attachedLeft": attached, "untaggedLeft": untagged, "notDistributed": passed}
+        left = {name: {key_of(it) for it in value.get(name, [])} for name in wanted}
+        if left != wanted or any(value.get(it) == [] for it in wanted) or [key_of(it) for it in value.get("notDistributed", [])] != sorted(passed):
             return "%s: %s" % (flags, ended.out)
 
 
@@ -227,7 +240,8 @@ def wrong_tree(room, source, tag):
     shown = {node["descriptor"]["digest"] for node in tree["blobs"] + tree["referrers"]}
     members = source.belonging(source.climbed(source.tags[tag], 0))
     lost = {it.digest for it in source.attached(members)} - shown
-    more = {node["descriptor"]["digest"] for node in tree["blobs"] + tree["referrers"] if not node["absent"]} - {it.digest for it in members}
+    more = {node["descriptor"]["digest"] for node in tree["blobs"] + tree["referrers"] if not node["absent"] and node.get("distributed", True)}
+    more -= {it.digest for it in members}
     return "the tree lacks %s, and has %s" % (sorted(lost), sorted(more)) if lost or more else None
 
 
@@ -278,6 +292,7 @@ class Mirror:
         # What it leaves in SRC: of what is attached nothing, since it has that too.
         self.left = set()
         self.untagged = self.source.free()
+        self.passed = self.source.passed(self.members)
 
     def blobs(self):
         return {it for it in files_of(self.room + "/mirror") if it.startswith("blobs/")}
@@ -311,7 +326,7 @@ class Mirror:
         if planned:
             return planned
         ended = run(["copy", *self.words, "source", "mirror"], self.room)
-        if ended[:3] != (0, out, notes(len(self.left - self.members), len(self.untagged - self.members))):
+        if ended[:3] != (0, out, notes(len(self.left - self.members), len(self.untagged - self.members), len(self.passed))):
             return "a mirror: %s, and not %r" % (told(ended), out)
         after = Source(self.room + "/mirror")
         return first([

@@ -14,6 +14,8 @@ PRUNED = {"removed": list, "files": list, "kept": int, "bytes": SUM}
 UNCOUNTED = {"--untagged", "--leftovers"}
 CLEANED = {"untagged": list, **PRUNED}
 COPIED = {"copied": list, "planned": int, "pushed": int, "skipped": int}
+# What a copy names that stays in SRC. Each of these is left out if it is empty.
+LEFT = ["attachedLeft", "untaggedLeft", "notDistributed"]
 LEAST_DIGITS = 12
 # The members that a blob of a tree, or a referrer, need not have.
 OF_BLOBS, OF_REFERRERS = {"distributed": bool}, {"artifactType": str}
@@ -238,7 +240,7 @@ def of_copy(value, words):
     if "--dry-run" in words:
         return of_plan(value, words)
     prunes = "--prune" in words
-    left = {it: list for it in ("attachedLeft", "untaggedLeft") if it in value}
+    left = {it: list for it in LEFT if it in value}
     copied, *counts = taken(value, {**COPIED, **(CLEANED if prunes else {}), **left})[:4]
     if "--all" not in words and [it["tag"] for it in copied] != [tag_of(words)]:
         raise ValueError("the tag is not %r" % tag_of(words))

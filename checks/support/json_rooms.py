@@ -37,7 +37,7 @@ def lines_of(words, ended, folder):
         reported = json_lines.take_reported(value, words)
         lines = json_lines.LINES[words[0]](value, words, *labels)
         out = "".join(line + "\n" for line in lines)
-        left = [len(value.get(it, [])) for it in ("attachedLeft", "untaggedLeft")] if words[0] == "copy" else []
+        left = [len(value.get(it, [])) for it in json_lines.LEFT] if words[0] == "copy" else []
     return out, json_lines.of_error(ended.err) + notes(*left or [0]), reported
 
 

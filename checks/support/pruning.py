@@ -283,8 +283,9 @@ def last_line(kept, removed, lengths, free=0):
     return line + (" untagged %d (see --untagged)" % free if free else "")
 
 
-def notes(attached, untagged=0):
-    """Return the lines of a copy on its error output, if it leaves so much in SRC that is attached, and so many images without a tag."""
+def notes(attached, untagged=0, passed=0):
+    """Return the lines of a copy on its error output, if it leaves so much in SRC that is attached, so many images without a tag, and so many
+    layers that are not to be distributed."""
     lines = []
     if attached:
         many = "1 manifest that is attached to it stays" if attached == 1 else "%d manifests that are attached to it stay" % attached
@@ -292,6 +293,9 @@ def notes(attached, untagged=0):
     if untagged:
         many = "1 image without a tag stays" if untagged == 1 else "%d images without a tag stay" % untagged
         lines.append("ocicp: note: %s in SRC (copy --all --untagged brings %s)\n" % (many, "it" if untagged == 1 else "them"))
+    if passed:
+        many = "1 layer that is not to be distributed was" if passed == 1 else "%d layers that are not to be distributed were" % passed
+        lines.append("ocicp: note: %s not copied\n" % many)
     return "".join(lines)
 
 

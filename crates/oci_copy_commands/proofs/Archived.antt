@@ -66,7 +66,7 @@ pub is_archived : {S M : Type 0} (from : S → Device) (memory : M → Device) (
     (selected : Selected) (plan : Planned) (outline : LayoutState M) (items : List Item) (behind : LeftBehind) (answer : CopyAnswer)
     → IsSelectedIn from words source_dir source selected → IsOutlined from memory (options_of words) source selected plan outline
     → (memory outline.dir).is_honest
-    → IsExport (store_of from source) (memory outline.dir) outline.graph items → IsLeftBehind from words source selected.0 outline.graph behind → IsArchiveAnswer selected plan behind answer
+    → IsExport (store_of from source) (memory outline.dir) outline.graph items → IsLeftBehind from memory words source selected.0 outline behind → IsArchiveAnswer selected plan behind answer
     → IsArchived from memory words source_dir items answer
 is_archived from memory words source_dir source selected plan outline items behind answer chosen outlined honest exported left answers =
     record {

@@ -85,7 +85,7 @@ pub record IsArchived {S M : Type 0} (from : S → Device) (memory : M → Devic
   pub exported : IsExport (store_of from source) (memory outline.dir) outline.graph items
   pub files : HasFiles (file_in items) (stored (file_in items) outline.graph) outline.graph outline.tags outline.opened
   pub behind : LeftBehind
-  pub left : IsLeftBehind from words source selected.0 outline.graph behind
+  pub left : IsLeftBehind from memory words source selected.0 outline behind
   pub answers : IsArchiveAnswer selected plan behind answer
 
 -- such an archive was put into a new file of a directory, if that is honest

@@ -109,7 +109,7 @@ pub record IsCopyMade {S D : Type 0} (from : S → Device) (to : D → Device) (
   pub files : IsTrusted (store_of from source) (store_of to old) (store_of to left) → HasFiles (to left.dir).file (store_of to left).entries left.graph left.tags left.opened
   pub lasts : StartsSettled (store_of from source) (store_of to old) → Lasts (to left.dir) (store_of to left).entries left.tags
   pub kept : done.0.removed ≡ None
-  pub behind : IsLeftBehind from words source selected.0 left.graph done.1
+  pub behind : IsLeftBehind from to words source selected.0 left done.1
 
 -- ---- a mirror
 
@@ -127,7 +127,7 @@ pub record IsMirrorMade {S D : Type 0} (from : S → Device) (to : D → Device)
   pub held : HasAll left.graph goal.0
   pub only : is_exact words ≡ true → HoldsOnlyReached left.graph goal.0
   pub lasts : StartsSettled (store_of from source) (store_of to old) → Lasts (to left.dir) (store_of to left).entries left.tags
-  pub behind : IsLeftBehind from words source selected.0 left.graph done.1
+  pub behind : IsLeftBehind from to words source selected.0 left done.1
 
 -- a mirror was made that the words ask for: of their patterns, and exact with `--referrers`
 pub record IsMirrorOf {S D : Type 0} (from : S → Device) (to : D → Device) (words : CopyWords) (source : LayoutState S) (selected : Selected) (old : LayoutState D) (done : Done) : Type 0 where

@@ -1,12 +1,17 @@
 //! What a copy leaves in its source, and its destination lacks.
-ghost use Rattle.std.specs.Prelude.{◌≡◌, ◌≢◌, ◌↔◌, [], not, None, filter, IfOk, IfErr, IsTrue};
+ghost use Rattle.std.specs.Prelude.{◌≡◌, ◌≢◌, ◌↔◌, [], not, None, is_some, filter, IfOk, IfErr, IsTrue};
+ghost use Rattle.oci_layout_store.specs.Blobs.{blob_path};
 ghost use Rattle.oci_layout_store.specs.Meaning.{meaning};
 ghost use Rattle.oci_prune.specs.Plan.{roots_of};
 ghost use Rattle.oci_store.specs.Keyed.{has_key};
 ghost use Rattle.oci_copy_commands.specs.Behind.{
   AreAttachedLeft,
+  ArePassedLayers,
   AreUntaggedLeft,
   IsLeftBehind,
+  IsUnknownFile,
+  IsUnreadBehind,
+  IsUnreadLayers,
   IsUnreadSource,
   SelectsAll,
 };
@@ -14,10 +19,10 @@ ghost use Rattle.oci_copy_commands.specs.Behind.{
 use oci_command_line::{CopyWords, Selection};
 use oci_digest::NoMemory;
 use oci_dir::Dir;
-use oci_layout_store::Layout;
+use oci_layout_store::{Layout, LayoutFault, blob_path};
 use oci_manifest::Key;
 use oci_program::{Form, ProgramFault};
-use oci_prune::{belonging_of, free_keys};
+use oci_prune::{belonging_of, free_keys, keys_passed_over};
 use oci_selection::Selected;
 use oci_store::{Source, keys_of_set};
 use serde::Serialize;
@@ -36,6 +41,9 @@ pub struct LeftBehind {
     /// The images that no tag names. None unless each tag is selected.
     #[serde(rename = "untaggedLeft", skip_serializing_if = "Vec::is_empty")]
     pub untagged: Vec<Key>,
+    /// The layers that are not to be distributed, and that the destination does not have.
+    #[serde(rename = "notDistributed", skip_serializing_if = "Vec::is_empty")]
+    pub passed: Vec<Key>,
 }
 
 impl LeftBehind {
@@ -43,8 +51,8 @@ impl LeftBehind {
     ///
     /// # Errors
     ///
-    /// - 77 `BadManifest` and 88 `Fetch` if a manifest of the source cannot be read; only if the
-    ///   source does not [remember](Layout::subjects) the subjects.
+    /// - 77 `BadManifest` and 88 `Fetch` if a manifest of the source cannot be read.
+    /// - 74 `Device` if it cannot be found out whether the destination has a file.
     /// - 89 `Memory` if memory runs out.
     pub(crate) fn of<S: Dir, D: Dir>(
         alloc: Global,
@@ -53,13 +61,19 @@ impl LeftBehind {
         selected: &Selected,
         words: &CopyWords<'_>,
     ) -> Result<LeftBehind, ProgramFault>
-        ensures left { IfOk result (IsLeftBehind S.device words.now source.now selected.now.0
-            destination.now.graph) }
-        ensures cause { IfErr result (IsUnreadSource S.device source.now) }
+        ensures left { IfOk result (IsLeftBehind S.device D.device words.now source.now
+            selected.now.0 destination.now) }
+        ensures cause { IfErr result (IsUnreadBehind S.device D.device source.now
+            destination.now) }
     {
         let attached = attached_unless_asked(alloc, source, destination, selected, words)?;
         let untagged = untagged_if_all(alloc, source, destination, words)?;
-        Ok(LeftBehind { attached, untagged })
+        let passed = passed_layers(alloc, source, destination, selected.roots())?;
+        Ok(LeftBehind {
+            attached,
+            untagged,
+            passed,
+        })
     }
 
     /// Prints as lines what was left behind. As JSON the answer has it. A line that cannot be written is
@@ -155,6 +169,60 @@ fn untagged_left<S: Dir, D: Dir>(
     }
 }
 
+/// Returns the layers that a copy of these keys passes over, since they are not to be distributed, and
+/// that a destination does not have.
+fn passed_layers<S: Dir, D: Dir>(
+    alloc: Global,
+    source: &Layout<S>,
+    destination: &Layout<D>,
+    roots: &[Key],
+) -> Result<Vec<Key>, ProgramFault>
+    ensures passed { IfOk result (λ keys. (S.device source.now.dir).is_honest
+        → (D.device destination.now.dir).is_honest → ArePassedLayers
+        (meaning (S.device source.now.dir) source.now.graph source.now.tags) roots.now
+        (D.device destination.now.dir).file keys.items) }
+    ensures cause { IfErr result (IsUnreadLayers S.device D.device source.now destination.now) }
+{
+    match keys_passed_over(alloc, source, roots) {
+        Ok(keys) => keys_without_file(alloc, destination, &keys),
+        Err(fault) => Err(ProgramFault::Source(fault)),
+    }
+}
+
+/// Returns those of these keys of which a layout has no file.
+fn keys_without_file<D: Dir>(
+    alloc: Global,
+    layout: &Layout<D>,
+    keys: &[Key],
+) -> Result<Vec<Key>, ProgramFault>
+    ensures without { IfOk result (λ without. (D.device layout.now.dir).is_honest
+        → without.items ≡ filter
+        (λ k. not (is_some ((D.device layout.now.dir).file (blob_path k.digest)))) keys.now) }
+    ensures cause { IfErr result (IsUnknownFile (D.device layout.now.dir)) }
+{
+    let mut without = Vec::new(alloc);
+    for key in keys {
+        if has_file(alloc, layout, key)? {
+            continue;
+        }
+        without.push(key.try_clone()?)?;
+    }
+    Ok(without)
+}
+
+/// Returns whether a layout has a file of a key's digest.
+fn has_file<D: Dir>(alloc: Global, layout: &Layout<D>, key: &Key) -> Result<bool, ProgramFault>
+    ensures found { IfOk result (λ found. (D.device layout.now.dir).is_honest
+        → found ≡ is_some ((D.device layout.now.dir).file (blob_path key.now.digest))) }
+    ensures cause { IfErr result (IsUnknownFile (D.device layout.now.dir)) }
+{
+    let path = blob_path(alloc, key.digest())?;
+    match layout.dir().exists(&path) {
+        Ok(found) => Ok(found),
+        Err(fault) => Err(ProgramFault::Destination(LayoutFault::from(fault))),
+    }
+}
+
 /// Returns whether each tag is selected, whatever its name is.
 fn selects_all(selection: &Selection<'_>) -> bool
     ensures { IsTrue result ↔ SelectsAll selection.now }
@@ -201,14 +269,25 @@ impl Display for LeftBehind {
             )?,
         }
         match self.untagged.len() {
-            0 => Ok(()),
+            0 => {}
             1 => writeln!(
                 f,
                 "ocicp: note: 1 image without a tag stays in SRC (copy --all --untagged brings it)"
-            ),
+            )?,
             count => writeln!(
                 f,
                 "ocicp: note: {count} images without a tag stay in SRC (copy --all --untagged brings them)"
+            )?,
+        }
+        match self.passed.len() {
+            0 => Ok(()),
+            1 => writeln!(
+                f,
+                "ocicp: note: 1 layer that is not to be distributed was not copied"
+            ),
+            count => writeln!(
+                f,
+                "ocicp: note: {count} layers that are not to be distributed were not copied"
             ),
         }
     }

@@ -92,6 +92,8 @@ use std::io::Write;
 /// - 82 `Push` and 88 `Fetch` if a blob cannot be copied, and 74 `Device` if the index cannot be
 ///   written, or if it is not known whether it and the copied blobs are on the disk. Blobs that
 ///   arrived stay.
+/// - 88 `Fetch` if a manifest of SRC cannot be read again, and 74 `Device` if it cannot be found out
+///   whether DST has a layer that is not to be distributed. The copy is done and saved.
 /// - 85 `BadWorkers` if there are more than 64 workers. Nothing is copied.
 /// - 79 `NotRemoved` with `--prune`, if a file cannot be removed. The copy is done and saved.
 /// - 94 `Output` if `out` cannot be written. The copy is done and saved.

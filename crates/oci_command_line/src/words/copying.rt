@@ -22,8 +22,8 @@ pub(crate) const COPY: CommandText = CommandText {
          Each copied blob is checked. Layers that DST has are not read: only `verify` and `repair` see \
          changed bytes.\n\n\
          Prints `copied` for each tag, and counts blobs: missing (`planned`), arrived (`pushed`), requested \
-         but there (`skipped`). Notes on stderr say what stays in SRC: how much is attached, and with --all \
-         how many images without a tag.\n\n\
+         but there (`skipped`). Notes on stderr count what stays in SRC: attached manifests, with --all \
+         images without a tag, and layers not to be distributed that DST lacks.\n\n\
          A refused copy sets no tag and loses no blob. But after 79 and 94 the tags are set, and after 74 \
          perhaps. Only --prune deletes blobs. A power cut leaves the old layout or the new one.",
     ),
