@@ -50,7 +50,7 @@ def described(content):
 COPIED = "copied %s\nplanned 4 pushed 4 skipped 0\n" % key(IMAGE)
 COPIED_AS_JSON = document({"copied": [{"tag": "one", "descriptor": described(IMAGE)}], "planned": 4, "pushed": 4, "skipped": 0})
 CORRUPT = "corrupt %s\nheld 4\n" % key(LONG)
-CORRUPT_AS_JSON = document({"absent": [], "corrupt": [described(LONG)], "open": None, "shadowed": [], "held": 4})
+CORRUPT_AS_JSON = document({"absent": [], "corrupt": [described(LONG)], "corruptForeign": [], "open": None, "shadowed": [], "held": 4})
 REFUSED = "ocicp: 88 Fetch %s 21 Corrupt\n" % key(LONG)
 REFUSED_AS_JSON = document({"error": [
     {"number": 88, "name": "Fetch", "descriptor": described(LONG)},

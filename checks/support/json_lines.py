@@ -142,14 +142,15 @@ def of_predecessors(value, words):
 
 
 def of_verify(value, words):
-    types = {"absent": list, "corrupt": list, "open": (dict, type(None)), "shadowed": list, "held": int}
+    types = {"absent": list, "corrupt": list, "corruptForeign": list, "open": (dict, type(None)), "shadowed": list, "held": int}
     by_tag = {"broken": list} if "--tags" in words else {}
-    absent, corrupt, open_, shadowed, held, *broken = taken(value, {**types, **by_tag})
+    absent, corrupt, foreign, open_, shadowed, held, *broken = taken(value, {**types, **by_tag})
     tags = [taken(it, {"tag": str, "blobs": list}) for it in sum(broken, [])]
     pair = [taken(open_, {"holder": dict, "missing": dict})] if open_ else []
     return [
         *("absent " + key(it) for it in absent),
         *("corrupt " + key(it) for it in corrupt),
+        *("corrupt-foreign " + key(it) for it in foreign),
         *("open %s %s" % (key(holder), key(missing)) for holder, missing in pair),
         *("shadowed %s %s" % tagged(it) for it in shadowed),
         "held %d" % held,

@@ -30,6 +30,7 @@ use Rattle.oci_command_line.specs.declared.request.Query.TheVariants as query
 use Rattle.oci_query_commands.specs.Verified.{is_verify, FindsNothing, IsVerdict, IsVerifiedBelow, IsWholeBelow}
 use Rattle.oci_query_commands.specs.declared.verify.Findings.{Findings}
 use Rattle.oci_query_commands.specs.declared.verify.Open.{Open}
+use Rattle.oci_query_commands.proofs.ForeignLayers.{right_foreign}
 use Rattle.oci_query_commands.proofs.Found.{asked_in, first_if, no_pair, own_value}
 use Rattle.oci_query_commands.proofs.Verified.{none_mapped, nothing_in}
 
@@ -45,6 +46,7 @@ AreFindings-any dir graph index f are =
     record {
       absent = are.absent;
       corrupt = λ there. AreCorrupt-any dir.file graph index.damaged f.corrupt.items (are.corrupt there);
+      foreign = are.foreign;
       without_file = are.without_file ∙ ap (first_without_file has) (filter-any graph);
       shadowed = are.shadowed ∙ filter-any _;
       held = are.held
@@ -155,7 +157,7 @@ IsWholeBelow-nothing dir graph index key f has held are nothing =
     let is_reached = are.is_reached in
     let corrupt : AreCorruptOf is_reached dir.file graph index.damaged [] = subst (λ (keys : List Descriptor). AreCorruptOf is_reached dir.file graph index.damaged keys) nothing.1 (are.found.corrupt has) in
     let undamaged : NotDamaged graph index key = λ k path damaged. no_element k ((corrupt.each k).1 ((are.reached k).1 path, inl damaged)) in
-    let closed = all_closed (has_file graph (is_among index.damaged)) is_reached graph (sym are.found.without_file ∙ no_open f.open nothing.2) in
+    let closed = all_closed (has_file graph (is_among index.damaged)) is_reached graph (sym are.found.without_file ∙ no_open f.open nothing.3) in
     let all_held = held_below graph index key is_reached held are.reached undamaged closed in
     let passes : Descriptor → Bool = λ x. is_reached x && not (is_among index.damaged x) in
     let none : filter passes index.absent ≡ [] = sym are.found.absent ∙ ap (map (λ (x : Bor Descriptor). x.now)) nothing.0 in
@@ -171,12 +173,14 @@ IsWholeBelow-nothing dir graph index key f has held are nothing =
             | inl is ↦ (Decides-is_match k (blob_at dir.file k.digest)).0 is
             | inr is_not ↦ absurd (no_element k ((corrupt.each k).1 ((are.reached k).1 path, inr (all_held k path, is_not))))
           ];
+      foreign = λ honest from k path lists. right_foreign is_reached dir.file graph f.corrupt_foreign.items (are.found.foreign has) nothing.2 from k ((are.reached from).1 path) lists;
     }
 
 nothing-IsWholeBelow : (dir : Device) (graph : List Node) (index : OpenedIndex) (key : Descriptor) (f : Findings) → HasFiles dir graph → HasDistinctKeys graph → AreFindingsBelow dir graph index key f → IsWholeBelow dir graph index key → FindsNothing f
 nothing-IsWholeBelow dir graph index key f has distinct are whole = (
   none_mapped f.absent.items (are.found.absent ∙ nothing_in (filter passes index.absent) none_absent),
   nothing_in f.corrupt.items none_corrupt,
+  nothing_in f.corrupt_foreign.items (λ k there. let p = ((are.found.foreign has).each k).0 there in cc (sym p.1 ∙ whole.foreign has.0 p.0.0 k ((are.reached p.0.0).0 p.0.1) p.0.2)),
   no_pair f.open (are.found.without_file ∙ none_found there are.is_reached graph (All-weaker (Contains graph) (AreClosed there are.is_reached) closed graph (All-contains_itself graph))),
 )
   where
@@ -224,6 +228,7 @@ IsVerifiedBelow-opened dir graph tags index reference found honest opened verdic
   key = verdict.key;
   named = verdict.named;
   good = λ good k path. let whole = verdict.exact.0 good in (whole.held k path, whole.intact honest k path);
+  foreign = λ good. (verdict.exact.0 good).foreign honest;
   faulty = λ faulty whole. cc (sym (verdict.exact.1 whole) ∙ faulty);
 }
 

@@ -3,6 +3,7 @@ pub mod Answered
 pub mod Listers
 pub mod AllTags
 pub mod Found
+pub mod ForeignLayers
 pub mod Written
 pub mod Below
 pub mod BrokenTags

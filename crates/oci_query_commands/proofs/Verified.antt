@@ -19,6 +19,7 @@ use Rattle.oci_store.specs.Tags.{Tags}
 use Rattle.oci_store.proofs.Lookups.{found, All-value_at}
 use Rattle.oci_query_commands.specs.Answered.{AreReadable}
 use Rattle.oci_query_commands.specs.Found.{AreFindings}
+use Rattle.oci_query_commands.proofs.ForeignLayers.{right_foreign}
 use Rattle.oci_verify.specs.Corrupt.{AreCorrupt}
 use Rattle.oci_verify.specs.Intact.{is_matching, HasFiles}
 use Rattle.oci_verify.proofs.Intact.{Decides-is_match}
@@ -60,6 +61,7 @@ IsVerified-whole dir graph tags index honest opened whole = record {
       (subst (λ (g : List Node). All (IsThere dir.file) g) (sym opened.read.walked.held) (held_there true dir.file opened.read.walked.visited))
       (whole.intact honest);
   closed = whole.closed;
+  foreign = whole.foreign honest;
 }
 
 -- after a layout was opened, the file of each held key is there
@@ -102,13 +104,15 @@ IsWhole-nothing dir graph index f has readable are nothing =
           ∙ sym are.absent ∙ ap (map (λ (k : Bor Descriptor). k.now)) nothing.0;
       undamaged = undamaged;
       intact = λ honest. matches_all dir.file graph index.damaged corrupt;
-      closed = closed-from_found graph index.damaged f.open are.without_file nothing.2 undamaged;
+      closed = closed-from_found graph index.damaged f.open are.without_file nothing.3 undamaged;
+      foreign = λ honest from k lists. right_foreign (λ (x : Descriptor). true) dir.file graph f.corrupt_foreign.items (are.foreign has) nothing.2 from k refl lists;
     }
 
 nothing-IsWhole : (dir : Device) (graph : List Node) (index : OpenedIndex) (f : Findings) → HasFiles dir graph → AreFindings dir graph index f → IsWhole dir graph index → FindsNothing f
 nothing-IsWhole dir graph index f has are whole = (
   none_mapped f.absent.items (are.absent ∙ ap (filter (λ (k : Descriptor). not (is_among index.damaged k))) whole.entries),
   nothing_in f.corrupt.items right,
+  nothing_in f.corrupt_foreign.items (λ k there. let p = ((are.foreign has).each k).0 there in cc (sym p.1 ∙ whole.foreign has.0 p.0.0 k p.0.2)),
   found-from_closed graph index.damaged f.open are.without_file whole.closed,
 )
   where

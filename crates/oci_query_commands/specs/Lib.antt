@@ -4,6 +4,7 @@ pub mod Named
 pub mod Listed
 pub mod Written
 pub mod Found
+pub mod Foreign
 pub mod Lines
 pub mod Broken
 pub mod Printed

@@ -47,6 +47,10 @@ absent_line k = codes "absent " ++ key_line k.now
 abbrev pub corrupt_line : Descriptor → List ℕ
 corrupt_line k = codes "corrupt " ++ key_line k
 
+-- a layer that is not to be distributed
+unfoldable pub foreign_line : Descriptor → List ℕ
+foreign_line k = codes "corrupt-foreign " ++ key_line k
+
 -- a held key, and one that it lists and that has no file
 abbrev pub open_text : Option Open → List ℕ
 open_text None = []
@@ -61,4 +65,4 @@ abbrev pub held_line : ℕ → List ℕ
 held_line count = codes "held " ++ decimal count ++ codes "\n"
 
 abbrev pub findings_text : Findings → List ℕ
-findings_text f = flat_map absent_line f.absent.items ++ flat_map corrupt_line f.corrupt.items ++ open_text f.open ++ flat_map shadowed_line f.shadowed.items ++ held_line f.held
+findings_text f = flat_map absent_line f.absent.items ++ flat_map corrupt_line f.corrupt.items ++ flat_map foreign_line f.corrupt_foreign.items ++ open_text f.open ++ flat_map shadowed_line f.shadowed.items ++ held_line f.held

@@ -15,6 +15,7 @@
 mod broken;
 mod cat;
 mod checking;
+mod foreign;
 mod left_out;
 mod listing;
 mod named;

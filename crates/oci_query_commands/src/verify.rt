@@ -7,11 +7,12 @@ ghost use Rattle.oci_layout_store.specs.Saved.{is_place, last_place};
 ghost use Rattle.oci_manifest.specs.Descriptor.{key_cmp};
 ghost use Rattle.oci_store.specs.Keyed.{value_at, HasDistinctKeys};
 ghost use Rattle.oci_query_commands.specs.Found.{first_without_file, has_file, pair_of, shadowed_in, tagged_if, tagged_of, without_file, AreFindings, AreFindingsBelow, AreFindingsOf};
-ghost use Rattle.oci_query_commands.specs.Lines.{absent_line, corrupt_line, open_text, shadowed_line};
+ghost use Rattle.oci_query_commands.specs.Lines.{absent_line, corrupt_line, foreign_line, open_text, shadowed_line};
 ghost use Rattle.oci_query_commands.specs.Verified.{FindsNothing};
 ghost use Rattle.oci_verify.specs.Corrupt.{is_asked};
 
 use crate::checking::{Progress, number_of_workers};
+use crate::foreign::corrupt_foreign;
 use oci_digest::NoMemory;
 use oci_dir::Dir;
 use oci_layout_store::{IndexEntry, Layout, Names};
@@ -36,6 +37,10 @@ pub(crate) struct Findings<'l> {
     absent: Vec<&'l Key>,
     /// The keys whose files are damaged or do not match them, in key order.
     pub(crate) corrupt: Vec<Key>,
+    /// The keys that are not to be distributed, that held manifests list, and whose files are there and
+    /// do not match them, in key order.
+    #[serde(rename = "corruptForeign")]
+    corrupt_foreign: Vec<Key>,
     /// The first key that lists a key without a file, with that key.
     open: Option<Open>,
     /// The tag and the key of each entry that has both and whose tag a later entry has, in the order
@@ -53,12 +58,16 @@ struct Open {
 }
 
 impl Findings<'_> {
-    /// Returns `Good` if nothing is wrong: no key is absent or corrupt, and none lists a key without
-    /// a file.
+    /// Returns `Good` if nothing is wrong: no key is absent or corrupt, no layer that is not to be
+    /// distributed is, and no key lists one without a file.
     pub(crate) fn outcome(&self) -> Outcome
         ensures { (result ≡ Outcome.Good) ↔ FindsNothing self.now }
     {
-        if self.absent.is_empty() && self.corrupt.is_empty() && self.open.is_none() {
+        if self.absent.is_empty()
+            && self.corrupt.is_empty()
+            && self.corrupt_foreign.is_empty()
+            && self.open.is_none()
+        {
             Outcome::Good
         } else {
             Outcome::Faulty
@@ -75,6 +84,7 @@ impl Display for Findings<'_> {
     fn fmt<W: fmt::Write>(&self, f: &mut fmt::Formatter<W>) -> fmt::Result {
         print_absent(&self.absent, f)?;
         print_corrupt(&self.corrupt, f)?;
+        print_foreign(&self.corrupt_foreign, f)?;
         print_open(&self.open, f)?;
         print_shadowed(&self.shadowed, f)?;
         writeln!(f, "held {}", self.held)
@@ -99,6 +109,24 @@ fn print_corrupt<W: fmt::Write>(keys: &[Key], f: &mut fmt::Formatter<W>) -> fmt:
         writeln!(f, "corrupt {key}")?;
     }
     Ok(())
+}
+
+/// Prints the line of each of these layers, which are not to be distributed.
+fn print_foreign<W: fmt::Write>(keys: &[Key], f: &mut fmt::Formatter<W>) -> fmt::Result
+    ensures { WritesOnOk W.write_str_gives f.old result (flat_map foreign_line keys.now) f.new }
+{
+    for key in keys {
+        print_foreign_key(key, f)?;
+    }
+    Ok(())
+}
+
+/// Prints the line of a corrupt layer that is not to be distributed.
+#[tactic(auto, unfolding(crate::specs::Lines::foreign_line))]
+fn print_foreign_key<W: fmt::Write>(key: &Key, f: &mut fmt::Formatter<W>) -> fmt::Result
+    ensures { WritesOnOk W.write_str_gives f.old result (foreign_line key.now) f.new }
+{
+    writeln!(f, "corrupt-foreign {key}")
 }
 
 /// Prints the line of a key that lists a key without a file, if there is one.
@@ -194,6 +222,7 @@ where
     Ok(Findings {
         absent: keys_without(alloc, layout.absent(), asked, &damaged)?,
         corrupt: corrupt?,
+        corrupt_foreign: corrupt_foreign(alloc, layout, asked)?,
         open: open_key(layout, asked, &damaged)?,
         shadowed: tagged_among(alloc, shadowed, asked)?,
         held: count_held(layout, asked).saturating_add(count_among(layout.damaged(), asked)),

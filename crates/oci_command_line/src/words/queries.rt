@@ -85,13 +85,14 @@ pub(crate) const VERIFY: CommandText = CommandText {
         "Checks each blob that `index.json` reaches against its digest, and that no listed blob is missing. \
          With REF only the blobs that REF reaches are read, and all below is said of these alone; if REF's \
          own blob is missing or damaged, it is refused (36, 75, 77). \
-         What only a damaged manifest lists is not known, and not checked. A layout without `index.json` \
-         counts as empty. Without --workers one worker runs for each processor.\n\n\
+         What only a damaged manifest lists is not checked. A layout without `index.json` counts as empty. \
+         Without --workers one worker runs for each processor.\n\n\
          Prints `absent` for each entry of `index.json` whose blob has no file. `corrupt` is for each blob \
-         whose file does not match, and each manifest that cannot be read. `open` has the first manifest \
-         that lists a blob without a file, and that blob. `shadowed` has an entry whose tag a later entry \
-         has too, which is no problem. `held` counts the blobs that have a file. Then, without REF, reports \
-         each unreadable entry of `index.json` (73). The status is 1 if it finds a problem.",
+         whose file does not match, and each manifest that cannot be read. `corrupt-foreign` is for such \
+         files of layers that are not to be distributed. `open` has the first manifest that lists a blob \
+         without a file, and that blob. `shadowed` has an entry whose tag a later one has too: no problem. \
+         `held` counts the blobs with a file. Then, without REF, reports each unreadable entry of \
+         `index.json` (73). The status is 1 for a problem.",
     ),
     usage: "ocicp verify [OPTIONS] <FOLDER> [REF]",
     examples: "Examples:\n  ocicp verify mirror\n  ocicp verify --tags mirror\n  ocicp verify mirror v1",

@@ -20,6 +20,7 @@ returns-clause-found g c =
     record {
       absent = absent_are test set damaged c.absent.result.now layout.opened.absent _ among c.in_ok-keys_without.ensures c.absent.ensures;
       corrupt = c.in_ok-corrupt.ensures.corrupt;
+      foreign = c.in_ok-corrupt_foreign.ensures;
       without_file = c.in_ok-open_key.ensures ∙ found_in_set layout.graph set damaged among (asked_in test layout.graph);
       shadowed = c.in_ok-tagged_among.ensures ∙ ap (filter (λ (t : List ℕ × Descriptor). test t.1)) (c.in_ok-shadowed.ensures ∙ ap (λ (entries : List IndexEntry). shadowed_in (map entry_of entries)) c.entries.ensures.entries);
       held = cc (c.saturating_add.ensures, c.count_held.ensures.count, c.count_among.ensures, c.damaged.ensures);
