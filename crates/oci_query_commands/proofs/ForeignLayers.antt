@@ -1,26 +1,24 @@
 -- Layers that are not to be distributed, and their files.
-use Rattle.std.proofs.Common.{◌≡◌, ℕ, ◌+◌, ◌-◌, ◌<◌, ◌≤◌, Bool, true, false, not, ◌⊎◌, inl, inr, List, [], ◌∷◌, ◌++◌, filter, length, take, drop, min, slice_get, option_map, is_some, Option, Some, None, Ok, refl, sym, ap, subst, ◌∙◌, arith}
+use Rattle.std.proofs.Common.{◌≡◌, ℕ, ◌+◌, ◌-◌, ◌<◌, ◌≤◌, Bool, true, false, not, ◌⊎◌, inl, inr, List, [], ◌∷◌, ◌++◌, filter, length, take, drop, slice_get, option_map, is_some, Option, Some, None, Ok, refl, sym, ap, subst, ◌∙◌, arith}
 use Rattle.std.specs.Prelude.{⊤, ◌↔◌, Contains}
 use Rattle.std.specs.BTreeSet.{BTreeSet, contains}
 use Rattle.std.specs.List.Sorted.{IsStrictlySortedBy}
 use Rattle.std.specs.Map.{keys_of}
 use Rattle.std.proofs.lemmas.Bool.{cases_Bool}
-use Rattle.std.proofs.lemmas.List.{length-append, length-drop, length-take}
+use Rattle.std.proofs.lemmas.List.{length-append}
 use Rattle.std.proofs.lemmas.List.Elements.{Contains-append_cases, Contains-append_left, Contains-append_right, Contains-push, Contains-push_cases}
 use Rattle.std.proofs.lemmas.List.Kept.{IsStrictlySortedBy-filter}
 use Rattle.std.proofs.lemmas.Map.Views.{btree_set_contains_iff}
 use Rattle.std.proofs.lemmas.Option.{same_Some}
 use Rattle.oci_digest.specs.Digest.{Verifies}
 use Rattle.oci_digest.specs.declared.hasher.Hasher.{Hasher}
-use Rattle.oci_dir.specs.Device.{Device, File, part_in}
-use Rattle.oci_layout_store.specs.Blobs.{blob_at, blob_path, stored, IsNotOf}
+use Rattle.oci_dir.specs.Device.{File, part_in}
+use Rattle.oci_layout_store.specs.Blobs.{blob_at, stored}
 use Rattle.oci_layout_store.proofs.Loose.{keys-more, no_element}
 use Rattle.oci_layout_store.proofs.Stored.{has_key-stored, value_at-stored}
 use Rattle.oci_manifest.specs.Descriptor.{Descriptor, Matches, is_among, key_cmp}
 use Rattle.oci_manifest.specs.MediaTypes.{kind_of}
-use Rattle.oci_manifest.specs.Undistributed.{ReadsAside, undistributed_of}
-use Rattle.oci_manifest.specs.declared.kind.Kind.{Kind}
-use Rattle.oci_manifest.specs.declared.kind.Kind.TheVariants.{Leaf}
+use Rattle.oci_manifest.specs.Undistributed.{undistributed_of}
 use Rattle.oci_prune.specs.Aside.{ListsAside}
 use Rattle.oci_prune.proofs.Asides.{aside_exact}
 use Rattle.oci_store.specs.Graph.{Node}
@@ -30,8 +28,8 @@ use Rattle.oci_store.proofs.KeyOrder.{key_cmp_total, key_cmp_exact}
 use Rattle.oci_store.proofs.Leaves.{own-end}
 use Rattle.oci_store.proofs.Lookups.{Contains-from_has_key}
 use Rattle.oci_store.proofs.Membership.{Contains-from_among, among_from_Contains, among-filter, among_filter_from}
-use Rattle.oci_verify.specs.Intact.{is_match, HasFile}
-use Rattle.oci_verify.proofs.Intact.{Decides-is_match, matching-wrong}
+use Rattle.oci_verify.specs.Intact.{is_match}
+use Rattle.oci_verify.proofs.Intact.{Decides-is_match}
 use Rattle.oci_query_commands.specs.Foreign.{has_wrong_file, is_wrong, AreCorruptForeign, IsForeign, ListsForeign}
 
 -- ---- one file
@@ -46,47 +44,10 @@ same_bool true false to from = sym (to refl)
 same_bool false true to from = from refl
 same_bool false false to from = refl
 
-unmatched : (k : Descriptor) (bytes : List ℕ) → (Matches k bytes → ⊥) → is_match k bytes ≡ false
-unmatched k bytes not_so =
-    elim (cases_Bool (is_match k bytes)) [
-      | inl is ↦ absurd (not_so ((Decides-is_match k bytes).0 is))
-      | inr is_not ↦ is_not
-    ]
-
--- no file is not wrong
-none_wrong : (k : Descriptor) (found : Option (List ℕ)) → found ≡ None → false ≡ is_wrong k found
-none_wrong k found none = sym (ap (is_wrong k) none)
-
-no_part : (found : Option (List ℕ)) (from most : ℕ) → None ≡ part_in found from most → found ≡ None
-no_part None from most h = refl
-no_part (Some bytes) from most h = cc h
-
-pub none_in_parts : (k : Descriptor) (found : Option (List ℕ)) (from most : ℕ) → None ≡ part_in found from most → false ≡ is_wrong k found
-none_in_parts k found from most h = none_wrong k found (no_part found from most h)
-
--- a file of another size
-pub wrong_size : (k : Descriptor) (found : Option (List ℕ)) (size : ℕ) → Some size ≡ option_map length found → (size ≡ k.size → ⊥) → true ≡ is_wrong k found
-wrong_size k None size h other = cc h
-wrong_size k (Some bytes) size h other =
-    let e : size ≡ length bytes = same_Some size (length bytes) h in
-    sym (ap not (unmatched k bytes (λ matching. other (e ∙ matching.0))))
-
 -- a part that was read
 pub part_is : (found : Option (List ℕ)) (from most : ℕ) (part : List ℕ) → Some part ≡ part_in found from most → IsPart found from most part
 part_is None from most part h = cc h
 part_is (Some bytes) from most part h = (bytes, refl, same_Some part (take most (drop from bytes)) h)
-
--- a file that is longer than its key's size
-pub wrong_long : (k : Descriptor) (found : Option (List ℕ)) (left most : ℕ) (part : List ℕ) → left ≤ k.size → left < length part → IsPart found (k.size - left) most part → true ≡ is_wrong k found
-wrong_long k found left most part le long part_of =
-    let bytes = part_of.0 in
-    let from : ℕ = k.size - left in
-    let size : length part ≡ min most (length (drop from bytes)) = ap length part_of.2 ∙ length-take most (drop from bytes) in
-    let rest : length (drop from bytes) ≡ length bytes - from = length-drop from bytes in
-    sym (ap (is_wrong k) part_of.1 ∙ ap not (unmatched k bytes (λ matching. (
-    let total : length bytes ≡ k.size = matching.0 in
-    absurd (omega (arith, le, long, size, rest, total))
-    ))))
 
 -- a file of which all bytes were read
 pub wrong_end : (k : Descriptor) (honest : Type 0) (found : Option (List ℕ)) (hasher : Hasher) (left most : ℕ) (m part : List ℕ) (whole : Bool)
@@ -103,24 +64,6 @@ wrong_end k honest found hasher left most m part whole h part_of le short right 
     ap not same ∙ sym (ap (is_wrong k) all)
 
 -- ---- one manifest
-
--- a leaf lists nothing
-pub foreign_leaf : (file : File) (graph : List Node) (from k : Descriptor) → kind_of from.media_type ≡ Leaf → ListsForeign file graph from k → ⊥
-foreign_leaf file graph from k leaf lists =
-    let aside : ListsAside (stored file graph) from k = lists.1 in
-    let none : aside.1 ≡ [] = subst (λ (kind : Kind). ReadsAside kind aside.0 aside.1) leaf aside.3 in
-    no_element k (subst (λ (ks : List Descriptor). Contains ks k) none aside.4)
-
--- a file that was found wrong lists nothing
-pub foreign_corrupt : (dir : Device) (graph : List Node) (from k : Descriptor) → (dir.is_honest → IsNotOf from (dir.file (blob_path from.digest))) → HasFile dir from → ListsForeign dir.file graph from k → ⊥
-foreign_corrupt dir graph from k wrong has lists =
-    cc (sym ((Decides-is_match from (blob_at dir.file from.digest)).1 lists.0) ∙ matching-wrong dir from wrong has)
-
-pub none_foreign : (file : File) (graph : List Node) (from : Descriptor) (keys : List Descriptor) → keys ≡ [] → ((k : Descriptor) → ListsForeign file graph from k → ⊥) → (k : Descriptor) → Contains keys k ↔ ListsForeign file graph from k
-none_foreign file graph from keys none never k = (
-  λ there. absurd (no_element k (subst (λ (ks : List Descriptor). Contains ks k) none there)),
-  λ lists. absurd (never k lists),
-)
 
 -- what was read is what the file lists
 pub foreign_exact : (file : File) (graph : List Node) (from : Descriptor) (bytes : List ℕ) (keys : List Descriptor) → Matches from bytes → value_at (stored file graph) from ≡ Some bytes → undistributed_of (kind_of from.media_type) bytes ≡ Ok keys

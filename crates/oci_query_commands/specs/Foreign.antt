@@ -28,7 +28,7 @@ abbrev pub IsForeign : (Descriptor → Bool) → File → List Node → Descript
 IsForeign is_asked file graph k = (from : Descriptor) × (is_asked from ≡ true) × ListsForeign file graph from k
 
 -- these are the keys that held manifests which pass a test list as not to be distributed, and whose
--- files are there and do not match them, each once, in key order
+-- files are there and wrong, in key order
 pub record AreCorruptForeign (is_asked : Descriptor → Bool) (file : File) (graph : List Node) (keys : List Descriptor) : Type 0 where
   pub each : (k : Descriptor) → Contains keys k ↔ (IsForeign is_asked file graph k × (has_wrong_file file k ≡ true))
   pub order : IsStrictlySortedBy key_cmp keys

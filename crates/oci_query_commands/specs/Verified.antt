@@ -36,7 +36,7 @@ IsFaultyVerify query found = (is_verify query ≡ true) × (found ≡ outcome.Fa
 
 -- a layout can be opened in a directory, and nothing is wrong with it: each entry of its index is a
 -- descriptor and has its file, no file is damaged, the file of each held key is there and matches
--- it, each listed key is held, and no file of a layer that is not to be distributed is wrong
+-- it, and each listed key is held. No file of a layer that is not to be distributed is wrong.
 pub record IsVerified (dir : Device) : Type 0 where
   pub graph : List Node
   pub tags : Tags
@@ -56,8 +56,8 @@ abbrev pub AreIntact : Device → List Node → Type 0
 AreIntact dir graph = dir.is_honest → All (λ (n : Node). Matches n.0 (blob_at dir.file n.0.digest)) graph
 
 -- nothing is wrong with a layout: each entry of its index is a descriptor, none is absent, no file is
--- damaged, each held key is intact, each listed key is held, and no file of a layer that is not to be
--- distributed is wrong
+-- damaged, each held key is intact, and each listed key is held. No file of a layer that is not to be
+-- distributed is wrong.
 pub record IsWhole (dir : Device) (graph : List Node) (index : OpenedIndex) : Type 0 where
   pub readable : AreReadable index
   pub entries : index.absent ≡ []
@@ -81,8 +81,8 @@ abbrev pub verified_reference : Query → Option (List ℕ)
 verified_reference (query.Verify reference lists_broken workers shows_progress) = option_copied reference
 verified_reference other = None
 
--- nothing is wrong with what a key reaches: none of it is absent or damaged, each key of it is held and
--- intact, and no file of a layer that it lists as not to be distributed is wrong
+-- nothing is wrong with what a key reaches: none of it is absent or damaged, and each key of it is held
+-- and intact. No file of a layer that one of its manifests lists as not to be distributed is wrong.
 pub record IsWholeBelow (dir : Device) (graph : List Node) (index : OpenedIndex) (root : Descriptor) : Type 0 where
   pub entries : (k : Descriptor) → Reaches graph (root ∷ []) k → Contains index.absent k → ⊥
   pub undamaged : (k : Descriptor) → Reaches graph (root ∷ []) k → Contains index.damaged k → ⊥
@@ -101,8 +101,8 @@ abbrev pub IsSound : Device → List Node → Descriptor → Type 0
 IsSound dir graph k = (has_key graph k ≡ true) × Matches k (blob_at dir.file k.digest)
 
 -- A layout can be opened in a directory. If the outcome of a `verify` of a reference is good, each key
--- that the reference reaches is held and matches its file, and so does each layer that it lists as not
--- to be distributed, if it has one; if it is faulty, something is wrong with them.
+-- that the reference reaches is held and matches its file, and no file of a layer that one lists as not
+-- to be distributed is wrong. If the outcome is faulty, something is wrong with them.
 pub record IsVerifiedBelow (dir : Device) (reference : List ℕ) (found : Outcome) : Type 0 where
   pub graph : List Node
   pub tags : Tags

@@ -6,7 +6,7 @@ ghost use Rattle.oci_query_commands.specs.Foreign.{has_wrong_file, is_wrong, Are
 
 use crate::cat::{is_whole, part_size};
 use crate::set::set_of;
-use oci_digest::{Hasher, NoMemory};
+use oci_digest::Hasher;
 use oci_dir::{Dir, DirFault};
 use oci_layout_store::{Layout, blob_path};
 use oci_manifest::{Key, Kind, undistributed};

@@ -197,7 +197,8 @@ where
     findings_of(rt, layout, Some(&reached), workers, shows_progress, err)
 }
 
-/// Returns what is wrong with the keys of a layout that are asked for, all or those of a set.
+/// Returns what is wrong with the keys of a layout that are asked for, all or those of a set. Layers
+/// that are not to be distributed are read after all others, by the calling thread.
 fn findings_of<'l, R: AllocGlobal + Clock + Threads + Wait + Sync, D: Dir + Sync, X: Write + Send>(
     rt: &R,
     layout: &'l Layout<D>,

@@ -4,7 +4,6 @@ use Rattle.std.specs.Option.{option_copied}
 use Rattle.std.proofs.lemmas.List.{take_all}
 use Rattle.oci_store.specs.Graph.{Node}
 use Rattle.oci_verify.specs.Corrupt.{is_asked}
-use Rattle.oci_verify.proofs.Corrupt.{no_key}
 use Rattle.oci_verify.proofs.Intact.{file_at}
 use Rattle.oci_query_commands.proofs.ForeignLayers.{AreListed, AreListed-all, AreListed-more, AreListed-none}
 use Rattle.oci_query_commands.proofs.foreign.foreign_keys.Goals as goal

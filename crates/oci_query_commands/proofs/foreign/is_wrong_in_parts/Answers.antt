@@ -1,4 +1,4 @@
-use Rattle.std.proofs.Common.{◌≡◌, ◌<◌, ◌++◌, ◌≤◌, ◌-◌, List, ℕ, Some, length, sym, ◌∙◌, arith}
+use Rattle.std.proofs.Common.{◌<◌, ◌++◌, ◌≤◌, ◌-◌, length, sym, ◌∙◌, arith}
 use Rattle.oci_store.specs.Parts.{IsPart}
 use Rattle.oci_store.proofs.Leaves.{IsReading-on}
 use Rattle.oci_query_commands.proofs.ForeignLayers.{Unkept, part_is, wrong_end}
