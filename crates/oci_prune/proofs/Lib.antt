@@ -21,3 +21,4 @@ pub mod Arriving
 pub mod Typing
 pub mod Unlisting
 pub mod Parting
+pub mod Orphaning

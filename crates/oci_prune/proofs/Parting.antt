@@ -103,20 +103,20 @@ Named = String Global × Descriptor
 abbrev by_text : Named → List ℕ × Descriptor
 by_text t = (string_bytes t.0, t.1)
 
--- the tags once those before a place are left out whose keys are not kept
-abbrev pub left_at : Set → ℕ → List Named → Tags
-left_at kept zero es = by_bytes es
-left_at kept (suc i) [] = []
-left_at kept (suc i) (e ∷ es) = cond (contains key_cmp kept e.1) (by_text e ∷ left_at kept i es) (left_at kept i es)
+-- the tags once those before a place are left out that do not stay
+abbrev pub left_at : (List ℕ × Descriptor → Bool) → ℕ → List Named → Tags
+left_at stays zero es = by_bytes es
+left_at stays (suc i) [] = []
+left_at stays (suc i) (e ∷ es) = cond (stays (by_text e)) (by_text e ∷ left_at stays i es) (left_at stays i es)
 
--- at the end those of the kept keys are left
-pub all_left : (kept : Set) (es : List Named) (i : ℕ) → length es ≤ i → left_at kept i es ≡ tags_of_kept kept (by_bytes es)
-all_left kept [] zero past = refl
-all_left kept [] (suc i) past = refl
-all_left kept (e ∷ es) zero past = absurd (omega (arith, past))
-all_left kept (e ∷ es) (suc i) past =
-    let rest = all_left kept es i (omega (arith, past)) in
-    elim (contains key_cmp kept e.1) as (λ b. cond b (by_text e ∷ left_at kept i es) (left_at kept i es) ≡ cond b (by_text e ∷ tags_of_kept kept (by_bytes es)) (tags_of_kept kept (by_bytes es))) [
+-- at the end those that stay are left
+pub all_left : (stays : List ℕ × Descriptor → Bool) (es : List Named) (i : ℕ) → length es ≤ i → left_at stays i es ≡ filter stays (by_bytes es)
+all_left stays [] zero past = refl
+all_left stays [] (suc i) past = refl
+all_left stays (e ∷ es) zero past = absurd (omega (arith, past))
+all_left stays (e ∷ es) (suc i) past =
+    let rest = all_left stays es i (omega (arith, past)) in
+    elim (stays (by_text e)) as (λ b. cond b (by_text e ∷ left_at stays i es) (left_at stays i es) ≡ cond b (by_text e ∷ filter stays (by_bytes es)) (filter stays (by_bytes es))) [
       | true ↦ ap (λ (ts : Tags). by_text e ∷ ts) rest
       | false ↦ rest
     ]
@@ -124,21 +124,21 @@ all_left kept (e ∷ es) (suc i) past =
 one_more : (i : ℕ) → suc i ≡ i + 1
 one_more i = omega arith
 
-stays_next : (kept : Set) (es : List Named) (i : ℕ) (t : Named) → i < length es → t ≡ get_or es i t → contains key_cmp kept t.1 ≡ true → left_at kept (suc i) es ≡ left_at kept i es
-stays_next kept [] i t lt is stays = absurd (omega (arith, lt))
-stays_next kept (e ∷ es) zero t lt is stays =
-    let here : contains key_cmp kept e.1 ≡ true = ap (λ (u : Named). contains key_cmp kept u.1) (sym is) ∙ stays in
+stays_next : (stays : List ℕ × Descriptor → Bool) (es : List Named) (i : ℕ) (t : Named) → i < length es → t ≡ get_or es i t → stays (by_text t) ≡ true → left_at stays (suc i) es ≡ left_at stays i es
+stays_next stays [] i t lt is so = absurd (omega (arith, lt))
+stays_next stays (e ∷ es) zero t lt is so =
+    let here : stays (by_text e) ≡ true = ap (λ (u : Named). stays (by_text u)) (sym is) ∙ so in
     ap (λ (b : Bool). cond b (by_text e ∷ by_bytes es) (by_bytes es)) here
-stays_next kept (e ∷ es) (suc i) t lt is stays =
-    let rest = stays_next kept es i t (omega (arith, lt)) is stays in
-    elim (contains key_cmp kept e.1) as (λ b. cond b (by_text e ∷ left_at kept (suc i) es) (left_at kept (suc i) es) ≡ cond b (by_text e ∷ left_at kept i es) (left_at kept i es)) [
+stays_next stays (e ∷ es) (suc i) t lt is so =
+    let rest = stays_next stays es i t (omega (arith, lt)) is so in
+    elim (stays (by_text e)) as (λ b. cond b (by_text e ∷ left_at stays (suc i) es) (left_at stays (suc i) es) ≡ cond b (by_text e ∷ left_at stays i es) (left_at stays i es)) [
       | true ↦ ap (λ (ts : Tags). by_text e ∷ ts) rest
       | false ↦ rest
     ]
 
--- a tag whose key is kept stays
-pub next_stays : (kept : Set) (es : List Named) (i : ℕ) (t : Named) → i < length es → t ≡ get_or es i t → contains key_cmp kept t.1 ≡ true → left_at kept (i + 1) es ≡ left_at kept i es
-next_stays kept es i t lt is stays = subst (λ (n : ℕ). left_at kept n es ≡ left_at kept i es) (one_more i) (stays_next kept es i t lt is stays)
+-- a tag that stays is left
+pub next_stays : (stays : List ℕ × Descriptor → Bool) (es : List Named) (i : ℕ) (t : Named) → i < length es → t ≡ get_or es i t → stays (by_text t) ≡ true → left_at stays (i + 1) es ≡ left_at stays i es
+next_stays stays es i t lt is so = subst (λ (n : ℕ). left_at stays n es ≡ left_at stays i es) (one_more i) (stays_next stays es i t lt is so)
 
 -- a name before all others is that of no other tag
 none_named : (name : List ℕ) (tags : Tags) → AllByRecursion (λ (n : List ℕ). slice_cmp nat_cmp name n ≡ Less) (keys_of tags) → without_tag tags name ≡ tags
@@ -158,28 +158,28 @@ later_name name (e ∷ es) zero t h lt is =
     ]
 later_name name (e ∷ es) (suc i) t h lt is = later_name name es i t h.1 (omega (arith, lt)) is
 
-goes_next : (kept : Set) (es : List Named) (i : ℕ) (t : Named) → IsOrdered (by_bytes es) → i < length es → t ≡ get_or es i t → contains key_cmp kept t.1 ≡ false → left_at kept (suc i) es ≡ without_tag (left_at kept i es) (string_bytes t.0)
+goes_next : (stays : List ℕ × Descriptor → Bool) (es : List Named) (i : ℕ) (t : Named) → IsOrdered (by_bytes es) → i < length es → t ≡ get_or es i t → stays (by_text t) ≡ false → left_at stays (suc i) es ≡ without_tag (left_at stays i es) (string_bytes t.0)
 unfolding IsStrictlySortedBy
-goes_next kept [] i t order lt is goes = absurd (omega (arith, lt))
-goes_next kept (e ∷ es) zero t order lt is goes =
-    let here : contains key_cmp kept e.1 ≡ false = ap (λ (u : Named). contains key_cmp kept u.1) (sym is) ∙ goes in
+goes_next stays [] i t order lt is goes = absurd (omega (arith, lt))
+goes_next stays (e ∷ es) zero t order lt is goes =
+    let here : stays (by_text e) ≡ false = ap (λ (u : Named). stays (by_text u)) (sym is) ∙ goes in
     let name : string_bytes e.0 ≡ string_bytes t.0 = ap (λ (u : Named). string_bytes u.0) (sym is) in
     let itself = same_bytes (string_bytes e.0) in
     let out : without_tag (by_text e ∷ by_bytes es) (string_bytes e.0) ≡ by_bytes es = rw itself (none_named (string_bytes e.0) (by_bytes es) order.0) in
     ap (λ (b : Bool). cond b (by_text e ∷ by_bytes es) (by_bytes es)) here ∙ sym out ∙ ap (without_tag (by_text e ∷ by_bytes es)) name
-goes_next kept (e ∷ es) (suc i) t order lt is goes =
+goes_next stays (e ∷ es) (suc i) t order lt is goes =
     let within : i < length es = omega (arith, lt) in
-    let rest = goes_next kept es i t order.1 within is goes in
+    let rest = goes_next stays es i t order.1 within is goes in
     let apart = later_name (string_bytes e.0) es i t order.0 within is in
     let name = string_bytes t.0 in
-    elim (contains key_cmp kept e.1) as (λ b. cond b (by_text e ∷ left_at kept (suc i) es) (left_at kept (suc i) es) ≡ without_tag (cond b (by_text e ∷ left_at kept i es) (left_at kept i es)) name) [
+    elim (stays (by_text e)) as (λ b. cond b (by_text e ∷ left_at stays (suc i) es) (left_at stays (suc i) es) ≡ without_tag (cond b (by_text e ∷ left_at stays i es) (left_at stays i es)) name) [
       | true ↦ rw apart (ap (λ (ts : Tags). by_text e ∷ ts) rest)
       | false ↦ rest
     ]
 
--- a tag whose key is not kept is left out
-pub next_goes : (kept : Set) (es : List Named) (i : ℕ) (t : Named) → IsOrdered (by_bytes es) → i < length es → t ≡ get_or es i t → contains key_cmp kept t.1 ≡ false → left_at kept (i + 1) es ≡ without_tag (left_at kept i es) (string_bytes t.0)
-next_goes kept es i t order lt is goes = subst (λ (n : ℕ). left_at kept n es ≡ without_tag (left_at kept i es) (string_bytes t.0)) (one_more i) (goes_next kept es i t order lt is goes)
+-- a tag that does not stay is left out
+pub next_goes : (stays : List ℕ × Descriptor → Bool) (es : List Named) (i : ℕ) (t : Named) → IsOrdered (by_bytes es) → i < length es → t ≡ get_or es i t → stays (by_text t) ≡ false → left_at stays (i + 1) es ≡ without_tag (left_at stays i es) (string_bytes t.0)
+next_goes stays es i t order lt is goes = subst (λ (n : ℕ). left_at stays n es ≡ without_tag (left_at stays i es) (string_bytes t.0)) (one_more i) (goes_next stays es i t order lt is goes)
 
 some_there : (name : List ℕ) (t : List ℕ × Descriptor) (tags : Tags) → tag_at tags name ≢ None → tag_at (t ∷ tags) name ≢ None
 some_there name t tags there none =
@@ -189,13 +189,13 @@ some_there name t tags there none =
     ]
 
 -- the tag at the place is still there
-pub next_there : (kept : Set) (es : List Named) (i : ℕ) (t : Named) → i < length es → t ≡ get_or es i t → tag_at (left_at kept i es) (string_bytes t.0) ≢ None
-next_there kept [] i t lt is = absurd (omega (arith, lt))
-next_there kept (e ∷ es) zero t lt is = λ none. cc (sym (ap (λ (u : Named). tag_at (by_text e ∷ by_bytes es) (string_bytes u.0)) is ∙ first_at (by_text e) (by_bytes es)) ∙ none)
-next_there kept (e ∷ es) (suc i) t lt is =
-    let rest = next_there kept es i t (omega (arith, lt)) is in
-    elim (contains key_cmp kept e.1) as (λ b. tag_at (cond b (by_text e ∷ left_at kept i es) (left_at kept i es)) (string_bytes t.0) ≢ None) [
-      | true ↦ some_there (string_bytes t.0) (by_text e) (left_at kept i es) rest
+pub next_there : (stays : List ℕ × Descriptor → Bool) (es : List Named) (i : ℕ) (t : Named) → i < length es → t ≡ get_or es i t → tag_at (left_at stays i es) (string_bytes t.0) ≢ None
+next_there stays [] i t lt is = absurd (omega (arith, lt))
+next_there stays (e ∷ es) zero t lt is = λ none. cc (sym (ap (λ (u : Named). tag_at (by_text e ∷ by_bytes es) (string_bytes u.0)) is ∙ first_at (by_text e) (by_bytes es)) ∙ none)
+next_there stays (e ∷ es) (suc i) t lt is =
+    let rest = next_there stays es i t (omega (arith, lt)) is in
+    elim (stays (by_text e)) as (λ b. tag_at (cond b (by_text e ∷ left_at stays i es) (left_at stays i es)) (string_bytes t.0) ≢ None) [
+      | true ↦ some_there (string_bytes t.0) (by_text e) (left_at stays i es) rest
       | false ↦ rest
     ]
 

@@ -7,6 +7,7 @@ pub mod Walk
 pub mod Plan
 pub mod Free
 pub mod Untagged
+pub mod Orphans
 pub mod After
 pub mod Files
 pub mod Refusal

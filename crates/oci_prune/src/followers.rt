@@ -123,7 +123,7 @@ fn is_independent(
 }
 
 /// Returns whether a stem names a digest.
-fn is_stem_of(alloc: Global, text: &str, digest: &Digest) -> Result<bool, NoMemory>
+pub(crate) fn is_stem_of(alloc: Global, text: &str, digest: &Digest) -> Result<bool, NoMemory>
     ensures { IfOk result (λ it. it ≡ is_stem_of text.now digest.now) }
 {
     let dashed = dashed(alloc, digest)?;
@@ -132,7 +132,7 @@ fn is_stem_of(alloc: Global, text: &str, digest: &Digest) -> Result<bool, NoMemo
 
 /// Returns what a tag has before its first `.` if it names the digest of one of these keys, if that
 /// is of a manifest kind.
-fn stems_of(alloc: Global, keys: &[Key]) -> Result<BTreeSet<String>, NoMemory>
+pub(crate) fn stems_of(alloc: Global, keys: &[Key]) -> Result<BTreeSet<String>, NoMemory>
     ensures { IfOk result (λ stems. HasStems keys.now stems) }
 {
     let mut stems = BTreeSet::new(alloc);

@@ -1,2 +1,3 @@
 mod Untagging
 pub mod Pruning
+pub mod Naming

@@ -1,4 +1,5 @@
 pub mod Named
 pub mod Refusal
 pub mod Untagged
+pub mod PruneText
 pub mod PrunedLayout

@@ -7,11 +7,12 @@ use Rattle.oci_layout_store.specs.BlobFiles.{AreBlobs}
 use Rattle.oci_layout_store.specs.Blobs.{stored}
 use Rattle.oci_dir.specs.Device.{Device, Same}
 use Rattle.oci_layout_store.specs.Index.{HasIndex}
-use Rattle.oci_layout_store.specs.Layout.{LayoutState, SameMemory}
+use Rattle.oci_layout_store.specs.Layout.{LayoutState, OnlyTags, SameMemory}
 use Rattle.oci_layout_store.specs.Meaning.{meaning}
 use Rattle.oci_dir.specs.Prunable.{by_name}
 use Rattle.oci_layout_store.specs.Opened.{IsOpenedAsIs}
 use Rattle.oci_prune.specs.Free.{AreFree}
+use Rattle.oci_prune.specs.Orphans.{LosesOrphans}
 use Rattle.oci_prune.specs.Plan.{AreKept, IsLeftoverPlan, IsPrunePlan, KeepsEach, RefersIf, roots_of}
 use Rattle.oci_prune.specs.Pruned.{flagged, is_gone, kept_of, AreDraftsGone, HasOnlyNeeded, IsTouchedBy, RemovesDrafts}
 use Rattle.oci_prune.specs.declared.plan.PrunePlan.{PrunePlan}
@@ -19,7 +20,9 @@ use Rattle.oci_prune.specs.declared.run.Pruned.{Pruned}
 use Rattle.oci_program.specs.Indexed.{HasIndexOrNoBlobs}
 use Rattle.oci_program.specs.Opened.{IsOpenedSettled}
 use Rattle.oci_prune_answer.specs.Pruned.{ShowsPlan, ShowsPruned}
-use Rattle.oci_prune_answer.specs.declared.prune_answer.PruneAnswer.{PruneAnswer}
+use Rattle.oci_store.specs.Tags.{Tags}
+use Rattle.oci_prune_commands.specs.PruneText.{tags_of}
+use Rattle.oci_prune_commands.specs.declared.answer.FullAnswer.{FullAnswer}
 
 -- the words ask for a prune that keeps each held key
 abbrev pub KeepsHeldKeys : PruneWords → Type 0
@@ -28,6 +31,19 @@ KeepsHeldKeys words = (words.only_leftovers ≡ false) × (words.removes_untagge
 -- the index of a layout has an entry, or there are no blobs
 abbrev pub HasEntriesOrNoBlobs : {D : Type 0} → Device → LayoutState D → Type 0
 HasEntriesOrNoBlobs dir layout = (layout.opened.content.entries ≢ []) ⊎ (dir.is_honest → AreBlobs dir.file [])
+
+-- ---- the tags
+
+-- the words ask for a prune that keeps what tags need
+abbrev pub KeepsTagged : PruneWords → Type 0
+KeepsTagged words = (words.only_leftovers ≡ false) × (words.removes_untagged ≡ true)
+
+-- a layout has lost its orphans if the words ask for a prune that keeps what tags need, and else nothing;
+-- these tags went
+pub record LosesTags {D : Type 0} (device : D → Device) (words : PruneWords) (old new : LayoutState D) (gone : Tags) : Type 0 where
+  pub only : OnlyTags old new
+  pub orphans : KeepsTagged words → LosesOrphans (device old.dir) old new gone
+  pub none : (KeepsTagged words → ⊥) → (new.tags ≡ old.tags) × (gone ≡ [])
 
 -- ---- a plan
 
@@ -53,17 +69,20 @@ abbrev pub CountsFree : {D : Type 0} → (D → Device) → PruneWords → Layou
 CountsFree device words layout None = (words.only_leftovers ≡ true) ⊎ (words.removes_untagged ≡ true)
 CountsFree device words layout (Some n) = KeepsHeldKeys words × (found : BTreeSet Descriptor) × ((device layout.dir).is_honest → AreFree (meaning (device layout.dir) layout.graph layout.tags) (roots_of layout) found) × (n ≡ length found.keys)
 
--- the layout in a directory was opened, and the answer shows what the words of the command would remove
-pub record IsDryPrune {D : Type 0} (device : D → Device) (dir : D) (words : PruneWords) (answer : PruneAnswer) : Type 0 where
+-- the layout in a directory was opened, and the answer shows what the words of the command would remove:
+-- these tags, and what the layout then does not need
+pub record IsDryPrune {D : Type 0} (device : D → Device) (dir : D) (words : PruneWords) (answer : FullAnswer) : Type 0 where
   pub layout : LayoutState D
   pub same : layout.dir ≡ dir
   pub opened : (device dir).is_honest → IsOpenedAsIs (device dir).file layout.graph layout.tags layout.opened
   pub indexed : words.only_leftovers ≡ false → (device dir).is_honest → HasIndexOrNoBlobs (device dir).file
   pub wanted : KeepsHeldKeys words → HasEntriesOrNoBlobs (device dir) layout
+  pub rest : LayoutState D
+  pub untagged : LosesTags device words layout rest (tags_of answer.untagged.items)
   pub plan : PrunePlan
-  pub planned : IsPlannedBy device words layout plan
-  pub shown : ShowsPlan plan answer
-  pub counted : CountsFree device words layout answer.untagged_left
+  pub planned : IsPlannedBy device words rest plan
+  pub shown : ShowsPlan plan answer.pruned
+  pub counted : CountsFree device words rest answer.pruned.untagged_left
 
 -- ---- a prune
 
@@ -97,18 +116,20 @@ pub record IsPrunedBy {D : Type 0} (device : D → Device) (words : PruneWords) 
   pub planned : IsPlannedBy device words old plan
   pub kept : words.only_leftovers ≡ false → KeepsPlanned device old new plan done
 
--- the layout in a directory was opened, and pruned without a fault as the words ask for, and the answer
--- shows what was removed
-pub record IsPruneRun {D : Type 0} (device : D → Device) (dir : D) (words : PruneWords) (answer : PruneAnswer) : Type 0 where
+-- the layout in a directory was opened, lost these tags, and was pruned without a fault as the words ask
+-- for, and the answer shows what was removed
+pub record IsPruneRun {D : Type 0} (device : D → Device) (dir : D) (words : PruneWords) (answer : FullAnswer) : Type 0 where
   pub opened : LayoutState D
   pub is_opened : IsOpenedSettled device dir opened
   pub indexed : words.only_leftovers ≡ false → (device dir).is_honest → HasIndexOrNoBlobs (device dir).file
   pub wanted : KeepsHeldKeys words → HasEntriesOrNoBlobs (device opened.dir) opened
+  pub rest : LayoutState D
+  pub untagged : LosesTags device words opened rest (tags_of answer.untagged.items)
   pub left : LayoutState D
   pub plan : PrunePlan
   pub done : Pruned
-  pub pruned : IsPrunedBy device words opened left plan done
+  pub pruned : IsPrunedBy device words rest left plan done
   pub saved : IsOk done.saved
   pub whole : done.fault ≡ None
-  pub shown : ShowsPruned plan done answer
-  pub counted : CountsFree device words opened answer.untagged_left
+  pub shown : ShowsPruned plan done answer.pruned
+  pub counted : CountsFree device words rest answer.pruned.untagged_left

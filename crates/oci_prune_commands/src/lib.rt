@@ -6,6 +6,7 @@
 #![tactic(auto)]
 
 mod along;
+mod answer;
 mod prune;
 mod untag;
 

@@ -1,11 +1,12 @@
-ghost use Rattle.std.specs.Prelude.{◌≡◌, [], true, false, None, IfErr, IfOk, OnOk};
+ghost use Rattle.std.specs.Prelude.{◌≡◌, [], true, false, None, IfErr, IfOk, IsOk, OnOk};
 ghost use Rattle.std.specs.Io.KnownBytes.{Appends};
 ghost use Rattle.oci_layout_store.specs.BlobFiles.{AreBlobs};
 ghost use Rattle.oci_layout_store.specs.Index.{index_file};
 ghost use Rattle.oci_prune.specs.Plan.{IsPrunePlan, roots_of};
 ghost use Rattle.oci_program.specs.Indexed.{HasIndexOrNoBlobs, IsRefusedWithout};
-ghost use Rattle.oci_prune_answer.specs.Pruned.{prune_text};
-ghost use Rattle.oci_prune_answer.specs.declared.prune_answer.PruneAnswer.{PruneAnswer};
+ghost use Rattle.oci_store.specs.Tags.{by_bytes};
+ghost use Rattle.oci_prune_commands.specs.PruneText.{full_text};
+ghost use Rattle.oci_prune_commands.specs.declared.answer.FullAnswer.{FullAnswer};
 ghost use Rattle.oci_prune_commands.specs.PrunedLayout.{
   CountsFree,
   HasEntriesOrNoBlobs,
@@ -16,19 +17,22 @@ ghost use Rattle.oci_prune_commands.specs.PrunedLayout.{
   KeepsHeldKeys,
   KeepsPlanned,
   LosesLeftovers,
+  LosesTags,
 };
 
+use crate::answer::FullAnswer;
 use oci_command_line::PruneWords;
 use oci_dir::PrunableDir;
 use oci_folder::{FolderLock, Lockable};
 use oci_layout_store::Layout;
+use oci_manifest::Key;
 use oci_program::{
     Form, Outcome, ProgramFault, SeenIndex, check_index, check_is_layout, lock_folder,
     open_settled, print_answer,
 };
 use oci_prune::{
     PrunePlan, Pruned, free_keys, plan_leftovers, plan_prune, plan_prune_keeping, prune,
-    prune_leftovers,
+    prune_leftovers, untag_orphans,
 };
 use oci_prune_answer::{PruneAnswer, print_answer_with_fault};
 use oci_prune_fault::PruneFault;
@@ -38,7 +42,7 @@ use std::rt::Files;
 
 /// `prune FOLDER`: removes from the layout in a directory the files that no entry of its index needs,
 /// and prints in this form what was removed. With `--untagged` it removes what no tag needs, with the
-/// entries of that. With `--leftovers` it removes only the files that killed copies left. The directory
+/// entries of that, and each tag that is made of the digest of an image that goes. With `--leftovers` it removes only the files that killed copies left. The directory
 /// is the words' folder, which is locked from before the layout is opened until after the last file is
 /// removed. With `--dry-run` nothing is locked or changed, and the same is printed. `F` is
 /// [`ProgramFault`] or another type that is made from one. A power cut at any moment leaves the layout
@@ -57,7 +61,7 @@ use std::rt::Files;
 ///   This and the next five not with `--leftovers`.
 /// - 96 `Unknown` if it is not known what a manifest needs, since it is missing or damaged.
 /// - 98 `LinkedBlobs` if a folder of blobs is a link.
-/// - 97 `NoTags` if the layout has no tag; only with `--untagged`.
+/// - 97 `NoTags` if the layout has no tag, or none that keeps one; only with `--untagged`.
 /// - 88 `Fetch` and 77 `BadManifest` if a held manifest cannot be read.
 /// - 110 `IndexChanged` if another program wrote `index.json` since the layout was opened.
 /// - 79 `NotRemoved` if a file cannot be removed. The others are removed and printed.
@@ -81,12 +85,12 @@ pub fn run_prune<
 
     // Without `--dry-run` the layout in the directory was opened, and pruned as the words ask for. As
     // lines, the answer is what was removed, or what would be.
-    ensures pruned { words.now.is_dry ≡ false → OnOk result ((answer : PruneAnswer)
+    ensures pruned { words.now.is_dry ≡ false → OnOk result ((answer : FullAnswer)
         × IsPruneRun D.device dir words.now answer × (form ≡ Form.Lines
-        → Appends (W.contents out.old) (W.contents out.new) (prune_text answer))) }
-    ensures planned { words.now.is_dry ≡ true → OnOk result ((answer : PruneAnswer)
+        → Appends (W.contents out.old) (W.contents out.new) (full_text answer))) }
+    ensures planned { words.now.is_dry ≡ true → OnOk result ((answer : FullAnswer)
         × IsDryPrune D.device dir words.now answer × (form ≡ Form.Lines
-        → Appends (W.contents out.old) (W.contents out.new) (prune_text answer))) }
+        → Appends (W.contents out.old) (W.contents out.new) (full_text answer))) }
 {
     if words.is_dry {
         let planned = plan_folder(rt.alloc(), dir, words)?;
@@ -101,16 +105,18 @@ fn plan_folder<D: PrunableDir + Drop>(
     alloc: Global,
     dir: D,
     words: &PruneWords<'_>,
-) -> Result<PruneAnswer, ProgramFault>
+) -> Result<FullAnswer, ProgramFault>
     ensures { IfOk result (IsDryPrune D.device dir words.now) }
 {
     check_is_layout(&dir)?;
     check_index_for(&dir, words)?;
-    let layout = Layout::open_as_is(alloc, dir)?;
+    let mut layout = Layout::open_as_is(alloc, dir)?;
     check_entries_for(&layout, words)?;
+    let tags = untag_for(alloc, &mut layout, words)?;
     let plan = plan_by(alloc, &layout, words)?;
     let left = untagged_left(alloc, &layout, words)?;
-    Ok(PruneAnswer::planned(alloc, plan, left)?)
+    let planned = PruneAnswer::planned(alloc, plan, left)?;
+    Ok(FullAnswer::of(alloc, tags, planned)?)
 }
 
 /// Locks the folder of a layout, and prunes the layout. Returns what was removed, and the fault of
@@ -120,7 +126,7 @@ fn prune_folder<R: Files<File: Lockable> + AllocGlobal, D: PrunableDir + Drop, X
     dir: D,
     words: &PruneWords<'_>,
     err: &mut X,
-) -> Result<(PruneAnswer, Option<PruneFault>), ProgramFault>
+) -> Result<(FullAnswer, Option<PruneFault>), ProgramFault>
     ensures { IfOk result (λ done. done.1 ≡ None → IsPruneRun D.device dir words.now
         done.0) }
 {
@@ -135,7 +141,7 @@ fn prune_under_lock<R: Files + AllocGlobal, D: PrunableDir + Drop>(
     dir: D,
     words: &PruneWords<'_>,
     _lock: &FolderLock<R>,
-) -> Result<(PruneAnswer, Option<PruneFault>), ProgramFault>
+) -> Result<(FullAnswer, Option<PruneFault>), ProgramFault>
     ensures { IfOk result (λ done. done.1 ≡ None → IsPruneRun D.device dir words.now
         done.0) }
 {
@@ -143,10 +149,39 @@ fn prune_under_lock<R: Files + AllocGlobal, D: PrunableDir + Drop>(
     check_index_for(&dir, words)?;
     let mut layout = open_settled(alloc, dir)?;
     check_entries_for(&layout, words)?;
+    let tags = untag_for(alloc, &mut layout, words)?;
     let left = untagged_left(alloc, &layout, words)?;
     let (plan, pruned) = prune_layout(alloc, &mut layout, &seen, words)?;
-    let answer = PruneAnswer::of(alloc, plan, &pruned, left)?;
+    let removed = PruneAnswer::of(alloc, plan, &pruned, left)?;
+    let answer = FullAnswer::of(alloc, tags_gone(alloc, tags, &pruned), removed)?;
     Ok((answer, pruned.into_fault()))
+}
+
+/// Removes the orphans of a layout in memory, if the words ask for a prune that keeps what tags need.
+/// Returns them.
+fn untag_for<D: PrunableDir>(
+    alloc: Global,
+    layout: &mut Layout<D>,
+    words: &PruneWords<'_>,
+) -> Result<Vec<(String, Key)>, PruneFault>
+    ensures { IfOk result (λ gone. LosesTags D.device words.now layout.old layout.new
+        (by_bytes gone.items)) }
+{
+    if words.only_leftovers || !words.removes_untagged {
+        return Ok(Vec::new(alloc));
+    }
+    untag_orphans(alloc, layout)
+}
+
+/// Returns the tags that went with a prune: these, or none if the index is not saved.
+fn tags_gone(alloc: Global, tags: Vec<(String, Key)>, pruned: &Pruned) -> Vec<(String, Key)>
+    ensures saved { IsOk pruned.now.saved → result ≡ tags }
+    ensures unsaved { IfErr pruned.now.saved (λ e. result.items ≡ []) }
+{
+    match pruned.saved {
+        Ok(()) => tags,
+        Err(_) => Vec::new(alloc),
+    }
 }
 
 /// Refuses a directory that has blobs and no index, unless only leftovers are removed.

@@ -22,12 +22,12 @@ use Rattle.oci_dir.specs.Device.{Device}
 use Rattle.oci_folder.specs.Folder.{folder}
 use Rattle.oci_folder.specs.Place.{IsFileAt}
 use Rattle.oci_manifest.specs.Descriptor.{Descriptor}
-use Rattle.oci_prune_answer.specs.Pruned.{prune_text}
 use Rattle.oci_program.specs.declared.answer.Form.{Form}
 use Rattle.oci_program.specs.declared.answer.Form.TheVariants as form
 use Rattle.oci_program.specs.declared.outcome.Outcome.{Outcome}
-use Rattle.oci_prune_answer.specs.declared.prune_answer.PruneAnswer.{PruneAnswer}
 use Rattle.oci_prune_commands.specs.PrunedLayout.{IsDryPrune, IsPruneRun}
+use Rattle.oci_prune_commands.specs.PruneText.{full_text}
+use Rattle.oci_prune_commands.specs.declared.answer.FullAnswer.{FullAnswer}
 use Rattle.oci_prune_commands.specs.Untagged.{belonged_lines, untagged_lines, IsUntagRun}
 use Rattle.oci_repair.specs.declared.source.RepairSource.{RepairSource}
 use Rattle.oci_repair.specs.declared.source.RepairSource.TheVariants as source
@@ -90,8 +90,8 @@ IsUntagDone words printed old new = (key : Option Descriptor) × (keys : List (O
 -- the layout in the folder of these words was opened, and pruned as they ask for, or with `--dry-run`
 -- that prune was planned
 pub record IsPruneDone (words : PruneWords) (printed : Form) (old new : Option (List ℕ)) : Type 0 where
-  pub pruned : words.is_dry ≡ false → (answer : PruneAnswer) × IsPruneRun folder (words.folder.now, 0) words answer × (printed ≡ form.Lines → Appends old new (prune_text answer))
-  pub planned : words.is_dry ≡ true → (answer : PruneAnswer) × IsDryPrune folder (words.folder.now, 0) words answer × (printed ≡ form.Lines → Appends old new (prune_text answer))
+  pub pruned : words.is_dry ≡ false → (answer : FullAnswer) × IsPruneRun folder (words.folder.now, 0) words answer × (printed ≡ form.Lines → Appends old new (full_text answer))
+  pub planned : words.is_dry ≡ true → (answer : FullAnswer) × IsDryPrune folder (words.folder.now, 0) words answer × (printed ≡ form.Lines → Appends old new (full_text answer))
 
 -- The layout in the folder of these words was opened, and repaired from the sources at their paths, or
 -- with `--dry-run` that repair was planned. `archive` gives the meaning of an archive. The outcome is good

@@ -15,7 +15,7 @@ loop-name-preserved-then-contains g c =
     let was = c.loop-name.invariant in
     let stays : contains key_cmp c.args.kept.now c.loop-name-item.result.1 ≡ true = sym c.contains.ensures ∙ c.if-contains.true in
     record {
-      tags = was.tags ∙ sym (next_stays c.args.kept.now c.deref-name-items.result.now c.loop-name.name-index c.loop-name-item.result c.loop-name-test.true c.loop-name-item.is stays);
+      tags = was.tags ∙ sym (next_stays (λ (t : List ℕ × Descriptor). contains key_cmp c.args.kept.now t.1) c.deref-name-items.result.now c.loop-name.name-index c.loop-name-item.result c.loop-name-test.true c.loop-name-item.is stays);
       graph = was.graph;
       dir = was.dir;
       opened = was.opened;
@@ -29,7 +29,7 @@ unreachable-requires g c =
     let all : c.args.layout.now.tags ≡ by_bytes items = sym (ap by_bytes c.deref-name-items.ensures.value ∙ c.in_ok-tags.ensures.exact) in
     let IsNamed : List ℕ → Type 0 = λ (n : List ℕ). n ≢ [] in
     let named = name_at items i item c.loop-name-test.true c.loop-name-item.is (recursion_from_All IsNamed (keys_of (by_bytes items)) (subst (λ (ts : Tags). All IsNamed (keys_of ts)) all c.tags.ensures.names.named)) in
-    let there = subst (λ (ts : Tags). tag_at ts (string_bytes item.0) ≢ None) (sym c.loop-name.invariant.tags) (next_there c.args.kept.now items i item c.loop-name-test.true c.loop-name-item.is) in
+    let there = subst (λ (ts : Tags). tag_at ts (string_bytes item.0) ≢ None) (sym c.loop-name.invariant.tags) (next_there (λ (t : List ℕ × Descriptor). contains key_cmp c.args.kept.now t.1) items i item c.loop-name-test.true c.loop-name-item.is) in
     never_refused c.loop-name.layout.tags c.deref.result.now c.in-Err.field-0 c.in-Err.ensures.answer c.in-Err.ensures.memory (rw c.deref.ensures named) (rw c.deref.ensures there)
 
 pub loop-name-preserved : goal.loop-name-preserved
@@ -42,7 +42,7 @@ loop-name-preserved g c =
     let goes : contains key_cmp c.args.kept.now item.1 ≡ false = sym c.contains.ensures ∙ c.if-contains.false in
     record {
       tags = c.in-Ok.ensures.untagged ∙ ap (without_tag c.loop-name.layout.tags) c.deref.ensures ∙ ap (λ (ts : Tags). without_tag ts (string_bytes item.0)) was.tags
-          ∙ sym (next_goes c.args.kept.now items c.loop-name.name-index item order c.loop-name-test.true c.loop-name-item.is goes);
+          ∙ sym (next_goes (λ (t : List ℕ × Descriptor). contains key_cmp c.args.kept.now t.1) items c.loop-name.name-index item order c.loop-name-test.true c.loop-name-item.is goes);
       graph = only.graph ∙ was.graph;
       dir = only.dir ∙ was.dir;
       opened = only.opened ∙ was.opened;
@@ -51,5 +51,5 @@ loop-name-preserved g c =
 pub returns-clause-tags : goal.returns-clause-tags
 returns-clause-tags g c =
     let items = c.deref-name-items.result.now in
-    c.loop-name.invariant.tags ∙ all_left c.args.kept.now items c.loop-name.name-index (omega (arith, c.loop-name-test.false))
+    c.loop-name.invariant.tags ∙ all_left (λ (t : List ℕ × Descriptor). contains key_cmp c.args.kept.now t.1) items c.loop-name.name-index (omega (arith, c.loop-name-test.false))
     ∙ ap (tags_of_kept c.args.kept.now) (ap by_bytes c.deref-name-items.ensures.value ∙ c.in_ok-tags.ensures.exact)

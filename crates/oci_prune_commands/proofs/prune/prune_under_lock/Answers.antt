@@ -1,4 +1,7 @@
-use Rattle.std.proofs.Common.{◌∙◌, sym}
+use Rattle.std.proofs.Common.{◌∙◌, String, Global, List, ap, sym}
+use Rattle.std.specs.Global.{Vec}
+use Rattle.oci_manifest.specs.Descriptor.{Descriptor}
+use Rattle.oci_store.specs.Tags.{by_bytes}
 use Rattle.oci_prune_commands.proofs.Pruning.{is_saved}
 use Rattle.oci_prune_commands.proofs.prune.prune_under_lock.Goals as goal
 
@@ -11,12 +14,14 @@ returns g c none =
       is_opened = c.in_ok-layout.ensures;
       indexed = c.in_ok-check_index_for.ensures.indexed;
       wanted = c.in_ok-check_entries_for.ensures;
+      rest = c.untag_for.new.layout;
+      untagged = rw (c.in_ok-answer.ensures.tags ∙ ap (λ (ts : Vec (String Global × Descriptor)). by_bytes ts.items) (c.tags_gone.ensures.saved saved)) c.in_ok-tags.ensures;
       left = c.prune_layout.new.layout;
       plan = c.in_ok-plan.plan;
       done = done;
       pruned = c.in_ok-plan.ensures;
       saved = saved;
       whole = sym (c.into_fault.ensures.saved saved) ∙ none;
-      shown = c.in_ok-answer.ensures.shown;
-      counted = rw c.in_ok-answer.ensures.left c.in_ok-left.ensures;
+      shown = rw c.in_ok-answer.ensures.pruned c.in_ok-removed.ensures.shown;
+      counted = rw (c.in_ok-answer.ensures.pruned, c.in_ok-removed.ensures.left) c.in_ok-left.ensures;
     }
