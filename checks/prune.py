@@ -26,7 +26,7 @@ def paths(goes):
 def refusals_of(case, flags):
     """Return the refusals of a case, as it states them itself."""
     if flags:
-        return [] if case.tags else ["97 NoTags"]
+        return [] if case.tags.keys() - case.lost else ["97 NoTags"]
     if not case.tags and not case.untagged:
         return ["109 NoIndex"]
     return ["96 Unknown " + key(case.lacks)] if case.lacks else []
@@ -41,6 +41,8 @@ def wrong_rules(case, prune, flags):
     goes = case.goes if flags else [it for it in case.goes if isinstance(it, str)]
     if set(map(text, prune.removed)) != {key(it) for it in goes if isinstance(it, Content)}:
         return "by the rules these are removed: %s" % ", ".join(map(text, prune.removed))
+    if set(prune.orphans) != {it for it in case.lost if flags}:
+        return "by the rules these tags go: %s" % ", ".join(prune.orphans)
     if set(prune.gone) != paths(goes) - paths(case.shared):
         return "by the rules these files go: %s" % ", ".join(prune.gone)
     if set(map(text, prune.free)) != {key(it) for it in case.free if not flags}:
@@ -71,7 +73,7 @@ def wrong_left(folder, prune, before):
         if left[path] != wanted[path] and not (path == "index.json" and prune.removed):
             return "%s is not as it was" % path
     held = Held(layout)
-    if held.tags != prune.held.tags:
+    if held.tags != prune.tags:
         return "the tags are %s" % held.tags
     if held.keys != prune.kept or held.absent:
         return "not all is held, or too much: %s" % sorted(held.keys ^ prune.kept)
@@ -96,10 +98,10 @@ def wrong_prune(folder, flags, is_whole=True):
 
 
 def wrong_answers(folder, prune):
-    """Return the problem with the output of commands that read after a prune, or None. Each tag is to be as it was, and everything kept to
-    be good."""
+    """Return the problem with the output of commands that read after a prune, or None. Each tag that stays is to be as it was, and everything
+    kept to be good."""
     tags, verified = run(["tags", "layout"], folder), run(["verify", "layout"], folder)
-    lines = ["%s %s\n" % (name, text(key)) for name, key in sorted(prune.held.tags.items())]
+    lines = ["%s %s\n" % (name, text(key)) for name, key in sorted(prune.tags.items())]
     return first([
         None if tags[:3] == (0, "".join(lines), "") else "tags: " + told(tags),
         None if verified[:3] == (0, "held %d\n" % len(prune.kept), "") else "verify: " + told(verified),
@@ -170,7 +172,7 @@ def traits(prunes):
     `--untagged`, and counts, and the second one is with it, and removes."""
     counts, removes = prunes
     held, free = counts.held, counts.free
-    if counts.refusals or removes.refusals and held.tags:
+    if counts.refusals or removes.refusals and removes.tags:
         return {}
     tagged, digests = set(held.tags.values()), {it.digest for it in held.keys}
     listed = {it for key in held.keys for it in held.listed(key)}
@@ -179,7 +181,9 @@ def traits(prunes):
     return {
         "files that go": bool(counts.gone),
         "no tag": not tagged,
-        "what --untagged removes": bool(held.tags and removes.removed),
+        "what --untagged removes": bool(removes.tags and removes.removed),
+        "a tag of a digest that goes": bool(removes.tags and removes.orphans),
+        "a tag of a digest that stays": any(not held.is_free(*it) for it in removes.tags.items()),
         "referrers that it keeps": removes.kept != held.members(held.named_keys, lambda keys: set()),
         "nothing that is counted": not free,
         "an image that is counted": any(it.media_type in (IMAGE, DOCKER_IMAGE) for it in free),

@@ -189,8 +189,11 @@ def of_mem(value, words):
 
 
 def of_prune(value, words):
-    *pruned, left = taken(value, {**PRUNED, "untaggedLeft": int}) if UNCOUNTED.isdisjoint(words) else [*taken(value, PRUNED), 0]
-    return pruned_lines(*pruned, left)
+    # (the tags are left out if none goes)
+    tags = value.get("untagged", []) if "--untagged" in words else []
+    left = {"untaggedLeft": int} if UNCOUNTED.isdisjoint(words) else {}
+    taken(value, {**(CLEANED if tags else PRUNED), **left})
+    return ["untagged %s %s" % tagged(it) for it in tags] + pruned_lines(*(value[name] for name in PRUNED), value["untaggedLeft"] if left else 0)
 
 
 def pruned_lines(removed, files, kept, total, left):

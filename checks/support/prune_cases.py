@@ -5,7 +5,7 @@ from collections import namedtuple
 
 from support.indexes import add_odd
 from support.layouts import (
-    ARTIFACT, BAR, DOCKER_IMAGE, DOCKER_LIST, E, FOO, I1, IMAGE, INDEX, LAYER, M2, M3, S, Content, blob, descriptor, image, index,
+    ARTIFACT, BAR, DOCKER_IMAGE, DOCKER_LIST, E, FOO, I1, IMAGE, INDEX, LAYER, M2, M3, S, Content, blob, descriptor, digits, image, index,
     write_layout,
 )
 
@@ -27,6 +27,15 @@ OF_OCTETS = image([B], subject=OCTETS)
 OF_OLD, OF_BOTH = image([B], subject=OLD_IMAGE), image([], subject=I1)
 HIGHER = index([I1])
 ALL = [E, FOO, B, M2]
+# What tags of digests name: a signature that states no subject, and that of it.
+SIGNATURE, OF_SIGNATURE = image([A]), image([B])
+
+
+def made_of(content, suffix=".sig"):
+    """Return a tag that is made of the digest of a content."""
+    return "%s-%s%s" % (content.algorithm, digits(content)[:64], suffix)
+
+
 # (each refers to the one before)
 CHAIN = [M2]
 for _ in range(60):
@@ -37,8 +46,8 @@ OF_NOTHING, OF_LISTED = image([B], subject=Content(LAYER, b"gone")), index([M3],
 
 # A layout: its contents, its tags, and the other entries of its index; other files, each with its text; the files that go, and the contents
 # that go only with --untagged; the contents that are counted without it; contents that go but share their file with another one; a manifest
-# that one without a tag lists and that is not there; and whether everything that is kept is there.
-Case = namedtuple("Case", "contents tags untagged files goes free shared lacks is_whole", defaults=[[], {}, [], [], [], None, True])
+# that one without a tag lists and that is not there; whether everything that is kept is there; and the tags that go only with --untagged.
+Case = namedtuple("Case", "contents tags untagged files goes free shared lacks is_whole lost", defaults=[[], {}, [], [], [], None, True, []])
 CASES = {
     "all is tagged": Case([E, FOO, BAR, M2, M3, I1], {"both": I1}),
     "a layer is tagged": Case([FOO, BAR], {"layer": FOO}, [BAR], goes=[BAR], free=[BAR]),
@@ -99,6 +108,29 @@ CASES = {
                                             goes=[FOO, image([FOO])], free=[image([FOO])], shared=[FOO], is_whole=False),
     "the file of a layer that is not distributed": Case([E, FOO, M2, FAR_IMAGE], {"new": FAR_IMAGE}, [M2], {blob(FAR): FAR.bytes, STRAY: b"stray"},
                                                         goes=[FOO, M2, STRAY], free=[M2]),
+    "a tag of a digest whose image goes": Case([E, FOO, BAR, A, M2, M3, SIGNATURE], {"new": M2, made_of(M3): SIGNATURE}, [M3],
+                                              goes=[BAR, M3, A, SIGNATURE], free=[M3], lost=[made_of(M3)]),
+    "a tag of a digest whose image stays": Case([E, FOO, A, M2, SIGNATURE], {"new": M2, made_of(M2): SIGNATURE}),
+    "tags of digests, each of what the one before names": Case(
+        [E, FOO, A, B, M2, SIGNATURE, OF_SIGNATURE], {"new": M2, made_of(M2): SIGNATURE, made_of(SIGNATURE): OF_SIGNATURE}),
+    "the same tags of digests, without a tag of the image": Case(
+        [E, FOO, BAR, A, B, M2, M3, SIGNATURE, OF_SIGNATURE], {"new": M3, made_of(M2): SIGNATURE, made_of(SIGNATURE): OF_SIGNATURE}, [M2],
+        goes=[A, B, M2, SIGNATURE, OF_SIGNATURE], free=[M2], lost=[made_of(M2), made_of(SIGNATURE)]),
+    "a ring of tags of digests": Case([E, FOO, BAR, A, M2, M3, SIGNATURE], {"new": SIGNATURE, made_of(M2): M3, made_of(M3): M2},
+                                     goes=[FOO, BAR, M2, M3], lost=[made_of(M2), made_of(M3)]),
+    "nothing but a ring of tags of digests": Case([E, FOO, BAR, M2, M3], {made_of(M2): M3, made_of(M3): M2}, lost=[made_of(M2), made_of(M3)]),
+    "a ring of tags of digests, and a tag": Case([E, FOO, BAR, M2, M3], {"new": M2, made_of(M2): M3, made_of(M3): M2}),
+    "a tag of a digest that names this image": Case([E, FOO, M2], {made_of(M2, ""): M2}),
+    "a tag of a digest that is not there": Case([E, A, SIGNATURE], {made_of(M2): SIGNATURE}),
+    "a tag of a digest that goes, whose key has another": Case([E, FOO, BAR, A, M3, SIGNATURE], {"new": SIGNATURE, made_of(M3): SIGNATURE}, [M3],
+                                                              goes=[FOO, BAR, M3], free=[M3], lost=[made_of(M3)]),
+    "a tag of the digest of an image of an index": Case([E, FOO, BAR, A, M2, M3, I1, SIGNATURE], {"both": I1, made_of(M3): SIGNATURE}),
+    "a tag of the digest of an image of an index that goes": Case(
+        [E, FOO, BAR, A, M2, M3, I1, SIGNATURE], {"new": M2, made_of(M3): SIGNATURE}, [I1],
+        goes=[BAR, A, M3, I1, SIGNATURE], free=[I1], lost=[made_of(M3)]),
+    "a tag of a digest of sha512": Case([E, A, LONG, LONG_IMAGE, SIGNATURE, B, OLD_LONG, M3, FOO, BAR],
+                                       {"new": LONG_IMAGE, made_of(OLD_LONG): SIGNATURE}, [OLD_LONG],
+                                       goes=[A, B, SIGNATURE, OLD_LONG, M3, FOO, BAR], free=[M3], lost=[made_of(OLD_LONG)]),
 }
 
 
@@ -158,6 +190,7 @@ def write_random(folder, chance):
     manifests = [it for it in contents if it.media_type in SHAPES] or contents
     shutil.rmtree(folder, ignore_errors=True)
     tagged = {name: chance.choice(manifests) for name in "abc"[: chance.choice([0, 1, 1, 1, 2, 3])]}
+    tagged |= {made_of(chance.choice(manifests)): chance.choice(manifests) for _ in range(chance.choice([0, 0, 0, 1, 2]))}
     untagged = [it for it in contents if chance.random() < 0.5]
     lost = [it for it in contents if chance.random() < (0.02 if it.media_type in SHAPES else 0.1) and it not in untagged]
     here = [it for it in contents if blob(it) not in set(map(blob, lost))]

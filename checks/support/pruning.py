@@ -168,9 +168,22 @@ class Held:
         digests = {it.digest for it in keys}
         return {it for it in self.keys if any(subject.digest in digests for subject in self.subject(it))}
 
+    def named(self):
+        """Return the names of the entries whose keys are held, with these keys, also of those that a tag hides."""
+        return [(name, key) for name, key in self.listing if name and key in self.keys]
+
+    def is_free(self, name, key):
+        """Return whether a name is made of the digest of no manifest that is held, or of that of its own key."""
+        return name.split(".")[0] in texts_of(key) or not self.follow(self.keys, {name: key})
+
     def needed(self):
-        """Return the keys that the tags need."""
-        return self.members(self.named_keys, self.referrers)
+        """Return the keys that the free entries with a tag need: what they list, what is attached by `subject` or by a name, and so on."""
+        free = {key for name, key in self.named() if self.is_free(name, key)}
+        return self.members(free, lambda keys: self.referrers(keys).union(*(self.follow(keys, {name: key}) for name, key in self.named())))
+
+    def orphans(self, kept):
+        """Return the tags that go if these keys are kept: each is made of the digest of another manifest, and of none that is kept."""
+        return {name: key for name, key in self.tags.items() if not self.is_free(name, key) and not self.follow(kept, {name: key})}
 
     def free(self):
         """Return the keys whose digest no named key has, that no key lists but as its subject, and that have no subject which is held."""
@@ -238,6 +251,9 @@ class Prune:
         held = Held(folder)
         self.held, self.kept = held, held.needed() if untagged else held.keys
         self.removed = sorted(held.keys - self.kept)
+        # The tags that go, and those that stay.
+        self.orphans = held.orphans(self.kept) if untagged else {}
+        self.tags = {name: key for name, key in held.tags.items() if name not in self.orphans}
         # The keys without a tag that are counted.
         self.free = set() if untagged else held.free()
         # (a kept image needs what is left of a layer of another size, and layers that no copy brings)
@@ -251,6 +267,7 @@ class Prune:
         # These go before the index is saved.
         self.first = [it for it in self.gone if it not in had]
         self.lines = [
+            *("untagged %s %s" % (name, text(key)) for name, key in sorted(self.orphans.items())),
             *("removed " + text(it) for it in self.removed),
             *("removed-file %s %d" % (it, lengths[it]) for it in self.first),
             last_line(len(self.kept), len(self.removed), [lengths[it] for it in self.gone], len(self.free)),
@@ -267,7 +284,7 @@ class Prune:
             *("73 BadIndex 14 BadDescriptor manifests %d" % it for it in held.unreadable[:1]),
             *("96 Unknown " + text(it) for it in self.lacking()),
             *["98 LinkedBlobs " + it for it in LINKS if is_linked(folder, it)][:1],
-            *(["97 NoTags"] if untagged and not held.tags else []),
+            *(["97 NoTags"] if untagged and not self.tags else []),
         ]
         self.out = "".join(it + "\n" for it in self.lines)
 

@@ -1,6 +1,6 @@
 -- What is left of a layout when a tag goes.
-use Rattle.std.proofs.Common.{◌≡◌, ◌≢◌, ℕ, zero, suc, ◌+◌, ◌<◌, ◌≤◌, length, get_or, String, Global, string_bytes, Bool, true, false, cond, not, inl, inr, List, [], ◌∷◌, ◌++◌, filter, None, Some, is_some, Less, refl, sym, ap, subst, ◌∙◌, arith}
-use Rattle.std.specs.Prelude.{IsErrOf, Err, Contains, ◌↔◌}
+use Rattle.std.proofs.Common.{◌≡◌, ◌≢◌, ℕ, zero, suc, ◌+◌, ◌<◌, ◌≤◌, length, get_or, String, Global, string_bytes, Bool, true, false, cond, not, inl, inr, List, [], ◌∷◌, ◌++◌, filter, None, Less, refl, sym, ap, subst, ◌∙◌, arith}
+use Rattle.std.specs.Prelude.{IsErrOf, Err, Contains}
 use Rattle.std.specs.BTreeSet.{BTreeSet, contains}
 use Rattle.std.specs.Cmp.Lexicographic.{slice_cmp}
 use Rattle.std.specs.List.{AllByRecursion}
@@ -16,17 +16,16 @@ use Rattle.oci_manifest.specs.Descriptor.{Descriptor, is_among, key_cmp}
 use Rattle.oci_manifest.specs.declared.key.Key.{Key}
 use Rattle.oci_store.specs.Content.{Entry}
 use Rattle.oci_store.specs.Graph.{Node}
-use Rattle.oci_store.specs.Keyed.{has_key}
 use Rattle.oci_store.specs.Tags.{IsUntagFault, Tags, by_bytes, tag_at, without_tag}
 use Rattle.oci_store.specs.declared.fault.RefFault.{RefFault}
 use Rattle.oci_store.specs.declared.fault.RefFault.TheVariants as fault
 use Rattle.oci_store.proofs.Membership.{Contains-from_among, among_from_Contains, among-filter, among_filter_from}
 use Rattle.oci_layout_store.proofs.OrderedTags.{IsOrdered, first_at, same_bytes}
 use Rattle.oci_prune.specs.Attached.{AreFollowers, AttachedBy, AttachedIn, HasAttached, followers_in}
-use Rattle.oci_prune.specs.Belongs.{AreMembers, Belongs, IsUnknown, needed}
+use Rattle.oci_prune.specs.Belongs.{AreMembers, IsUnknown, needed}
 use Rattle.oci_prune.specs.Plan.{AreHeld, IsSafe, KnowsListed}
 use Rattle.oci_prune.specs.Subjects.{referrers_in}
-use Rattle.oci_prune.specs.Untagged.{AreLeft, HasFollowers, StaysItself, tags_of_kept}
+use Rattle.oci_prune.specs.Untagged.{AreLeft, HasFollowers, StaysItself}
 use Rattle.oci_prune.specs.declared.attachments.Attachments.{Attachments}
 use Rattle.oci_prune.proofs.Plans.{are_kept_same, kept_same, safe_for_fewer, safe_from_kept}
 

@@ -1,5 +1,5 @@
 -- What is left of a layout when a tag goes with all that belonged to it alone.
-use Rattle.std.specs.Prelude.{◌≡◌, ◌↔◌, ◌⊎◌, Bool, true, List, [], ◌++◌, filter, Option, None, Some, Contains}
+use Rattle.std.specs.Prelude.{◌≡◌, ◌↔◌, ◌⊎◌, true, List, [], ◌++◌, filter, Option, None, Some, Contains}
 use Rattle.std.specs.BTreeSet.{BTreeSet, contains}
 use Rattle.std.specs.Map.{values_of}
 use Rattle.oci_manifest.specs.Descriptor.{Descriptor, key_cmp}

@@ -22,8 +22,9 @@
 //!
 //! [`plan_prune_keeping`] plans a prune that keeps what belongs to the tagged keys, to those of the
 //! entries that a tag hides, and to given keys. All other held keys are removed, with their files. A
-//! layout without a tag is refused too. [`plan_prune_after`] plans the prune of what a copy would
-//! leave, before there is one.
+//! layout without a tag is refused too. [`untag_orphans`] removes before, in memory, the tags that are
+//! made of the digest of an image that does not stay. [`plan_prune_after`] plans the prune of what a
+//! copy would leave, before there is one.
 //!
 //! [`prune`] does what is planned. It removes the files that no held key has, saves the index and
 //! then removes the other files, so whenever it is stopped, every tag and all that it reaches is

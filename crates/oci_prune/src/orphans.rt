@@ -1,16 +1,15 @@
 //! The tags that are made of the digest of an image that does not stay.
-ghost use Rattle.std.specs.Prelude.{◌≡◌, ◌++◌, true, map, IfOk, IfErr, OnOk};
-ghost use Rattle.oci_layout_store.specs.Entries.{entry_of, said, text_of};
+ghost use Rattle.std.specs.Prelude.{◌≡◌, ◌++◌, ◌&&◌, true, not, map, IfOk, IfErr, OnOk};
+ghost use Rattle.std.specs.BTreeSet.{contains_text};
+ghost use Rattle.oci_layout_store.specs.Entries.{entry_of, text_of};
 ghost use Rattle.oci_layout_store.specs.Layout.{OnlyTags};
 ghost use Rattle.oci_layout_store.specs.Meaning.{meaning};
-ghost use Rattle.oci_prune.specs.Attached.{AreIndependent, is_stem_of, stem};
+ghost use Rattle.oci_prune.specs.Attached.{is_stem_of, stem};
 ghost use Rattle.oci_prune.specs.Orphans.{AreWanted, IsOrphanFault, LosesOrphans, all_named, named_pair, named_pairs, orphans_in, pair_of, without_orphans};
 ghost use Rattle.oci_prune.specs.Refusal.{ChecksWhole};
 ghost use Rattle.oci_prune.specs.Subjects.{IsSubjectFault};
 ghost use Rattle.oci_store.specs.Keyed.{has_key};
 ghost use Rattle.oci_store.specs.Tags.{by_bytes};
-ghost use Rattle.std.specs.Prelude.{◌&&◌, not};
-ghost use Rattle.std.specs.BTreeSet.{contains_text};
 
 use crate::attachments::Attachments;
 use crate::followers::{independent_tags, is_stem_of, stem, stems_of};

@@ -42,12 +42,12 @@ use std::rt::Files;
 
 /// `prune FOLDER`: removes from the layout in a directory the files that no entry of its index needs,
 /// and prints in this form what was removed. With `--untagged` it removes what no tag needs, with the
-/// entries of that, and each tag that is made of the digest of an image that goes. With `--leftovers` it removes only the files that killed copies left. The directory
-/// is the words' folder, which is locked from before the layout is opened until after the last file is
-/// removed. With `--dry-run` nothing is locked or changed, and the same is printed. `F` is
-/// [`ProgramFault`] or another type that is made from one. A power cut at any moment leaves the layout
-/// with all that it had, or with what its tags need; this is a clause of
-/// [`prune`](oci_prune::prune), its core.
+/// entries of that, and each tag that is made of the digest of an image that goes. With `--leftovers`
+/// it removes only the files that killed copies left. The directory is the words' folder, which is
+/// locked from before the layout is opened until after the last file is removed. With `--dry-run`
+/// nothing is locked or changed, and the same is printed. `F` is [`ProgramFault`] or another type that
+/// is made from one. A power cut at any moment leaves the layout with all that it had, or with what its
+/// tags need; this is a clause of [`prune`](oci_prune::prune), its core.
 ///
 /// # Errors
 ///
@@ -61,7 +61,7 @@ use std::rt::Files;
 ///   This and the next five not with `--leftovers`.
 /// - 96 `Unknown` if it is not known what a manifest needs, since it is missing or damaged.
 /// - 98 `LinkedBlobs` if a folder of blobs is a link.
-/// - 97 `NoTags` if the layout has no tag, or none that keeps one; only with `--untagged`.
+/// - 97 `NoTags` if the layout has no tag, or none that stays; only with `--untagged`.
 /// - 88 `Fetch` and 77 `BadManifest` if a held manifest cannot be read.
 /// - 110 `IndexChanged` if another program wrote `index.json` since the layout was opened.
 /// - 79 `NotRemoved` if a file cannot be removed. The others are removed and printed.

@@ -23,28 +23,27 @@ pub(crate) const PRUNE: CommandText = CommandText {
          type that `copy` does not read, such as Docker's schema 1, counts as a blob that lists nothing.\n\n\
          With --untagged, what no tag needs is removed too, with its entries in `index.json`. Every tagged \
          blob is kept, and that of each earlier entry of a tag, with everything that it reaches. With each \
-         kept blob its referrers are kept, such as signatures and SBOMs, with everything that these reach: \
-         they are the manifests of the layout whose `subject` has the digest of that blob. An index is not \
-         kept because it lists a kept blob. With --leftovers only files that killed copies left are \
-         removed.\n\n\
-         Prints `removed` with the digest, the size and the media type of each blob that is removed, and \
-         `removed-file` with the path and the length of each other file. The last line counts the blobs \
-         `kept` and `removed`, and all `files` that are removed, with their `bytes`. If images without a \
-         tag stay, it counts them after `untagged`: no manifest lists them but as its `subject`, and their \
-         own subject is not there.\n\n\
+         kept blob what is attached to it is kept, such as signatures and SBOMs, with everything that this \
+         reaches: by `subject`, or by a tag made of its digest. Such a tag keeps nothing else, and goes with \
+         that blob. An index is not kept because it lists a kept blob. With --leftovers only files that \
+         killed copies left are removed.\n\n\
+         Prints `untagged` with each tag that goes and its blob. Prints `removed` with the digest, the size \
+         and the media type of each blob that is removed, and `removed-file` with the path and the length of \
+         each other file. The last line counts the blobs `kept` and `removed`, and all `files` that are \
+         removed, with their `bytes`. If images without a tag stay, it counts them after `untagged`: no \
+         manifest lists them but as its `subject`, and their own subject is not there.\n\n\
          Refused, before anything is changed, but not with --leftovers: a damaged manifest, or a missing \
          blob that is an entry of `index.json` or a manifest that a kept manifest lists (96), since it is \
          not known what it needs; an entry of `index.json` that is no descriptor (73); a folder `blobs`, \
          `blobs/sha256` or `blobs/sha512` that is a symbolic link, or has a blob that is a link to another \
          one (98), since more may need the files there; a folder with blobs and no `index.json`, or one \
-         without entries (109); with --untagged a layout without tags (97). FOLDER is not created, and cannot be an archive (95).\n\n\
-         Files that no blob of the layout has go first, since `index.json` does not need them; on a full disk \
-         they make room. Then `index.json` is saved, if a blob is removed, and is on the disk before a file \
-         of such a blob goes, unless --no-sync is given. If the prune is killed, or a file cannot be \
-         removed (79), as when a folder is in its place, no tag has lost anything, and the next prune removes \
-         the rest. If `index.json` cannot be saved (74), all blobs stay, and what went is printed. The other \
-         entries of `index.json` keep all that other tools wrote into them, such as `platform` and \
-         annotations.\n\n\
+         without entries (109); with --untagged a layout without a tag that stays (97). FOLDER is not \
+         created, and cannot be an archive (95).\n\n\
+         Files that no blob of the layout has go first; on a full disk they make room. Then `index.json` is \
+         saved, if a blob is removed, and is on the disk before a file of such a blob goes, unless --no-sync \
+         is given. If the prune is killed, or a file cannot be removed (79), no tag has lost anything, and \
+         the next prune removes the rest. If `index.json` cannot be saved (74), all blobs stay, and what went \
+         is printed. The other entries of `index.json` keep all that other tools wrote into them.\n\n\
          Locks FOLDER, but not for --dry-run. While another process on the same machine has the lock, it \
          waits. Other tools do not heed the lock: no prune may run while one of them writes into FOLDER.",
     ),

@@ -7,7 +7,7 @@ use Rattle.oci_manifest.specs.Descriptor.{Descriptor, key_cmp}
 use Rattle.oci_store.specs.Tags.{Tags, by_bytes, tag_at, without_tag}
 use Rattle.oci_layout_store.proofs.OrderedTags.{IsOrdered}
 use Rattle.oci_prune.specs.Untagged.{tags_of_kept}
-use Rattle.oci_prune.proofs.Parting.{all_left, left_at, name_at, never_refused, next_goes, next_stays, next_there}
+use Rattle.oci_prune.proofs.Parting.{all_left, name_at, never_refused, next_goes, next_stays, next_there}
 use Rattle.oci_prune.proofs.untagged.untag_others.Goals as goal
 
 pub loop-name-preserved-then-contains : goal.loop-name-preserved-then-contains

@@ -1,4 +1,4 @@
-use Rattle.std.proofs.Common.{◌∙◌, String, Global, List, ap, sym}
+use Rattle.std.proofs.Common.{◌∙◌, String, Global, ap, sym}
 use Rattle.std.specs.Global.{Vec}
 use Rattle.oci_manifest.specs.Descriptor.{Descriptor}
 use Rattle.oci_store.specs.Tags.{by_bytes}
