@@ -16,7 +16,7 @@ use std::fmt::Display;
 /// It prints a line `untagged` for each tag that went, with the key that the tag named, and then what
 /// else was removed.
 #[derive(Drop, Serialize)]
-pub(crate) struct FullAnswer {
+pub struct FullAnswer {
     /// The tags that went, in byte order.
     #[serde(skip_serializing_if = "Vec::is_empty")]
     untagged: Vec<Tagged>,
