@@ -39,11 +39,11 @@ pub(crate) const PRUNE: CommandText = CommandText {
          one (98), since more may need the files there; a folder with blobs and no `index.json`, or one \
          without entries (109); with --untagged a layout without a tag that stays (97). FOLDER is not \
          created, and cannot be an archive (95).\n\n\
-         Files that no blob of the layout has go first; on a full disk they make room. Then `index.json` is \
-         saved, if a blob is removed, and is on the disk before a file of such a blob goes, unless --no-sync \
-         is given. If the prune is killed, or a file cannot be removed (79), no tag has lost anything, and \
-         the next prune removes the rest. If `index.json` cannot be saved (74), all blobs stay, and what went \
-         is printed. The other entries of `index.json` keep all that other tools wrote into them.\n\n\
+         Files that no blob of the layout has go first. Then `index.json` is saved, if a blob is removed, \
+         and is on the disk before a file of such a blob goes, unless --no-sync is given. If the prune is \
+         killed, or a file cannot be removed (79), no tag has lost anything, and the next prune removes \
+         the rest. If `index.json` cannot be saved (74), all blobs stay, and what went is printed. The \
+         other entries of `index.json` keep all that other tools wrote into them.\n\n\
          Locks FOLDER, but not for --dry-run. While another process on the same machine has the lock, it \
          waits. Other tools do not heed the lock: no prune may run while one of them writes into FOLDER.",
     ),
