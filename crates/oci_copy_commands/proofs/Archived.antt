@@ -1,11 +1,12 @@
 -- Lemmas about the archive of a copy.
-use Rattle.std.proofs.Common.{◌≡◌, ℕ, true, inl, inr, List, [], Option, None, Some, refl, sym, ap, ◌∙◌}
+use Rattle.std.proofs.Common.{◌≡◌, ◌≢◌, ℕ, true, inl, inr, List, [], ◌∷◌, Option, None, Some, refl, sym, ap, ◌∙◌}
 use Rattle.std.specs.Prelude.{◌⊎◌, Contains}
 use Rattle.std.specs.BTreeMap.{get_by_text}
 use Rattle.std.specs.Io.KnownBytes.{Appends, Keeps}
 use Rattle.std.specs.List.{All}
 use Rattle.std.proofs.lemmas.Bool.{true≢false}
-use Rattle.std.proofs.lemmas.List.Elements.{All-weaker}
+use Rattle.std.specs.Map.{keys_of, values_of}
+use Rattle.std.proofs.lemmas.List.Elements.{All-head, All-nil, All-tail, All-weaker}
 use Rattle.oci_command_line.specs.declared.changing.CopyWords.{CopyWords}
 use Rattle.oci_copy.specs.Planned.{IsPlanOf}
 use Rattle.oci_copy.specs.declared.options.Options.{Options}
@@ -20,10 +21,12 @@ use Rattle.oci_plan.specs.Plan.{Planned}
 use Rattle.oci_store.specs.Graph.{Node}
 use Rattle.oci_store.specs.Keyed.{has_key, HasAll}
 use Rattle.oci_store.specs.State.{State}
-use Rattle.oci_copy_commands.specs.Archived.{IsArchiveAnswer, IsArchived, IsOutlined, IsSavedOutline}
+use Rattle.oci_store.specs.Tags.{set_tag, Tags, AreNames}
+use Rattle.oci_store.proofs.References.{AreNames-set}
+use Rattle.oci_copy_commands.specs.Archived.{IsArchiveAnswer, IsArchived, IsIndexOfRoots, IsOutlined, IsSavedOutline}
 use Rattle.oci_copy_commands.specs.Behind.{IsLeftBehind}
 use Rattle.oci_copy_commands.specs.Run.{options_of, store_of, IsSelectedIn}
-use Rattle.oci_selection.specs.Selected.{Selected}
+use Rattle.oci_selection.specs.Selected.{set_tags, Selected}
 use Rattle.oci_copy_commands.specs.declared.answer.CopyAnswer.{CopyAnswer}
 use Rattle.oci_copy_commands.specs.declared.behind.LeftBehind.{LeftBehind}
 use Rattle.oci_selection.proofs.Selections.{among_held}
@@ -39,27 +42,38 @@ roots_held source opening options roots p graph none plan held =
     among k (inl there) = absurd (true≢false (sym there ∙ ap (λ (nodes : List Node). has_key nodes k) none))
     among k (inr planned) = planned
 
--- a layout in memory that holds the planned keys is the one that the copy makes, once it is saved with
--- what is selected
-pub is_outlined : {S M : Type 0} (from : S → Device) (memory : M → Device) (options : Options) (source : LayoutState S) (selected : Selected)
-    (plan : Planned) (empty held outline : LayoutState M)
-    → empty.graph ≡ [] → empty.tags ≡ [] → IsPlanOf (store_of from source) options (store_of memory empty) selected.0 plan
-    → HasAll held.graph plan.keys → All (IsListed (store_of from source) plan.keys) held.graph → held.tags ≡ [] → held.opened ≡ no_index
-    → (memory held.dir).is_honest → HasLayoutFile (memory held.dir).file → IsSavedOutline memory selected held outline
-    → IsOutlined from memory options source selected plan outline
-is_outlined from memory options source selected plan empty held outline no_keys no_tags planned all listed tags opened honest version saved =
+-- a layout in memory that holds exactly the roots has their index, once it is saved with what is
+-- selected
+pub is_index : {M : Type 0} (memory : M → Device) (source : State) (selected : Selected) (held index : LayoutState M)
+    → HasAll held.graph selected.0 → All (IsListed source selected.0) held.graph → held.tags ≡ [] → held.opened ≡ no_index
+    → (memory held.dir).is_honest → HasLayoutFile (memory held.dir).file → IsSavedOutline memory selected held index
+    → IsIndexOfRoots memory source selected index
+is_index memory source selected held index all listed tags opened honest version saved =
     record {
-      empty = empty;
-      no_keys = no_keys;
-      no_tags = no_tags;
-      planned = planned;
-      held = rw saved.graph all;
-      listed = rw saved.graph listed;
+      roots = record { held = rw saved.graph all; listed = rw saved.graph listed };
+      of_roots = saved.of_roots;
       tagged = rw tags at saved.tagged;
       brought = rw opened at saved.brought;
       saved = saved.saved honest;
       version = saved.version honest version;
     }
+
+-- tags that are set have names if those before have, and the new ones are of held keys and not empty
+names_set : (graph : List Node) (tags more : Tags) → AreNames graph tags → All (λ (name : List ℕ). name ≢ []) (keys_of more) → HasAll graph (values_of more)
+    → AreNames graph (set_tags tags more)
+names_set graph tags [] names named held = names
+names_set graph tags (t ∷ more) names named held =
+    names_set graph (set_tag tags t.0 t.1) more
+    (AreNames-set graph tags t.0 t.1 names (All-head (λ (name : List ℕ). name ≢ []) t.0 (keys_of more) named) (All-head (λ (k : Descriptor). has_key graph k ≡ true) t.1 (values_of more) held))
+    (All-tail (λ (name : List ℕ). name ≢ []) t.0 (keys_of more) named) (All-tail (λ (k : Descriptor). has_key graph k ≡ true) t.1 (values_of more) held)
+
+-- the tags of the index of the roots have names in a graph that holds the roots
+pub index_names : {M : Type 0} (memory : M → Device) (source : State) (selected : Selected) (index : LayoutState M) (graph : List Node)
+    → IsIndexOfRoots memory source selected index → HasAll graph selected.0 → AreNames graph index.tags
+index_names memory source selected index graph is held =
+    rw is.tagged (names_set graph [] selected.1
+    (record { named = All-nil (λ (name : List ℕ). name ≢ []); held = All-nil (λ (k : Descriptor). has_key graph k ≡ true) })
+    is.of_roots.named (among_held graph selected.0 (values_of selected.1) held is.of_roots.rooted))
 
 -- what was exported of such a layout is the archive that the words ask for
 pub is_archived : {S M : Type 0} (from : S → Device) (memory : M → Device) (words : CopyWords) (source_dir : S) (source : LayoutState S)
@@ -69,6 +83,7 @@ pub is_archived : {S M : Type 0} (from : S → Device) (memory : M → Device) (
     → IsExport (store_of from source) (memory outline.dir) outline.graph items → IsLeftBehind from memory words source selected.0 outline behind → IsArchiveAnswer selected plan behind answer
     → IsArchived from memory words source_dir items answer
 is_archived from memory words source_dir source selected plan outline items behind answer chosen outlined honest exported left answers =
+    let index = outlined.index in
     record {
       source = source;
       selected = selected;
@@ -77,7 +92,7 @@ is_archived from memory words source_dir source selected plan outline items behi
       chosen = chosen;
       outlined = outlined;
       exported = exported;
-      files = exported.files honest outlined.version outline.tags outline.opened outlined.saved;
+      files = exported.files honest (rw outlined.dir outlined.entered.version) index.graph index.tags index.opened (rw outlined.dir outlined.entered.saved);
       behind = behind;
       left = left;
       answers = answers;

@@ -20,8 +20,11 @@ use Rattle.oci_layout_store.specs.Index.{HasIndex, HasLayoutFile}
 use Rattle.oci_layout_store.specs.Layout.{no_index, LayoutState}
 use Rattle.oci_layout_store.specs.declared.fault.LayoutFault.TheVariants as layout
 use Rattle.oci_dir.specs.declared.mem_dir.MemDir.{MemDir}
+use Rattle.oci_manifest.specs.Descriptor.{Descriptor}
 use Rattle.oci_plan.specs.Plan.{Planned}
+use Rattle.oci_store.specs.Graph.{Node}
 use Rattle.oci_store.specs.Keyed.{HasAll}
+use Rattle.oci_store.specs.State.{State}
 use Rattle.oci_program.specs.declared.answer.Form.{Form}
 use Rattle.oci_program.specs.declared.answer.Form.TheVariants as form
 use Rattle.oci_program.specs.declared.fault.ProgramFault.{ProgramFault}
@@ -29,7 +32,7 @@ use Rattle.oci_program.specs.declared.fault.ProgramFault.TheVariants as program
 use Rattle.oci_copy_commands.specs.Behind.{IsLeftBehind}
 use Rattle.oci_copy_commands.specs.Printed.{copy_text, plan_text, tags_of}
 use Rattle.oci_copy_commands.specs.Run.{options_of, store_of, IsAnsweredDryRun, IsSelectedIn}
-use Rattle.oci_selection.specs.Selected.{set_tags, Selected}
+use Rattle.oci_selection.specs.Selected.{set_tags, AreOfRoots, Selected}
 use Rattle.oci_copy_commands.specs.declared.answer.CopyAnswer.{CopyAnswer}
 use Rattle.oci_copy_commands.specs.declared.behind.LeftBehind.{LeftBehind}
 use Rattle.oci_copy_commands.specs.declared.dry_run.PlanAnswer.{PlanAnswer}
@@ -42,28 +45,43 @@ MemoryDir = MemDir
 abbrev pub HasNoFiles : Device → Type 0
 HasNoFiles dir = (path : List ℕ) → dir.file path ≡ None
 
--- the selected tags were set, the selected entries were brought, and the layout was saved
+-- the selected tags, which are of roots, were set, the selected entries were brought, and the layout was
+-- saved
 pub record IsSavedOutline {M : Type 0} (memory : M → Device) (selected : Selected) (old new : LayoutState M) : Type 0 where
+  pub of_roots : AreOfRoots selected.0 selected.1
   pub graph : new.graph ≡ old.graph
   pub tagged : new.tags ≡ set_tags old.tags selected.1
   pub brought : Brings (map entry_of selected.2) new.tags old.opened new.opened
   pub saved : (memory old.dir).is_honest → HasIndex (memory new.dir).file new.graph new.tags new.opened
   pub version : (memory old.dir).is_honest → HasLayoutFile (memory old.dir).file → HasLayoutFile (memory new.dir).file
 
--- The copy of what is selected into an empty layout was planned, and there is the layout that it makes:
--- it holds exactly the planned keys, with what the source says that they list, and has the selected
--- tags and entries. It is saved, but has no file of a blob.
+-- a graph is of exactly these keys, each with what the source says that it lists
+pub record IsGraphOf (source : State) (keys : List Descriptor) (graph : List Node) : Type 0 where
+  pub held : HasAll graph keys
+  pub listed : All (IsListed source keys) graph
+
+-- A layout in memory has exactly the roots, and the selected tags and entries. It is saved: so its index
+-- has an entry for what was asked for, and none for a manifest that only another one brings.
+pub record IsIndexOfRoots {M : Type 0} (memory : M → Device) (source : State) (selected : Selected) (index : LayoutState M) : Type 0 where
+  pub roots : IsGraphOf source selected.0 index.graph
+  pub of_roots : AreOfRoots selected.0 selected.1
+  pub tagged : index.tags ≡ set_tags [] selected.1
+  pub brought : Brings (map entry_of selected.2) index.tags no_index index.opened
+  pub saved : HasIndex (memory index.dir).file index.graph index.tags index.opened
+  pub version : HasLayoutFile (memory index.dir).file
+
+-- The copy of what is selected into an empty layout was planned, and there is a layout of exactly the
+-- planned keys. Its directory has the index of the roots, and no file of a blob. Each planned key is
+-- reached from a root, so that index leaves none out.
 pub record IsOutlined {S M : Type 0} (from : S → Device) (memory : M → Device) (options : Options) (source : LayoutState S) (selected : Selected) (plan : Planned) (outline : LayoutState M) : Type 0 where
   pub empty : LayoutState M
   pub no_keys : empty.graph ≡ []
   pub no_tags : empty.tags ≡ []
   pub planned : IsPlanOf (store_of from source) options (store_of memory empty) selected.0 plan
-  pub held : HasAll outline.graph plan.keys
-  pub listed : All (IsListed (store_of from source) plan.keys) outline.graph
-  pub tagged : outline.tags ≡ set_tags [] selected.1
-  pub brought : Brings (map entry_of selected.2) outline.tags no_index outline.opened
-  pub saved : HasIndex (memory outline.dir).file outline.graph outline.tags outline.opened
-  pub version : HasLayoutFile (memory outline.dir).file
+  pub graph : IsGraphOf (store_of from source) plan.keys outline.graph
+  pub index : LayoutState M
+  pub entered : IsIndexOfRoots memory (store_of from source) selected index
+  pub dir : outline.dir ≡ index.dir
 
 -- the answer names the selected tags, the number of the planned keys, and what was left behind
 pub record IsArchiveAnswer (selected : Selected) (plan : Planned) (stays : LeftBehind) (answer : CopyAnswer) : Type 0 where
@@ -73,8 +91,8 @@ pub record IsArchiveAnswer (selected : Selected) (plan : Planned) (stays : LeftB
   pub skipped : answer.report.skipped ≡ length plan.skipped
   pub behind : answer.behind ≡ stays
 
--- Items are what the archive has that a run with these words writes: the files of the layout that a
--- copy of what they select into an empty layout makes.
+-- Items are what the archive has that a run with these words writes: the blobs of the layout that a copy
+-- of what they select into an empty layout makes, and the index of its roots.
 pub record IsArchived {S M : Type 0} (from : S → Device) (memory : M → Device) (words : CopyWords) (source_dir : S) (items : List Item) (answer : CopyAnswer) : Type 0 where
   pub source : LayoutState S
   pub selected : Selected
@@ -83,7 +101,7 @@ pub record IsArchived {S M : Type 0} (from : S → Device) (memory : M → Devic
   pub chosen : IsSelectedIn from words source_dir source selected
   pub outlined : IsOutlined from memory (options_of words) source selected plan outline
   pub exported : IsExport (store_of from source) (memory outline.dir) outline.graph items
-  pub files : HasFiles (file_in items) (stored (file_in items) outline.graph) outline.graph outline.tags outline.opened
+  pub files : HasFiles (file_in items) (stored (file_in items) outline.graph) outlined.index.graph outlined.index.tags outlined.index.opened
   pub behind : LeftBehind
   pub left : IsLeftBehind from memory words source selected.0 outline behind
   pub answers : IsArchiveAnswer selected plan behind answer

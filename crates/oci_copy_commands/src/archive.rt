@@ -10,11 +10,12 @@ ghost use Rattle.oci_copy_commands.specs.Archived.{
   IsArchived,
   IsArchivedTo,
   IsFileRefusal,
+  IsIndexOfRoots,
   IsOutlined,
   IsSavedOutline,
 };
 ghost use Rattle.oci_copy_commands.specs.Printed.{copy_text, plan_text};
-ghost use Rattle.oci_copy_commands.specs.Run.{options_of, IsAnsweredDryRun, IsSelectedIn};
+ghost use Rattle.oci_copy_commands.specs.Run.{options_of, store_of, IsAnsweredDryRun, IsSelectedIn};
 ghost use Rattle.oci_copy_commands.specs.declared.answer.CopyAnswer.{CopyAnswer as Answer};
 ghost use Rattle.oci_copy_commands.specs.declared.dry_run.PlanAnswer.{PlanAnswer};
 ghost use Rattle.oci_store.specs.Keyed.{HasAll};
@@ -28,7 +29,7 @@ use oci_command_line::CopyWords;
 use oci_copy::{CopyFault, Report};
 use oci_digest::NoMemory;
 use oci_dir::{Dir, MemDir};
-use oci_export::{ExportFault, outline, save_archive, write_archive};
+use oci_export::{ExportFault, graph_of, outline, save_archive, write_archive};
 use oci_layout_copy::{Copied, Host, plan_from, tag_all};
 use oci_layout_store::{Layout, LayoutFault};
 use oci_plan::Plan;
@@ -40,9 +41,10 @@ use oci_store::Source;
 use std::alloc::Global;
 use std::io::{ErrorKind, Write};
 
-/// `copy --archive SRC SRCREF FILE [DSTREF]` and `copy --archive --all SRC FILE`: writes the layout
-/// that a copy into a new folder makes into a new file of a directory, as a tar archive, and prints what
-/// that copy prints. With `--dry-run` only the plan is printed.
+/// `copy --archive SRC SRCREF FILE [DSTREF]` and `copy --archive --all SRC FILE`: writes the blobs and
+/// the tags that a copy into a new folder sets into a new file of a directory, as a tar archive, and
+/// prints what that copy prints. Its index has an entry for what was asked for, and for what no other
+/// entry reaches. With `--dry-run` only the plan is printed.
 ///
 /// # Errors
 ///
@@ -221,8 +223,8 @@ fn open_selected<S: Dir + Drop>(
     Ok((source, selected))
 }
 
-/// Plans the copy of what is selected into an empty layout, and returns the plan and the layout
-/// that this copy makes, but for the files of its blobs.
+/// Plans the copy of what is selected into an empty layout, and returns the plan and a layout of the
+/// planned keys. Its directory has the index of the roots, but not the files of its blobs.
 fn outline_of<S: Dir>(
     alloc: Global,
     source: &Layout<S>,
@@ -234,12 +236,29 @@ fn outline_of<S: Dir>(
 {
     let empty = empty_layout(alloc)?;
     let plan = plan_from(alloc, source, &empty, selected.roots(), &options_of(words))?;
-    let mut layout = match outline(alloc, source, &plan) {
-        Ok(layout) => layout,
+    let index = index_of_roots(alloc, source, selected)?;
+    match graph_of(alloc, source, plan.keys()) {
+        Ok(graph) => Ok((plan, index.holding(graph))),
+        Err(fault) => Err(fault_of(fault)),
+    }
+}
+
+/// Returns a saved layout in memory of the roots, with the selected tags and entries. So its index has
+/// no entry for the images of an index that is a root.
+fn index_of_roots<S: Dir>(
+    alloc: Global,
+    source: &Layout<S>,
+    selected: &Selected,
+) -> Result<Layout<MemDir>, ProgramFault>
+    ensures { IfOk result (IsIndexOfRoots ⟦<MemDir as Dir>⟧.device (store_of S.device source.now)
+        selected.now) }
+{
+    let mut index = match outline(alloc, source, selected.roots()) {
+        Ok(index) => index,
         Err(fault) => return Err(fault_of(fault)),
     };
-    save_selected(&mut layout, selected)?;
-    Ok((plan, layout))
+    save_selected(&mut index, selected)?;
+    Ok(index)
 }
 
 /// Sets the selected tags in a layout in memory that holds their keys, brings the selected entries,

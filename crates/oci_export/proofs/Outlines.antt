@@ -1,4 +1,4 @@
--- The keys of a plan in a graph, one at a time.
+-- The keys of a list in a graph, one at a time.
 use Rattle.std.proofs.Common.{◌≡◌, ℕ, ◌+◌, ◌<◌, true, inl, inr, List, [], ◌∷◌, ◌++◌, length, take, get_or, sym, ap, subst, ◌∙◌}
 use Rattle.std.specs.Prelude.{Contains}
 use Rattle.std.specs.List.{All}
@@ -12,7 +12,7 @@ use Rattle.oci_store.specs.State.{State}
 use Rattle.oci_store.proofs.Lookups.{has_key-append_left, has_key-from_Contains}
 use Rattle.oci_export.specs.Export.{IsHeldOf, IsListed}
 
--- a graph has these first keys of a plan, and no others
+-- a graph has these first keys of a list, and no others
 pub record IsOutlineOf (source : State) (keys first : List Descriptor) (graph : List Node) : Type 0 where
   pub held : HasAll graph first
   pub listed : All (IsListed source keys) graph
@@ -26,7 +26,7 @@ held_last graph n =
 -- one key more
 IsOutlineOf-more : (source : State) (keys first : List Descriptor) (k : Descriptor) (old new : List Node) → IsOutlineOf source keys first old → Contains keys k
     → IsHeldOf source k old new → IsOutlineOf source keys (first ++ k ∷ []) new
-IsOutlineOf-more source keys first k old new h planned did =
+IsOutlineOf-more source keys first k old new h among did =
     elim did [
       | inl there ↦
           subst (IsOutlineOf source keys (first ++ k ∷ [])) (sym there.1)
@@ -39,13 +39,13 @@ IsOutlineOf-more source keys first k old new h planned did =
           subst (IsOutlineOf source keys (first ++ k ∷ [])) (sym came.3)
           (record {
             held = All-push (λ other. has_key grown other ≡ true) first k stay (held_last old n);
-            listed = All-push (IsListed source keys) old n h.listed (record { planned = planned; lists = came.2 });
+            listed = All-push (IsListed source keys) old n h.listed (record { among = among; lists = came.2 });
           })
     ]
 
 -- the key at a place is one of them
-planned_at : (keys : List Descriptor) (i : ℕ) (k : Descriptor) → i < length keys → k ≡ get_or keys i k → Contains keys k
-planned_at keys i k within is = subst (Contains keys) (sym is) (Contains-get_or keys i k within)
+among_at : (keys : List Descriptor) (i : ℕ) (k : Descriptor) → i < length keys → k ≡ get_or keys i k → Contains keys k
+among_at keys i k within is = subst (Contains keys) (sym is) (Contains-get_or keys i k within)
 
 -- the key at a place more
 pub IsOutlineOf-next : (source : State) (keys : List Descriptor) (i : ℕ) (k : Descriptor) (old new : List Node) → i < length keys → k ≡ get_or keys i k
@@ -53,4 +53,4 @@ pub IsOutlineOf-next : (source : State) (keys : List Descriptor) (i : ℕ) (k : 
 IsOutlineOf-next source keys i k old new within is h did =
     let more : take (i + 1) keys ≡ take i keys ++ k ∷ [] = take_more keys i k within ∙ ap (λ (d : Descriptor). take i keys ++ d ∷ []) (sym is) in
     subst (λ (first : List Descriptor). IsOutlineOf source keys first new) (sym more)
-    (IsOutlineOf-more source keys (take i keys) k old new h (planned_at keys i k within is) did)
+    (IsOutlineOf-more source keys (take i keys) k old new h (among_at keys i k within is) did)

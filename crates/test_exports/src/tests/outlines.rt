@@ -2,7 +2,7 @@
 
 use crate::tests::layouts::{archive, created, image_key, image_layout, push, tag_and_save};
 use oci_copy::{Options, copy_one, plan_copy};
-use oci_export::outline;
+use oci_export::{graph_of, outline};
 use oci_layout::{Layout, MemDir};
 use oci_manifest::Key;
 use oci_store::MemoryStore;
@@ -21,7 +21,7 @@ fn outlined(alloc: Global, source: &Layout<MemDir>, root: &Key) -> Result<Vec<u8
         slice::from_ref(root),
         &Options::default(),
     )?;
-    let mut layout = outline(alloc, source, &plan)?;
+    let mut layout = outline(alloc, source, plan.keys())?;
     tag_and_save(&mut layout, root)?;
     archive(alloc, source, &layout)
 }
@@ -39,6 +39,18 @@ fn copied(alloc: Global, source: &Layout<MemDir>, root: &Key) -> Result<Vec<u8>,
     let _ = answer?;
     tag_and_save(&mut layout, root)?;
     archive(alloc, &layout, &layout)
+}
+
+/// The graph of one key has this key alone, whatever it lists.
+#[test]
+fn graph_of_a_key(rt: HostRuntime) -> Result<(), Fail> {
+    let alloc = rt.alloc();
+    let source = image_layout(alloc)?;
+    let root = image_key(alloc)?;
+    let graph = graph_of(alloc, &source, slice::from_ref(&root))?;
+    assert_eq!(rt; graph.len(), 1);
+    assert!(rt; graph.holds(&root));
+    Ok(())
 }
 
 /// The layout of a plan has the archive of a layout into which the same keys were copied. It has no

@@ -1,19 +1,25 @@
+use Rattle.std.proofs.Common.{refl}
 use Rattle.oci_dir.specs.Memory.{device_of}
-use Rattle.oci_copy_commands.specs.Run.{options_of, store_of}
-use Rattle.oci_copy_commands.proofs.Archived.{is_outlined, roots_held}
+use Rattle.oci_copy_commands.specs.Run.{store_of}
+use Rattle.oci_copy_commands.proofs.Archived.{index_names, roots_held}
 use Rattle.oci_copy_commands.proofs.archive.outline_of.Goals as goal
 
-pub save_selected-requires : goal.save_selected-requires
-save_selected-requires g c = record {
-  held = roots_held (store_of g.S.Dir.device c.args.source.now) (store_of device_of c.in_ok-empty.empty) c.options_of.result c.args.selected.now.0
-      c.in_ok-plan.plan c.in-Ok.layout.graph c.in_ok-empty.ensures.graph (rw c.roots.ensures at c.in_ok-plan.ensures.plan) c.in-Ok.ensures.held;
-}
+pub holding-requires : goal.holding-requires
+holding-requires g c =
+    let source = store_of g.S.Dir.device c.args.source.now in
+    let selected = c.args.selected.now in
+    index_names device_of source selected c.in_ok-index.index c.in-Ok.graph c.in_ok-index.ensures
+    (roots_held source (store_of device_of c.in_ok-empty.empty) c.options_of.result selected.0 c.in_ok-plan.plan c.in-Ok.graph c.in_ok-empty.ensures.graph
+    (rw c.roots.ensures at c.in_ok-plan.ensures.plan) (rw c.keys.ensures at c.in-Ok.ensures.held))
 
-pub returns : goal.returns
-returns g c =
-    let empty = c.in_ok-empty in
-    let made = c.in-Ok.ensures in
-    is_outlined g.S.Dir.device device_of (options_of c.args.words.now) c.args.source.now c.args.selected.now c.in_ok-plan.plan
-    empty.empty c.in-Ok.layout c.save_selected.new.layout empty.ensures.graph empty.ensures.tags
-    (rw (c.roots.ensures, c.options_of.ensures) at c.in_ok-plan.ensures.plan) made.held made.listed made.tags made.opened tt made.version
-    c.in_ok-save_selected.ensures.saved
+pub returns-in-Ok : goal.returns-in-Ok
+returns-in-Ok g c = record {
+  empty = c.in_ok-empty.empty;
+  no_keys = c.in_ok-empty.ensures.graph;
+  no_tags = c.in_ok-empty.ensures.tags;
+  planned = rw (c.roots.ensures, c.options_of.ensures) at c.in_ok-plan.ensures.plan;
+  graph = rw c.holding.ensures (record { held = rw c.keys.ensures at c.in-Ok.ensures.held; listed = rw c.keys.ensures at c.in-Ok.ensures.listed });
+  index = c.in_ok-index.index;
+  entered = c.in_ok-index.ensures;
+  dir = rw c.holding.ensures refl;
+}

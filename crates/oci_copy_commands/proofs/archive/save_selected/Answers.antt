@@ -17,6 +17,7 @@ returns-in-Ok c =
     let dir = c.bring.ensures.only.dir ∙ c.tag_all.ensures.dir in
     record {
       saved = record {
+        of_roots = c.tags.ensures.of_roots;
         graph = kept.graph ∙ c.bring.ensures.only.graph ∙ c.tag_all.ensures.graph;
         tagged = kept.tags ∙ c.bring.ensures.only.tags ∙ (rw c.tags.ensures.tags at c.in_default.ensures.tagged);
         brought = rw (kept.opened, kept.tags, c.bring.ensures.only.tags)
