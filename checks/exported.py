@@ -1,4 +1,5 @@
-"""`copy --archive` writes, to the byte, the archive of the layout that the same copy makes in a new folder. Wants `cc`."""
+"""`copy --archive` writes, to the byte, the archive of the layout that the same copy makes in a new folder, without the entries of manifests that
+were not asked for, and that another entry reaches. Wants `cc`."""
 import hashlib
 import io
 import json
@@ -9,7 +10,7 @@ import subprocess
 import tarfile
 
 from support import shim
-from support.exports import LARGE, Export, head, remove, told_bytes, tree, whole, words_of
+from support.exports import LARGE, Export, copy_of, head, remove, told_bytes, tree, whole, words_of
 from support.indexes import add_unreadable, entry, named, saved_text
 from support.layouts import BAR, E, FOO, I1, IMAGE, INDEX, LAYER, M2, M3, S, Content, blob, descriptor, digits, image, write_layout
 from support.program import PROGRAM, first, run, told
@@ -193,6 +194,30 @@ def by_words(room):
         yield "copy --archive " + words.replace(digits(M3), digits(M3)[:12]), wrong_copies(room, words, again)
 
 
+def by_entries(room):
+    """Check the entries of an index of two images with a signature, and of one of these images, which has no entry in the layout."""
+    write_layout(room + "/source", [E, FOO, BAR, M2, M3, I1, S], {"both": I1}, [S])
+    both = named(I1, "both")
+    for words, wanted in {
+        "source both FILE": [both],
+        "--all source FILE": [both],
+        "--referrers source both FILE": [both, entry(S)],
+        "--all --referrers source FILE": [both, entry(S)],
+        "source %s FILE" % DIGEST: [named(M3, DIGEST)],
+        "source %s FILE third" % DIGEST: [named(M3, "third")],
+    }.items():
+        ended = run(copy_of(words, "made.tar"), room)
+        wrong = told(ended) if ended.status else wrong_index(room + "/made.tar", wanted)
+        yield "the entries of copy --archive " + words.replace(digits(M3), digits(M3)[:12]), wrong
+        remove(room + "/made.tar")
+
+
+def wrong_index(path, wanted):
+    with tarfile.open(path, "r:") as archive:
+        found = archive.extractfile("index.json").read()
+    return None if found == saved_text(wanted).encode() else "the index is %.500r" % found
+
+
 def by_names(room):
     """Check files of several names."""
     write_layout(room + "/source", [E, FOO, M2], {"one": M2})
@@ -343,7 +368,7 @@ def large(room):
 
 def checks(room):
     # (`large` first, before this process becomes large, since the memory of a run includes the memory of its parent)
-    for number, group in enumerate([large, by_words, by_names, by_sizes, at_random]):
+    for number, group in enumerate([large, by_words, by_entries, by_names, by_sizes, at_random]):
         folder = "%s/%d" % (room, number)
         os.mkdir(folder)
         yield from group(folder)

@@ -10,7 +10,7 @@ import tarfile
 
 from support.exports import Export, has_gnu_tar, members_of, tree
 from support.layouts import BAR, E, FOO, I1, IMAGE, LAYER, M2, M3, S, Content, blob, descriptor, digits, image, write_layout
-from support.program import told
+from support.program import run, told
 
 LONG_LAYER = Content(LAYER, b"a layer by another algorithm", "sha512")
 LONG = image([LONG_LAYER, FOO])._replace(algorithm="sha512")
@@ -50,7 +50,7 @@ def wrong_members(room):
             for it in archive
         ]
     kinds = {True: (tarfile.DIRTYPE, 0o755), False: (tarfile.REGTYPE, 0o644)}
-    wanted = [(name.rstrip("/"), *kinds[name.endswith("/")], 0, 0, 0, "", "", "", len(it), it) for name, it in members_of(room + "/folder")]
+    wanted = [(name.rstrip("/"), *kinds[name.endswith("/")], 0, 0, 0, "", "", "", len(it), it) for name, it in members_of(room + "/folder", True)]
     return None if found == wanted else "it has %.300s, and not %.300s" % (found, wanted)
 
 
@@ -58,7 +58,7 @@ def wrong_list(room):
     """Return the problem with the lines of GNU tar, or None."""
     lines = output(room, "tar", "--numeric-owner", "--full-time", "-tvf", "made.tar").decode().splitlines()
     modes = {True: "drwxr-xr-x", False: "-rw-r--r--"}
-    wanted = [[modes[name.endswith("/")], "0/0", str(len(it)), "1970-01-01", "00:00:00", name] for name, it in members_of(room + "/folder")]
+    wanted = [[modes[name.endswith("/")], "0/0", str(len(it)), "1970-01-01", "00:00:00", name] for name, it in members_of(room + "/folder", True)]
     return None if [line.split(None, 5) for line in lines] == wanted else "it prints %.300s" % lines
 
 
@@ -97,11 +97,16 @@ def checks(room):
     yield "Python", wrong_members(room)
     if has_gnu_tar():
         yield "GNU tar lists it", wrong_list(room)
-    place, files, blobs = "oci-archive:made.tar:real", tree(room + "/folder"), {blob(it): it.bytes for it in (made, config, layer)}
+    place, blobs = "oci-archive:made.tar:real", {blob(it): it.bytes for it in (made, config, layer)}
+    files = {name: it for name, it in members_of(room + "/folder", True) if not name.endswith("/")}
+    # (an archive that a tool reads without a tag has one entry)
+    one = run(["copy", "--archive", "source", "both", "one.tar"], room)
+    yield "the archive of an index", None if one.status == 0 else told(one)
     for tool, wanted, find in [
         ("tar", files, lambda: unpacked(room, "tar")),
         ("bsdtar", files, lambda: unpacked(room, "bsdtar")),
         ("skopeo", made.bytes, lambda: output(room, "skopeo", "inspect", "--raw", place)),
+        ("skopeo", I1.bytes, lambda: output(room, "skopeo", "inspect", "--raw", "oci-archive:one.tar")),
         ("skopeo", blobs, lambda: copied(room, "skopeo", "copy", "--policy", "policy.json", place, "oci:other:real")),
         ("buildah", b"%s\n" % digits(config).encode(), lambda: output(room, "buildah", *BUILDAH, place)),
         ("umoci", set(tags), lambda: tags_of_umoci(room)),

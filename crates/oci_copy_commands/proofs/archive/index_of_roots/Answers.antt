@@ -4,7 +4,7 @@ use Rattle.oci_copy_commands.proofs.Archived.{is_index}
 use Rattle.oci_copy_commands.proofs.archive.index_of_roots.Goals as goal
 
 pub save_selected-requires : goal.save_selected-requires
-save_selected-requires g c = record { held = rw c.roots.ensures at c.in-Ok.ensures.held; }
+save_selected-requires g c = record { held = rw c.roots.ensures at c.in-Ok.ensures.held }
 
 pub returns : goal.returns
 returns g c =
