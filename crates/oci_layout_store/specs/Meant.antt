@@ -2,7 +2,6 @@
 -- tag a manifest that the index does not list.
 use Rattle.std.specs.Prelude.{ℕ, Bool, true, false, List, map, codes, length, not, ◌&&◌, ◌||◌, ◌==◌, nat_lt, is_some, Option, Some, None, option_map, option_and_then, if◌then◌else◌}
 use Rattle.std.specs.List.{before_first}
-use Rattle.std.specs.Option.{unwrap_or}
 use Rattle.std.specs.Str.{bytes_eq}
 use Rattle.serde_json.specs.Data.{Data}
 use Rattle.serde_json.specs.Find.{get, as_array}
@@ -24,7 +23,7 @@ names_manifest media_type = is_manifest (kind_of media_type)
 -- whether a media type leaves open what a content is: it says nothing of it, or it is that of a
 -- manifest with parameters (RFC 6838, 4.3)
 unfoldable pub is_open : List ℕ → Bool
-is_open media_type = bytes_eq media_type (codes "application/octet-stream") || names_manifest (before_first (λ b. b == 59) media_type)
+is_open media_type = bytes_eq media_type (codes "application/octet-stream") || (not (names_manifest media_type) && names_manifest (before_first (λ b. b == 59) media_type))
 
 -- the media type of a JSON value that looks like a manifest, or else this one: an index has a list of
 -- manifests, and an image a config and layers
@@ -35,9 +34,9 @@ type_by_shape media_type value =
     else media_type
 
 -- the manifest type that a JSON value states of itself, or else this one; one that states none is known
--- by its shape if this one leaves that open
+-- by its shape
 abbrev pub type_stated : List ℕ → Data → Option (List ℕ) → List ℕ
-type_stated media_type value None = if is_open media_type then type_by_shape media_type value else media_type
+type_stated media_type value None = type_by_shape media_type value
 type_stated media_type value (Some stated) = if names_manifest stated then stated else media_type
 
 -- the media type that bytes have by what they say, if they are JSON, or else this one
@@ -51,16 +50,16 @@ type_in media_type (Some value) = type_stated media_type value (text_at (codes "
 abbrev pub most_read : ℕ
 most_read = 4194304
 
--- whether a key may mean another one, by the length of its file: its media type is that of no manifest,
+-- whether a key may mean another one, by the length of its file: its media type leaves open what it is,
 -- or its size is not that length
 abbrev pub is_odd : Descriptor → ℕ → Bool
-is_odd k length = not (names_manifest k.media_type && k.size == length)
+is_odd k length = is_open k.media_type || not (k.size == length)
 
 -- the key of bytes with this key's digest: it has their length, and the manifest type that they have if
--- the key's own type is that of no manifest
+-- the key's own type leaves that open
 abbrev pub meant_key : Descriptor → List ℕ → Descriptor
 meant_key k bytes = record {
-  media_type = if names_manifest k.media_type then k.media_type else type_in k.media_type (reading bytes);
+  media_type = if is_open k.media_type then type_in k.media_type (reading bytes) else k.media_type;
   digest = k.digest;
   size = length bytes;
 }

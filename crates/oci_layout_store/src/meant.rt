@@ -113,7 +113,7 @@ fn odd_bytes<D: Dir>(alloc: Global, dir: &D, key: &Key) -> Result<Option<Bytes>,
 fn is_odd(key: &Key, length: u64) -> bool
     ensures { result ≡ is_odd key.now length }
 {
-    !(names_manifest(key.media_type()) && key.size() == length)
+    is_open(key.media_type()) || key.size() != length
 }
 
 /// Returns whether a media type is that of a manifest.
@@ -133,10 +133,10 @@ fn meant_by(alloc: Global, key: &Key, bytes: &Bytes) -> Result<Key, NoMemory>
     if !key.digest().matches(bytes.as_slice()) {
         return key.try_clone();
     }
-    let media_type = if names_manifest(key.media_type()) {
-        String::from_str(alloc, key.media_type())?
-    } else {
+    let media_type = if is_open(key.media_type()) {
         type_in(alloc, key.media_type(), bytes.as_slice())?
+    } else {
+        String::from_str(alloc, key.media_type())?
     };
     match Key::new(media_type, *key.digest(), bytes.len() as u64) {
         Ok(meant) => Ok(meant),
@@ -161,8 +161,8 @@ fn type_of_value<'t>(media_type: &'t str, value: &'t Value) -> &'t str
 {
     match value.get("mediaType").and_then(Value::as_str) {
         Some(stated) if names_manifest(stated) => stated,
-        None if is_open(media_type) => type_by_shape(media_type, value),
-        _ => media_type,
+        Some(_) => media_type,
+        None => type_by_shape(media_type, value),
     }
 }
 
@@ -175,8 +175,8 @@ fn is_open(media_type: &str) -> bool
         return true;
     }
     match media_type.split_once(';') {
-        Some((stated, _)) => names_manifest(stated),
-        None => names_manifest(media_type),
+        Some((stated, _)) => !names_manifest(media_type) && names_manifest(stated),
+        None => false,
     }
 }
 

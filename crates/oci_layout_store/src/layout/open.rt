@@ -80,12 +80,12 @@ impl<D: Dir> Layout<D> {
     /// is passed over: it is not held, lists nothing, and is among the
     /// [`damaged`](Layout::damaged) keys, and if it has an entry, among the `absent` ones.
     ///
-    /// An entry whose media type is that of no manifest, or whose size is not that of its file, may
-    /// mean another key: oras writes `application/octet-stream` when it tags a manifest that the
-    /// index does not list. If the file matches the digest and has at most 4 MiB, the key has its
-    /// size, and the manifest type that it states as `mediaType`. One that states none is known by
-    /// its members, if the entry's type is `application/octet-stream` or that of a manifest with
-    /// parameters. The layout goes by that key, and a save writes the entry as it was.
+    /// An entry of the type `application/octet-stream`, or of that of a manifest with parameters, may
+    /// mean a manifest: oras writes such an entry when it tags a manifest that the index does not
+    /// list. Its type is the one that the file states as `mediaType`, or else is known by the file's
+    /// members. An entry with another size than its file's means that file. Either file must match
+    /// the digest and have at most 4 MiB. The layout goes by the key that is meant, and a save
+    /// writes the entry as it was.
     ///
     /// An element of `manifests` that is no descriptor is no error either. It is an entry without
     /// a key, which is remembered whole and counts like one whose key is absent, and can never be
