@@ -1,5 +1,5 @@
-"""The manifests that entries of `index.json` mean whose media type or size is not that of their file, as some tools write them: each command
-goes by the meant key, a save keeps the entry as it was, and a copy writes the key into DST."""
+"""What entries of `index.json` mean whose media type leaves open what their file is, or whose size is not that of it, as some tools write
+them: each command goes by the meant key, a save keeps the entry as it was, and a copy writes the key into DST."""
 import json
 import os
 import shutil
@@ -45,12 +45,12 @@ def stating(value, parts=OF_IMAGE):
 # The media type of an entry, the content of its file, and the media type that it means.
 TYPES = {
     **{"octets that state %s" % it: (OCTETS, made, it) for it, made in STATED.items()},
-    **{"a layer that states %s" % it: (LAYER, made, it) for it, made in STATED.items()},
+    **{"a layer that states %s" % it: (LAYER, made, LAYER) for it, made in STATED.items()},
     **{"%s with parameters" % it: (it + "; charset=utf-8", made, it) for it, made in STATED.items()},
-    "JSON that states a type": ("application/json", STATED[IMAGE], IMAGE),
-    "an empty type, and a file that states one": ("", STATED[IMAGE], IMAGE),
+    "JSON that states a type": ("application/json", STATED[IMAGE], "application/json"),
+    "an empty type, and a file that states one": ("", STATED[IMAGE], ""),
     "an image with parameters that states another type": (WITH_CHARSET, STATED[DOCKER_LIST], DOCKER_LIST),
-    "an image in capitals that states a type": (IMAGE.upper(), STATED[INDEX], INDEX),
+    "an image in capitals that states a type": (IMAGE.upper(), STATED[INDEX], IMAGE.upper()),
     "octets like an image": (OCTETS, BARE_IMAGE, IMAGE),
     "octets like an index": (OCTETS, BARE_INDEX, INDEX),
     "octets like both": (OCTETS, manifest({**OF_IMAGE, **OF_INDEX}), INDEX),

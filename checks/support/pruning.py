@@ -81,14 +81,13 @@ def value_of(content):
 
 def meant_type(media_type, content):
     """Return the media type that an entry with this one means, if its file has these bytes."""
+    if media_type != OCTETS and (media_type in MEMBERS or media_type.split(";")[0] not in MEMBERS):
+        return media_type
     value = value_of(content)
     members = value if type(value) is dict else {}
     stated = members.get("mediaType")
-    if media_type in MEMBERS or stated in list(MEMBERS):
-        return media_type if media_type in MEMBERS else stated
-    is_open = media_type == OCTETS or media_type.split(";")[0] in MEMBERS
-    if type(stated) is str or not is_open:
-        return media_type
+    if type(stated) is str:
+        return stated if stated in MEMBERS else media_type
     if type(members.get("manifests")) is list:
         return INDEX
     return IMAGE if {"config", "layers"} <= members.keys() else media_type

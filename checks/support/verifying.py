@@ -93,6 +93,8 @@ class Verify:
         found = {
             "absent": [*map(descriptor_of, self.absent)],
             "corrupt": [*map(descriptor_of, sorted(self.corrupt))],
+            # (no manifest here lists a layer that is not to be distributed)
+            "corruptForeign": [],
             "open": pairs[0] if pairs else None,
             "shadowed": [{"tag": name, "descriptor": descriptor_of(it)} for name, it in self.shadowed],
             "held": self.held(),
