@@ -246,7 +246,9 @@ def of_copy(value, words):
     prunes = "--prune" in words
     left = {it: list for it in LEFT if it in value}
     copied, *counts = taken(value, {**COPIED, **(CLEANED if prunes else {}), **left})[:4]
-    if "--all" not in words and [it["tag"] for it in copied] != [tag_of(words)]:
+    tags = [it["tag"] for it in copied]
+    # (with --referrers the tags that are made of digests follow)
+    if "--all" not in words and (tags[:1] != [tag_of(words)] or tags[1:] and "--referrers" not in words):
         raise ValueError("the tag is not %r" % tag_of(words))
     lines = ["copied " + tagged(it)[1] for it in copied] + ["planned %d pushed %d skipped %d" % tuple(counts)]
     return lines + (of_clean_up(value) if prunes else [])

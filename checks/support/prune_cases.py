@@ -19,7 +19,6 @@ A_ZIPPED, LONG = A._replace(media_type=GZIP), A._replace(algorithm="sha512")
 FAR = A._replace(media_type=FOREIGN)
 OLD_IMAGE, FAR_IMAGE = image([A, OLD]), image([FAR])
 LONG_IMAGE, OLD_LONG = image([LONG]), image([B], subject=M3)._replace(algorithm="sha512")
-OVER = image([M2._replace(media_type=LAYER)])
 SIGNED = image([B], subject=S)
 BILL = index([SIGNED], subject=S)
 OCTETS = M2._replace(media_type="application/octet-stream")
@@ -62,8 +61,8 @@ CASES = {
     "no entry": Case([], {}, [], {STRAY: b"stray", blob(FOO): FOO.bytes}, goes=[STRAY, blob(FOO)]),
     "one digest by two media types": Case([E, A, image([A]), image([A_ZIPPED])], {"new": image([A])}, [image([A_ZIPPED])],
                                           goes=[A_ZIPPED, image([A_ZIPPED])], free=[image([A_ZIPPED])], shared=[A]),
-    "an image also as a layer": Case([E, FOO, M2, OVER], {"new": OVER}, [M2], goes=[FOO, M2], free=[M2], shared=[M2]),
-    "an entry that means an image": Case([E, FOO, M2, BAR, M3], {"layer": M2._replace(media_type=LAYER)}, [M3], goes=[BAR, M3], free=[M3]),
+    "an image also as a layer": Case([E, FOO, M2], {"layer": M2._replace(media_type=LAYER)}, [M2], goes=[E, FOO, M2], shared=[M2]),
+    "an entry that means an image": Case([E, FOO, M2, BAR, M3], {"octets": OCTETS}, [M3], goes=[BAR, M3], free=[M3]),
     "one digest by two media types, without a tag": Case([E, FOO, M2, A], {"new": M2}, [A, A_ZIPPED], goes=[A, A_ZIPPED], free=[A, A_ZIPPED]),
     "referrers of referrers": Case([*ALL, S, SIGNED, BILL], {"new": M2}, [S, BILL]),
     "a subject with another media type": Case([*ALL, OF_OCTETS], {"new": M2}, [OF_OCTETS]),
