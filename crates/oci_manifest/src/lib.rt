@@ -20,8 +20,8 @@
 //! four types that are not distributed are not successors; [`undistributed`] returns them.
 //!
 //! [`artifact_type`] returns the type that a manifest declares, and [`subject`] the key of the
-//! manifest that it refers to. [`read_links`] returns the successors and the subject at once. [`key_of`]
-//! reads a single descriptor.
+//! manifest that it refers to. [`read_links`] returns the successors, the subject and the keys that are
+//! not distributed at once. [`key_of`] reads a single descriptor.
 //!
 //! Manifests come from untrusted sources, so every input has a defined result: the keys, or a
 //! [`ManifestFault`] that names the first broken rule. The time is linear in the length of the

@@ -40,19 +40,19 @@ fn found_undistributed(alloc: Global, kind: Kind, bytes: &[u8]) -> Result<Vec<Ke
     }
     let manifest = read_json(alloc, bytes)?;
     let keys = keys_in(alloc, kind, &manifest)?;
-    Ok(keep_undistributed(alloc, keys)?)
+    Ok(keep_undistributed(alloc, &keys)?)
 }
 
 /// Returns those of these keys that are not distributed.
-fn keep_undistributed(alloc: Global, keys: Vec<Key>) -> Result<Vec<Key>, NoMemory>
-    ensures { IfOk result (λ kept. kept.items ≡ undistributed_in keys.items) }
+pub(super) fn keep_undistributed(alloc: Global, keys: &[Key]) -> Result<Vec<Key>, NoMemory>
+    ensures { IfOk result (λ kept. kept.items ≡ undistributed_in keys.now) }
 {
     let mut kept = Vec::new(alloc);
     for key in keys {
         if !is_undistributed_type(key.media_type()) {
             continue;
         }
-        kept.push(key)?;
+        kept.push(key.try_clone()?)?;
     }
     Ok(kept)
 }

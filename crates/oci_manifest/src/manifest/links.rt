@@ -2,9 +2,11 @@ ghost use Rattle.std.specs.Prelude.{◌≡◌, [], None, Ok, IsOk, IfOk};
 ghost use Rattle.oci_manifest.specs.Fault.{Gives};
 ghost use Rattle.oci_manifest.specs.Reading.{successors_of};
 ghost use Rattle.oci_manifest.specs.Subject.{subject_of};
+ghost use Rattle.oci_manifest.specs.Undistributed.{undistributed_of};
 ghost use Rattle.oci_manifest.specs.declared.kind.Kind.{Kind};
 ghost use Rattle.oci_manifest.specs.declared.kind.Kind.TheVariants.{Leaf};
 
+use super::aside::keep_undistributed;
 use super::distinct::keep_distributed;
 use super::referrer::stated_in;
 use super::{keys_in, read_json};
@@ -13,7 +15,7 @@ use crate::key::Key;
 use crate::kind::Kind;
 use std::alloc::Global;
 
-/// The keys that a content lists, and its subject.
+/// What a content lists and states.
 #[derive(Drop)]
 pub struct Links {
     /// The keys that [`successors`](crate::successors) returns. The subject is the first of them,
@@ -21,30 +23,37 @@ pub struct Links {
     pub successors: Vec<Key>,
     /// The key that [`subject`](crate::subject) returns.
     pub subject: Option<Key>,
+    /// The keys that [`undistributed`](crate::undistributed) returns.
+    pub undistributed: Vec<Key>,
 }
 
 impl Links {
     /// Returns the links of a content that lists nothing. Does not allocate.
     pub fn none(alloc: Global) -> Links
-        ensures { (result.successors.items ≡ []) × (result.subject ≡ None) }
+        ensures successors { result.successors.items ≡ [] }
+        ensures subject { result.subject ≡ None }
+        ensures undistributed { result.undistributed.items ≡ [] }
     {
         Links {
             successors: Vec::new(alloc),
             subject: None,
+            undistributed: Vec::new(alloc),
         }
     }
 }
 
-/// Returns the keys that a content of this kind lists, and its subject. Reads the bytes once.
+/// Returns what a content of this kind lists and states. Reads the bytes once.
 ///
 /// # Errors
 ///
 /// The same as for [`successors`](crate::successors).
-#[tactic(auto, unfolding(crate::specs::Reading::successors_of, crate::specs::Reading::manifest_keys, crate::specs::Subject::subject_of))]
+#[tactic(auto, unfolding(crate::specs::Reading::successors_of, crate::specs::Reading::manifest_keys, crate::specs::Subject::subject_of, crate::specs::Undistributed::undistributed_of))]
 pub fn read_links(alloc: Global, kind: Kind, bytes: &[u8]) -> Result<Links, ManifestFault>
     ensures successors { Gives (λ links. links.successors.items) result
         (successors_of kind bytes.now) }
     ensures subject { IfOk result (λ links. subject_of kind bytes.now ≡ Ok links.subject) }
+    ensures undistributed { IfOk result (λ links.
+        undistributed_of kind bytes.now ≡ Ok links.undistributed.items) }
     ensures leaf { kind ≡ Leaf → IsOk result }
 {
     if kind == Kind::Leaf {
@@ -54,6 +63,7 @@ pub fn read_links(alloc: Global, kind: Kind, bytes: &[u8]) -> Result<Links, Mani
     let keys = keys_in(alloc, kind, &manifest)?;
     match stated_in(alloc, kind, &manifest) {
         Ok(subject) => Ok(Links {
+            undistributed: keep_undistributed(alloc, &keys)?,
             successors: keep_distributed(alloc, keys)?,
             subject,
         }),
