@@ -88,8 +88,8 @@ opens_as_written file graph again tags tags_again opened memory are names_ok sor
     let Q : Descriptor → Type 0 = λ (k : Descriptor). has_key graph k ≡ false → is_whole file k ≡ false in
     let Own : Descriptor → Type 0 = λ (k : Descriptor). IsKey k × (meant file k ≡ k) in
     let key_ok : (k : Descriptor) → G k → Own k = λ k h. (
-        All-contains IsKey (keys_of graph) k are (Contains-from_has_key graph k h),
-        All-contains (λ (j : Descriptor). meant file j ≡ j) (keys_of graph) k same (Contains-from_has_key graph k h),
+      All-contains IsKey (keys_of graph) k are (Contains-from_has_key graph k h),
+      All-contains (λ (j : Descriptor). meant file j ≡ j) (keys_of graph) k same (Contains-from_has_key graph k h),
     ) in
     let held_ok : (k : Descriptor) → G k → Q k = λ k h g. cc (h, g) in
     let loose_held : All G loose = all_from G loose (λ k c. ((idx.are_loose.each k).0 c).0.is_there) in

@@ -29,8 +29,8 @@ pub mod SavedEntries
 pub mod SavedTags
 pub mod SavedTwice
 pub mod Settled
+pub mod Stated
 pub mod Stored
-pub mod Subjects
 pub mod Texts
 pub mod Unchanged
 pub mod Walk

@@ -1,7 +1,6 @@
 -- A layout of which no file changed, as where files were settled or a draft was removed.
 use Rattle.std.proofs.Common.{◌≡◌, ℕ, List, [], Option, Some, None, sym, ap, subst, ◌∙◌}
 use Rattle.std.specs.Option.{unwrap_or}
-use Rattle.std.specs.Global.{Vec}
 use Rattle.oci_manifest.specs.Descriptor.{Descriptor}
 use Rattle.oci_manifest.specs.MediaTypes.{kind_of}
 use Rattle.oci_manifest.specs.Subject.{HasSubject}
@@ -12,7 +11,8 @@ use Rattle.oci_dir.specs.Device.{Device, Same, Touches}
 use Rattle.oci_layout_store.specs.Files.{IsLayout}
 use Rattle.oci_layout_store.specs.Index.{layout_file}
 use Rattle.oci_layout_store.specs.Layout.{LayoutState, OnlyFiles, SameMemory}
-use Rattle.oci_layout_store.specs.Subjects.{AreRemembered}
+use Rattle.oci_layout_store.specs.Stated.{AreRemembered, ListsLayer}
+use Rattle.oci_layout_store.specs.declared.layout.stated.Stated.{Stated}
 use Rattle.oci_layout_store.proofs.Files.{HasLayoutFile-stays, blob_layout}
 use Rattle.oci_layout_store.proofs.Stored.{stored-same, IsSound-same}
 
@@ -32,16 +32,22 @@ IsLayout-touched old new graph tags digest was touches is = record {
   has_layout_file = λ honest. (let h = was honest in HasLayoutFile-stays old.file new.file (blob_path digest) (touches h) (blob_layout digest) (is.has_layout_file h));
 }
 
-pub AreRemembered-same : (old new : Device) (graph : List Node) (found : Option (Vec (Descriptor × Descriptor))) → (new.is_honest → old.is_honest) → (old.is_honest → Same old.file new.file)
+pub AreRemembered-same : (old new : Device) (graph : List Node) (found : Option Stated) → (new.is_honest → old.is_honest) → (old.is_honest → Same old.file new.file)
     → AreRemembered old graph found → AreRemembered new graph found
 AreRemembered-same old new graph None was files were = tt
-AreRemembered-same old new graph (Some pairs) was files were = λ honest k subject.
+AreRemembered-same old new graph (Some stated) was files were = λ honest.
     (let h = was honest in
-    let same : blob_at new.file k.digest ≡ blob_at old.file k.digest = ap (λ (o : Option (List ℕ)). unwrap_or o []) (files h (blob_path k.digest)) in
-    let each = were h k subject in (
-      λ at. (let s = each.0 at in (s.0, subst (λ (bytes : List ℕ). HasSubject (kind_of k.media_type) bytes subject) (sym same) s.1)),
-      λ s. each.1 (s.0, subst (λ (bytes : List ℕ). HasSubject (kind_of k.media_type) bytes subject) same s.1),
-    ))
+    let same : (k : Descriptor) → blob_at new.file k.digest ≡ blob_at old.file k.digest = λ k. ap (λ (o : Option (List ℕ)). unwrap_or o []) (files h (blob_path k.digest)) in
+    record {
+      subjects = λ k subject. (let each = (were h).subjects k subject in (
+        λ at. (let s = each.0 at in (s.0, subst (λ (bytes : List ℕ). HasSubject (kind_of k.media_type) bytes subject) (sym (same k)) s.1)),
+        λ s. each.1 (s.0, subst (λ (bytes : List ℕ). HasSubject (kind_of k.media_type) bytes subject) (same k) s.1),
+      ));
+      undistributed = λ k layer. (let each = (were h).undistributed k layer in (
+        λ at. (let s = each.0 at in (s.0, subst (λ (bytes : List ℕ). ListsLayer k bytes layer) (sym (same k)) s.1)),
+        λ s. each.1 (s.0, subst (λ (bytes : List ℕ). ListsLayer k bytes layer) (same k) s.1),
+      ));
+    })
 
 -- and it has the same in memory, and its contents
 pub OnlyFiles-same : {D : Type 0} (device : D → Device) (old new : LayoutState D) → SameMemory old new → ((device old.dir).is_honest → (device new.dir).is_honest)

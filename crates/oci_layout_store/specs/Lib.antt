@@ -18,4 +18,4 @@ pub mod Push
 pub mod Refusal
 pub mod Saved
 pub mod Settled
-pub mod Subjects
+pub mod Stated

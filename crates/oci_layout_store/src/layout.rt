@@ -17,7 +17,7 @@ ghost use Rattle.oci_layout_store.specs.Lasts.{LastingIsLeft};
 ghost use Rattle.oci_layout_store.specs.Law.{KeysShareBytes, OpensAsKept, OpensAsSaved, OpensAsWritten, Remembers};
 ghost use Rattle.oci_layout_store.specs.Opened.{is_damaged};
 ghost use Rattle.oci_layout_store.specs.Refusal.{IsDamageFault};
-ghost use Rattle.oci_layout_store.specs.Subjects.{AreSubjects};
+ghost use Rattle.oci_layout_store.specs.Stated.{AreStated, AreSubjects, AreUndistributed};
 
 mod blob;
 mod brought;
@@ -33,6 +33,7 @@ mod retain;
 mod save;
 mod settle;
 mod source;
+mod stated;
 mod tagger;
 mod unreadable;
 mod untagger;
@@ -42,6 +43,7 @@ mod walk;
 use crate::fault::LayoutFault;
 use crate::index::{IndexContent, IndexEntry, keys_of};
 use crate::layout::held::Held;
+use crate::layout::stated::Stated;
 use crate::opened_index::OpenedIndex;
 pub use blob::blob_path;
 pub use loose::unnamed_keys;
@@ -62,9 +64,9 @@ pub struct Layout<D: Dir> {
     alloc: Global,
     dir: D,
     graph: Graph,
-    /// The held keys that state a subject, each with that, as they were read at the opening. `None`
-    /// if a key was pushed or dropped since, or a file was changed.
-    subjects: Option<Vec<(Key, Key)>>,
+    /// What the held keys state, as it was read at the opening. `None` if a key was pushed or dropped
+    /// since, or a file was changed.
+    stated: Option<Stated>,
     tags: Tags,
     absent: Vec<Key>,
     damaged: Vec<Key>,
@@ -78,7 +80,7 @@ impl<D: Dir + Drop> Drop for Layout<D> {
             alloc: _,
             dir: _dir,
             graph: _graph,
-            subjects: _subjects,
+            stated: _stated,
             tags: _tags,
             absent: _absent,
             damaged: _damaged,
@@ -90,7 +92,7 @@ impl<D: Dir + Drop> Drop for Layout<D> {
 impl<D: Dir> Model for Layout<D> {
     ghost use Rattle.oci_layout_store.specs.Files.{IsLayout};
     ghost use Rattle.oci_layout_store.specs.Layout.{LayoutState};
-    ghost use Rattle.oci_layout_store.specs.Subjects.{AreRemembered};
+    ghost use Rattle.oci_layout_store.specs.Stated.{AreRemembered};
     ghost use Rattle.serde_json.specs.contracts.value.Value as value;
     ghost use Rattle.std.specs.Coded.{codes};
 
@@ -110,7 +112,7 @@ impl<D: Dir> Model for Layout<D> {
     } };
 
     ghost invariant = { λ l. IsLayout (D.device l.dir) l.graph l.tags
-        × AreRemembered (D.device l.dir) l.graph l.subjects };
+        × AreRemembered (D.device l.dir) l.graph l.stated };
 }
 
 impl<D: Dir> Layout<D> {
@@ -123,17 +125,17 @@ impl<D: Dir> Layout<D> {
         opened: OpenedIndex,
     ) -> Layout<D>
         requires layout { IsLayout (D.device dir) held.graph tags }
-        requires subjects { (D.device dir).is_honest
-            → AreSubjects (D.device dir).file held.graph held.subjects.items }
+        requires stated { (D.device dir).is_honest
+            → AreStated (D.device dir).file held.graph held.stated }
         ensures { result ≡ record { dir = dir; graph = held.graph; tags = tags; opened = opened } }
     {
-        let Held { graph, subjects } = held;
+        let Held { graph, stated } = held;
         let (absent, damaged, content) = opened.into_parts();
         Layout {
             alloc,
             dir,
             graph,
-            subjects: Some(subjects),
+            stated: Some(stated),
             tags,
             absent,
             damaged,
@@ -156,7 +158,7 @@ impl<D: Dir> Layout<D> {
             alloc: _,
             dir,
             graph: _graph,
-            subjects: _subjects,
+            stated: _stated,
             tags: _tags,
             absent: _absent,
             damaged: _damaged,
@@ -184,8 +186,20 @@ impl<D: Dir> Layout<D> {
         ensures { IfSome result (λ pairs. (D.device self.now.dir).is_honest
             → AreSubjects (D.device self.now.dir).file self.now.graph pairs.now) }
     {
-        match &self.subjects {
-            Some(subjects) => Some(subjects),
+        match &self.stated {
+            Some(stated) => Some(&stated.subjects),
+            None => None,
+        }
+    }
+
+    /// Returns the held keys that list a layer which is not distributed, each with that. Returns `None`
+    /// where [`subjects`](Layout::subjects) does.
+    pub fn undistributed(&self) -> Option<&[(Key, Key)]>
+        ensures { IfSome result (λ pairs. (D.device self.now.dir).is_honest
+            → AreUndistributed (D.device self.now.dir).file self.now.graph pairs.now) }
+    {
+        match &self.stated {
+            Some(stated) => Some(&stated.undistributed),
             None => None,
         }
     }

@@ -45,10 +45,7 @@ pub(crate) fn meant_content<D: Dir>(
 }
 
 /// Returns these entries, each with the key that it means.
-#[tactic(auto, using(
-    crate::proofs::MeantEntries::next_meant,
-    crate::proofs::MeantEntries::none_meant
-))]
+#[tactic(auto, using(crate::proofs::MeantEntries::next_meant, crate::proofs::MeantEntries::none_meant))]
 fn meant_entries<D: Dir>(
     alloc: Global,
     dir: &D,

@@ -10,7 +10,7 @@ use Rattle.oci_store.specs.Tags.{Tags}
 use Rattle.oci_store.proofs.Lookups.{has_key-same_keys}
 use Rattle.oci_layout_store.specs.Blobs.{stored, keys_of-stored}
 use Rattle.oci_dir.specs.Device.{File}
-use Rattle.oci_layout_store.specs.Subjects.{AreSubjects, StatesIn}
+use Rattle.oci_layout_store.specs.Stated.{AreSubjects, StatesIn}
 use Rattle.oci_layout_store.proofs.Stored.{value_at-stored}
 use Rattle.oci_prune.specs.Attached.{AreFollowers, HasAttached, followers_in}
 use Rattle.oci_prune.specs.Subjects.{HasPairs, IsAdded, Referrers, States, referrers_in}

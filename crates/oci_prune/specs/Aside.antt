@@ -1,6 +1,7 @@
 -- The layers that manifests list and that are not distributed (OCI image-spec 1.1, layer.md,
 -- "Non-Distributable Layers"). No key lists them in the graph, and nothing copies them.
-use Rattle.std.specs.Prelude.{◌≡◌, ◌⊎◌, ◌↔◌, ℕ, true, List, Some, Err, Contains}
+use Rattle.std.specs.Prelude.{◌≡◌, ◌⊎◌, ◌↔◌, ℕ, Bool, true, List, Option, None, Some, Err, Contains}
+use Rattle.std.specs.BTreeSet.{BTreeSet, contains}
 use Rattle.std.specs.List.Sorted.{IsStrictlySortedBy}
 use Rattle.oci_manifest.specs.Descriptor.{Descriptor, key_cmp}
 use Rattle.oci_manifest.specs.Fault.{Fault, IsFault}
@@ -34,9 +35,22 @@ pub record ArePassedOver (graph : List Node) (entries : List Entry) (keys passed
   pub each : (k : Descriptor) → Contains passed k ↔ IsPassedOver graph entries keys k
   pub order : IsStrictlySortedBy key_cmp passed
 
--- these are the held keys that the given keys reach
-abbrev pub AreReached : List Node → List Descriptor → List Descriptor → Type 0
-AreReached graph keys reached = (k : Descriptor) → Contains reached k ↔ (Reaches graph keys k × (has_key graph k ≡ true))
+-- whether a key is one of a set, or any key
+abbrev pub is_one_of : Option (BTreeSet Descriptor) → Descriptor → Bool
+is_one_of None k = true
+is_one_of (Some keys) k = contains key_cmp keys k
+
+-- one of the keys that pass a test lists the key, which is not distributed
+abbrev pub IsAside : (Descriptor → Bool) → List Entry → Descriptor → Type 0
+IsAside is_one entries k = (from : Descriptor) × (is_one from ≡ true) × ListsAside entries from k
+
+-- these are all such keys
+abbrev pub AreAside : (Descriptor → Bool) → List Entry → List Descriptor → Type 0
+AreAside is_one entries keys = (k : Descriptor) → Contains keys k ↔ IsAside is_one entries k
+
+-- these are the second keys of the pairs whose first passes a test
+abbrev pub ArePicked : (Descriptor → Bool) → List (Descriptor × Descriptor) → List Descriptor → Type 0
+ArePicked is_one pairs keys = (k : Descriptor) → Contains keys k ↔ ((from : Descriptor) × (is_one from ≡ true) × Contains pairs (from, k))
 
 -- these are the keys that one of the given keys lists and that are not distributed
 abbrev pub AreListedAside : List Entry → List Descriptor → List Descriptor → Type 0

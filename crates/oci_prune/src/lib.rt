@@ -10,7 +10,8 @@
 //! returns the tags that are attached to no other key.
 //!
 //! [`free_keys`] returns the keys that no tag names, and that are wanted for themselves.
-//! [`keys_passed_over`] returns the layers that a copy of keys passes over, as they are not distributed.
+//! [`undistributed_layers`] returns the layers that held keys list and that are not distributed, and
+//! [`keys_passed_over`] those of them that a copy of keys passes over.
 //!
 //! [`plan_prune`] plans a prune that keeps each held key, so all that an entry of the index reaches,
 //! and changes nothing. Of the files under `blobs` that are named by a digest it removes those of
@@ -68,6 +69,7 @@ mod typed;
 mod untagged;
 mod whole;
 
+pub use aside::undistributed_layers;
 pub use attachments::Attachments;
 pub use belonging::{Belonging, belonging_of};
 pub use followers::independent_tags;

@@ -4,8 +4,8 @@ ghost use Rattle.serde_json.specs.View.{view};
 ghost use Rattle.oci_layout_store.specs.Brought.{stating, value_stating};
 ghost use Rattle.oci_layout_store.specs.Entries.{entry_of};
 
-use crate::index::write::{owned_members, put};
 use crate::index::IndexEntry;
+use crate::index::write::{owned_members, put};
 use oci_digest::NoMemory;
 use oci_manifest::Key;
 use serde_json::{Value, json};

@@ -58,8 +58,8 @@ impl<D: Dir> Layout<D> {
 
     /// Returns the layout with these keys as its held ones. The directory need not have their files:
     /// this is for a caller that lets a [`save`](Layout::save) write the index of a layout, and
-    /// writes the files of its blobs to another place. The subjects are no longer
-    /// [known](Layout::subjects).
+    /// writes the files of its blobs to another place. It no longer
+    /// remembers what its manifests [state](Layout::subjects).
     pub fn holding(self, graph: Graph) -> Layout<D>
         requires { AreNames graph self.tags }
         ensures { result ≡ record self { graph = graph } }
@@ -68,7 +68,7 @@ impl<D: Dir> Layout<D> {
             alloc,
             dir,
             graph: _graph,
-            subjects: _subjects,
+            stated: _stated,
             tags,
             absent,
             damaged,
@@ -78,7 +78,7 @@ impl<D: Dir> Layout<D> {
             alloc,
             dir,
             graph,
-            subjects: None,
+            stated: None,
             tags,
             absent,
             damaged,

@@ -45,7 +45,7 @@ impl<D: Dir> Dest for Layout<D> {
         let (key, bytes, successors) = content.into_parts();
         let path = blob_path(self.alloc, key.digest())?;
         let place = self.graph.len();
-        self.subjects = None;
+        self.stated = None;
         self.graph.push(&key, successors)?;
         let answer = put_blob(&mut self.dir, &path, &bytes);
         settle(&mut self.graph, place, answer)
@@ -90,7 +90,7 @@ impl<D: Dir> Dest for Layout<D> {
         }
         let path = blob_path(self.alloc, key.digest())?;
         let place = self.graph.len();
-        self.subjects = None;
+        self.stated = None;
         self.graph.push(key, Vec::new(self.alloc))?;
         let answer = self.dir.keep(&path, draft);
         settle(&mut self.graph, place, answer)

@@ -1,7 +1,8 @@
 ghost use Rattle.std.specs.Prelude.{◌≡◌, ◌++◌, ◌∷◌, [], false, OnOk};
 ghost use Rattle.oci_store.specs.Keyed.{has_key};
-ghost use Rattle.oci_layout_store.specs.Subjects.{with_subject};
+ghost use Rattle.oci_layout_store.specs.Stated.{IsNoted};
 
+use crate::layout::stated::Stated;
 use oci_digest::NoMemory;
 use oci_manifest::{Key, Links};
 use oci_store::Graph;
@@ -12,18 +13,20 @@ use std::alloc::Global;
 pub(crate) struct Held {
     /// The keys, each with the keys that it lists.
     pub(crate) graph: Graph,
-    /// The keys that state a subject, each with that.
-    pub(crate) subjects: Vec<(Key, Key)>,
+    /// What they state.
+    pub(crate) stated: Stated,
 }
 
 impl Held {
     /// Returns no keys. Does not allocate.
     pub(crate) fn none(alloc: Global) -> Held
-        ensures { (result.graph ≡ []) × (result.subjects.items ≡ []) }
+        ensures graph { result.graph ≡ [] }
+        ensures subjects { result.stated.subjects.items ≡ [] }
+        ensures undistributed { result.stated.undistributed.items ≡ [] }
     {
         Held {
             graph: Graph::new(alloc),
-            subjects: Vec::new(alloc),
+            stated: Stated::none(alloc),
         }
     }
 
@@ -31,9 +34,8 @@ impl Held {
     pub(crate) fn add(&mut self, key: &Key, links: Links) -> Result<(), NoMemory>
         ensures graph { OnOk result (has_key self.old.graph key.now ≡ false
             → self.new.graph ≡ self.old.graph ++ (key.now, links.successors.items) ∷ []) }
-        ensures subjects { OnOk result (has_key self.old.graph key.now ≡ false
-            → self.new.subjects.items
-            ≡ with_subject self.old.subjects.items key.now links.subject) }
+        ensures stated { OnOk result (has_key self.old.graph key.now ≡ false
+            → IsNoted self.old.stated key.now links self.new.stated) }
     {
         if self.graph.holds(key) {
             return Ok(());
@@ -41,10 +43,9 @@ impl Held {
         let Links {
             successors,
             subject,
+            undistributed,
         } = links;
-        if let Some(subject) = subject {
-            self.subjects.push((key.try_clone()?, subject))?;
-        }
+        self.stated.note(key, subject, &undistributed)?;
         self.graph.push(key, successors)?;
         Ok(())
     }

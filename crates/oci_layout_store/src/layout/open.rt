@@ -5,7 +5,7 @@ ghost use Rattle.oci_layout_store.specs.Entries.{absent_in, said};
 ghost use Rattle.oci_layout_store.specs.Index.{HasLayoutFile};
 ghost use Rattle.oci_layout_store.specs.Opened.{IsMeantFile, IsOpened, IsOpenedAsIs, IsRead};
 ghost use Rattle.oci_layout_store.specs.Refusal.{IsOpenAsIsFault, IsOpenFault, IsOpenFaultBy};
-ghost use Rattle.oci_layout_store.specs.Subjects.{AreSubjects};
+ghost use Rattle.oci_layout_store.specs.Stated.{AreStated};
 ghost use Rattle.oci_store.specs.Keyed.{HasDistinctKeys, has_key};
 ghost use Rattle.oci_store.specs.Tags.{AreNames};
 
@@ -128,8 +128,8 @@ fn read_layout<D: Dir>(
 ) -> Result<(Held, Vec<Key>, Vec<Key>, IndexContent), LayoutFault>
     ensures read { IfOk result (λ p. (D.device dir.now).is_honest
         → IsRead as_is (D.device dir.now).file p.0.graph p.1.items p.2.items (said p.3)) }
-    ensures subjects { IfOk result (λ p. (D.device dir.now).is_honest
-        → AreSubjects (D.device dir.now).file p.0.graph p.0.subjects.items) }
+    ensures stated { IfOk result (λ p. (D.device dir.now).is_honest
+        → AreStated (D.device dir.now).file p.0.graph p.0.stated) }
     ensures absent { IfOk result (λ p. All (λ k. has_key p.0.graph k ≡ false) p.1.items) }
     ensures distinct { IfOk result (λ p. HasDistinctKeys p.0.graph) }
     ensures cause { IfErr result (IsOpenFaultBy as_is (D.device dir.now)) }
@@ -161,8 +161,8 @@ fn read_meant<D: Dir>(alloc: Global, dir: &D, as_is: bool) -> Result<IndexConten
 fn parts<D: Dir>(alloc: Global, dir: &D) -> Result<(Held, Tags, OpenedIndex), LayoutFault>
     ensures opened { IfOk result (λ p. (D.device dir.now).is_honest
         → IsOpened (D.device dir.now).file p.0.graph p.1 p.2) }
-    ensures subjects { IfOk result (λ p. (D.device dir.now).is_honest
-        → AreSubjects (D.device dir.now).file p.0.graph p.0.subjects.items) }
+    ensures stated { IfOk result (λ p. (D.device dir.now).is_honest
+        → AreStated (D.device dir.now).file p.0.graph p.0.stated) }
     ensures absent { IfOk result (λ p. All (λ k. has_key p.0.graph k ≡ false) p.2.absent) }
     ensures names { IfOk result (λ p. AreNames p.0.graph p.1) }
     ensures distinct { IfOk result (λ p. HasDistinctKeys p.0.graph) }
@@ -182,8 +182,8 @@ fn parts<D: Dir>(alloc: Global, dir: &D) -> Result<(Held, Tags, OpenedIndex), La
 fn parts_as_is<D: Dir>(alloc: Global, dir: &D) -> Result<(Held, Tags, OpenedIndex), LayoutFault>
     ensures opened { IfOk result (λ p. (D.device dir.now).is_honest
         → IsOpenedAsIs (D.device dir.now).file p.0.graph p.1 p.2) }
-    ensures subjects { IfOk result (λ p. (D.device dir.now).is_honest
-        → AreSubjects (D.device dir.now).file p.0.graph p.0.subjects.items) }
+    ensures stated { IfOk result (λ p. (D.device dir.now).is_honest
+        → AreStated (D.device dir.now).file p.0.graph p.0.stated) }
     ensures absent { IfOk result (λ p. All (λ k. has_key p.0.graph k ≡ false) p.2.absent) }
     ensures names { IfOk result (λ p. AreNames p.0.graph p.1) }
     ensures distinct { IfOk result (λ p. HasDistinctKeys p.0.graph) }

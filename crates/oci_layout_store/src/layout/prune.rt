@@ -77,7 +77,7 @@ impl<D: PrunableDir> Layout<D> {
             return Ok(false);
         }
         let path = blob_path(self.alloc, digest)?;
-        self.subjects = None;
+        self.stated = None;
         match self.dir.remove(&path) {
             Ok(found) => Ok(found),
             Err(fault) => Err(LayoutFault::from(fault)),

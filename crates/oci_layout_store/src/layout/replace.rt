@@ -81,7 +81,7 @@ impl<D: Dir> Layout<D> {
             (D.device self.new.dir).failures) }
     {
         let path = blob_path(self.alloc, key.digest())?;
-        self.subjects = None;
+        self.stated = None;
         match self.dir.restore(&path, draft) {
             Ok(()) => Ok(()),
             Err(fault) => Err(LayoutFault::from(fault)),

@@ -32,7 +32,7 @@ impl<D: Dir> Layout<D> {
             → (⟦<Self as Store>⟧.state self.new).is_sound }
     {
         self.graph = retained(self.alloc, &self.graph, kept)?;
-        self.subjects = None;
+        self.stated = None;
         Ok(())
     }
 }

@@ -63,7 +63,7 @@ impl<D: Dir> Layout<D> {
         let text = self
             .content
             .saved_text(self.alloc, &self.absent, &self.graph, &self.tags)?;
-        self.subjects = None;
+        self.stated = None;
         match self.dir.put("index.json", &text) {
             Ok(()) => Ok(()),
             Err(fault) => Err(LayoutFault::from(fault)),
@@ -119,7 +119,7 @@ impl<D: Dir> Layout<D> {
         let text = self
             .content
             .saved_text(self.alloc, &self.absent, &self.graph, &self.tags)?;
-        self.subjects = None;
+        self.stated = None;
         match put_settled(self.alloc, &mut self.dir, &self.graph, from, &text) {
             Ok(()) => Ok(()),
             Err(fault) => Err(LayoutFault::from(fault)),

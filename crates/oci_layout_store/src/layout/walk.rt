@@ -2,13 +2,14 @@ ghost use Rattle.std.specs.Prelude.{◌≡◌, ◌≢◌, ◌⊎◌, ◌++◌, �
 ghost use Rattle.oci_manifest.specs.Fault.{Fails};
 ghost use Rattle.oci_manifest.specs.MediaTypes.{kind_of};
 ghost use Rattle.oci_manifest.specs.Subject.{subject_of};
+ghost use Rattle.oci_manifest.specs.Undistributed.{undistributed_of};
 ghost use Rattle.oci_store.specs.Content.{Matches, succ_of};
 ghost use Rattle.oci_store.specs.Keyed.{has_key, HasDistinctKeys};
 ghost use Rattle.oci_store.specs.Visiting.{with_keys};
 ghost use Rattle.oci_layout_store.specs.Blobs.{blob_path};
 ghost use Rattle.oci_dir.specs.Device.{Finds, of_length};
-ghost use Rattle.oci_layout_store.specs.Opened.{HasWalked, IsGood, held_in, holds, is_damaged, is_there, is_whole, listed_in, lists};
-ghost use Rattle.oci_layout_store.specs.Subjects.{AreSubjects, IsSubjectAt, with_subject};
+ghost use Rattle.oci_layout_store.specs.Opened.{HasWalked, IsGood, held_in, holds, is_damaged, is_there, is_whole, lists};
+ghost use Rattle.oci_layout_store.specs.Stated.{AreLinksOf, AreStated, IsNoted};
 ghost use Rattle.oci_layout_store.specs.Refusal.{IsBytesFault, IsDamage, IsDamageFault, IsManifestFault, IsNextVisited, IsStepFault, IsWalkFault};
 
 use crate::fault::LayoutFault;
@@ -34,8 +35,8 @@ pub(crate) fn walk<D: Dir>(
     ensures walked { IfOk result (λ p. (D.device dir.now).is_honest
         → (walked : HasWalked as_is (D.device dir.now).file starts.now p.0.graph)
         × (p.1.items ≡ filter (is_damaged as_is (D.device dir.now).file) walked.visited)) }
-    ensures subjects { IfOk result (λ p. (D.device dir.now).is_honest
-        → AreSubjects (D.device dir.now).file p.0.graph p.0.subjects.items) }
+    ensures stated { IfOk result (λ p. (D.device dir.now).is_honest
+        → AreStated (D.device dir.now).file p.0.graph p.0.stated) }
     ensures distinct { IfOk result (λ p. HasDistinctKeys p.0.graph) }
     ensures cause { IfErr result (IsWalkFault as_is (D.device dir.now)
         (IsNextVisited (D.device dir.now).file starts.now)) }
@@ -84,10 +85,10 @@ fn step<D: Dir>(
     ensures held { OnOk result ((D.device dir.now).is_honest
         → has_key held.old.graph key.now ≡ false → held.new.graph
         ≡ held.old.graph ++ held_in as_is (D.device dir.now).file (key.now ∷ [])) }
-    ensures subjects { OnOk result ((D.device dir.now).is_honest
+    ensures stated { OnOk result ((D.device dir.now).is_honest
         → has_key held.old.graph key.now ≡ false
-        → AreSubjects (D.device dir.now).file held.old.graph held.old.subjects.items
-        → AreSubjects (D.device dir.now).file held.new.graph held.new.subjects.items) }
+        → AreStated (D.device dir.now).file held.old.graph held.old.stated
+        → AreStated (D.device dir.now).file held.new.graph held.new.stated) }
     ensures damaged { OnOk result ((D.device dir.now).is_honest → damaged.new.items
         ≡ damaged.old.items ++ filter (is_damaged as_is (D.device dir.now).file) (key.now ∷ [])) }
     ensures good { OnOk result ((D.device dir.now).is_honest
@@ -102,8 +103,8 @@ fn step<D: Dir>(
     }
 }
 
-/// Returns the keys that a key's file lists, and its subject, or `None` if there is no file. Looks
-/// at the size of a leaf's file only if the layout is opened `as_is`.
+/// Returns what a key's file lists and states, or `None` if there is no file. Looks at the size of a
+/// leaf's file only if the layout is opened `as_is`.
 fn find<D: Dir>(
     alloc: Global,
     dir: &D,
@@ -113,8 +114,7 @@ fn find<D: Dir>(
     ensures found { IfOk result (λ found. (D.device dir.now).is_honest → MatchOption found
         (is_there (D.device dir.now).file key.now ≡ false)
         (λ links. (holds as_is (D.device dir.now).file key.now ≡ true)
-        × (links.successors.items ≡ listed_in (D.device dir.now).file key.now)
-        × IsSubjectAt (D.device dir.now).file key.now links.subject)) }
+        × AreLinksOf (D.device dir.now).file key.now links)) }
     ensures good { OnOk result ((D.device dir.now).is_honest
         → IsGood (D.device dir.now).file key.now) }
     ensures cause { IfErr result (IsStepFault as_is (D.device dir.now) key.now) }
@@ -126,8 +126,8 @@ fn find<D: Dir>(
     }
 }
 
-/// Returns the keys that the file of a key lists, and its subject, or `None` if there is no file.
-/// The file of a leaf lists nothing, and is not read.
+/// Returns what the file of a key lists and states, or `None` if there is no file. The file of a leaf
+/// lists nothing, and is not read.
 ///
 /// # Errors
 ///
@@ -140,8 +140,7 @@ pub fn links_in<D: Dir>(alloc: Global, dir: &D, key: &Key) -> Result<Option<Link
     ensures found { IfOk result (λ found. (D.device dir.now).is_honest → MatchOption found
         (is_there (D.device dir.now).file key.now ≡ false)
         (λ links. (is_whole (D.device dir.now).file key.now ≡ true)
-        × (links.successors.items ≡ listed_in (D.device dir.now).file key.now)
-        × IsSubjectAt (D.device dir.now).file key.now links.subject)) }
+        × AreLinksOf (D.device dir.now).file key.now links)) }
     ensures good { OnOk result ((D.device dir.now).is_honest
         → IsGood (D.device dir.now).file key.now) }
     ensures cause { IfErr result (IsDamageFault (D.device dir.now) key.now) }
@@ -152,15 +151,14 @@ pub fn links_in<D: Dir>(alloc: Global, dir: &D, key: &Key) -> Result<Option<Link
     }
 }
 
-/// Returns the keys that a manifest's file lists, and its subject, or `None` if there is no file.
-/// The file must have the size of the key, and is not read otherwise.
+/// Returns what a manifest's file lists and states, or `None` if there is no file. The file must have
+/// the size of the key, and is not read otherwise.
 fn checked_manifest<D: Dir>(alloc: Global, dir: &D, key: &Key) -> Result<Option<Links>, LayoutFault>
     requires manifest { kind_of key.now.media_type ≢ Kind.Leaf }
     ensures found { IfOk result (λ found. (D.device dir.now).is_honest → MatchOption found
         (is_there (D.device dir.now).file key.now ≡ false)
         (λ links. (is_whole (D.device dir.now).file key.now ≡ true)
-        × (links.successors.items ≡ listed_in (D.device dir.now).file key.now)
-        × IsSubjectAt (D.device dir.now).file key.now links.subject)) }
+        × AreLinksOf (D.device dir.now).file key.now links)) }
     ensures good { OnOk result ((D.device dir.now).is_honest
         → IsGood (D.device dir.now).file key.now) }
     ensures cause { IfErr result (IsDamageFault (D.device dir.now) key.now) }
@@ -200,8 +198,7 @@ fn checked_leaf<D: Dir>(alloc: Global, dir: &D, key: &Key) -> Result<Option<Link
     ensures found { IfOk result (λ found. (D.device dir.now).is_honest → MatchOption found
         (is_there (D.device dir.now).file key.now ≡ false)
         (λ links. (is_whole (D.device dir.now).file key.now ≡ true)
-        × (links.successors.items ≡ listed_in (D.device dir.now).file key.now)
-        × IsSubjectAt (D.device dir.now).file key.now links.subject)) }
+        × AreLinksOf (D.device dir.now).file key.now links)) }
     ensures cause { IfErr result (IsDamageFault (D.device dir.now) key.now) }
 {
     let path = blob_path(alloc, key.digest())?;
@@ -219,9 +216,8 @@ fn hold(key: &Key, links: Links, visited: &mut KeyList, held: &mut Held) -> Resu
     ensures visited { OnOk result (visited.new ≡ with_keys visited.old links.successors.items) }
     ensures held { OnOk result (has_key held.old.graph key.now ≡ false
         → held.new.graph ≡ held.old.graph ++ (key.now, links.successors.items) ∷ []) }
-    ensures subjects { OnOk result (has_key held.old.graph key.now ≡ false
-        → held.new.subjects.items
-        ≡ with_subject held.old.subjects.items key.now links.subject) }
+    ensures stated { OnOk result (has_key held.old.graph key.now ≡ false
+        → IsNoted held.old.stated key.now links held.new.stated) }
 {
     visited.place_all(&links.successors)?;
     held.add(key, links)
@@ -256,14 +252,13 @@ fn add(key: &Key, keys: &mut Vec<Key>) -> Result<(), NoMemory>
     Ok(())
 }
 
-/// Returns the keys that a key's file lists, and its subject, or `None` if there is no file. A leaf
-/// lists nothing and is not read.
+/// Returns what a key's file lists and states, or `None` if there is no file. A leaf lists nothing and
+/// is not read.
 fn listed<D: Dir>(alloc: Global, dir: &D, key: &Key) -> Result<Option<Links>, LayoutFault>
     ensures found { IfOk result (λ found. (D.device dir.now).is_honest → MatchOption found
         (is_there (D.device dir.now).file key.now ≡ false)
         (λ links. (is_there (D.device dir.now).file key.now ≡ true)
-        × (links.successors.items ≡ listed_in (D.device dir.now).file key.now)
-        × IsSubjectAt (D.device dir.now).file key.now links.subject)) }
+        × AreLinksOf (D.device dir.now).file key.now links)) }
     ensures read { Finds (D.device dir.now) (λ _. IsGood (D.device dir.now).file key.now)
         (IsManifestFault (D.device dir.now) (λ k. k ≡ key.now)) result }
 {
@@ -284,13 +279,16 @@ fn listed<D: Dir>(alloc: Global, dir: &D, key: &Key) -> Result<Option<Links>, La
     }
 }
 
-/// Returns the keys that the bytes of a manifest list, and its subject.
+/// Returns what the bytes of a manifest list and state.
 fn lists(alloc: Global, key: &Key, kind: Kind, bytes: &[u8]) -> Result<Links, LayoutFault>
     requires { kind ≡ kind_of key.now.media_type }
     ensures matching { OnOk result (Matches key.now bytes.now) }
     ensures listed { IfOk result (λ links. succ_of key.now bytes.now ≡ Ok links.successors.items) }
     ensures subject { IfOk result (λ links.
         subject_of (kind_of key.now.media_type) bytes.now ≡ Ok links.subject) }
+    ensures undistributed { IfOk result (λ links.
+        undistributed_of (kind_of key.now.media_type) bytes.now
+        ≡ Ok links.undistributed.items) }
     ensures cause { IfErr result (IsBytesFault key.now bytes.now) }
 {
     if !key.matches(bytes) {

@@ -10,7 +10,7 @@ invariant_of-self g c =
     let new = g.D.Dir.device c.remove_draft.new.self in
     let removal = c.remove_draft.ensures in (
       IsLayout-same old new s.graph s.tags removal.device.honest.1 removal.files c.self.invariant.0,
-      AreRemembered-same old new s.graph s.subjects removal.device.honest.1 removal.files c.self.invariant.1,
+      AreRemembered-same old new s.graph s.stated removal.device.honest.1 removal.files c.self.invariant.1,
     )
 
 pub returns-clause-only : goal.returns-clause-only

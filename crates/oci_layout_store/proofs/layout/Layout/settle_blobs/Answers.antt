@@ -7,5 +7,5 @@ invariant_of-self g c =
     let old = g.D.Dir.device s.dir in
     let new = g.D.Dir.device c.settle_files.new.dir in (
       IsLayout-same old new s.graph s.tags c.settle_files.ensures.only.honest.1 c.settle_files.ensures.only.files c.self.invariant.0,
-      AreRemembered-same old new s.graph s.subjects c.settle_files.ensures.only.honest.1 c.settle_files.ensures.only.files c.self.invariant.1,
+      AreRemembered-same old new s.graph s.stated c.settle_files.ensures.only.honest.1 c.settle_files.ensures.only.files c.self.invariant.1,
     )

@@ -3,7 +3,7 @@ use Rattle.oci_layout_store.specs.Blobs.{blob_path}
 use Rattle.oci_dir.specs.Device.{IsSizedRead, of_length}
 use Rattle.oci_layout_store.proofs.Refusals.{read_fault}
 use Rattle.oci_layout_store.proofs.Walk.{manifest_damage, of_length_is, read_whole}
-use Rattle.oci_layout_store.proofs.Subjects.{read_states}
+use Rattle.oci_layout_store.proofs.Stated.{read_links}
 use Rattle.oci_layout_store.proofs.layout.walk.checked_manifest.Goals as goal
 
 pub returns-in-Ok-clause-found : goal.returns-in-Ok-clause-found
@@ -15,7 +15,7 @@ returns-in-Ok-clause-found g c = λ honest.
     sym (rw (c.deref.ensures, c.in_ok-path.ensures, c.digest.ensures, c.size.ensures.size, c.in-Some.is, sym c.as_slice.ensures) at c.in_ok-bytes.ensures.found honest) in
     let at = of_length_is k.size (file (blob_path k.digest)) bytes found in
     let read = read_whole file k bytes c.in-Ok.links.successors.items c.requires.manifest at c.in-Ok.ensures.matching c.in-Ok.ensures.listed in
-    (read.0, read.1, read_states file k bytes c.in-Ok.links.subject at c.in-Ok.ensures.subject)
+    (read.0, read_links file k bytes c.in-Ok.links at read.1 c.in-Ok.ensures.subject c.in-Ok.ensures.undistributed)
 
 pub returns-clause-cause : goal.returns-clause-cause
 returns-clause-cause g c =

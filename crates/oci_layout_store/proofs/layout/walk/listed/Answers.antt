@@ -4,15 +4,14 @@ use Rattle.oci_manifest.specs.declared.kind.Kind.TheVariants.{Leaf}
 use Rattle.oci_layout_store.specs.Blobs.{blob_path}
 use Rattle.oci_dir.specs.Device.{IsSizedRead}
 use Rattle.oci_layout_store.proofs.Refusals.{read_fault}
-use Rattle.oci_layout_store.proofs.Walk.{leaf_lists}
-use Rattle.oci_layout_store.proofs.Subjects.{leaf_states}
+use Rattle.oci_layout_store.proofs.Stated.{leaf_links}
 use Rattle.oci_layout_store.proofs.layout.walk.listed.Goals as goal
 
 pub returns-then-branch-clause-found : goal.returns-then-branch-clause-found
 returns-then-branch-clause-found g c = λ honest.
     let leaf : kind_of c.args.key.now.media_type ≡ Leaf = ap kind_of (sym c.media_type.ensures) ∙ sym c.of-kind.ensures ∙ c.in-Leaf.is in
     let found = rw (c.deref.ensures, c.in_ok-path.ensures, c.digest.ensures) at c.in_ok-exists.ensures.found honest in
-    (sym found ∙ c.if-branch.true, c.none.ensures.0 ∙ sym (leaf_lists (g.D.Dir.device c.args.dir.now).file c.args.key.now leaf), leaf_states (g.D.Dir.device c.args.dir.now).file c.args.key.now c.none.result.subject leaf c.none.ensures.1)
+    (sym found ∙ c.if-branch.true, leaf_links (g.D.Dir.device c.args.dir.now).file c.args.key.now c.none.result leaf c.none.ensures.successors c.none.ensures.subject c.none.ensures.undistributed)
 
 pub returns : goal.returns
 returns g c =

@@ -3,10 +3,10 @@ use Rattle.std.proofs.lemmas.Result.{on_ok_weaker}
 use Rattle.oci_manifest.specs.Descriptor.{Descriptor}
 use Rattle.oci_store.specs.Graph.{Node}
 use Rattle.oci_store.specs.Visiting.{with_keys}
-use Rattle.oci_layout_store.specs.Opened.{holds, is_there, listed_in}
+use Rattle.oci_layout_store.specs.Opened.{holds, is_there}
 use Rattle.oci_layout_store.proofs.Walk.{absent_sound, absent_unheld, damaged_unheld, fault_damaged, held_lists, held_one, held_sound, none_damaged, none_held, one_damaged, unheld_lists, unheld_one}
-use Rattle.oci_layout_store.specs.Subjects.{IsSubjectAt}
-use Rattle.oci_layout_store.proofs.Subjects.{subjects_grown}
+use Rattle.oci_layout_store.specs.Stated.{AreLinksOf}
+use Rattle.oci_layout_store.proofs.Stated.{stated_grown}
 use Rattle.oci_layout_store.proofs.layout.walk.step.Goals as goal
 
 -- ---- a held key
@@ -15,36 +15,36 @@ pub returns-in_ok-hold-in-Ok-Some-clause-visited : goal.returns-in_ok-hold-in-Ok
 returns-in_ok-hold-in-Ok-Some-clause-visited g c = λ honest.
     let file = (g.D.Dir.device c.args.dir.now).file in
     let k = c.args.key.now in
-    let found : (holds c.args.as_is file k ≡ true) × (c.in-Ok-Some.links.successors.items ≡ listed_in file k) × IsSubjectAt file k c.in-Ok-Some.links.subject = rw c.in-Ok-Some.field-0-is at (c.in-Ok-Some.ensures.found honest) in
-    c.in_ok-hold-in-Ok-Some.ensures.visited ∙ ap (λ (ks : List Descriptor). with_keys c.args.visited.now ks) (found.1 ∙ sym (held_lists c.args.as_is file k found.0))
+    let found : (holds c.args.as_is file k ≡ true) × AreLinksOf file k c.in-Ok-Some.links = rw c.in-Ok-Some.field-0-is at (c.in-Ok-Some.ensures.found honest) in
+    c.in_ok-hold-in-Ok-Some.ensures.visited ∙ ap (λ (ks : List Descriptor). with_keys c.args.visited.now ks) (found.1.successors ∙ sym (held_lists c.args.as_is file k found.0))
 
 pub returns-in_ok-hold-in-Ok-Some-clause-held : goal.returns-in_ok-hold-in-Ok-Some-clause-held
 returns-in_ok-hold-in-Ok-Some-clause-held g c = λ honest fresh.
     let file = (g.D.Dir.device c.args.dir.now).file in
     let k = c.args.key.now in
-    let found : (holds c.args.as_is file k ≡ true) × (c.in-Ok-Some.links.successors.items ≡ listed_in file k) × IsSubjectAt file k c.in-Ok-Some.links.subject = rw c.in-Ok-Some.field-0-is at (c.in-Ok-Some.ensures.found honest) in
-    c.in_ok-hold-in-Ok-Some.ensures.held fresh ∙ ap (λ (ks : List Descriptor). c.args.held.now.graph ++ (k, ks) ∷ []) found.1
+    let found : (holds c.args.as_is file k ≡ true) × AreLinksOf file k c.in-Ok-Some.links = rw c.in-Ok-Some.field-0-is at (c.in-Ok-Some.ensures.found honest) in
+    c.in_ok-hold-in-Ok-Some.ensures.held fresh ∙ ap (λ (ks : List Descriptor). c.args.held.now.graph ++ (k, ks) ∷ []) found.1.successors
     ∙ ap (λ (graph : List Node). c.args.held.now.graph ++ graph) (sym (held_one c.args.as_is file k found.0))
 
 pub returns-in_ok-hold-in-Ok-Some-clause-damaged : goal.returns-in_ok-hold-in-Ok-Some-clause-damaged
 returns-in_ok-hold-in-Ok-Some-clause-damaged g c = λ honest.
     let file = (g.D.Dir.device c.args.dir.now).file in
     let k = c.args.key.now in
-    let found : (holds c.args.as_is file k ≡ true) × (c.in-Ok-Some.links.successors.items ≡ listed_in file k) × IsSubjectAt file k c.in-Ok-Some.links.subject = rw c.in-Ok-Some.field-0-is at (c.in-Ok-Some.ensures.found honest) in
+    let found : (holds c.args.as_is file k ≡ true) × AreLinksOf file k c.in-Ok-Some.links = rw c.in-Ok-Some.field-0-is at (c.in-Ok-Some.ensures.found honest) in
     none_damaged c.args.as_is file k c.args.damaged.now.items (held_sound c.args.as_is file k found.0)
 
 pub returns-in_ok-hold-in-Ok-Some-clause-good : goal.returns-in_ok-hold-in-Ok-Some-clause-good
 returns-in_ok-hold-in-Ok-Some-clause-good g c = λ honest held. c.in-Ok-Some.ensures.good honest
 
-pub returns-in_ok-hold-in-Ok-Some-clause-subjects : goal.returns-in_ok-hold-in-Ok-Some-clause-subjects
-returns-in_ok-hold-in-Ok-Some-clause-subjects g c = λ honest fresh are.
+pub returns-in_ok-hold-in-Ok-Some-clause-stated : goal.returns-in_ok-hold-in-Ok-Some-clause-stated
+returns-in_ok-hold-in-Ok-Some-clause-stated g c = λ honest fresh are.
     let file = (g.D.Dir.device c.args.dir.now).file in
     let k = c.args.key.now in
     let links = c.in-Ok-Some.links in
     let old = c.args.held.now in
     let new = c.hold.new.held in
-    let found : (holds c.args.as_is file k ≡ true) × (links.successors.items ≡ listed_in file k) × IsSubjectAt file k links.subject = rw c.in-Ok-Some.field-0-is at (c.in-Ok-Some.ensures.found honest) in
-    subjects_grown file old.graph new.graph old.subjects.items new.subjects.items k links.successors.items links.subject (c.in_ok-hold-in-Ok-Some.ensures.held fresh) (c.in_ok-hold-in-Ok-Some.ensures.subjects fresh) found.2 are
+    let found : (holds c.args.as_is file k ≡ true) × AreLinksOf file k links = rw c.in-Ok-Some.field-0-is at (c.in-Ok-Some.ensures.found honest) in
+    stated_grown file old.graph new.graph old.stated new.stated k links (c.in_ok-hold-in-Ok-Some.ensures.held fresh) (c.in_ok-hold-in-Ok-Some.ensures.stated fresh) found.1 are
 
 -- ---- a key without a file
 

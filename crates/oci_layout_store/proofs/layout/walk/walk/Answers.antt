@@ -9,7 +9,7 @@ use Rattle.oci_store.specs.Visiting.{with_keys}
 use Rattle.oci_layout_store.specs.Opened.{IsGood, held_in, holds, is_damaged, lists}
 use Rattle.oci_layout_store.proofs.Refusals.{walk_fault}
 use Rattle.oci_layout_store.proofs.Walk.{IsWalking-start, IsWalking-step, IsWalk-end, IsNextVisited-at, held_in-push, held_fresh, take_next}
-use Rattle.oci_layout_store.proofs.Subjects.{none_state}
+use Rattle.oci_layout_store.proofs.Stated.{none_stated}
 use Rattle.oci_layout_store.proofs.layout.walk.walk.Goals as goal
 
 pub loop-place-init : goal.loop-place-init
@@ -17,10 +17,10 @@ loop-place-init g c = λ honest.
     let file = (g.D.Dir.device c.args.dir.now).file in
     let started : c.place_all.new.self ≡ with_keys [] c.args.starts.now = rw c.new-visited.ensures at c.in_ok-place_all.ensures in (
       IsWalking-start c.args.as_is file c.args.starts.now c.place_all.new.self started,
-      c.none-held.ensures.0,
+      c.none-held.ensures.graph,
       c.new-damaged.ensures.items,
       All-nil (λ (k : Descriptor). holds c.args.as_is file k ≡ true → IsGood file k),
-      none_state file c.none-held.result.graph c.none-held.result.subjects.items c.none-held.ensures.0 c.none-held.ensures.1,
+      none_stated file c.none-held.result.graph c.none-held.result.stated c.none-held.ensures.graph c.none-held.ensures.subjects c.none-held.ensures.undistributed,
     )
 
 pub returns-in-Err-clause-cause : goal.returns-in-Err-clause-cause
@@ -51,7 +51,7 @@ loop-place-preserved g c = λ honest.
       c.in-Ok.ensures.damaged honest ∙ ap (λ (ks : List Descriptor). ks ++ filter (is_damaged as_is file) (k ∷ [])) w.2
           ∙ sym (filter-append (is_damaged as_is file) (take i visited) (k ∷ [])) ∙ ap (filter (is_damaged as_is file)) (sym taken),
       subst (λ (ks : List Descriptor). All Good ks) (sym taken) (All-push Good (take i visited) k w.3 (c.in-Ok.ensures.good honest)),
-      c.in-Ok.ensures.subjects honest fresh w.4,
+      c.in-Ok.ensures.stated honest fresh w.4,
     )
 
 past : {X : Type 0} (xs : List X) (i : ℕ) → length xs ≤ i → slice_get xs i ≡ None
@@ -72,5 +72,5 @@ returns-clause-walked g c = λ honest.
       w.2 ∙ ap (filter (is_damaged as_is file)) e.1,
     )
 
-pub returns-clause-subjects : goal.returns-clause-subjects
-returns-clause-subjects g c = λ honest. (c.loop-place.invariant honest).4
+pub returns-clause-stated : goal.returns-clause-stated
+returns-clause-stated g c = λ honest. (c.loop-place.invariant honest).4

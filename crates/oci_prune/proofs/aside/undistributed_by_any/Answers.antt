@@ -3,7 +3,7 @@ use Rattle.std.proofs.lemmas.List.{take_all}
 use Rattle.oci_manifest.specs.Descriptor.{Descriptor}
 use Rattle.oci_prune.specs.Aside.{AreListedAside}
 use Rattle.oci_prune.proofs.Passing.{aside_of_more, aside_of_none}
-use Rattle.oci_prune.proofs.passed.undistributed_by_any.Goals as goal
+use Rattle.oci_prune.proofs.aside.undistributed_by_any.Goals as goal
 
 pub loop-key-init : goal.loop-key-init
 loop-key-init g c = λ honest.

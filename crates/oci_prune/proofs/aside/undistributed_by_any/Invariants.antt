@@ -1,6 +1,6 @@
 use Rattle.std.proofs.Common.{take}
 use Rattle.oci_prune.specs.Aside.{AreListedAside}
-use Rattle.oci_prune.proofs.passed.undistributed_by_any.Given as goal
+use Rattle.oci_prune.proofs.aside.undistributed_by_any.Given as goal
 
 -- as far as the loop has come
 abbrev pub invariant-loop-key : goal.invariant-loop-key
