@@ -122,6 +122,12 @@ picked_aside is_one file graph pairs keys are picked k = (
 
 -- ---- those of keys that pass a test
 
+-- they are held
+pub asked_held : (is_one : Descriptor → Bool) (graph : List Node) (held asked : Keys) → AreHeld graph held → asked ≡ filter is_one held → (k : Descriptor) → Contains asked k → has_key graph k ≡ true
+asked_held is_one graph held asked are is k there =
+    let among = among-filter is_one held k (subst (λ (ks : Keys). is_among ks k ≡ true) is (among_from_Contains asked k there)) in
+    (are.each k).0 (Contains-from_among held k among.1)
+
 -- what the held keys that pass list
 pub read_aside : (is_one : Descriptor → Bool) (file : File) (graph : List Node) (held asked listed : Keys) → AreHeld graph held → asked ≡ filter is_one held → AreListedAside (stored file graph) asked listed → AreAside is_one (stored file graph) listed
 read_aside is_one file graph held asked listed are is lists k = (

@@ -32,5 +32,6 @@ pub fn keys_passed_over<D: Dir>(
         (λ k. has_key layout.now.graph k ≡ true)) }
 {
     let reached = members_of(alloc, layout, keys, &Attachments::none(alloc), false)?;
-    undistributed_layers(alloc, layout, Some(&reached))
+    let passed = undistributed_layers(alloc, layout, Some(&reached))?;
+    Ok(passed)
 }

@@ -173,14 +173,14 @@ IsWholeBelow-nothing dir graph index key f has held are nothing =
             | inl is ↦ (Decides-is_match k (blob_at dir.file k.digest)).0 is
             | inr is_not ↦ absurd (no_element k ((corrupt.each k).1 ((are.reached k).1 path, inr (all_held k path, is_not))))
           ];
-      foreign = λ honest from k path lists. right_foreign is_reached dir.file graph f.corrupt_foreign.items (are.found.foreign has) nothing.2 from k ((are.reached from).1 path) lists;
+      foreign = λ honest from k path lists. right_foreign is_reached dir.file graph f.corrupt_foreign.items (are.found.foreign honest) nothing.2 from k ((are.reached from).1 path) lists;
     }
 
 nothing-IsWholeBelow : (dir : Device) (graph : List Node) (index : OpenedIndex) (key : Descriptor) (f : Findings) → HasFiles dir graph → HasDistinctKeys graph → AreFindingsBelow dir graph index key f → IsWholeBelow dir graph index key → FindsNothing f
 nothing-IsWholeBelow dir graph index key f has distinct are whole = (
   none_mapped f.absent.items (are.found.absent ∙ nothing_in (filter passes index.absent) none_absent),
   nothing_in f.corrupt.items none_corrupt,
-  nothing_in f.corrupt_foreign.items (λ k there. let p = ((are.found.foreign has).each k).0 there in cc (sym p.1 ∙ whole.foreign has.0 p.0.0 k ((are.reached p.0.0).0 p.0.1) p.0.2)),
+  nothing_in f.corrupt_foreign.items (λ k there. let p = ((are.found.foreign has.0).each k).0 there in cc (sym p.1 ∙ whole.foreign has.0 p.0.0 k ((are.reached p.0.0).0 p.0.1) p.0.2)),
   no_pair f.open (are.found.without_file ∙ none_found there are.is_reached graph (All-weaker (Contains graph) (AreClosed there are.is_reached) closed graph (All-contains_itself graph))),
 )
   where

@@ -105,14 +105,14 @@ IsWhole-nothing dir graph index f has readable are nothing =
       undamaged = undamaged;
       intact = λ honest. matches_all dir.file graph index.damaged corrupt;
       closed = closed-from_found graph index.damaged f.open are.without_file nothing.3 undamaged;
-      foreign = λ honest from k lists. right_foreign (λ (x : Descriptor). true) dir.file graph f.corrupt_foreign.items (are.foreign has) nothing.2 from k refl lists;
+      foreign = λ honest from k lists. right_foreign (λ (x : Descriptor). true) dir.file graph f.corrupt_foreign.items (are.foreign honest) nothing.2 from k refl lists;
     }
 
 nothing-IsWhole : (dir : Device) (graph : List Node) (index : OpenedIndex) (f : Findings) → HasFiles dir graph → AreFindings dir graph index f → IsWhole dir graph index → FindsNothing f
 nothing-IsWhole dir graph index f has are whole = (
   none_mapped f.absent.items (are.absent ∙ ap (filter (λ (k : Descriptor). not (is_among index.damaged k))) whole.entries),
   nothing_in f.corrupt.items right,
-  nothing_in f.corrupt_foreign.items (λ k there. let p = ((are.foreign has).each k).0 there in cc (sym p.1 ∙ whole.foreign has.0 p.0.0 k p.0.2)),
+  nothing_in f.corrupt_foreign.items (λ k there. let p = ((are.foreign has.0).each k).0 there in cc (sym p.1 ∙ whole.foreign has.0 p.0.0 k p.0.2)),
   found-from_closed graph index.damaged f.open are.without_file whole.closed,
 )
   where

@@ -3,10 +3,9 @@
 use Rattle.std.specs.Prelude.{◌≡◌, ◌↔◌, ℕ, Bool, true, false, not, List, Option, None, Some, Contains}
 use Rattle.std.specs.List.Sorted.{IsStrictlySortedBy}
 use Rattle.oci_dir.specs.Device.{File}
-use Rattle.oci_layout_store.specs.Blobs.{blob_at, blob_path, stored}
+use Rattle.oci_layout_store.specs.Blobs.{blob_path, stored}
 use Rattle.oci_manifest.specs.Descriptor.{Descriptor, key_cmp}
-use Rattle.oci_prune.specs.Aside.{ListsAside}
-use Rattle.oci_store.specs.Content.{Matches}
+use Rattle.oci_prune.specs.Aside.{IsAside, ListsAside}
 use Rattle.oci_store.specs.Graph.{Node}
 use Rattle.oci_verify.specs.Intact.{is_match}
 
@@ -19,16 +18,12 @@ is_wrong k (Some bytes) = not (is_match k bytes)
 abbrev pub has_wrong_file : File → Descriptor → Bool
 has_wrong_file file k = is_wrong k (file (blob_path k.digest))
 
--- a held manifest, which its file matches, lists a key that is not to be distributed
+-- a held manifest lists a key that is not to be distributed
 abbrev pub ListsForeign : File → List Node → Descriptor → Descriptor → Type 0
-ListsForeign file graph from k = Matches from (blob_at file from.digest) × ListsAside (stored file graph) from k
-
--- one of the held manifests that pass a test lists a key that is not to be distributed
-abbrev pub IsForeign : (Descriptor → Bool) → File → List Node → Descriptor → Type 0
-IsForeign is_asked file graph k = (from : Descriptor) × (is_asked from ≡ true) × ListsForeign file graph from k
+ListsForeign file graph from k = ListsAside (stored file graph) from k
 
 -- these are the keys that held manifests which pass a test list as not to be distributed, and whose
 -- files are there and wrong, in key order
 pub record AreCorruptForeign (is_asked : Descriptor → Bool) (file : File) (graph : List Node) (keys : List Descriptor) : Type 0 where
-  pub each : (k : Descriptor) → Contains keys k ↔ (IsForeign is_asked file graph k × (has_wrong_file file k ≡ true))
+  pub each : (k : Descriptor) → Contains keys k ↔ (IsAside is_asked (stored file graph) k × (has_wrong_file file k ≡ true))
   pub order : IsStrictlySortedBy key_cmp keys

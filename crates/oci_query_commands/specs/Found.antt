@@ -63,7 +63,7 @@ pub record AreFindings (dir : Device) (graph : List Node) (index : OpenedIndex) 
   -- the absent keys of the entries that are not damaged, in their order
   pub absent : map (λ k. k.now) findings.absent.items ≡ filter (λ k. not (is_among index.damaged k)) index.absent
   pub corrupt : HasFiles dir graph → AreCorrupt dir.file graph index.damaged findings.corrupt.items
-  pub foreign : HasFiles dir graph → AreCorruptForeign (λ k. true) dir.file graph findings.corrupt_foreign.items
+  pub foreign : dir.is_honest → AreCorruptForeign (λ k. true) dir.file graph findings.corrupt_foreign.items
   pub without_file : option_map pair_of findings.open ≡ first_without_file (has_file graph (is_among index.damaged)) graph
   pub shadowed : map tagged_of findings.shadowed.items ≡ shadowed_in (said index.content).entries
   -- how many keys have a file; the count stops at the largest number of 64 bits
@@ -76,7 +76,7 @@ pub record AreFindings (dir : Device) (graph : List Node) (index : OpenedIndex) 
 pub record AreFindingsOf (dir : Device) (graph : List Node) (index : OpenedIndex) (is_asked : Descriptor → Bool) (findings : Findings) : Type 0 where
   pub absent : map (λ k. k.now) findings.absent.items ≡ filter (λ k. is_asked k && not (is_among index.damaged k)) index.absent
   pub corrupt : HasFiles dir graph → AreCorruptOf is_asked dir.file graph index.damaged findings.corrupt.items
-  pub foreign : HasFiles dir graph → AreCorruptForeign is_asked dir.file graph findings.corrupt_foreign.items
+  pub foreign : dir.is_honest → AreCorruptForeign is_asked dir.file graph findings.corrupt_foreign.items
   pub without_file : option_map pair_of findings.open ≡ first_without_file (has_file graph (is_among index.damaged)) (filter (λ (n : Node). is_asked n.0) graph)
   pub shadowed : map tagged_of findings.shadowed.items ≡ filter (λ (t : List ℕ × Descriptor). is_asked t.1) (shadowed_in (said index.content).entries)
   pub held : findings.held ≡ min (length (filter is_asked (keys_of graph)) + length (filter is_asked index.damaged)) (2 ^ 64 - 1)

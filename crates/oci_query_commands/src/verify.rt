@@ -130,10 +130,10 @@ fn print_foreign_key<W: fmt::Write>(key: &Key, f: &mut fmt::Formatter<W>) -> fmt
 }
 
 /// Prints the line of a key that lists a key without a file, if there is one.
-fn print_open<W: fmt::Write>(open: &Option<Open>, f: &mut fmt::Formatter<W>) -> fmt::Result
-    ensures { WritesOnOk W.write_str_gives f.old result (open_text open.now) f.new }
+fn print_open<W: fmt::Write>(found: &Option<Open>, f: &mut fmt::Formatter<W>) -> fmt::Result
+    ensures { WritesOnOk W.write_str_gives f.old result (open_text found.now) f.new }
 {
-    match open {
+    match found {
         Some(Open { holder, missing }) => writeln!(f, "open {holder} {missing}"),
         None => Ok(()),
     }
