@@ -301,7 +301,7 @@ The layout does not have the named blob, or its manifest there is damaged, so it
 Run `ocicp repair FOLDER FROM`, with a layout that has the blob; first remove a folder with contents in the file's place. If the image is not wanted, run `ocicp untag` for each of its tags, and delete an entry without a tag from `index.json`. A damaged manifest that only an index lists can be deleted from `blobs` once no tag needs that index. `ocicp verify` shows a manifest that lists a missing one, and `ocicp prune --untagged` removes it once no tag needs it, with every other image without a tag.
 
 97 NoTags
-The layout has no tag, or only tags of each other's digests, so no blob would be kept or copied. Nothing was copied or removed.
+The layout has no tag, or none would stay, so no blob would be kept or copied. Nothing was copied or removed.
 Check the path. `ocicp tag FOLDER DIGEST NAME` keeps a blob. `ocicp prune` without `--untagged` needs no tag. If nothing is to be kept, delete the folder.
 
 98 LinkedBlobs

@@ -48,7 +48,8 @@ use settling::{Syncs, note_paths};
 /// A path that leaves the folder, by a part `..` or as an absolute one, fails with `Failed`. So
 /// does a read of anything but a regular file or a link to one; only `read_of_length` then returns
 /// `None`. A put or `settle` at `oci-layout` or `index.json` refuses a link in its place: the link
-/// may lead out of the folder, and a put would leave what it leads to as it is. If the system is
+/// may lead out of the folder, and a put would leave what it leads to as it is. `read` refuses one
+/// there that leads to no file. If the system is
 /// out of memory, a call fails with `Memory`, and for any other error of the system with `Failed`.
 ///
 /// # What is on the disk, and when
@@ -218,7 +219,10 @@ where
                 Ok(bytes) => Ok(Some(bytes)),
                 Err(_) => Err(DirFault::Memory),
             },
-            Err(error) if is_absence(&error) => Ok(None),
+            Err(error) if is_absence(&error) => {
+                self.refuse_link(path)?;
+                Ok(None)
+            }
             Err(error) => Err(failed(self.first, &place, error)),
         }
     }

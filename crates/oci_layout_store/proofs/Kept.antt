@@ -21,7 +21,7 @@ use Rattle.oci_layout_store.specs.Entries.{IndexContent, IndexEntry, IsIndexFile
 use Rattle.oci_layout_store.specs.Files.{HasFiles, HasKept}
 use Rattle.oci_layout_store.specs.Law.{OpensAsKept}
 use Rattle.oci_layout_store.specs.Layout.{OpenedIndex}
-use Rattle.oci_layout_store.specs.Meant.{meant, meant_content, meant_entry, meant_in, meant_key, odd_in}
+use Rattle.oci_layout_store.specs.Meant.{meant, meant_content, meant_entry, meant_in, meant_key, odd_in, of_type, unknown_type}
 use Rattle.oci_layout_store.specs.Opened.{any, holds, is_damaged, is_right, listed_in, lists, held_in, IsGood, IsRead}
 use Rattle.oci_layout_store.proofs.EntryKeys.{first_key, key_or_none, no_first_key}
 use Rattle.oci_layout_store.proofs.Lasting.{AgreeAt, stored_same}
@@ -128,7 +128,7 @@ all_agree file left graph same (k ∷ ks) h =
 
 digest_in : (k : Descriptor) (found : Option (List ℕ)) → (meant_in k found).digest ≡ k.digest
 digest_in k None = refl
-digest_in k (Some bytes) = elim (verifies k.digest bytes) as (λ b. (cond b (meant_key k bytes) k).digest ≡ k.digest) [ true ↦ refl | false ↦ refl ]
+digest_in k (Some bytes) = elim (verifies k.digest bytes) as (λ b. (cond b (meant_key k bytes) (of_type k (unknown_type k.media_type))).digest ≡ k.digest) [ true ↦ refl | false ↦ refl ]
 
 meant_as : (file left : File) (k : Descriptor) → Agree file left (meant file k) → meant left k ≡ meant file k
 meant_as file left k agree =

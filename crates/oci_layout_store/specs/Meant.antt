@@ -1,6 +1,6 @@
 -- The manifest that an entry of an index means: some tools write `application/octet-stream` when they
--- tag a manifest that the index does not list.
-use Rattle.std.specs.Prelude.{ℕ, Bool, true, false, List, map, codes, length, not, ◌&&◌, ◌||◌, ◌==◌, nat_lt, is_some, Option, Some, None, option_map, option_and_then, if◌then◌else◌}
+-- tag a manifest that the index does not list. A manifest's type with parameters is that type.
+use Rattle.std.specs.Prelude.{ℕ, Bool, true, false, List, map, codes, length, not, ◌&&◌, ◌||◌, ◌==◌, nat_lt, is_ok, is_some, Option, Some, None, option_map, option_and_then, if◌then◌else◌}
 use Rattle.std.specs.List.{before_first}
 use Rattle.std.specs.Str.{bytes_eq}
 use Rattle.serde_json.specs.Data.{Data}
@@ -9,7 +9,7 @@ use Rattle.oci_digest.specs.Digest.{verifies}
 use Rattle.oci_dir.specs.Device.{File}
 use Rattle.oci_manifest.specs.Descriptor.{Descriptor}
 use Rattle.oci_manifest.specs.MediaTypes.{kind_of}
-use Rattle.oci_manifest.specs.Reading.{reading, text_at}
+use Rattle.oci_manifest.specs.Reading.{reading, successors_of, text_at}
 use Rattle.oci_layout_store.specs.Blobs.{blob_path}
 use Rattle.oci_layout_store.specs.Entries.{IndexContent, IndexEntry}
 use Rattle.oci_layout_store.specs.Layout.{is_manifest}
@@ -20,29 +20,55 @@ use Rattle.oci_layout_store.specs.Layout.{is_manifest}
 abbrev pub names_manifest : List ℕ → Bool
 names_manifest media_type = is_manifest (kind_of media_type)
 
+-- a media type up to its parameters (RFC 6838, 4.3)
+abbrev pub without_parameters : List ℕ → List ℕ
+without_parameters media_type = before_first (λ b. b == 59) media_type
+
+-- a media type; without its parameters, if it is then that of a manifest
+unfoldable pub plain_type : List ℕ → List ℕ
+plain_type media_type = if names_manifest (without_parameters media_type) then without_parameters media_type else media_type
+
+-- whether a media type says nothing of what a content is
+abbrev pub is_octets : List ℕ → Bool
+is_octets media_type = bytes_eq media_type (codes "application/octet-stream")
+
 -- whether a media type leaves open what a content is: it says nothing of it, or it is that of a
--- manifest with parameters (RFC 6838, 4.3)
+-- manifest with parameters
 unfoldable pub is_open : List ℕ → Bool
-is_open media_type = bytes_eq media_type (codes "application/octet-stream") || (not (names_manifest media_type) && names_manifest (before_first (λ b. b == 59) media_type))
+is_open media_type = is_octets media_type || (not (names_manifest media_type) && names_manifest (without_parameters media_type))
 
--- the media type of a JSON value that looks like a manifest, or else this one: an index has a list of
--- manifests, and an image a config and layers
-unfoldable pub type_by_shape : List ℕ → Data → List ℕ
-type_by_shape media_type value =
-    if is_some (option_and_then as_array (get (codes "manifests") value)) then codes "application/vnd.oci.image.index.v1+json"
-    else if is_some (get (codes "config") value) && is_some (get (codes "layers") value) then codes "application/vnd.oci.image.manifest.v1+json"
-    else media_type
+-- the manifest type that a JSON value states of itself, if it does
+abbrev pub stated_type : Option (List ℕ) → Option (List ℕ)
+stated_type None = None
+stated_type (Some stated) = if names_manifest (plain_type stated) then Some (plain_type stated) else None
 
--- the manifest type that a JSON value states of itself, or else this one; one that states none is known
--- by its shape
-abbrev pub type_stated : List ℕ → Data → Option (List ℕ) → List ℕ
-type_stated media_type value None = type_by_shape media_type value
-type_stated media_type value (Some stated) = if names_manifest stated then stated else media_type
+-- the manifest type that a JSON value looks like: an index has a list of manifests, and an image a
+-- config and layers
+unfoldable pub shape_of : Data → Option (List ℕ)
+shape_of value =
+    if is_some (option_and_then as_array (get (codes "manifests") value)) then Some (codes "application/vnd.oci.image.index.v1+json")
+    else if is_some (get (codes "config") value) && is_some (get (codes "layers") value) then Some (codes "application/vnd.oci.image.manifest.v1+json")
+    else None
+
+-- the type that bytes look like, if they can be read as such a manifest, or else this one
+abbrev pub type_by_shape : List ℕ → List ℕ → Option (List ℕ) → List ℕ
+type_by_shape media_type bytes None = plain_type media_type
+type_by_shape media_type bytes (Some shape) = if is_ok (successors_of (kind_of shape) bytes) then shape else plain_type media_type
+
+-- the manifest type that bytes state, or else that which they look like, or else this one
+abbrev pub type_by_value : List ℕ → List ℕ → Data → Option (List ℕ) → List ℕ
+type_by_value media_type bytes value (Some stated) = stated
+type_by_value media_type bytes value None = type_by_shape media_type bytes (shape_of value)
 
 -- the media type that bytes have by what they say, if they are JSON, or else this one
-abbrev pub type_in : List ℕ → Option Data → List ℕ
-type_in media_type None = media_type
-type_in media_type (Some value) = type_stated media_type value (text_at (codes "mediaType") value)
+abbrev pub type_in : List ℕ → List ℕ → Option Data → List ℕ
+type_in media_type bytes None = plain_type media_type
+type_in media_type bytes (Some value) = type_by_value media_type bytes value (stated_type (text_at (codes "mediaType") value))
+
+-- the type of a content that does not match its digest, so that nobody knows what it is: that of an
+-- index, as which each manifest can be read, if its own type says nothing
+abbrev pub unknown_type : List ℕ → List ℕ
+unknown_type media_type = if is_octets media_type then codes "application/vnd.oci.image.index.v1+json" else plain_type media_type
 
 -- ---- by the file of an entry
 
@@ -55,18 +81,23 @@ most_read = 4194304
 abbrev pub is_odd : Descriptor → ℕ → Bool
 is_odd k length = is_open k.media_type || not (k.size == length)
 
+-- a key with another media type
+abbrev pub of_type : Descriptor → List ℕ → Descriptor
+of_type k media_type = record { media_type = media_type; digest = k.digest; size = k.size }
+
 -- the key of bytes with this key's digest: it has their length, and the manifest type that they have if
 -- the key's own type leaves that open
 abbrev pub meant_key : Descriptor → List ℕ → Descriptor
 meant_key k bytes = record {
-  media_type = if is_open k.media_type then type_in k.media_type (reading bytes) else k.media_type;
+  media_type = if is_open k.media_type then type_in k.media_type bytes (reading bytes) else k.media_type;
   digest = k.digest;
   size = length bytes;
 }
 
--- the key that an entry means whose file has these bytes, if they match its digest
+-- the key that an entry means whose file has these bytes; if they do not match its digest, it is a
+-- damaged manifest, unless its type says otherwise
 abbrev pub meant_by : Descriptor → List ℕ → Descriptor
-meant_by k bytes = if verifies k.digest bytes then meant_key k bytes else k
+meant_by k bytes = if verifies k.digest bytes then meant_key k bytes else of_type k (unknown_type k.media_type)
 
 -- the bytes of a file that have to be read for what the key means
 abbrev pub odd_in : Descriptor → Option (List ℕ) → Option (List ℕ)
@@ -75,7 +106,7 @@ odd_in k (Some bytes) = if is_odd k (length bytes) && not (nat_lt most_read (len
 
 -- the key that an entry means, by the bytes that were read
 abbrev pub meant_in : Descriptor → Option (List ℕ) → Descriptor
-meant_in k None = k
+meant_in k None = of_type k (plain_type k.media_type)
 meant_in k (Some bytes) = meant_by k bytes
 
 -- the key that an entry with this key means in these files

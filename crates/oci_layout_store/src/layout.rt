@@ -353,9 +353,10 @@ pub fn opens_as_saved()
 
 /// States that a layout opened as it is, from the files of a closed sound layout, has the same
 /// bytes under each key and the same tags, remembers the entries that were written, and writes them
-/// again when it is saved. This holds if the remembered entries say what they are, and no key that
-/// was absent is held or has a whole file, as right after the layout was opened. Does nothing when
-/// it runs.
+/// again when it is saved. This holds if the remembered entries and the held keys say what they are,
+/// and no key that was absent is held or has a whole file. Right after the layout was opened all of
+/// this is so, unless a held layer of type `application/octet-stream` looks like a manifest. Does
+/// nothing when it runs.
 pub fn opens_as_written()
     ensures written { OpensAsWritten }
     ensures remembered { Remembers }

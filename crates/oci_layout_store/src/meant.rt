@@ -1,5 +1,5 @@
 //! The manifests that the entries of an index mean.
-ghost use Rattle.std.specs.Prelude.{◌≡◌, ◌++◌, ◌∷◌, [], true, Some, map, string_bytes, IfOk, OnOk};
+ghost use Rattle.std.specs.Prelude.{◌≡◌, ◌++◌, ◌∷◌, [], true, codes, map, option_copied, string_bytes, IfOk, OnOk};
 ghost use Rattle.serde_json.specs.View.{view};
 ghost use Rattle.oci_dir.specs.Device.{IsRead};
 ghost use Rattle.oci_layout_store.specs.Blobs.{blob_path};
@@ -13,17 +13,23 @@ ghost use Rattle.oci_layout_store.specs.Meant.{
   meant_entry,
   names_manifest,
   odd_in,
+  of_type,
+  plain_type,
+  shape_of,
+  stated_type,
   type_by_shape,
+  type_by_value,
   type_in,
+  unknown_type,
 };
-ghost use Rattle.oci_manifest.specs.Reading.{reading};
+ghost use Rattle.oci_manifest.specs.Reading.{reading, text_at};
 
 use crate::index::{IndexContent, IndexEntry};
 use crate::layout::blob_path;
 use bytes::Bytes;
 use oci_digest::NoMemory;
 use oci_dir::{Dir, DirFault};
-use oci_manifest::{Key, Kind, ManifestFault, read_json};
+use oci_manifest::{Key, Kind, ManifestFault, read_json, read_links};
 use serde_json::Value;
 use std::alloc::Global;
 
@@ -90,7 +96,18 @@ fn meant<D: Dir>(alloc: Global, dir: &D, key: &Key) -> Result<Key, DirFault>
 {
     match odd_bytes(alloc, dir, key)? {
         Some(bytes) => Ok(meant_by(alloc, key, &bytes)?),
-        None => Ok(key.try_clone()?),
+        None => Ok(of_type(alloc, key, plain_type(key.media_type()))?),
+    }
+}
+
+/// Returns a key with another media type.
+fn of_type(alloc: Global, key: &Key, media_type: &str) -> Result<Key, NoMemory>
+    ensures { IfOk result (λ k. k ≡ of_type key.now media_type.now) }
+{
+    let media_type = String::from_str(alloc, media_type)?;
+    match Key::new(media_type, *key.digest(), key.size()) {
+        Ok(key) => Ok(key),
+        Err(_) => unreachable!(),
     }
 }
 
@@ -128,7 +145,7 @@ fn meant_by(alloc: Global, key: &Key, bytes: &Bytes) -> Result<Key, NoMemory>
     ensures { IfOk result (λ k. k ≡ meant_by key.now bytes.now) }
 {
     if !key.digest().matches(bytes.as_slice()) {
-        return key.try_clone();
+        return of_type(alloc, key, unknown_type(key.media_type()));
     }
     let media_type = if is_open(key.media_type()) {
         type_in(alloc, key.media_type(), bytes.as_slice())?
@@ -143,23 +160,95 @@ fn meant_by(alloc: Global, key: &Key, bytes: &Bytes) -> Result<Key, NoMemory>
 
 /// Returns the media type that bytes have by what they say, if they are JSON, or else this one.
 fn type_in(alloc: Global, media_type: &str, bytes: &[u8]) -> Result<String, NoMemory>
-    ensures { IfOk result (λ text. string_bytes text ≡ type_in media_type.now (reading bytes.now)) }
+    ensures { IfOk result (λ text. string_bytes text
+        ≡ type_in media_type.now bytes.now (reading bytes.now)) }
 {
     match read_json(alloc, bytes) {
-        Ok(value) => Ok(String::from_str(alloc, type_of_value(media_type, &value))?),
+        Ok(value) => type_by_value(alloc, media_type, bytes, &value),
         Err(ManifestFault::Memory) => Err(NoMemory),
-        Err(_) => Ok(String::from_str(alloc, media_type)?),
+        Err(_) => Ok(String::from_str(alloc, plain_type(media_type))?),
     }
 }
 
-/// Returns the manifest type that a JSON value has by what it says, or else this media type.
-fn type_of_value<'t>(media_type: &'t str, value: &'t Value) -> &'t str
-    ensures { result.now ≡ type_in media_type.now (Some (view value.now)) }
+/// Returns the manifest type that the JSON value of bytes states, or else that which it looks like, or
+/// else this one.
+fn type_by_value(
+    alloc: Global,
+    media_type: &str,
+    bytes: &[u8],
+    value: &Value,
+) -> Result<String, NoMemory>
+    ensures { IfOk result (λ text. string_bytes text ≡ type_by_value media_type.now bytes.now
+        (view value.now) (stated_type (text_at (codes "mediaType") (view value.now)))) }
+{
+    match stated_type(value) {
+        Some(stated) => Ok(String::from_str(alloc, stated)?),
+        None => type_by_shape(alloc, media_type, bytes, shape_of(value)),
+    }
+}
+
+/// Returns the manifest type that a JSON value states of itself, if it does.
+fn stated_type(value: &Value) -> Option<&str>
+    ensures { option_copied result ≡ stated_type (text_at (codes "mediaType") (view value.now)) }
 {
     match value.get("mediaType").and_then(Value::as_str) {
-        Some(stated) if names_manifest(stated) => stated,
-        Some(_) => media_type,
-        None => type_by_shape(media_type, value),
+        Some(stated) if names_manifest(plain_type(stated)) => Some(plain_type(stated)),
+        _ => None,
+    }
+}
+
+/// Returns the manifest type that a JSON value looks like.
+#[tactic(auto, unfolding(crate::specs::Meant::shape_of))]
+fn shape_of(value: &Value) -> Option<&'static str>
+    ensures { option_copied result ≡ shape_of (view value.now) }
+{
+    if value.get("manifests").and_then(Value::as_array).is_some() {
+        Some("application/vnd.oci.image.index.v1+json")
+    } else if value.get("config").is_some() && value.get("layers").is_some() {
+        Some("application/vnd.oci.image.manifest.v1+json")
+    } else {
+        None
+    }
+}
+
+/// Returns the type that bytes look like, if they can be read as such a manifest, or else this one.
+fn type_by_shape(
+    alloc: Global,
+    media_type: &str,
+    bytes: &[u8],
+    shape: Option<&str>,
+) -> Result<String, NoMemory>
+    ensures { IfOk result (λ text. string_bytes text
+        ≡ type_by_shape media_type.now bytes.now (option_copied shape.entry)) }
+{
+    let Some(shape) = shape else {
+        return Ok(String::from_str(alloc, plain_type(media_type))?);
+    };
+    match read_links(alloc, Kind::of(shape), bytes) {
+        Ok(_) => Ok(String::from_str(alloc, shape)?),
+        Err(ManifestFault::Memory) => Err(NoMemory),
+        Err(_) => Ok(String::from_str(alloc, plain_type(media_type))?),
+    }
+}
+
+/// Returns the type of a content that does not match its digest, so that nobody knows what it is.
+fn unknown_type(media_type: &str) -> &str
+    ensures { result.now ≡ unknown_type media_type.now }
+{
+    if media_type == "application/octet-stream" {
+        return "application/vnd.oci.image.index.v1+json";
+    }
+    plain_type(media_type)
+}
+
+/// Returns a media type; without its parameters, if it is then that of a manifest.
+#[tactic(auto, unfolding(crate::specs::Meant::plain_type))]
+fn plain_type(media_type: &str) -> &str
+    ensures { result.now ≡ plain_type media_type.now }
+{
+    match media_type.split_once(';') {
+        Some((stated, _)) if names_manifest(stated) => stated,
+        _ => media_type,
     }
 }
 
@@ -174,19 +263,5 @@ fn is_open(media_type: &str) -> bool
     match media_type.split_once(';') {
         Some((stated, _)) => !names_manifest(media_type) && names_manifest(stated),
         None => false,
-    }
-}
-
-/// Returns the media type of a JSON value that looks like a manifest, or else this one.
-#[tactic(auto, unfolding(crate::specs::Meant::type_by_shape))]
-fn type_by_shape<'t>(media_type: &'t str, value: &Value) -> &'t str
-    ensures { result.now ≡ type_by_shape media_type.now (view value.now) }
-{
-    if value.get("manifests").and_then(Value::as_array).is_some() {
-        "application/vnd.oci.image.index.v1+json"
-    } else if value.get("config").is_some() && value.get("layers").is_some() {
-        "application/vnd.oci.image.manifest.v1+json"
-    } else {
-        media_type
     }
 }
