@@ -7,7 +7,7 @@ import shutil
 from support.files import read
 from support.indexes import entry, named
 from support.layouts import (
-    ARTIFACT, BAR, DOCKER_IMAGE, DOCKER_LIST, E, FOO, IMAGE, INDEX, LAYER, M2, Content, blob, descriptor, digits, image, index, key,
+    ARTIFACT, BAR, DOCKER_IMAGE, DOCKER_LIST, E, FOO, IMAGE, INDEX, LAYER, M2, M3, Content, blob, descriptor, digits, image, index, key,
     listing, write_layout,
 )
 from support.program import first, run, told, wrong_answer
@@ -61,12 +61,18 @@ TYPES = {
     "parameters, like an index": (WITH_CHARSET, BARE_INDEX, INDEX),
     "parameters of a Docker list, like an image": (DOCKER_LIST + ";", BARE_IMAGE, IMAGE),
     "parameters of an artifact, like an index": (ARTIFACT + ";a=b;c=d", BARE_INDEX, INDEX),
-    "parameters, like neither": (WITH_CHARSET, manifest({"config": descriptor(E)}), WITH_CHARSET),
-    "octets that state another type": (OCTETS, stating('"text/plain"'), OCTETS),
-    "octets that state octets": (OCTETS, stating('"%s"' % OCTETS), OCTETS),
-    "octets that state an empty type": (OCTETS, stating('""'), OCTETS),
-    "octets that state a type with parameters": (OCTETS, stating('"%s"' % WITH_CHARSET), OCTETS),
-    "octets that state a type in capitals": (OCTETS, stating('"%s"' % IMAGE.upper()), OCTETS),
+    "parameters, like neither": (WITH_CHARSET, manifest({"config": descriptor(E)}), IMAGE),
+    "parameters of an artifact, like neither": (ARTIFACT + ";a=b", manifest(PARTS[ARTIFACT]), ARTIFACT),
+    "parameters that the file states too": (WITH_CHARSET, stating('"%s"' % WITH_CHARSET), IMAGE),
+    "octets like an image that state another type": (OCTETS, stating('"text/plain"'), IMAGE),
+    "octets like an image that state octets": (OCTETS, stating('"%s"' % OCTETS), IMAGE),
+    "octets like an index that state an empty type": (OCTETS, stating('""', OF_INDEX), INDEX),
+    "octets that state an artifact with parameters": (OCTETS, stating('"%s;a=b"' % ARTIFACT, PARTS[ARTIFACT]), ARTIFACT),
+    "octets like an image that state a type in capitals": (OCTETS, stating('"%s"' % DOCKER_LIST.upper()), IMAGE),
+    "octets that state another type": (OCTETS, stating('"text/plain"', PARTS[ARTIFACT]), OCTETS),
+    "octets with manifests that are texts": (OCTETS, manifest({"manifests": '["a.yaml","b.yaml"]'}), OCTETS),
+    "octets with a config and layers that are numbers": (OCTETS, manifest({"config": "1", "layers": "2"}), OCTETS),
+    "octets like an image with a subject that is a number": (OCTETS, manifest({"subject": "7", **OF_IMAGE}), OCTETS),
     "octets like an image that state a number": (OCTETS, stating("5"), IMAGE),
     "octets like an index that state null": (OCTETS, stating("null", OF_INDEX), INDEX),
     "octets like an image that state a list": (OCTETS, stating('["%s"]' % INDEX), IMAGE),
@@ -175,43 +181,47 @@ def sizes(room):
         yield "another size of " + name, first(wrong_type(room, media_type, content, meant, it) for it in sorted(others))
 
 
-# Entries that mean their own key
+# Entries whose file is not whole, or too large
 
-def wrong_own(room, value, contents, lines, out):
-    """Return the problem with an entry whose file is not whole, or too large, or None: it means its own key. `lines` is what `verify` prints."""
-    write_entries(room + "/layout", contents, [value])
+def wrong_own(room, value, media_type, contents, found, out):
+    """Return the problem with an entry whose file is not whole, or too large, or None: it means its own key, but for this media type. `found`
+    is what `verify` finds. No prune starts, since the file may be that of a manifest."""
+    write_entries(room + "/layout", contents, [value, named(M3, "other")])
     for path, content in out.items():
         write(room + "/layout", path, content)
+    wanted = key_of(value)._replace(media_type=media_type)
     by_rules = meant_key(room + "/layout", key_of(value))
+    files = sorted(os.listdir(room + "/layout/blobs/sha256"))
     ended = run(["verify", "layout"], room)
+    pruned = run(["prune", "layout"], room)
     return first([
-        None if by_rules == key_of(value) else "by the rules it means %s" % text(by_rules),
-        None if ended[:3] == (1, "".join(it + "\n" for it in lines), "") else told(ended),
+        None if by_rules == wanted else "by the rules it means %s" % text(by_rules),
+        None if ended[:3] == (1, "%s %s\nheld %d\n" % (found, text(wanted), 4 + (found == "corrupt")), "") else told(ended),
+        None if pruned[:2] == (1, "") and pruned.err == "ocicp: 96 Unknown %s\n" % text(wanted) else "prune: " + told(pruned),
+        None if sorted(os.listdir(room + "/layout/blobs/sha256")) == files else "a file is gone",
     ])
 
 
 def own_keys(room):
     """Check entries whose file is missing, damaged, of another kind or too large."""
-    for name, media_type, size in [("octets", OCTETS, None), ("parameters", WITH_CHARSET, None), ("another size", IMAGE, 7)]:
+    contents, changed = [E, FOO, BAR, M3], M2.bytes[:-1] + b" "
+    for name, media_type, size, there, damaged in [
+        ("octets", OCTETS, None, OCTETS, INDEX), ("parameters", WITH_CHARSET, None, IMAGE, IMAGE), ("another size", IMAGE, 7, IMAGE, IMAGE),
+    ]:
         value = named(M2, "a", mediaType=media_type)
         value["size"] = value["size"] if size is None else size
-        line = text(key_of(value))
-        changed = M2.bytes[:-1] + b" "
-        yield name + ", and no file", wrong_own(room, value, [E, FOO], ["absent " + line, "held 0"], {})
-        yield name + ", and a file with other bytes", wrong_own(
-            room, value, [E, FOO], ["corrupt " + line, "held 1"], {blob(M2): changed})
-        yield name + ", and a manifest with other bytes", wrong_own(
-            room, value, [E, FOO], ["corrupt " + line, "held 1"], {blob(M2): BARE_IMAGE.bytes})
-        yield name + ", and a folder", wrong_own(room, value, [E, FOO], ["corrupt " + line, "held 1"], {blob(M2) + "/in": b"in"})
+        yield name + ", and no file", wrong_own(room, value, there, contents, "absent", {})
+        yield name + ", and a file with other bytes", wrong_own(room, value, damaged, contents, "corrupt", {blob(M2): changed})
+        yield name + ", and a manifest with other bytes", wrong_own(room, value, damaged, contents, "corrupt", {blob(M2): BARE_IMAGE.bytes})
+        yield name + ", and a folder", wrong_own(room, value, there, contents, "corrupt", {blob(M2) + "/in": b"in"})
     large = of_size(MOST + 1)
     value = named(large, "a", mediaType=LAYER, size=MOST)
-    yield "another size of a file of 4 MiB and a byte", wrong_own(
-        room, value, [E, FOO, large], ["corrupt " + text(key_of(value)), "held 1"], {})
+    yield "another size of a file of 4 MiB and a byte", wrong_own(room, value, LAYER, [*contents, large], "corrupt", {})
     value = named(M2, "a", mediaType=INDEX)
     write_entries(room + "/layout", [E, FOO, M2], [value])
     yield "an index whose file states an image", wrong_answer(["resolve", "layout", "a"], room, text(key_of(value)) + "\n")
     value = named(BARE_INDEX, "a", mediaType=IMAGE)
-    yield "an image whose file is like an index", wrong_own(room, value, [E, FOO, M2, BARE_INDEX], ["corrupt " + text(key_of(value)), "held 1"], {})
+    yield "an image whose file is like an index", wrong_own(room, value, IMAGE, [E, FOO, BAR, M2, M3, BARE_INDEX], "corrupt", {})
 
 
 def listed(room):

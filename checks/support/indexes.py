@@ -3,8 +3,8 @@ makes of them by the rules of docs/damage.md and docs/howto.md."""
 import json
 
 from support.files import read
-from support.layouts import IMAGE, INDEX, LAYER, NAME, descriptor, image
-from support.pruning import MEMBERS, OCTETS, Held, is_readable, key_of, name_of
+from support.layouts import ARTIFACT, INDEX, LAYER, NAME, descriptor, image
+from support.pruning import MEMBERS, OCTETS, Held, is_readable, key_of, name_of, plain_type
 
 # Values that are no objects, or have nothing that a descriptor has.
 OTHERS = [None, True, -7, 1.5, "a \"text\"\n", [], [{"z": 1, "a": [{"y": None, "b": "\u00e9"}]}], {}, {"x": [1, None, {"z": 1, "y": 2}]}]
@@ -47,10 +47,12 @@ def add_unreadable(folder, chance):
 
 
 def odd(chance, value):
-    """Return an entry of the same file with another media type or another size."""
+    """Return an entry of the same file with another media type or another size. One of a layer says of no other type that it is a manifest."""
     media_type, size = value["mediaType"], value["size"]
-    kind = media_type.split(";")[0] if media_type.split(";")[0] in MEMBERS else IMAGE
-    types = [chance.choice(OTHER_TYPES), kind + chance.choice(PARAMETERS), chance.choice([*MEMBERS]) + chance.choice(PARAMETERS), media_type]
+    kind = plain_type(media_type)
+    types = [chance.choice(OTHER_TYPES), media_type]
+    if kind in MEMBERS:
+        types += [it + chance.choice(PARAMETERS) for it in (kind, kind if kind == ARTIFACT else chance.choice([*MEMBERS]))]
     sizes = [size, size, size + 1, max(size - 1, 0), 0, (1 << 63) - 1]
     return {**value, "mediaType": chance.choice(types), "size": chance.choice(sizes)}
 

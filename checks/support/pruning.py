@@ -79,28 +79,49 @@ def value_of(content):
         return None
 
 
+def plain_type(media_type):
+    """Return a media type without its parameters, if it is then that of a manifest."""
+    plain = media_type.split(";")[0]
+    return plain if plain in MEMBERS else media_type
+
+
+def is_list(value):
+    return value is None or type(value) is list and all(map(is_readable, value))
+
+
+def shape_of(members):
+    """Return the media type of a manifest that a JSON object looks like, and whether it can be read as that."""
+    is_referrer = members.get("subject") is None or is_readable(members["subject"])
+    if type(members.get("manifests")) is list:
+        return INDEX, is_referrer and is_list(members["manifests"])
+    if {"config", "layers"} <= members.keys():
+        return IMAGE, is_referrer and is_readable(members["config"]) and is_list(members["layers"])
+    return None, False
+
+
 def meant_type(media_type, content):
-    """Return the media type that an entry with this one means, if its file has these bytes."""
-    if media_type != OCTETS and (media_type in MEMBERS or media_type.split(";")[0] not in MEMBERS):
+    """Return the media type that an entry with this one means, if its file has these bytes, which match its digest."""
+    if media_type != OCTETS and (media_type in MEMBERS or plain_type(media_type) not in MEMBERS):
         return media_type
     value = value_of(content)
     members = value if type(value) is dict else {}
     stated = members.get("mediaType")
-    if type(stated) is str:
-        return stated if stated in MEMBERS else media_type
-    if type(members.get("manifests")) is list:
-        return INDEX
-    return IMAGE if {"config", "layers"} <= members.keys() else media_type
+    if type(stated) is str and plain_type(stated) in MEMBERS:
+        return plain_type(stated)
+    shape, is_read = shape_of(members)
+    return shape if is_read else plain_type(media_type)
 
 
 def meant_key(folder, key):
-    """Return the key that an entry of `index.json` with this key means: what the file of its digest is, if that is small and whole."""
+    """Return the key that an entry of `index.json` with this key means: what the file of its digest is, if that is small and whole. Octets
+    that are not whole may be a manifest."""
     file = "%s/%s" % (folder, path(key))
     if not os.path.isfile(file) or os.path.getsize(file) > MOST_READ:
-        return key
+        return key._replace(media_type=plain_type(key.media_type))
     content = read(file)
     if not has_digest(content, key.digest):
-        return key
+        is_odd = key.media_type == OCTETS
+        return key._replace(media_type=INDEX if is_odd else plain_type(key.media_type))
     return Key(meant_type(key.media_type, content), key.digest, len(content))
 
 
