@@ -61,7 +61,10 @@ fn check_entry<D: Dir>(
 
 /// If the images without a tag are asked for, refuses a source that lacks the blob of an entry, or
 /// has an entry that is no descriptor.
-pub(crate) fn check_each_if<D: Dir>(brings_untagged: bool, source: &Layout<D>) -> Result<(), ProgramFault>
+pub(crate) fn check_each_if<D: Dir>(
+    brings_untagged: bool,
+    source: &Layout<D>,
+) -> Result<(), ProgramFault>
     ensures each { OnOk result (brings_untagged ≡ true → HasEachEntry source.now) }
     ensures refused { IfErr result IsOtherFault }
 {
