@@ -21,8 +21,8 @@ CONTENTS = {
     "a new layer": FOO,
 }
 
-# The answers of a copy from a layout with each harm in the place of a file. A harm without an answer of its own is no regular file, or is a
-# link in the place of a file that no digest checks. An empty answer is success. A layer or config of another size is damaged, and so is what is
+# The answers of a copy from a layout with each harm in the place of a file. A harm without an answer of its own is no regular file, or leads
+# to none. A link to another file is read, and none of its bytes is printed. An empty answer is success. A layer or config of another size is damaged, and so is what is
 # no regular file.
 LEAF = {
     "": ["75 Corrupt KEY"],
@@ -32,10 +32,12 @@ LEAF = {
 FROM = {
     "oci-layout": {
         "": ["74 Device"],
+        "a link to another file": ["71 BadLayoutFile"],
         "a sparse file of 1 TB": ["memory", "71 BadLayoutFile"],
     },
     "index.json": {
         "": ["74 Device"],
+        "a link to another file": ["73 BadIndex 10 NotJson"],
         "a sparse file of 1 TB": ["memory", "73 BadIndex 10 NotJson"],
     },
     "the manifest": {
