@@ -19,10 +19,11 @@ def is_match(key, content):
 
 
 def found_in(folder, key):
-    """Return the bytes of a key's file in a folder if they match the key, or None."""
+    """Return the bytes of a key's file in a folder if they match the key, and can be read as such a manifest if it is one, or None."""
     file = "%s/%s" % (folder, path(key))
     content = read(file) if os.path.isfile(file) else b""
-    return content if os.path.isfile(file) and is_match(key, content) else None
+    is_whole = os.path.isfile(file) and is_match(key, content) and listed(key.media_type, content) is not None
+    return content if is_whole else None
 
 
 def is_blocked(folder, key):
